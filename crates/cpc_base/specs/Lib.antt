@@ -1,0 +1,5 @@
+pub mod Bytes
+pub mod Texts
+pub mod Plan
+pub mod Outside
+pub mod Memory

@@ -1,0 +1,123 @@
+-- An answer stays one when only the status is filled in, and each end may give way to want of memory.
+use Rattle.std.proofs.Common.{◌≡◌, ℕ, ◌<◌, List, [], ◌++◌, refl, ap, sym, subst, ◌∙◌, inl, inr, ◌⊎◌, Option, Some, arith}
+use Rattle.std.proofs.lemmas.List.{append-nil}
+use Rattle.cpc_base.specs.Bytes.{Text}
+use Rattle.cpc_base.specs.Outside.{Files}
+use Rattle.cpc_tree.specs.Syntax.{Program}
+use Rattle.cpc_tree.specs.Texts.{output}
+use Rattle.cpc_meaning.specs.Events.{event}
+use Rattle.cpc_meaning.specs.Runs.{live_cells}
+use Rattle.cpc_cli.specs.Accepted.{Accepts}
+use Rattle.cpc_cli.specs.Command.{Command, Run, Check, Asks, command_of, named}
+use Rattle.cpc_cli.specs.Answer.{Answer, Rises, status_of, untold, Does, DoesInPart, NotAccepted, EndedIn, did, not_begun, unwritten_in, starved_in, IsEnd, misused, starved, performed, NoRun, Nothing, Ran, RanWhole, RanInPart, EndsIn, Shows, IsPrefix}
+use Rattle.cpc_cli.specs.declared.answer.Role.{Role}
+use Rattle.cpc_cli.specs.declared.answer.Report.{Report}
+use Rattle.cpc_cli.specs.declared.answer.Outcome.{Outcome}
+use Rattle.cpc_cli.specs.declared.answer.Outcome.TheVariants.{Ended, Accepted}
+use Rattle.cpc_cli.specs.declared.answer.End.{End}
+use Rattle.cpc_cli.specs.declared.answer.End.TheVariants.{Done, Usage, Refused, Unread, Unwritten, Memory, TooLong}
+
+-- the two reports differ at most in the status
+pub record SameRun (old new : Report) : Type 0 where
+  pub printed : new.printed.items ≡ old.printed.items
+  pub steps : new.steps ≡ old.steps
+  pub cells : new.cells ≡ old.cells
+
+whole_prefix : (text : Text) → IsPrefix text text
+whole_prefix text = record { rest = []; whole = sym (append-nil text) }
+
+module _ (told : Option Files) (unread : Text → Type 0) (unwritten : Type 0) (old new : Report) (out : Text) (same : SameRun old new) where
+  no_run : NoRun old → NoRun new
+  no_run h = record { printed = same.printed ∙ h.printed; steps = same.steps ∙ h.steps; cells = same.cells ∙ h.cells }
+
+  nothing : Nothing old out → Nothing new out
+  nothing h = record { no_run = no_run h.no_run; silent = h.silent }
+
+  ran : (q : Program) → Ran q old → Ran q new
+  ran q h = record {
+    printed = subst (λ t. Accepts t q) (sym same.printed) h.printed;
+    cells = same.cells ∙ h.cells ∙ ap (λ n. live_cells (event q untold n)) (sym same.steps);
+  }
+
+  ran_whole : (q : Program) → RanWhole q old out → RanWhole q new out
+  ran_whole q h = record { ran = ran q h.ran; ends = subst (λ n. EndsIn q n out) (sym same.steps) h.ends }
+
+  ran_in_part : (q : Program) → RanInPart q old out → RanInPart q new out
+  ran_in_part q h = record { ran = ran q h.ran; part = subst (λ n. Shows q n out) (sym same.steps) h.part }
+
+  whole_in_part : (q : Program) → RanWhole q old out → RanInPart q new out
+  whole_in_part q h =
+      let shown : Shows q old.steps out = subst (IsPrefix out) h.ends.whole (whole_prefix out) in
+      record { ran = ran q h.ran; part = subst (λ n. Shows q n out) (sym same.steps) shown }
+
+  does : (command : Command) (outcome : Outcome) → Does told command old out outcome → Does told command new out outcome
+  does (Run file) Ended h = (h.0, ran_whole h.0 h.1, h.2)
+  does (Run file) Accepted h = h
+  does (Check file) Ended h = h
+  does (Check file) Accepted h = (no_run h.0, h.1, h.2)
+
+  in_part : (command : Command) → DoesInPart told command old out → DoesInPart told command new out
+  in_part (Run file) h = (h.0, ran_in_part h.0 h.1, h.2)
+  in_part (Check file) h = (no_run h.0, h.1, h.2)
+
+  in_part_from_whole : (command : Command) (outcome : Outcome) → Does told command old out outcome → DoesInPart told command new out
+  in_part_from_whole (Run file) Ended h = (h.0, whole_in_part h.0 h.1, h.2)
+  in_part_from_whole (Run file) Accepted h = absurd h
+  in_part_from_whole (Check file) Ended h = absurd h
+  in_part_from_whole (Check file) Accepted h = (no_run h.0, subst (IsPrefix out) h.1 (whole_prefix out), h.2)
+
+  ended_as : (command : Command) (end : End) → EndedIn told command unread unwritten old out end → EndedIn told command unread unwritten new out end
+  ended_as command _ (did outcome h) = did outcome (does command outcome h)
+  ended_as command _ (not_begun end h none) = not_begun end h (nothing none)
+  ended_as command _ (unwritten_in u h) = unwritten_in u (in_part command h)
+  ended_as command _ (starved_in h) = starved_in (in_part command h)
+
+  -- nothing is claimed of the cause of want of memory
+  ended_by_memory : (command : Command) (end : End) → EndedIn told command unread unwritten old out end → EndedIn told command unread unwritten new out Memory
+  ended_by_memory command _ (did outcome h) = starved_in (in_part_from_whole command outcome h)
+  ended_by_memory command _ (not_begun end h none) = not_begun Memory tt (nothing none)
+  ended_by_memory command _ (unwritten_in u h) = starved_in (in_part command h)
+  ended_by_memory command _ (starved_in h) = starved_in (in_part command h)
+
+  is_end_as : {words : List Text} {end : End} → IsEnd words told unread unwritten old out end → IsEnd words told unread unwritten new out end
+  is_end_as (misused none h) = misused none (nothing h)
+  is_end_as (starved h) = starved (nothing h)
+  is_end_as (performed command {end} asks h) = performed command asks (ended_as command end h)
+
+  is_end_by_memory : {words : List Text} {end : End} → IsEnd words told unread unwritten old out end → IsEnd words told unread unwritten new out Memory
+  is_end_by_memory (misused none h) = starved (nothing h)
+  is_end_by_memory (starved h) = starved (nothing h)
+  is_end_by_memory (performed command {end} asks h) = performed command asks (ended_by_memory command end h)
+
+  pub is_end_last : {words : List Text} {end last : End} → last ≡ end ⊎ last ≡ Memory → IsEnd words told unread unwritten old out end → IsEnd words told unread unwritten new out last
+  is_end_last {words} (inl e) h = subst (IsEnd words told unread unwritten new out) (sym e) (is_end_as h)
+  is_end_last {words} (inr e) h = subst (IsEnd words told unread unwritten new out) (sym e) (is_end_by_memory h)
+
+-- 8 comes only where the count of a file of the command rose
+module _ (words : List Text) (told : Option Files) (rose : Rises) (report : Report) (out : Text) where
+  abbrev pub Cause : Type 0
+  Cause = Asks words (λ command. (role : Role) × rose.shelf (named command role))
+
+  not_read : (command : Command) (end : End) → command_of words ≡ Some command → NotAccepted told (named command) rose.shelf end → status_of end ≡ 8 → Cause
+  not_read command (Unread role) asks h e = (command, asks, (role, h))
+  not_read command (Refused at) asks h e = absurd (omega (arith, e))
+  not_read command (TooLong role) asks h e = absurd (omega (arith, e))
+  not_read command Memory asks h e = absurd (omega (arith, e))
+  not_read command (Done outcome) asks h e = absurd h
+  not_read command Usage asks h e = absurd h
+  not_read command Unwritten asks h e = absurd h
+
+  ended_read : (command : Command) (end : End) → command_of words ≡ Some command → EndedIn told command rose.shelf rose.out report out end → status_of end ≡ 8 → Cause
+  ended_read command _ asks (did outcome h) e = absurd (omega (arith, e))
+  ended_read command _ asks (not_begun end h none) e = not_read command end asks h e
+  ended_read command _ asks (unwritten_in u h) e = absurd (omega (arith, e))
+  ended_read command _ asks (starved_in h) e = absurd (omega (arith, e))
+
+  end_read : {end : End} → IsEnd words told rose.shelf rose.out report out end → status_of end ≡ 8 → Cause
+  end_read (misused none h) e = absurd (omega (arith, e))
+  end_read (starved h) e = absurd (omega (arith, e))
+  end_read (performed command {end} asks h) e = ended_read command end asks h e
+
+  pub read_cause : (err : Text) → Answer words told rose report out err → report.status ≡ 8 → Cause
+  read_cause err (end, ended, inl said) e = end_read ended (sym said.0 ∙ e)
+  read_cause err (end, ended, inr said) e = absurd (let nine = said.0 in omega (arith, nine, e))

@@ -1,0 +1,15 @@
+//! The top call: one command line, from its words to what it writes.
+#![tactic(auto)]
+
+mod answer;
+mod run;
+mod top;
+mod words;
+
+pub use answer::{End, Outcome, Report, Role};
+pub use run::run_program;
+pub use top::{TEXT_LIMIT, cpc_main};
+pub use words::{Command, read_words};
+
+#[cfg(test)]
+mod tests;

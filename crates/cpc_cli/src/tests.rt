@@ -1,0 +1,252 @@
+//! Whole command lines over objects in memory, and each call of these objects failing in turn.
+use crate::cpc_main;
+use cpc_base::{Calls, MemFile, MemShelf, MemSink};
+use std::alloc::{AllocError, Global};
+use std::test::Fail;
+
+const SEVEN: &[u8] = b"int main(void){ cpc_print(7); return 0; }";
+
+const THREE_LINES: &[u8] = b"int main(void){\n cpc_print(7);\n cpc_print(10);\n return 0;\n}\n";
+
+// How the objects behave: the file `a.c`, the most bytes of a call, and the number of the call that fails, or 0.
+#[derive(Clone, Copy)]
+struct Setting<'a> {
+    text: &'a [u8],
+    most: usize,
+    read: u64,
+    put: u64,
+    said: u64,
+}
+
+// What a call left: its report, and what the two sinks took.
+#[derive(Drop)]
+struct Left {
+    status: u8,
+    printed: Vec<u8>,
+    steps: u64,
+    out: Vec<u8>,
+    err: Vec<u8>,
+}
+
+fn ample(text: &[u8]) -> Setting<'_> {
+    Setting {
+        text,
+        most: 4096,
+        read: 0,
+        put: 0,
+        said: 0,
+    }
+}
+
+fn byte_by_byte(text: &[u8]) -> Setting<'_> {
+    Setting {
+        text,
+        most: 1,
+        read: 0,
+        put: 0,
+        said: 0,
+    }
+}
+
+fn failing(alloc: Global, call: u64) -> Result<Calls, AllocError> {
+    let mut calls = Vec::new(alloc);
+    if call > 0 {
+        calls.push(call)?;
+    }
+    Ok(Calls::new(calls))
+}
+
+fn call(alloc: Global, line: &[&str], setting: Setting<'_>) -> Result<Left, AllocError> {
+    let mut files = Vec::new(alloc);
+    files.push(MemFile {
+        name: String::from_str(alloc, "a.c")?,
+        bytes: setting.text.to_vec(alloc)?,
+    })?;
+    let mut shelf = MemShelf::new(files, setting.most, failing(alloc, setting.read)?);
+    let mut out = MemSink::new(alloc, setting.most, failing(alloc, setting.put)?);
+    let mut err = MemSink::new(alloc, setting.most, failing(alloc, setting.said)?);
+    let mut words = Vec::new(alloc);
+    for word in line {
+        words.push(String::from_str(alloc, word)?)?;
+    }
+    let report = cpc_main(alloc, words.as_slice(), &mut shelf, &mut out, &mut err);
+    Ok(Left {
+        status: report.status,
+        printed: report.printed,
+        steps: report.steps,
+        out: out.bytes().to_vec(alloc)?,
+        err: err.bytes().to_vec(alloc)?,
+    })
+}
+
+const RUN: [&str; 2] = ["run", "a.c"];
+
+const CHECK: [&str; 2] = ["check", "a.c"];
+
+#[test]
+fn a_program_is_run_and_checked(rt: HostRuntime) -> Result<(), Fail> {
+    for most in [1, 7, 4096] {
+        let setting = Setting {
+            most,
+            ..ample(SEVEN)
+        };
+        let left = call(rt.alloc(), RUN.as_slice(), setting)?;
+        assert_eq!(rt; left.status, 0);
+        assert_eq!(rt; left.out.as_slice(), b"7\n".as_slice());
+        assert_eq!(rt; left.err.as_slice(), b"".as_slice());
+        assert_eq!(rt;
+            left.printed.as_slice(),
+            b"int main(void) {\n    cpc_print(7);\n    return 0;\n}\n".as_slice()
+        );
+        assert_eq!(rt; left.steps, 5);
+        let checked = call(rt.alloc(), CHECK.as_slice(), setting)?;
+        assert_eq!(rt; checked.status, 0);
+        assert_eq!(rt; checked.out.as_slice(), b"accepted\n".as_slice());
+        assert_eq!(rt; checked.printed.as_slice(), b"".as_slice());
+    }
+    Ok(())
+}
+
+// Texts that are refused, and the line that says so.
+const REFUSED: [(&[u8], &[u8]); 6] = [
+    (b"", b"refused 1:1 form 1 not yet\n"),
+    (
+        b"int main(void){ x = 1; return 0; }",
+        b"refused 1:17 form 1 not yet\n",
+    ),
+    (
+        b"intmain(void){ return 0; }",
+        b"refused 1:1 form 1 not yet\n",
+    ),
+    (
+        b"int main(void){\n return 01; }",
+        b"refused 2:9 form 1 not yet\n",
+    ),
+    (
+        b"int main(void){ return 0; } int",
+        b"refused 1:29 form 1 not yet\n",
+    ),
+    (
+        b"int main(void){ return 0;",
+        b"refused 1:26 form 1 not yet\n",
+    ),
+];
+
+#[test]
+fn a_text_is_refused_at_its_place(rt: HostRuntime) -> Result<(), Fail> {
+    for (text, line) in REFUSED {
+        for words in [RUN, CHECK] {
+            let left = call(rt.alloc(), words.as_slice(), ample(text))?;
+            assert_eq!(rt; left.status, 3);
+            assert_eq!(rt; left.err.as_slice(), line);
+            assert_eq!(rt; left.out.as_slice(), b"".as_slice());
+        }
+    }
+    Ok(())
+}
+
+const USAGE: &[u8] =
+    b"usage: cpc check, translate, run or exec FILE with options, or cpc sample N\n";
+
+#[test]
+fn words_that_are_no_command_line(rt: HostRuntime) -> Result<(), Fail> {
+    let lines: [&[&str]; 5] = [
+        &[],
+        &["run"],
+        &["frobnicate", "a.c"],
+        &["run", "a.c", "b.c"],
+        &["a.c", "run"],
+    ];
+    for line in lines {
+        let left = call(rt.alloc(), line, ample(SEVEN))?;
+        assert_eq!(rt; left.status, 2);
+        assert_eq!(rt; left.err.as_slice(), USAGE);
+        assert_eq!(rt; left.out.as_slice(), b"".as_slice());
+    }
+    Ok(())
+}
+
+#[test]
+fn a_file_that_is_absent_or_too_long(rt: HostRuntime) -> Result<(), Fail> {
+    let alloc = rt.alloc();
+    let absent = call(alloc, ["run", "b.c"].as_slice(), ample(SEVEN))?;
+    assert_eq!(rt; absent.status, 8);
+    assert_eq!(rt; absent.err.as_slice(), b"read fault: b.c\n".as_slice());
+    let mut text = SEVEN.to_vec(alloc)?;
+    text.resize(262_144, b' ')?;
+    let whole = call(alloc, RUN.as_slice(), ample(text.as_slice()))?;
+    assert_eq!(rt; whole.status, 0);
+    text.push(b' ')?;
+    let long = call(alloc, CHECK.as_slice(), ample(text.as_slice()))?;
+    assert_eq!(rt; long.status, 13);
+    assert_eq!(rt;
+        long.err.as_slice(),
+        b"too long: a.c limit 262144\n".as_slice()
+    );
+    Ok(())
+}
+
+#[test]
+fn each_read_fails(rt: HostRuntime) -> Result<(), Fail> {
+    // a read for each byte, and one at the end
+    let reads = THREE_LINES.len() as u64 + 1;
+    for read in 1..80u64 {
+        let setting = Setting {
+            read,
+            ..byte_by_byte(THREE_LINES)
+        };
+        let left = call(rt.alloc(), RUN.as_slice(), setting)?;
+        if read <= reads {
+            assert_eq!(rt; left.status, 8);
+            assert_eq!(rt; left.out.as_slice(), b"".as_slice());
+            assert_eq!(rt; left.err.as_slice(), b"read fault: a.c\n".as_slice());
+        } else {
+            assert_eq!(rt; left.status, 0);
+            assert_eq!(rt; left.out.as_slice(), b"7\n10\n".as_slice());
+        }
+    }
+    Ok(())
+}
+
+#[test]
+fn each_write_fails(rt: HostRuntime) -> Result<(), Fail> {
+    let whole = b"7\n10\n";
+    for put in 1..8u64 {
+        let setting = Setting {
+            put,
+            ..byte_by_byte(THREE_LINES)
+        };
+        let left = call(rt.alloc(), RUN.as_slice(), setting)?;
+        if put <= 5 {
+            let taken = put as usize - 1;
+            assert_eq!(rt; left.status, 9);
+            assert_eq!(rt; left.out.as_slice(), &whole[..taken]);
+            assert_eq!(rt; left.err.as_slice(), b"write fault\n".as_slice());
+        } else {
+            assert_eq!(rt; left.status, 0);
+            assert_eq!(rt; left.out.as_slice(), whole.as_slice());
+        }
+    }
+    Ok(())
+}
+
+#[test]
+fn each_write_of_the_line_fails(rt: HostRuntime) -> Result<(), Fail> {
+    let line = b"refused 1:17 form 1 not yet\n";
+    for said in 1..31u64 {
+        let setting = Setting {
+            said,
+            ..byte_by_byte(b"int main(void){ x = 1; return 0; }")
+        };
+        let left = call(rt.alloc(), RUN.as_slice(), setting)?;
+        if said <= 28 {
+            let taken = said as usize - 1;
+            assert_eq!(rt; left.status, 9);
+            assert_eq!(rt; left.err.as_slice(), &line[..taken]);
+        } else {
+            assert_eq!(rt; left.status, 3);
+            assert_eq!(rt; left.err.as_slice(), line.as_slice());
+        }
+    }
+    Ok(())
+}

@@ -1,0 +1,41 @@
+-- The table of names as tokens are put into it.
+use Rattle.std.specs.Prelude.{◌≡◌, ℕ, ◌<◌, List, [], ◌∷◌, ◌++◌, length, Option, Some, None}
+use Rattle.cpc_base.specs.declared.stop.Place.{Place}
+use Rattle.cpc_base.specs.Texts.{with_text}
+use Rattle.cpc_tree.specs.Erase.{Names}
+use Rattle.cpc_tree.specs.Tokens.{Lexeme, Named, Placed, lexeme_of}
+use Rattle.cpc_tree.specs.declared.token.TokenKind.{TokenKind}
+use Rattle.cpc_tree.specs.declared.token.TokenKind.TheVariants as T
+use Rattle.cpc_tree.specs.declared.token.Token.{Token}
+
+-- the table after a lexeme
+abbrev pub with_lexeme : Names → Lexeme → Names
+with_lexeme names (Named text) = with_text names text
+with_lexeme names _ = names
+
+-- the table after tokens: each new name behind the others, in order of first use
+abbrev pub with_tokens : Names → List Placed → Names
+with_tokens names [] = names
+with_tokens names (token ∷ list) = with_tokens (with_lexeme names token.lexeme) list
+
+-- the table after a token, or after a blank or a comment
+abbrev pub with_kind : (old new : Names) → Option TokenKind → Names
+with_kind old new None = old
+with_kind old new (Some kind) = with_lexeme old (lexeme_of new kind)
+
+-- the table has only grown, at its end
+abbrev pub HasGrown : (old new : Names) → Type 0
+HasGrown old new = (more : Names) × (new ≡ old ++ more)
+
+-- a name is one of the first n of the table
+abbrev pub NameBelow : ℕ → TokenKind → Type 0
+NameBelow n (T.Name name) = name.0 < n
+NameBelow n _ = Unit {0}
+
+abbrev pub TokenBelow : ℕ → Token → Type 0
+TokenBelow n token = NameBelow n token.kind
+
+-- what is put into the list: the token, or nothing for a blank or a comment
+abbrev pub kept : Place → Option TokenKind → List Token
+kept place None = []
+kept place (Some kind) = record { place = place; kind = kind } ∷ []

@@ -1,0 +1,41 @@
+//! Why a text is not cut.
+ghost use Rattle.std.specs.Prelude.{◌≡◌, ◌≤◌};
+ghost use Rattle.cpc_lexer.specs.Faults.{fault_name};
+
+use cpc_base::Place;
+
+pub(crate) const STRAY_BYTE: u8 = 1;
+
+pub(crate) const UNCLOSED: u8 = 2;
+
+pub(crate) const TOO_WIDE: u8 = 3;
+
+pub(crate) const TOO_LONG: u8 = 4;
+
+pub(crate) const MALFORMED: u8 = 5;
+
+/// The first fault of a text.
+#[derive(Clone, Copy, Debug, PartialEq, Eq)]
+pub struct LexFault {
+    /// Where the first byte of what is faulty stands.
+    pub place: Place,
+    /// 1 to 5, in the order of the names.
+    pub number: u8,
+    ghost first: { 1 ≤ number },
+    ghost last: { number ≤ 5 },
+}
+
+impl LexFault {
+    /// How the fault is told: `stray byte`, `unclosed`, `literal too wide`, `name too long` or `malformed`.
+    pub fn name(&self) -> &'static str
+        ensures { result.now ≡ fault_name self.now.number }
+    {
+        match self.number {
+            STRAY_BYTE => "stray byte",
+            UNCLOSED => "unclosed",
+            TOO_WIDE => "literal too wide",
+            TOO_LONG => "name too long",
+            _ => "malformed",
+        }
+    }
+}

@@ -1,0 +1,4 @@
+pub mod Laws
+pub mod Systems
+pub mod Paths
+pub mod Refusals

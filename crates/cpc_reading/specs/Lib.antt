@@ -1,0 +1,9 @@
+pub mod Reading
+pub mod Phrase
+pub mod Chain
+pub mod Exact
+pub mod Answers
+pub mod Lists
+pub mod Operators
+pub mod SmallExpressions
+pub mod SmallStatements

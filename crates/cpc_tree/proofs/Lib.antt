@@ -1,0 +1,5 @@
+pub mod Clauses
+pub mod States
+pub mod Apart
+pub mod Spelled
+pub mod Known

@@ -1,0 +1,12 @@
+pub mod Syntax
+pub mod Erase
+pub mod Tokens
+pub mod Pieces
+pub mod Cut
+pub mod Spelling
+pub mod Lists
+pub mod Typing
+pub mod Points
+pub mod Registers
+pub mod Trace
+pub mod Texts

@@ -1,0 +1,17 @@
+pub mod Rounds
+pub mod Calls
+pub mod Control
+pub mod Memory
+pub mod Numbers
+pub mod Conditions
+pub mod Timers
+pub mod Descriptors
+pub mod Sections
+pub mod ManySections
+pub mod Relay
+pub mod Hosts
+pub mod Faults
+pub mod Orders
+pub mod Events
+pub mod Texts
+pub mod Refusals
