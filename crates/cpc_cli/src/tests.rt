@@ -1,6 +1,6 @@
 //! Whole command lines over objects in memory, and each call of these objects failing in turn.
 use crate::cpc_main;
-use cpc_base::{Calls, MemFile, MemShelf, MemSink};
+use cpc_base::{Calls, Failed, MemFile, MemShelf, MemSink, Sink};
 use std::alloc::{AllocError, Global};
 use std::test::Fail;
 
@@ -176,8 +176,9 @@ fn a_file_that_is_absent_or_too_long(rt: HostRuntime) -> Result<(), Fail> {
     text.resize(262_144, b' ')?;
     let whole = call(alloc, RUN.as_slice(), ample(text.as_slice()))?;
     assert_eq!(rt; whole.status, 0);
-    text.push(b' ')?;
-    let long = call(alloc, CHECK.as_slice(), ample(text.as_slice()))?;
+    let mut blanks = Vec::new(alloc);
+    blanks.resize(262_145, b' ')?;
+    let long = call(alloc, CHECK.as_slice(), ample(blanks.as_slice()))?;
     assert_eq!(rt; long.status, 13);
     assert_eq!(rt;
         long.err.as_slice(),
@@ -248,5 +249,45 @@ fn each_write_of_the_line_fails(rt: HostRuntime) -> Result<(), Fail> {
             assert_eq!(rt; left.err.as_slice(), line.as_slice());
         }
     }
+    Ok(())
+}
+
+// A sink that takes nothing.
+#[derive(Drop)]
+struct Shut {
+    refusals: u64,
+}
+
+impl Sink for Shut {
+    ghost use Rattle.std.specs.Prelude.{None};
+
+    ghost taken = { λ _. None };
+
+    ghost faults = { λ s. s.refusals };
+
+    fn put(&mut self, _piece: &[u8]) -> Result<usize, Failed> {
+        self.refusals = self.refusals.saturating_add(1);
+        Ok(0)
+    }
+}
+
+#[test]
+fn a_sink_that_takes_nothing_has_failed(rt: HostRuntime) -> Result<(), Fail> {
+    let alloc = rt.alloc();
+    let mut files = Vec::new(alloc);
+    files.push(MemFile {
+        name: String::from_str(alloc, "a.c")?,
+        bytes: SEVEN.to_vec(alloc)?,
+    })?;
+    let mut shelf = MemShelf::new(files, 4096, failing(alloc, 0)?);
+    let mut shut = Shut { refusals: 0 };
+    let mut err = MemSink::new(alloc, 4096, failing(alloc, 0)?);
+    let words = [
+        String::from_str(alloc, "run")?,
+        String::from_str(alloc, "a.c")?,
+    ];
+    let report = cpc_main(alloc, words.as_slice(), &mut shelf, &mut shut, &mut err);
+    assert_eq!(rt; report.status, 9);
+    assert_eq!(rt; err.bytes(), b"write fault\n".as_slice());
     Ok(())
 }

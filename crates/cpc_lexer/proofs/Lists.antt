@@ -1,5 +1,5 @@
 -- The list of tokens and the table of names as the text is cut, piece by piece.
-use Rattle.std.proofs.Common.{◌≡◌, ℕ, zero, suc, ◌+◌, ◌≤◌, ◌<◌, Bool, true, false, cond, List, [], ◌∷◌, ◌++◌, length, map, take, drop, get_or, Option, Some, None, refl, sym, ap, subst, ◌∙◌, arith, append_assoc, length-append}
+use Rattle.std.proofs.Common.{◌≡◌, ℕ, suc, ◌+◌, ◌≤◌, true, false, cond, List, [], ◌∷◌, ◌++◌, length, map, take, drop, get_or, Option, Some, None, refl, sym, ap, subst, ◌∙◌, arith, append_assoc, length-append}
 use Rattle.std.specs.Prelude.{All, IfSome, bytes_eq}
 use Rattle.std.specs.List.{list_any}
 use Rattle.std.proofs.lemmas.List.{take-append-drop, length-take-le, length-drop, append-nil, map-append}
@@ -16,7 +16,7 @@ use Rattle.cpc_tree.specs.declared.token.Token.{Token}
 use Rattle.cpc_tree.specs.Tokens.{Lexeme, Named, Placed, lexeme_of, placed_of}
 use Rattle.cpc_tree.specs.Pieces.{Piece, Space}
 use Rattle.cpc_tree.specs.Pieces as S
-use Rattle.cpc_tree.specs.Cut.{text_start, place_behind, IsLongest, Row, nothing, a_space, a_token, IsCut, IsFaulty, IsLexFault}
+use Rattle.cpc_tree.specs.Cut.{text_start, place_behind, IsLongest, Row, nothing, a_space, a_token}
 use Rattle.cpc_lexer.proofs.Places.{behind_near}
 use Rattle.cpc_lexer.specs.Fronts.{IsLongestFront, kind_piece}
 use Rattle.cpc_lexer.specs.Table.{with_lexeme, with_tokens, with_kind, HasGrown, NameBelow, TokenBelow, kept}

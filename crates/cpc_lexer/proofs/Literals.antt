@@ -1,10 +1,10 @@
 -- Characters and strings, byte by byte.
-use Rattle.std.proofs.Common.{◌≡◌, ℕ, ◌+◌, ◌≤◌, ◌<◌, Bool, true, false, cond, nat_eq, List, [], ◌∷◌, ◌++◌, length, take, get_or, Option, Some, None, refl, sym, ap, subst, ◌∙◌, arith, ◌⊎◌, inl, inr}
-use Rattle.std.proofs.lemmas.Bool.Decides.{nat_tests}
+use Rattle.std.proofs.Common.{◌≡◌, ℕ, ◌+◌, ◌≤◌, ◌<◌, [], length, take, get_or, Some, None, refl, ap, ◌∙◌, arith}
+use Rattle.std.proofs.lemmas.Bool.{ne_eqb}
 use Rattle.cpc_base.specs.Bytes.{Text}
 use Rattle.cpc_base.specs.declared.stop.Dialect.{Dialect}
 use Rattle.cpc_tree.specs.Tokens.{Lexeme}
-use Rattle.cpc_tree.specs.Pieces.{Piece, Token, Fault, Quote, Single, Double, Escape, NoEscape, State, Open, Whole, Wrong, unclosed, malformed, is_blank, in_word, quote_byte, next_quoted, first_state, next_state, state_of, in_state}
+use Rattle.cpc_tree.specs.Pieces.{Token, Fault, Quote, Single, Double, Escape, NoEscape, State, Open, Whole, Wrong, unclosed, malformed, is_blank, in_word, quote_byte, next_quoted, first_state, next_state, state_of}
 use Rattle.cpc_lexer.specs.declared.front.Front.TheVariants as F
 use Rattle.cpc_lexer.specs.Fronts.{IsLongestFront, IsFront}
 use Rattle.cpc_lexer.proofs.Steps.{state_next, state_begun, longest_front, is_front}
@@ -17,12 +17,9 @@ first_quote Double = refl
 pub quote_begun : (t : Text) (quote : Quote) → 0 < length t → get_or t 0 0 ≡ quote_byte quote → state_of (take 1 t) ≡ Some (Open quote [] NoEscape)
 quote_begun t quote lt e = state_begun t 0 lt ∙ (ap (λ b. first_state b) e ∙ first_quote quote)
 
-other : (b n : ℕ) → (b ≡ n → ⊥) → nat_eq b n ≡ false
-other b n h = grind (arith, nat_tests)
-
 next_open : (quote : Quote) (held : Text) (part : Escape) (b : ℕ) → (b ≡ 10 → ⊥) → next_state (Open quote held part) b ≡ Some (next_quoted quote held part b)
 unfolding next_state
-next_open quote held part b h = rw (other b 10 h) refl
+next_open quote held part b h = rw (ne_eqb b 10 h) refl
 
 next_line : (quote : Quote) (held : Text) (part : Escape) (b : ℕ) → b ≡ 10 → next_state (Open quote held part) b ≡ None
 unfolding next_state

@@ -1,6 +1,6 @@
 -- The punctuators by their bytes.
-use Rattle.std.proofs.Common.{◌≡◌, ℕ, zero, suc, ◌+◌, ◌<◌, ◌≤◌, Bool, true, false, cond, nat_eq, List, [], ◌∷◌, ◌++◌, length, take, get_or, Option, Some, None, refl, sym, ap, subst, ◌∙◌, arith, ◌⊎◌, inl, inr}
-use Rattle.std.proofs.lemmas.Bool.Decides.{nat_tests}
+use Rattle.std.proofs.Common.{◌≡◌, ℕ, zero, suc, ◌+◌, ◌<◌, ◌≤◌, Bool, true, false, cond, nat_eq, List, [], ◌∷◌, ◌++◌, length, take, get_or, Option, Some, None, refl, sym, ap, subst, ◌∙◌, arith, inl, inr}
+use Rattle.std.proofs.lemmas.Bool.{ne_eqb}
 use Rattle.std.proofs.lemmas.List.{length-take-le}
 use Rattle.std.specs.Prelude.{find, bytes_eq, if◌then◌else◌, ◌==◌}
 use Rattle.std.specs.Option.{option_map}
@@ -10,7 +10,7 @@ use Rattle.cpc_base.specs.declared.stop.Dialect.{Dialect}
 use Rattle.cpc_tree.specs.declared.token.Punctuator.{Punctuator}
 use Rattle.cpc_tree.specs.declared.token.Punctuator.TheVariants as P
 use Rattle.cpc_tree.specs.Tokens.{Mark, punctuators, punctuator_spelling, punctuator_of}
-use Rattle.cpc_tree.specs.Pieces.{State, Sign, Token, first_state, next_state, state_of, comment_begun, or_mark}
+use Rattle.cpc_tree.specs.Pieces.{Sign, Token, first_state, next_state, state_of, comment_begun}
 use Rattle.cpc_lexer.specs.Fronts.{IsDoubled, IsLongestFront}
 use Rattle.cpc_lexer.proofs.Steps.{take_more, state_next, state_begun, longest_front}
 
@@ -113,16 +113,13 @@ is_equal = refl
 
 pub ruleset one_byte_marks = (is_left_paren, is_right_paren, is_left_brace, is_right_brace, is_left_bracket, is_right_bracket, is_semicolon, is_comma, is_colon, is_question, is_dot, is_plus, is_minus, is_star, is_slash, is_percent, is_ampersand, is_bar, is_caret, is_tilde, is_exclamation, is_less, is_greater, is_equal)
 
-other : (b n : ℕ) → (b ≡ n → ⊥) → nat_eq b n ≡ false
-other b n h = grind (arith, nat_tests)
-
 none_of_one : (b : ℕ) → nat_eq b 40 ≡ false → nat_eq b 41 ≡ false → nat_eq b 123 ≡ false → nat_eq b 125 ≡ false → nat_eq b 91 ≡ false → nat_eq b 93 ≡ false → nat_eq b 59 ≡ false → nat_eq b 44 ≡ false → nat_eq b 58 ≡ false → nat_eq b 63 ≡ false → nat_eq b 46 ≡ false → nat_eq b 43 ≡ false → nat_eq b 45 ≡ false → nat_eq b 42 ≡ false → nat_eq b 47 ≡ false → nat_eq b 37 ≡ false → nat_eq b 38 ≡ false → nat_eq b 124 ≡ false → nat_eq b 94 ≡ false → nat_eq b 126 ≡ false → nat_eq b 33 ≡ false → nat_eq b 60 ≡ false → nat_eq b 62 ≡ false → nat_eq b 61 ≡ false → punctuator_of (b ∷ []) ≡ None
 unfolding punctuator_of
 none_of_one b h40 h41 h123 h125 h91 h93 h59 h44 h58 h63 h46 h43 h45 h42 h47 h37 h38 h124 h94 h126 h33 h60 h62 h61 = rw (h40, h41, h123, h125, h91, h93, h59, h44, h58, h63, h46, h43, h45, h42, h47, h37, h38, h124, h94, h126, h33, h60, h62, h61) refl
 
 -- no punctuator is another byte
 pub no_mark : (b : ℕ) → (b ≡ 40 → ⊥) → (b ≡ 41 → ⊥) → (b ≡ 123 → ⊥) → (b ≡ 125 → ⊥) → (b ≡ 91 → ⊥) → (b ≡ 93 → ⊥) → (b ≡ 59 → ⊥) → (b ≡ 44 → ⊥) → (b ≡ 58 → ⊥) → (b ≡ 63 → ⊥) → (b ≡ 46 → ⊥) → (b ≡ 43 → ⊥) → (b ≡ 45 → ⊥) → (b ≡ 42 → ⊥) → (b ≡ 47 → ⊥) → (b ≡ 37 → ⊥) → (b ≡ 38 → ⊥) → (b ≡ 124 → ⊥) → (b ≡ 94 → ⊥) → (b ≡ 126 → ⊥) → (b ≡ 33 → ⊥) → (b ≡ 60 → ⊥) → (b ≡ 62 → ⊥) → (b ≡ 61 → ⊥) → None ≡ punctuator_of (b ∷ [])
-no_mark b h40 h41 h123 h125 h91 h93 h59 h44 h58 h63 h46 h43 h45 h42 h47 h37 h38 h124 h94 h126 h33 h60 h62 h61 = sym (none_of_one b (other b 40 h40) (other b 41 h41) (other b 123 h123) (other b 125 h125) (other b 91 h91) (other b 93 h93) (other b 59 h59) (other b 44 h44) (other b 58 h58) (other b 63 h63) (other b 46 h46) (other b 43 h43) (other b 45 h45) (other b 42 h42) (other b 47 h47) (other b 37 h37) (other b 38 h38) (other b 124 h124) (other b 94 h94) (other b 126 h126) (other b 33 h33) (other b 60 h60) (other b 62 h62) (other b 61 h61))
+no_mark b h40 h41 h123 h125 h91 h93 h59 h44 h58 h63 h46 h43 h45 h42 h47 h37 h38 h124 h94 h126 h33 h60 h62 h61 = sym (none_of_one b (ne_eqb b 40 h40) (ne_eqb b 41 h41) (ne_eqb b 123 h123) (ne_eqb b 125 h125) (ne_eqb b 91 h91) (ne_eqb b 93 h93) (ne_eqb b 59 h59) (ne_eqb b 44 h44) (ne_eqb b 58 h58) (ne_eqb b 63 h63) (ne_eqb b 46 h46) (ne_eqb b 43 h43) (ne_eqb b 45 h45) (ne_eqb b 42 h42) (ne_eqb b 47 h47) (ne_eqb b 37 h37) (ne_eqb b 38 h38) (ne_eqb b 124 h124) (ne_eqb b 94 h94) (ne_eqb b 126 h126) (ne_eqb b 33 h33) (ne_eqb b 60 h60) (ne_eqb b 62 h62) (ne_eqb b 61 h61))
 
 -- two bytes
 abbrev pub equal_of : Punctuator → Option Punctuator
@@ -216,7 +213,7 @@ none_behind P.Equal b h61 h62 h43 h45 h38 h124 h60 = rw (h61) refl
 none_behind _ b h61 h62 h43 h45 h38 h124 h60 = refl
 
 pub no_longer : (mark : Punctuator) (b : ℕ) → (b ≡ 61 → ⊥) → (b ≡ 62 → ⊥) → (b ≡ 43 → ⊥) → (b ≡ 45 → ⊥) → (b ≡ 38 → ⊥) → (b ≡ 124 → ⊥) → (b ≡ 60 → ⊥) → None ≡ punctuator_of (punctuator_spelling mark ++ b ∷ [])
-no_longer mark b h61 h62 h43 h45 h38 h124 h60 = sym (none_behind mark b (other b 61 h61) (other b 62 h62) (other b 43 h43) (other b 45 h45) (other b 38 h38) (other b 124 h124) (other b 60 h60))
+no_longer mark b h61 h62 h43 h45 h38 h124 h60 = sym (none_behind mark b (ne_eqb b 61 h61) (ne_eqb b 62 h62) (ne_eqb b 43 h43) (ne_eqb b 45 h45) (ne_eqb b 38 h38) (ne_eqb b 124 h124) (ne_eqb b 60 h60))
 
 -- the bytes of a punctuator are its spelling
 found_spelling : (w : Text) (marks : List Punctuator) (p : Punctuator) → find (λ q. bytes_eq w (punctuator_spelling q)) marks ≡ Some p → punctuator_spelling p ≡ w

@@ -1,6 +1,6 @@
 -- Places, byte by byte.
-use Rattle.std.proofs.Common.{◌≡◌, ℕ, ◌+◌, ◌<◌, List, [], ◌∷◌, ◌++◌, length, take, get_or, Bool, nat_eq, cond, true, false, ◌≤◌, refl, sym, ap, ◌∙◌, arith}
-use Rattle.std.proofs.lemmas.Bool.Decides.{nat_tests}
+use Rattle.std.proofs.Common.{◌≡◌, ℕ, ◌+◌, ◌<◌, [], ◌∷◌, ◌++◌, length, take, get_or, Bool, nat_eq, cond, true, false, ◌≤◌, refl, sym, ap, ◌∙◌, arith}
+use Rattle.std.proofs.lemmas.Bool.{ne_eqb}
 use Rattle.cpc_base.specs.Bytes.{Text}
 use Rattle.cpc_base.specs.declared.stop.Place.{Place}
 use Rattle.cpc_tree.specs.Cut.{place_past, place_behind}
@@ -26,12 +26,9 @@ past_line : (line column b : ℕ) → b ≡ 10 → place_past (record { line = l
 unfolding place_past
 past_line line column b e = rw e refl
 
-other : (b n : ℕ) → (b ≡ n → ⊥) → nat_eq b n ≡ false
-other b n h = grind (arith, nat_tests)
-
 past_other : (line column b : ℕ) → (b ≡ 10 → ⊥) → place_past (record { line = line; column = column }) b ≡ record { line = line; column = column + 1 }
 unfolding place_past
-past_other line column b h = rw (other b 10 h) refl
+past_other line column b h = rw (ne_eqb b 10 h) refl
 
 pub behind_line : (place : Place) (w : Text) (n line column : ℕ) → n < length w → record { line = line; column = column } ≡ place_behind place (take n w) → get_or w n 0 ≡ 10 → record { line = line + 1; column = 1 } ≡ place_behind place (take (n + 1) w)
 behind_line place w n line column lt e f = sym (behind_more place w n lt ∙ (ap (λ p. place_past p (get_or w n 0)) (sym e) ∙ past_line line column (get_or w n 0) f))

@@ -1,7 +1,7 @@
 -- The front of a text, byte by byte: what its loops keep.
-use Rattle.std.proofs.Common.{◌≡◌, ℕ, zero, suc, ◌+◌, ◌≤◌, ◌<◌, Bool, true, false, ◌&&◌, cond, nat_eq, List, [], ◌∷◌, ◌++◌, length, take, drop, get_or, Option, Some, None, refl, sym, ap, subst, ◌∙◌, arith, add-one}
+use Rattle.std.proofs.Common.{◌≡◌, ℕ, zero, suc, ◌+◌, ◌≤◌, ◌<◌, Bool, true, false, cond, nat_eq, [], ◌∷◌, ◌++◌, length, take, drop, get_or, Some, None, refl, sym, ap, subst, ◌∙◌, arith, add-one}
 use Rattle.std.proofs.lemmas.List.{take-append-drop}
-use Rattle.std.proofs.lemmas.Bool.Decides.{nat_tests}
+use Rattle.std.proofs.lemmas.Bool.{ne_eqb}
 use Rattle.cpc_base.specs.Bytes.{Text}
 use Rattle.cpc_base.specs.declared.stop.Dialect.{Dialect}
 use Rattle.cpc_tree.specs.declared.token.Punctuator.TheVariants as P
@@ -99,12 +99,9 @@ next_gap : (b : ℕ) → next_state Gap b ≡ None
 unfolding next_state
 next_gap b = refl
 
-other : (b n : ℕ) → (b ≡ n → ⊥) → nat_eq b n ≡ false
-other b n h = grind (arith, nat_tests)
-
 next_block : (starred : Bool) (b : ℕ) → (starred ≡ true → b ≡ 47 → ⊥) → next_state (block_state starred) b ≡ Some (block_state (nat_eq b 42))
 unfolding next_state
-next_block true b h = rw (other b 47 (h refl)) (elim (nat_eq b 42) as (λ p. Some (cond p BlockCommentStar BlockComment) ≡ Some (block_state p)) [ true ↦ refl | false ↦ refl ])
+next_block true b h = rw (ne_eqb b 47 (h refl)) (elim (nat_eq b 42) as (λ p. Some (cond p BlockCommentStar BlockComment) ≡ Some (block_state p)) [ true ↦ refl | false ↦ refl ])
 next_block false b h = elim (nat_eq b 42) as (λ p. Some (cond p BlockCommentStar BlockComment) ≡ Some (block_state p)) [ true ↦ refl | false ↦ refl ]
 
 next_closed : (b : ℕ) → b ≡ 47 → next_state BlockCommentStar b ≡ Some Gap
@@ -113,7 +110,7 @@ next_closed b e = rw e refl
 
 next_line : (b : ℕ) → (b ≡ 10 → ⊥) → next_state LineComment b ≡ Some LineComment
 unfolding next_state
-next_line b h = rw (other b 10 h) refl
+next_line b h = rw (ne_eqb b 10 h) refl
 
 next_line_end : (b : ℕ) → b ≡ 10 → next_state LineComment b ≡ Some Gap
 unfolding next_state

@@ -1,5 +1,6 @@
 -- Runs of letters, digits and _, and what the digits of an integer tell.
-use Rattle.std.proofs.Common.{◌≡◌, ℕ, zero, suc, ◌+◌, ◌*◌, ◌^◌, ◌≤◌, ◌<◌, Bool, true, false, cond, nat_eq, nat_le, ◌||◌, List, [], ◌∷◌, ◌++◌, length, take, drop, get_or, Option, Some, None, refl, sym, ap, subst, ◌∙◌, arith, ◌⊎◌, inl, inr}
+use Rattle.std.proofs.Common.{◌≡◌, ℕ, zero, suc, ◌+◌, ◌*◌, ◌^◌, ◌≤◌, ◌<◌, Bool, true, false, cond, nat_eq, nat_le, [], ◌∷◌, length, take, drop, get_or, Some, None, refl, sym, ap, ◌∙◌, arith, ◌⊎◌, inl, inr}
+use Rattle.std.proofs.lemmas.Bool.{ne_eqb}
 use Rattle.std.proofs.lemmas.Bool.Decides.{nat_tests}
 use Rattle.std.proofs.lemmas.List.{length-take-le}
 use Rattle.std.proofs.lemmas.List.Sums.{fold-append, prefix_len-le-length, prefix_len-drop_all, prefix_len-drop_no, prefix_len-drop_yes, prefix_len_stops}
@@ -9,7 +10,8 @@ use Rattle.std.specs.Char.{is_ascii_digit}
 use Rattle.cpc_base.specs.Bytes.{Text}
 use Rattle.cpc_base.specs.declared.stop.Dialect.{Dialect}
 use Rattle.cpc_tree.specs.Tokens.{keyword_of, punctuator_of}
-use Rattle.cpc_tree.specs.Pieces.{Piece, Space, Fault, State, Gap, Run, Sign, is_blank, in_word, digit_value, is_digit_of, value_of, suffix_of, with_suffix, integer_of, by_digits, integer, name_or_keyword, run, first_state, next_state, state_behind, state_of}
+use Rattle.cpc_tree.specs.Pieces.{Space, Fault, Gap, Run, Sign, is_blank, in_word, digit_value, is_digit_of, value_of, suffix_of, with_suffix, integer_of, by_digits, integer, name_or_keyword, run, first_state, next_state, state_behind, state_of}
+use Rattle.cpc_tree.proofs.Runs.{first_run, next_run}
 use Rattle.cpc_lexer.specs.declared.front.Front.{Front}
 use Rattle.cpc_lexer.specs.declared.front.Front.TheVariants as F
 use Rattle.std.specs.Option.{option_map}
@@ -26,28 +28,6 @@ pub run_letter : (dialect : Dialect) (w : Text) → 0 < length w → is_ascii_di
 unfolding run
 run_letter dialect [] lt e = absurd (omega arith)
 run_letter dialect (b ∷ w) lt e = rw e refl
-
--- no blank is a letter, a digit or _
-word_no_blank : (b : ℕ) → in_word b ≡ true → is_blank b ≡ false
-unfolding in_word is_blank
-word_no_blank b e = at (nat_eq b 32) refl (nat_eq b 9) refl (nat_eq b 10) refl (nat_eq b 13) refl where
-  is_eq : (a c : ℕ) → nat_eq a c ≡ true → a ≡ c
-  is_eq a c h = grind (arith, nat_tests)
-
-  at : (p : Bool) → nat_eq b 32 ≡ p → (q : Bool) → nat_eq b 9 ≡ q → (r : Bool) → nat_eq b 10 ≡ r → (s : Bool) → nat_eq b 13 ≡ s → (p || (q || (r || s))) ≡ false
-  at true h q i r j s k = let f : false ≡ true = rw (is_eq b 32 h) at e in absurd cc
-  at false h true i r j s k = let f : false ≡ true = rw (is_eq b 9 i) at e in absurd cc
-  at false h false i true j s k = let f : false ≡ true = rw (is_eq b 10 j) at e in absurd cc
-  at false h false i false j true k = let f : false ≡ true = rw (is_eq b 13 k) at e in absurd cc
-  at false h false i false j false k = refl
-
-first_run : (b : ℕ) → in_word b ≡ true → first_state b ≡ Some Run
-unfolding first_state
-first_run b e = rw (word_no_blank b e, e) refl
-
-next_run : (b : ℕ) (p : Bool) → in_word b ≡ p → next_state Run b ≡ cond p (Some Run) None
-unfolding next_state
-next_run b p e = rw e refl
 
 run_behind : (t : Text) → state_behind (Some Run) (take (prefix_len in_word t) t) ≡ Some Run
 unfolding state_behind
@@ -142,13 +122,10 @@ digits_end base w n v le e f g lt ne = at (is_digit_of base (get_or w n 0)) refl
     below : (a b : ℕ) → (a ≤ b) ⊎ (b < a)
     below a b = grind arith
 
-other : (b n : ℕ) → (b ≡ n → ⊥) → nat_eq b n ≡ false
-other b n h = grind (arith, nat_tests)
-
 -- what begins with neither a blank nor a letter, a digit or _
 pub first_mark : (b : ℕ) → false ≡ is_blank b → false ≡ in_word b → (b ≡ 39 → ⊥) → (b ≡ 34 → ⊥) → first_state b ≡ option_map Sign (punctuator_of (b ∷ []))
 unfolding first_state
-first_mark b e f g h = rw (sym e, sym f, other b 39 g, other b 34 h) refl
+first_mark b e f g h = rw (sym e, sym f, ne_eqb b 39 g, ne_eqb b 34 h) refl
 
 first_gap : (b : ℕ) → is_blank b ≡ true → first_state b ≡ Some Gap
 unfolding first_state

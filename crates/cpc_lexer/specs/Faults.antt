@@ -3,7 +3,7 @@ use Rattle.std.specs.Prelude.{ℕ, ◌==◌, if◌then◌else◌, codes}
 use Rattle.cpc_base.specs.Bytes.{Text}
 use Rattle.cpc_base.specs.declared.stop.Stop.{Stop}
 use Rattle.cpc_base.specs.declared.stop.Stop.TheVariants.{Memory, Fault}
-use Rattle.cpc_tree.specs.Pieces.{stray_byte, unclosed, too_wide, too_long, malformed}
+use Rattle.cpc_tree.specs.Pieces.{stray_byte, unclosed, too_wide, too_long}
 
 -- how a fault is told
 abbrev pub fault_name : ℕ → Text

@@ -1,5 +1,5 @@
 -- The table of names as tokens are put into it.
-use Rattle.std.specs.Prelude.{◌≡◌, ℕ, ◌<◌, List, [], ◌∷◌, ◌++◌, length, Option, Some, None}
+use Rattle.std.specs.Prelude.{◌≡◌, ℕ, ◌<◌, List, [], ◌∷◌, ◌++◌, Option, Some, None}
 use Rattle.cpc_base.specs.declared.stop.Place.{Place}
 use Rattle.cpc_base.specs.Texts.{with_text}
 use Rattle.cpc_tree.specs.Erase.{Names}

@@ -15,6 +15,15 @@ pub(crate) const TOO_LONG: u8 = 4;
 pub(crate) const MALFORMED: u8 = 5;
 
 /// The first fault of a text.
+///
+/// 1. `stray byte`: it begins no token, blank or comment.
+/// 2. `unclosed`: a comment meets the end of the text, or a character or string the end of its line (C11 6.4.4.4, 6.4.5, 6.4.9).
+/// 3. `literal too wide`: no type of the list holds an integer (C11 6.4.4.1).
+/// 4. `name too long`: a name has more than 63 bytes, in the dialect `Event` more than 95.
+/// 5. `malformed`: another form of integer, an escape that is none or is above 255, another byte that a character or a
+///    string cannot hold, or a character of none or several bytes.
+///
+/// Inside one token the leftmost byte that shows a fault decides.
 #[derive(Clone, Copy, Debug, PartialEq, Eq)]
 pub struct LexFault {
     /// Where the first byte of what is faulty stands.

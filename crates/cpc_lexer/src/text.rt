@@ -14,8 +14,12 @@ use std::alloc::Global;
 
 /// The tokens of a text in order, or its first fault.
 ///
-/// The names are put into the table in order of first use. After a refusal the table may hold further names behind the
-/// old ones. A fault stands at the first byte of what is faulty.
+/// Each token is as long as can be (C11 6.4). The names are put into the table in order of first use.
+///
+/// # Errors
+///
+/// `Stop::Fault` with the first fault, which stands at the first byte of what is faulty, and `Stop::Memory` for want of
+/// memory. After either the table may hold further names behind the old ones.
 pub fn tokens(
     alloc: Global,
     text: &[u8],

@@ -17,3 +17,4 @@ pub mod SmallExpressions
 pub mod SmallStatements
 pub mod Once
 pub mod Readers
+pub mod SmallRest

@@ -19,7 +19,8 @@
 -- 4. that it is exact: one term of the lemmas below, 1 to 4 lines, and no induction;
 -- 5. where its first token chooses it: a class of the token's kind, and the least nesting it may have.
 -- A nonterminal that refers to itself costs one more induction, on the room: `exact_start` at zero, and `exact_as` of
--- the productions at `suc n`. `SmallExpressions` and `SmallStatements` are a language with the shapes of C, done so.
+-- the productions at `suc n`. `SmallExpressions`, `SmallStatements` and `SmallRest` use all of it, on a language with the
+-- shapes of C.
 --
 --   reader                     lists              lemma             asks
 --   nothing                    Nothing            exact_nothing
@@ -49,8 +50,12 @@
 -- `exact_as` tells a reader and its lists in other words, `exact_stop` what may stand behind a value. Where a value's
 -- own mapping forgets what may stand behind it, read the closing token first and map then: anything may follow it.
 -- `branch`, `after_branch` and `headed_branch` make the branches of a choice, and `starts_..` say how lists begin.
--- Code that goes along a chain step by step has `links_end`, `links_stop`, `links_deep`, `links_on`, `many_on` and
--- `separated_on`.
+--
+-- How the code follows. A function a production, whose one clause is that its result, seen as a tree, is what the
+-- production's reader gives with the room; a refusal is the slice of tokens from its place on. Straight code needs no
+-- answer, under `unfolding(.._at)`. `tokens.split_first()` says `tokens ≡ t ∷ rest`, which the lemmas of one step take,
+-- and a pattern `[t, rest @ ..]` does not. A function that goes along a chain has its clause on `links`; its steps are
+-- `links_end`, `links_stop`, `links_deep`, `links_fault`, `links_deeper`, and `links_on`, `many_on`, `separated_on`.
 pub use Rattle.cpc_reading.proofs.Heads.{stops_same, stops_all, stops_as, same_self, opens_as}
 pub use Rattle.cpc_reading.proofs.Tokens.{any_stops, exact_nothing, exact_one, exact_expect}
 pub use Rattle.cpc_reading.proofs.Sequence.{exact_before, exact_after, exact_bind, exact_pair}

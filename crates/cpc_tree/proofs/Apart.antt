@@ -1,19 +1,18 @@
 -- Tokens that are laid out with blanks between them are cut into the same tokens.
-use Rattle.std.proofs.Common.{◌≡◌, ℕ, ◌<◌, Bool, true, false, cond, nat_eq, ◌||◌, suc, List, [], ◌∷◌, ◌++◌, length, Option, Some, None, refl, sym, ap, subst, ◌∙◌, arith, append_assoc, ◌⊎◌, inl, inr}
-use Rattle.std.proofs.lemmas.Bool.Decides.{nat_tests}
+use Rattle.std.proofs.Common.{◌≡◌, ℕ, ◌<◌, true, false, suc, List, [], ◌∷◌, ◌++◌, length, Option, Some, None, refl, sym, ap, subst, ◌∙◌, arith, append_assoc, ◌⊎◌, inl, inr}
 use Rattle.std.proofs.lemmas.List.{append-nil}
-use Rattle.std.specs.Prelude.{is_some}
+use Rattle.std.specs.Prelude.{is_some, codes}
 use Rattle.std.specs.List.{AllPass}
 use Rattle.cpc_base.specs.Bytes.{Text}
-use Rattle.cpc_base.specs.declared.stop.Place.{Place}
 use Rattle.cpc_base.specs.declared.stop.Dialect.{Dialect}
 use Rattle.cpc_tree.specs.declared.token.Punctuator.{Punctuator}
 use Rattle.cpc_tree.specs.declared.token.Punctuator.TheVariants as P
 use Rattle.cpc_tree.specs.Tokens.{Lexeme, Placed, punctuator_of}
-use Rattle.cpc_tree.specs.Pieces.{Piece, Space, Token, Fault, State, Gap, Run, Sign, LineComment, BlockComment, BlockCommentStar, Open, Whole, Wrong, is_blank, in_word, first_state, next_state, state_of, in_state, piece_of}
+use Rattle.cpc_tree.specs.Pieces.{Piece, Space, Token, State, Gap, Run, Sign, LineComment, BlockComment, BlockCommentStar, Open, Whole, Wrong, is_blank, in_word, is_plain, next_byte, next_quoted, first_state, next_state, state_behind, state_of, in_state, piece_of}
 use Rattle.cpc_tree.specs.Cut.{place_behind, IsLongest, nothing, a_space, a_token}
 use Rattle.cpc_tree.specs.Spelling.{joins, IsApart, CutsTo}
-use Rattle.cpc_tree.proofs.States.{Stops, state_of_more, state_of_one, state_piece, piece_state, piece_none, longest_stops}
+use Rattle.cpc_tree.proofs.Runs.{blank_is, blank_no_word, next_run}
+use Rattle.cpc_tree.proofs.States.{Stops, state_of_more, state_of_one, piece_state, piece_none, longest_stops}
 
 none_is : (o : Option State) → is_some o ≡ false → o ≡ None
 none_is None e = refl
@@ -35,29 +34,7 @@ longest_apart dialect w text x e apart =
     let s = piece_state dialect w x e in
     subst (λ y. IsLongest dialect w text y) s.2 (longest_stops dialect w text s.0 s.1 (apart_stops w s.0 text s.1 apart))
 
--- blanks
-is_eq : (a b : ℕ) → nat_eq a b ≡ true → a ≡ b
-is_eq a b e = grind (arith, nat_tests)
-
-blank_is : (b : ℕ) → is_blank b ≡ true → (b ≡ 32) ⊎ ((b ≡ 9) ⊎ ((b ≡ 10) ⊎ (b ≡ 13)))
-unfolding is_blank
-blank_is b e = at (nat_eq b 32) refl (nat_eq b 9) refl (nat_eq b 10) refl (nat_eq b 13) refl e where
-  at : (p : Bool) → nat_eq b 32 ≡ p → (q : Bool) → nat_eq b 9 ≡ q → (r : Bool) → nat_eq b 10 ≡ r → (s : Bool) → nat_eq b 13 ≡ s → (p || (q || (r || s))) ≡ true → (b ≡ 32) ⊎ ((b ≡ 9) ⊎ ((b ≡ 10) ⊎ (b ≡ 13)))
-  at true h q i r j s k e = inl (is_eq b 32 h)
-  at false h true i r j s k e = inr (inl (is_eq b 9 i))
-  at false h false i true j s k e = inr (inr (inl (is_eq b 10 j)))
-  at false h false i false j true k e = inr (inr (inr (is_eq b 13 k)))
-  at false h false i false j false k e = absurd cc
-
-blank_no_word : (b : ℕ) → is_blank b ≡ true → in_word b ≡ false
-unfolding in_word
-blank_no_word b e = at (blank_is b e) where
-  at : (b ≡ 32) ⊎ ((b ≡ 9) ⊎ ((b ≡ 10) ⊎ (b ≡ 13))) → in_word b ≡ false
-  at (inl h) = rw h refl
-  at (inr (inl h)) = rw h refl
-  at (inr (inr (inl h))) = rw h refl
-  at (inr (inr (inr h))) = rw h refl
-
+-- no blank goes on a punctuator or a run
 mark_space : (p : Punctuator) → next_state (Sign p) 32 ≡ None
 unfolding next_state punctuator_of
 mark_space P.LeftParen = refl
@@ -87,8 +64,7 @@ mark_blank p b e = at (blank_is b e) where
   at (inr (inr (inr h))) = rw h (mark_return p)
 
 run_blank : (b : ℕ) → is_blank b ≡ true → next_state Run b ≡ None
-unfolding next_state
-run_blank b e = rw (blank_no_word b e) refl
+run_blank b e = next_run b false (blank_no_word b e)
 
 whole_blank : (x : Lexeme) (b : ℕ) → next_state (Whole x) b ≡ None
 unfolding next_state
@@ -195,3 +171,24 @@ so_far_all dialect done written last blanks so_far known all =
         none_end : (last : Text) → IsApart last []
         none_end last = tt
       alone (b ∷ blanks) e = subst (λ u. IsApart last u) (append-nil (b ∷ blanks)) (blanks_apart dialect last (b ∷ blanks) known e [] (omega arith))
+
+-- which bytes go on which tokens: a / *p is no comment, - -x no decrement, and int x no name
+slash_star : joins (codes "/") 42 ≡ true
+unfolding joins state_of state_behind first_state next_state is_blank in_word punctuator_of
+slash_star = refl
+
+minus_minus : joins (codes "-") 45 ≡ true
+unfolding joins state_of state_behind first_state next_state is_blank in_word punctuator_of
+minus_minus = refl
+
+int_x : joins (codes "int") 120 ≡ true
+unfolding joins state_of state_behind first_state next_state is_blank in_word punctuator_of
+int_x = refl
+
+star_name : joins (codes "*") 112 ≡ false
+unfolding joins state_of state_behind first_state next_state is_blank in_word punctuator_of
+star_name = refl
+
+string_letter : joins (codes "\"a\"") 98 ≡ false
+unfolding joins state_of state_behind first_state next_state next_quoted next_byte is_plain is_blank in_word punctuator_of
+string_letter = refl

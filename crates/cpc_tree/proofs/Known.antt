@@ -1,5 +1,5 @@
 -- Each token of a text is spelled by something.
-use Rattle.std.proofs.Common.{◌≡◌, ℕ, zero, suc, ◌+◌, ◌*◌, ◌^◌, ◌≤◌, ◌<◌, Bool, true, false, cond, nat_eq, nat_lt, nat_le, ◌&&◌, List, [], ◌∷◌, ◌++◌, length, take, drop, get_or, ℤ, pos, Option, Some, None, refl, sym, ap, subst, ◌∙◌, arith, append_assoc, length-append}
+use Rattle.std.proofs.Common.{◌≡◌, ℕ, suc, ◌+◌, ◌*◌, ◌^◌, ◌≤◌, ◌<◌, Bool, true, false, cond, nat_eq, nat_lt, nat_le, List, [], ◌∷◌, ◌++◌, length, take, drop, pos, Option, Some, None, refl, subst, arith, append_assoc, length-append}
 use Rattle.std.proofs.lemmas.Bool.Decides.{nat_tests}
 use Rattle.std.proofs.lemmas.Int.{ints}
 use Rattle.std.proofs.lemmas.List.{append-nil}
@@ -19,9 +19,9 @@ use Rattle.cpc_tree.specs.declared.token.Keyword.{Keyword}
 use Rattle.cpc_tree.specs.declared.token.Punctuator.{Punctuator}
 use Rattle.cpc_tree.specs.declared.token.Punctuator.TheVariants as P
 use Rattle.cpc_tree.specs.Tokens.{Lexeme, Word, Mark, Named, Number, Character, Quoted, Placed, keyword_of, punctuator_of, punctuator_spelling}
-use Rattle.cpc_tree.specs.Pieces.{Piece, Token, Fault, Quote, Single, Double, Escape, NoEscape, Backslash, OneOctal, TwoOctal, HexNone, Hex, State, Gap, Run, Sign, LineComment, BlockComment, BlockCommentStar, Open, Whole, Wrong, in_word, is_plain, is_blank, quote_byte, closed, is_full, digit_value, is_digit_of, value_of, simple_escape, suffix_of, kinds_tried, of_kind, with_suffix, integer_of, base_of, by_digits, integer, name_limit, name_or_keyword, run, next_byte, next_simple, octal_state, hex_state, next_quoted, comment_begun, or_mark, first_state, next_state, state_behind, state_of, in_state, piece_of}
+use Rattle.cpc_tree.specs.Pieces.{Token, Fault, Quote, Single, Double, Escape, NoEscape, Backslash, OneOctal, TwoOctal, HexNone, Hex, State, Gap, Run, Sign, LineComment, BlockComment, BlockCommentStar, Open, Whole, Wrong, in_word, is_plain, is_blank, quote_byte, closed, is_full, digit_value, is_digit_of, value_of, simple_escape, suffix_of, kinds_tried, of_kind, with_suffix, integer_of, base_of, by_digits, integer, name_limit, name_or_keyword, run, next_byte, next_simple, octal_state, hex_state, next_quoted, comment_begun, or_mark, first_state, next_state, state_behind, state_of, in_state, piece_of}
 use Rattle.cpc_tree.specs.Cut.{Row, nothing, a_space, a_token}
-use Rattle.cpc_tree.specs.Spelling.{IsName, IsLiteral, IsLiteralKind, IsSpellable}
+use Rattle.cpc_tree.specs.Spelling.{IsLiteralKind, IsSpellable}
 use Rattle.cpc_tree.proofs.States.{piece_state}
 
 -- bytes

@@ -1,5 +1,6 @@
 pub mod Clauses
 pub mod States
+pub mod Runs
 pub mod Apart
 pub mod Spelled
 pub mod Known

@@ -1,9 +1,10 @@
 -- What is spelled is the token again.
-use Rattle.std.proofs.Common.{◌≡◌, ℕ, zero, suc, ◌+◌, ◌-◌, ◌*◌, ◌/◌, ◌%◌, ◌^◌, ◌≤◌, ◌<◌, Bool, true, false, cond, not, nat_eq, nat_lt, nat_le, ◌&&◌, ◌||◌, List, [], ◌∷◌, ◌++◌, length, take, drop, get_or, ℤ, pos, negsuc, Option, Some, None, refl, sym, ap, subst, ◌∙◌, arith, append_assoc, length-append}
+use Rattle.std.proofs.Common.{◌≡◌, ℕ, zero, suc, ◌+◌, ◌-◌, ◌*◌, ◌/◌, ◌%◌, ◌^◌, ◌≤◌, ◌<◌, Bool, true, false, cond, not, nat_eq, nat_lt, nat_le, ◌&&◌, [], ◌∷◌, ◌++◌, length, take, drop, get_or, ℤ, pos, negsuc, Some, None, refl, ap, ◌∙◌, arith, append_assoc, length-append}
+use Rattle.std.proofs.lemmas.Bool.{ne_eqb}
 use Rattle.std.proofs.lemmas.Bool.Decides.{nat_tests}
 use Rattle.std.proofs.lemmas.Int.{ints}
 use Rattle.std.proofs.lemmas.List.{append-nil, take_at, drop_at}
-use Rattle.std.specs.Prelude.{find, fold, flat_map, decimal, unsigned_abs, IsTrue, All}
+use Rattle.std.specs.Prelude.{fold, flat_map, decimal, All}
 use Rattle.std.specs.List.{AllPass, prefix_len}
 use Rattle.std.specs.Char.{is_ascii_digit}
 use Rattle.std.specs.Char as C
@@ -24,6 +25,7 @@ use Rattle.cpc_tree.specs.Tokens.{Lexeme, Word, Mark, Named, Number, Character, 
 use Rattle.cpc_tree.specs.Pieces.{Piece, Token, Fault, Quote, Single, Double, NoEscape, State, Run, Sign, Open, Whole, Wrong, is_blank, in_word, is_plain, quote_byte, is_full, digit_value, is_digit_of, value_of, suffix_of, kinds_tried, with_suffix, integer_of, by_digits, base_of, integer, name_limit, name_or_keyword, run, next_byte, next_quoted, octal_state, first_state, next_state, state_behind, state_of, piece_of}
 use Rattle.cpc_tree.specs.Pieces as S
 use Rattle.cpc_tree.specs.Spelling.{byte_spelling, is_bare, kind_suffix, spelling, IsName, IsLiteral, IsSpellable}
+use Rattle.cpc_tree.proofs.Runs.{first_run, next_run}
 use Rattle.cpc_tree.proofs.States.{state_piece}
 
 -- keywords and punctuators
@@ -49,31 +51,10 @@ mark_piece : (dialect : Dialect) (p : Punctuator) → piece_of dialect (punctuat
 mark_piece dialect p = state_piece dialect (punctuator_spelling p) (Sign p) (mark_state p)
 
 -- runs
-is_eq : (a b : ℕ) → nat_eq a b ≡ true → a ≡ b
-is_eq a b e = grind (arith, nat_tests)
-
-word_no_blank : (b : ℕ) → in_word b ≡ true → is_blank b ≡ false
-unfolding in_word is_blank
-word_no_blank b e = at (nat_eq b 32) refl (nat_eq b 9) refl (nat_eq b 10) refl (nat_eq b 13) refl where
-  at : (p : Bool) → nat_eq b 32 ≡ p → (q : Bool) → nat_eq b 9 ≡ q → (r : Bool) → nat_eq b 10 ≡ r → (s : Bool) → nat_eq b 13 ≡ s → (p || (q || (r || s))) ≡ false
-  at true h q i r j s k = let f : false ≡ true = rw (is_eq b 32 h) at e in absurd cc
-  at false h true i r j s k = let f : false ≡ true = rw (is_eq b 9 i) at e in absurd cc
-  at false h false i true j s k = let f : false ≡ true = rw (is_eq b 10 j) at e in absurd cc
-  at false h false i false j true k = let f : false ≡ true = rw (is_eq b 13 k) at e in absurd cc
-  at false h false i false j false k = refl
-
-first_run : (b : ℕ) → in_word b ≡ true → first_state b ≡ Some Run
-unfolding first_state
-first_run b e = rw (word_no_blank b e, e) refl
-
-next_run : (b : ℕ) → in_word b ≡ true → next_state Run b ≡ Some Run
-unfolding next_state
-next_run b e = rw e refl
-
 run_behind : (w : Text) → AllPass in_word w → state_behind (Some Run) w ≡ Some Run
 unfolding state_behind
 run_behind [] all = refl
-run_behind (b ∷ w) all = ap (λ o. state_behind o w) (next_run b (all 0 b (omega arith))) ∙ run_behind w (λ k d lt. all (suc k) d (omega arith))
+run_behind (b ∷ w) all = ap (λ o. state_behind o w) (next_run b true (all 0 b (omega arith))) ∙ run_behind w (λ k d lt. all (suc k) d (omega arith))
 
 run_state : (w : Text) → 0 < length w → AllPass in_word w → state_of w ≡ Some Run
 unfolding state_of
@@ -101,9 +82,6 @@ octal_digit x lt = grind (arith, nat_tests)
 octal_value : (x : ℕ) → x < 8 → digit_value (48 + x) ≡ x
 unfolding digit_value
 octal_value x lt = grind (arith, nat_tests)
-
-ne : (a b : ℕ) → (a ≡ b → ⊥) → nat_eq a b ≡ false
-ne a b h = grind (arith, nat_tests)
 
 lt_true : (a b : ℕ) → a < b → nat_lt a b ≡ true
 lt_true a b h = grind (arith, nat_tests)
@@ -299,8 +277,8 @@ decimal_digits ds kind n all some value l =
       whole v e = rw (e, le_false (2 ^ 64) n (value_fits kind n l.1), not_empty (length ds) some) (suffix_kind kind n l)
 
 base_ten : (c : ℕ) (w : Text) → 48 < c → base_of (c ∷ w) ≡ 10
-base_ten c [] lt = rw (ne c 48 (λ e. omega arith)) refl
-base_ten c (b ∷ w) lt = rw (ne c 48 (λ e. omega arith)) refl
+base_ten c [] lt = rw (ne_eqb c 48 (λ e. omega arith)) refl
+base_ten c (b ∷ w) lt = rw (ne_eqb c 48 (λ e. omega arith)) refl
 
 ten_integer : (w : Text) → base_of w ≡ 10 → integer w ≡ by_digits 10 w
 unfolding integer

@@ -14,23 +14,27 @@ use Rattle.cpc_tree.specs.declared.token.Punctuator.{Punctuator}
 use Rattle.cpc_tree.specs.declared.token.Punctuator.TheVariants as P
 use Rattle.cpc_tree.specs.Tokens.{Lexeme, Word, Mark, Named, Number, Character, Quoted, punctuator_spelling, keyword_of, punctuator_of}
 
--- the numbers of the faults
+-- the numbers of the faults: a byte that begins no token
 abbrev pub stray_byte : ℕ
 stray_byte = 1
 
+-- a comment, character or string that does not end
 abbrev pub unclosed : ℕ
 unclosed = 2
 
+-- an integer that no kind holds
 abbrev pub too_wide : ℕ
 too_wide = 3
 
+-- a name of too many bytes
 abbrev pub too_long : ℕ
 too_long = 4
 
+-- another form of integer, character or string
 abbrev pub malformed : ℕ
 malformed = 5
 
--- what bytes are by themselves
+-- A blank or a comment, a token, or the front of one that shows the fault of the number.
 pub data Piece : Type 0 where
   Space : Piece
   Token : Lexeme → Piece
@@ -51,6 +55,7 @@ abbrev pub name_limit : Dialect → ℕ
 name_limit D.Cpc = 63
 name_limit D.Event = 95
 
+-- letters, digits and _ that no digit begins
 abbrev pub name_or_keyword : Dialect → Text → Option Keyword → Piece
 name_or_keyword dialect w (Some k) = Token (Word k)
 name_or_keyword dialect w None = if nat_le (length w) (name_limit dialect) then Token (Named w) else Fault too_long
@@ -61,18 +66,23 @@ name_or_keyword dialect w None = if nat_le (length w) (name_limit dialect) then 
 unfoldable pub digit_value : ℕ → ℕ
 digit_value b = if nat_le b 57 then b - 48 else (if nat_le b 70 then b - 55 else b - 87)
 
+-- whether a byte is a digit of a base up to 16
 unfoldable pub is_digit_of : ℕ → ℕ → Bool
 is_digit_of base b = is_ascii_hexdigit b && nat_lt (digit_value b) base
 
+-- the number that digits of a base make
 abbrev pub value_of : ℕ → Text → ℕ
 value_of base digits = fold (λ n d. base * n + digit_value d) 0 digits
 
+-- x or X
 abbrev pub is_x : ℕ → Bool
 is_x b = b == 120 || b == 88
 
+-- u or U
 abbrev pub is_u : ℕ → Bool
 is_u b = b == 117 || b == 85
 
+-- l or L
 abbrev pub is_l : ℕ → Bool
 is_l b = b == 108 || b == 76
 
@@ -98,10 +108,12 @@ kinds_tried false false true = Long ∷ ULong ∷ []
 kinds_tried decimal true false = UInt ∷ ULong ∷ []
 kinds_tried decimal true true = ULong ∷ []
 
+-- a value of the first kind that holds it
 abbrev pub of_kind : ℕ → Option Kind → Piece
 of_kind value (Some kind) = Token (Number kind (pos value))
 of_kind value None = Fault too_wide
 
+-- a value with its suffix
 abbrev pub with_suffix : ℕ → ℕ → Option (Bool × Bool) → Piece
 with_suffix base value (Some s) = of_kind value (find (λ kind. is_of kind (pos value)) (kinds_tried (base == 10) s.0 s.1))
 with_suffix base value None = Fault malformed
@@ -114,10 +126,11 @@ integer_of base digits suffix =
     else (if length digits == 0 then Fault malformed
     else with_suffix base (value_of base digits) (suffix_of suffix))
 
--- the digits and the suffix of an integer of a base
+-- the longest front of digits, and the suffix behind them
 abbrev pub by_digits : ℕ → Text → Piece
 by_digits base w = let n = prefix_len (is_digit_of base) w in integer_of base (take n w) (drop n w)
 
+-- an integer, with 0x where it has it
 unfoldable pub integer : Text → Piece
 integer w = by_digits (base_of w) (if base_of w == 16 then drop 2 w else w)
 
@@ -128,6 +141,7 @@ run dialect (b ∷ w) = if is_ascii_digit b then integer (b ∷ w) else name_or_
 
 -- Characters and strings (C11 6.4.4.4, 6.4.5).
 
+-- what encloses a character, and what a string
 pub data Quote : Type 0 where
   Single : Quote
   Double : Quote
@@ -141,7 +155,8 @@ pub data Escape : Type 0 where
   HexNone : Escape
   Hex : ℕ → Escape
 
--- What the bytes so far are. No byte goes on Gap, Whole and Wrong.
+-- What the bytes so far are; of a literal, with the bytes that it holds. No byte goes on Gap, Whole and Wrong, so the
+-- leftmost byte that shows a fault ends the piece.
 pub data State : Type 0 where
   Gap : State
   Run : State
@@ -153,6 +168,7 @@ pub data State : Type 0 where
   Whole : Lexeme → State
   Wrong : State
 
+-- ' and "
 abbrev pub quote_byte : Quote → ℕ
 quote_byte Single = 39
 quote_byte Double = 34
@@ -169,19 +185,20 @@ simple_escape b =
     else (if b == 110 then Some 10 else (if b == 118 then Some 11 else (if b == 102 then Some 12
     else (if b == 114 then Some 13 else (if b == 92 || (b == 39 || (b == 34 || b == 63)) then Some b else None)))))))
 
--- a character holds one byte; its value is that of the byte as a char
+-- at the second quote: a character holds one byte, and its value is that of the byte as a char
 abbrev pub closed : Quote → Text → State
 closed Double held = Whole (Quoted held)
 closed Single [] = Wrong
 closed Single (c ∷ []) = Whole (Character (convert Char (pos c)))
 closed Single (c ∷ d ∷ held) = Wrong
 
+-- whether no further byte can be held
 abbrev pub is_full : Quote → Text → Bool
 is_full Double held = false
 is_full Single [] = false
 is_full Single (c ∷ held) = true
 
--- behind a whole byte of the literal
+-- behind one more byte where no escape is open
 unfoldable pub next_byte : Quote → Text → ℕ → State
 next_byte quote held b =
     if b == quote_byte quote then closed quote held
@@ -189,18 +206,20 @@ next_byte quote held b =
     else (if b == 92 then Open quote held Backslash
     else (if is_plain quote b then Open quote (held ++ b ∷ []) NoEscape else Wrong)))
 
--- a value above 255 is no byte
+-- behind the third octal digit: a value above 255 is no byte
 abbrev pub octal_state : Quote → Text → ℕ → State
 octal_state quote held n = if nat_lt n 256 then Open quote (held ++ n ∷ []) NoEscape else Wrong
 
+-- behind a further hexadecimal digit
 abbrev pub hex_state : Quote → Text → ℕ → State
 hex_state quote held n = if nat_lt n 256 then Open quote held (Hex n) else Wrong
 
+-- behind an escape of one letter or mark
 abbrev pub next_simple : Quote → Text → Option ℕ → State
 next_simple quote held (Some c) = Open quote (held ++ c ∷ []) NoEscape
 next_simple quote held None = Wrong
 
--- an octal escape has up to three digits, and a hexadecimal one as many as there are
+-- Behind one more byte of a literal. An octal escape has up to three digits, and a hexadecimal one as many as there are.
 unfoldable pub next_quoted : Quote → Text → Escape → ℕ → State
 next_quoted quote held NoEscape b = next_byte quote held b
 next_quoted quote held Backslash b =
@@ -219,6 +238,7 @@ abbrev pub comment_begun : Punctuator → ℕ → Option State
 comment_begun P.Slash b = if b == 42 then Some BlockComment else (if b == 47 then Some LineComment else None)
 comment_begun _ b = None
 
+-- a comment, else the longer punctuator
 abbrev pub or_mark : Option State → Option Punctuator → Option State
 or_mark (Some s) mark = Some s
 or_mark None mark = option_map Sign mark
@@ -250,6 +270,7 @@ state_behind None w = None
 state_behind (Some s) [] = Some s
 state_behind (Some s) (b ∷ w) = state_behind (next_state s b) w
 
+-- the state of bytes; None where none of these begins so
 unfoldable pub state_of : Text → Option State
 state_of [] = None
 state_of (b ∷ w) = state_behind (first_state b) w

@@ -1,5 +1,5 @@
 -- Tokens without places, in which each name is its text.
-use Rattle.std.specs.Prelude.{ℕ, ℤ, List, [], ◌∷◌, Option, codes, find, bytes_eq}
+use Rattle.std.specs.Prelude.{ℤ, List, [], ◌∷◌, Option, codes, find, bytes_eq}
 use Rattle.cpc_base.specs.Bytes.{Text}
 use Rattle.cpc_base.specs.declared.stop.Place.{Place}
 use Rattle.cpc_num.specs.declared.kinds.Kind.{Kind}

@@ -22,6 +22,17 @@ pub a_jump_leads_into_a_loop : RunsTo two_ways_in no_polls 150 (codes "1\n3\n6\n
 unfolding digits settle divided
 a_jump_leads_into_a_loop = record { output = refl; outcome = refl }
 
+-- the same over globals:
+-- int i; int n;
+-- cps void f(void){ i = 0; n = 0; while (i < 3) { i++; mid: n = n + i; cpc_print(n); } if (n < 20) { cpc_yield(); i = 1; goto mid; } }
+-- int main(void){ cpc_spawn f(); return 0; }
+abbrev pub two_ways_in_over_globals : Program
+two_ways_in_over_globals = (GlobalItem (codes "i") (TyInt Int) None) ∷ (GlobalItem (codes "n") (TyInt Int) None) ∷ ((FunctionItem (record { mode = Cps; called = (codes "f"); result = TyVoid; parameters = ([]); body = (Block (AndStmt (Assign (ENamed (codes "i")) None (EInteger Int (pos 0))) (AndStmt (Assign (ENamed (codes "n")) None (EInteger Int (pos 0))) (AndStmt (While (EBinary Lt (ENamed (codes "i")) (EInteger Int (pos 3))) (Block (AndStmt (Assign (ENamed (codes "i")) (Some Add) (EInteger Int (pos 1))) (AndStmt (Label (codes "mid") (Assign (ENamed (codes "n")) None (EBinary Add (ENamed (codes "n")) (ENamed (codes "i"))))) (AndStmt (Call None (ENamed (codes "cpc_print")) (AndExpr (ENamed (codes "n")) NoExpr)) NoStmt))))) (AndStmt (If (EBinary Lt (ENamed (codes "n")) (EInteger Int (pos 20))) (Block (AndStmt (Call None (ENamed (codes "cpc_yield")) NoExpr) (AndStmt (Assign (ENamed (codes "i")) None (EInteger Int (pos 1))) (AndStmt (Goto (codes "mid")) NoStmt)))) Absent) NoStmt))))) })) ∷ (FunctionItem (record { mode = Native; called = (codes "main"); result = (TyInt Int); parameters = ([]); body = (Block (AndStmt (Spawn (codes "f") NoExpr) (AndStmt (Return (Some (EInteger Int (pos 0)))) NoStmt))) })) ∷ [])
+
+pub a_jump_leads_into_a_loop_over_globals : RunsTo two_ways_in_over_globals no_polls 150 (codes "1\n3\n6\n7\n9\n12\n13\n15\n18\n19\n21\n24\n") (Ended 0)
+unfolding digits settle divided
+a_jump_leads_into_a_loop_over_globals = record { output = refl; outcome = refl }
+
 -- `break` and `continue` in each kind of loop
 -- int main(void){ int i;
 --   for (i = 0; i < 9; i++) { if (i == 1) continue; if (i == 4) break; cpc_print(i); }

@@ -1,4 +1,4 @@
-use Rattle.std.proofs.Common.{◌≡◌, ◌+◌, ◌<◌, true, false, length, get_or, arith}
+use Rattle.std.proofs.Common.{◌≡◌, true, false, get_or, arith}
 use Rattle.cpc_lexer.proofs.Steps.{block_begun, block_closed, block_goes, block_open}
 use Rattle.cpc_lexer.proofs.comment.block_comment.Goals as goal
 use Rattle.cpc_lexer.proofs.comment.block_comment.Goals.{else-starred-via-then-starred+else-b-eq47, else-starred-via-else-starred}

@@ -1,5 +1,4 @@
-use Rattle.std.proofs.Common.{◌≡◌, ◌<◌, ◌∙◌, length, get_or, refl, sym, ap, arith, subst}
-use Rattle.cpc_tree.specs.Pieces as S
+use Rattle.std.proofs.Common.{◌≡◌, ◌<◌, ◌∙◌, length, get_or, ap, arith}
 use Rattle.cpc_lexer.specs.Fronts.{quote_of, escape_of, step_state}
 use Rattle.cpc_lexer.proofs.Literals.{quote_begun, quote_goes, quote_closed, quote_wrong, quote_open}
 use Rattle.cpc_lexer.proofs.quoted.quoted.Goals as goal

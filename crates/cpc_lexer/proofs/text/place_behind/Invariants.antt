@@ -1,4 +1,4 @@
-use Rattle.std.proofs.Common.{length, ◌≡◌, ◌≤◌, ◌+◌, take, drop}
+use Rattle.std.proofs.Common.{◌≡◌, ◌≤◌, ◌+◌, take}
 use Rattle.cpc_tree.specs.Cut.{place_behind}
 use Rattle.cpc_lexer.proofs.text.place_behind.Given as goal
 

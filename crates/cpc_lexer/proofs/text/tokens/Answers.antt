@@ -1,4 +1,3 @@
-use Rattle.std.proofs.Common.{◌≡◌, sym}
 use Rattle.cpc_lexer.proofs.Rows.{one_answer}
 use Rattle.cpc_lexer.proofs.Lists.{cut_begun, cut_goes, cut_grown, cut_kept, cut_room}
 use Rattle.cpc_lexer.proofs.text.tokens.Goals as goal

@@ -1,5 +1,4 @@
-use Rattle.std.proofs.Common.{◌≡◌, ◌∙◌, true, false, get_or, take, sym, ap}
-use Rattle.std.specs.Char.{is_ascii_digit}
+use Rattle.std.proofs.Common.{◌∙◌, take, sym}
 use Rattle.cpc_lexer.proofs.Words.{run_digit, run_letter, run_front, first_of}
 use Rattle.cpc_lexer.proofs.word.run.Goals as goal
 
