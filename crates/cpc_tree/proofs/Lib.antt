@@ -4,3 +4,5 @@ pub mod Runs
 pub mod Apart
 pub mod Spelled
 pub mod Known
+pub mod Places
+pub mod LocatedClauses

@@ -17,7 +17,7 @@ use Rattle.cpc_tree.specs.declared.program.Function as GFunction
 use Rattle.cpc_tree.specs.declared.program.Item as GItem
 use Rattle.cpc_tree.specs.declared.program.Item.TheVariants as I
 use Rattle.cpc_tree.specs.declared.program.Program as GProgram
-use Rattle.std.specs.Prelude.{vec_items, Box}
+use Rattle.std.specs.Prelude.{Box}
 use Rattle.std.specs.Global.{Global}
 
 abbrev pub Names : Type 0

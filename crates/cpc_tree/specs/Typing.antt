@@ -80,11 +80,15 @@ is_scalar (TyPointer t) = true
 is_scalar (TyCode r ps) = true
 is_scalar _ = false
 
+-- the fields of a struct of a row of items, the last item first
+abbrev pub fields_in : List Item → Text → Option (List Variable)
+fields_in [] tag = None
+fields_in (StructItem t fs ∷ items) tag = if bytes_eq t tag then Some fs else fields_in items tag
+fields_in (_ ∷ items) tag = fields_in items tag
+
 -- the fields of a struct
 abbrev pub fields : Program → Text → Option (List Variable)
-fields [] tag = None
-fields (StructItem t fs ∷ items) tag = if bytes_eq t tag then Some fs else fields items tag
-fields (_ ∷ items) tag = fields items tag
+fields p tag = fields_in (reverse p) tag
 
 -- a field among these, the first of which is at the offset n
 abbrev pub field_from : Program → ℕ → List Variable → Text → Option (ℕ × Ty)
@@ -381,54 +385,58 @@ field_type p o x = do
   f ← field p tag x
   Some (APlace f.1)
 
--- the type of an expression, and whether it is a place
-abbrev pub typing : Program → Scope → Expr → Option Typed
-typing p scope (ENamed x) = type_named (named p scope x)
-typing p scope (EInteger kind z) = Some (AValue (TyInt kind))
-typing p scope (ECharacter z) = Some (AValue (TyInt Int))
-typing p scope (EText bytes) = None
-typing p scope (EUnary AddressOf (ENamed x)) = do
-  d ← type_named (named p scope x)
+-- the type of an expression where names stand for these, and whether it is a place
+abbrev pub typing_of : (Text → Meant) → Program → Expr → Option Typed
+typing_of meant p (ENamed x) = type_named (meant x)
+typing_of meant p (EInteger kind z) = Some (AValue (TyInt kind))
+typing_of meant p (ECharacter z) = Some (AValue (TyInt Int))
+typing_of meant p (EText bytes) = None
+typing_of meant p (EUnary AddressOf (ENamed x)) = do
+  d ← type_named (meant x)
   Some (address_type d)
-typing p scope (EUnary sign e) = sign_type sign (typing p scope e)
-typing p scope (EBinary op a b) = do
-  d ← typing p scope a
+typing_of meant p (EUnary sign e) = sign_type sign (typing_of meant p e)
+typing_of meant p (EBinary op a b) = do
+  d ← typing_of meant p a
   t ← used d
-  e ← typing p scope b
+  e ← typing_of meant p b
   u ← used e
   r ← binary_type p op (is_null a) (is_null b) t u
   Some (AValue r)
-typing p scope (EAnd a b) = test_type (typing p scope a) (typing p scope b)
-typing p scope (EOr a b) = test_type (typing p scope a) (typing p scope b)
-typing p scope (EChoose c a b) = do
-  k ← tested_type (typing p scope c)
-  d ← typing p scope a
+typing_of meant p (EAnd a b) = test_type (typing_of meant p a) (typing_of meant p b)
+typing_of meant p (EOr a b) = test_type (typing_of meant p a) (typing_of meant p b)
+typing_of meant p (EChoose c a b) = do
+  k ← tested_type (typing_of meant p c)
+  d ← typing_of meant p a
   t ← used d
-  e ← typing p scope b
+  e ← typing_of meant p b
   u ← used e
   r ← choice_type (is_null a) (is_null b) t u
   Some (AValue r)
-typing p scope (ECast t e) = do
-  d ← typing p scope e
+typing_of meant p (ECast t e) = do
+  d ← typing_of meant p e
   u ← used d
   r ← cast_type (is_null e) t u
   Some (AValue r)
-typing p scope (ESizeOf t) = do
+typing_of meant p (ESizeOf t) = do
   n ← size p t
   Some (AValue (TyInt ULong))
-typing p scope (EIndex a i) = do
-  d ← typing p scope a
+typing_of meant p (EIndex a i) = do
+  d ← typing_of meant p a
   t ← used d
-  e ← typing p scope i
+  e ← typing_of meant p i
   u ← used e
   r ← sum_type p t u
   v ← target r
   Some (APlace v)
-typing p scope (EMember e x) = do
-  d ← typing p scope e
+typing_of meant p (EMember e x) = do
+  d ← typing_of meant p e
   field_type p (typed_place d) x
-typing p scope (EArrow e x) = do
-  d ← typing p scope e
+typing_of meant p (EArrow e x) = do
+  d ← typing_of meant p e
   t ← used d
   field_type p (target t) x
-typing p scope (ECall f es) = None
+typing_of meant p (ECall f es) = None
+
+-- the type of an expression in a scope
+abbrev pub typing : Program → Scope → Expr → Option Typed
+typing p scope e = typing_of (named p scope) p e
