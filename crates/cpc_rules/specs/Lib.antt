@@ -1,0 +1,9 @@
+pub mod Rule
+pub mod Scopes
+pub mod Operators
+pub mod Calls
+pub mod ExprRules
+pub mod StmtRules
+pub mod FunctionRules
+pub mod ItemRules
+pub mod Rules
