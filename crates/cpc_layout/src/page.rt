@@ -1,7 +1,7 @@
 //! The text of a sheet.
 ghost use Rattle.std.specs.Prelude.{◌≡◌, false, IfOk, OnOk, All, option_map};
 ghost use Rattle.cpc_base.specs.declared.stop.Dialect.{Dialect};
-ghost use Rattle.cpc_tree.specs.Erase.{Names};
+ghost use Rattle.cpc_tree.specs.Erase.{Names as Spelling, in_table};
 ghost use Rattle.cpc_tree.specs.Spelling.{IsApart, IsSpellable, CutsTo};
 ghost use Rattle.cpc_layout.specs.Sheets.{row_of};
 ghost use Rattle.cpc_layout.specs.Layout.{IsPrevious, previous_spelling, IsSetBehind, BlanksMore};
@@ -19,7 +19,7 @@ use std::alloc::Global;
 ///
 /// `NoMemory` for want of memory.
 pub fn text(alloc: Global, names: &Names, sheet: &Sheet) -> Result<Vec<u8>, NoMemory>
-    ensures { IfOk result (λ bytes. (dialect : Dialect) → All (IsSpellable dialect) (row_of names.now sheet.now) → CutsTo dialect bytes.items (row_of names.now sheet.now)) }
+    ensures { IfOk result (λ bytes. (dialect : Dialect) → All (IsSpellable dialect) (row_of (in_table names.now) sheet.now) → CutsTo dialect bytes.items (row_of (in_table names.now) sheet.now)) }
 {
     let mut out = Vec::new(alloc);
     let mut last = None;
@@ -41,7 +41,7 @@ fn set(
     last: Option<&Lexeme>,
     piece: &Piece,
 ) -> Result<(), NoMemory>
-    ensures { OnOk result (IsSetBehind names.now (option_map (λ x. x.now) last.entry) piece.now.lexeme out.old.items out.new.items) }
+    ensures { OnOk result (IsSetBehind (in_table names.now) (option_map (λ x. x.now) last.entry) piece.now.lexeme out.old.items out.new.items) }
 {
     let mut word = Vec::new(alloc);
     spell(&mut word, names, &piece.lexeme)?;
@@ -52,7 +52,7 @@ fn set(
 
 /// Whether the bytes would go on the last token if no blank stood between them.
 fn is_stuck(last: Option<&Lexeme>, word: &[u8]) -> bool
-    ensures { result ≡ false → (names : Names) (dialect : Dialect) → IsPrevious dialect names (option_map (λ x. x.now) last.entry) → IsApart (previous_spelling names (option_map (λ x. x.now) last.entry)) word.now }
+    ensures { result ≡ false → (names : Spelling) (dialect : Dialect) → IsPrevious dialect names (option_map (λ x. x.now) last.entry) → IsApart (previous_spelling names (option_map (λ x. x.now) last.entry)) word.now }
 {
     let Some(lexeme) = last else {
         return false;

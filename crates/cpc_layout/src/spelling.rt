@@ -1,5 +1,6 @@
 //! How a token is spelled (C11 6.4).
 ghost use Rattle.std.specs.Prelude.{◌≡◌, ◌++◌, [], ◌∷◌, OnOk, decimal, flat_map};
+ghost use Rattle.cpc_tree.specs.Erase.{in_table};
 ghost use Rattle.cpc_tree.specs.Pieces.{quote_byte};
 ghost use Rattle.cpc_tree.specs.Spelling.{kind_suffix, byte_spelling, spelling};
 ghost use Rattle.cpc_tree.specs.Spelling as S;
@@ -31,7 +32,7 @@ impl Quote {
 /// Puts the bytes of a token at the end. An integer is decimal, with the suffix of its kind.
 #[tactic(auto, unfolding(cpc_tree::specs::Spelling::spelling))]
 pub(crate) fn spell(out: &mut Vec<u8>, names: &Names, lexeme: &Lexeme) -> Result<(), NoMemory>
-    ensures { OnOk result (out.new.items ≡ out.old.items ++ spelling (lexeme_of names.now lexeme.now)) }
+    ensures { OnOk result (out.new.items ≡ out.old.items ++ spelling (lexeme_of (in_table names.now) lexeme.now)) }
 {
     match lexeme {
         Lexeme::Keyword(word) => out.extend_from_slice(word.spelling())?,

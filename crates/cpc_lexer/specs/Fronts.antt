@@ -5,7 +5,7 @@ use Rattle.cpc_base.specs.declared.stop.Dialect.{Dialect}
 use Rattle.cpc_num.specs.Number.{convert}
 use Rattle.cpc_num.specs.declared.kinds.Kind.{Kind}
 use Rattle.cpc_num.specs.declared.kinds.Kind.TheVariants.{Char}
-use Rattle.cpc_tree.specs.Erase.{Names}
+use Rattle.cpc_tree.specs.Erase.{Table, in_table}
 use Rattle.cpc_tree.specs.declared.token.TokenKind.{TokenKind}
 use Rattle.cpc_tree.specs.declared.token.TokenKind.TheVariants as T
 use Rattle.cpc_tree.specs.Tokens.{Lexeme, Named, Number, Character, Quoted, lexeme_of}
@@ -29,7 +29,7 @@ IsNameless _ = Unit {0}
 -- the bytes w as the front says what they are; its token is no name
 abbrev pub front_piece : Text → Front → Piece
 front_piece w F.Space = Space
-front_piece w (F.Token kind) = Token (lexeme_of [] kind)
+front_piece w (F.Token kind) = Token (lexeme_of (in_table []) kind)
 front_piece w F.Name = Token (Named w)
 front_piece w (F.Fault number) = Fault number
 
@@ -57,9 +57,9 @@ IsFront dialect text (F.Fault number) n = IsFaulty dialect text number × IsFaul
 IsFront dialect text front n = IsLongestFront dialect text n (front_piece (take n text) front) × IsFrontNameless front
 
 -- a token, or none for a blank or a comment
-abbrev pub kind_piece : Names → Option TokenKind → Piece
+abbrev pub kind_piece : Table → Option TokenKind → Piece
 kind_piece names None = Space
-kind_piece names (Some kind) = Token (lexeme_of names kind)
+kind_piece names (Some kind) = Token (lexeme_of (in_table names) kind)
 
 -- an integer, or the number of its fault
 abbrev pub integer_piece : Result (Kind × ℕ) ℕ → Piece

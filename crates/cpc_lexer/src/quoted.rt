@@ -1,6 +1,7 @@
 //! Characters and strings (C11 6.4.4.4, 6.4.5).
 ghost use Rattle.std.specs.Prelude.{◌≡◌, ◌<◌, ◌++◌, [], ◌∷◌, length, slice_index, IfOk};
 ghost use Rattle.cpc_base.specs.declared.stop.Dialect.{Dialect};
+ghost use Rattle.cpc_tree.specs.Erase.{in_table};
 ghost use Rattle.cpc_tree.specs.Tokens.{lexeme_of};
 ghost use Rattle.cpc_base.specs.Bytes.{Text};
 ghost use Rattle.cpc_tree.specs.Pieces.{quote_byte, is_plain, simple_escape, closed, next_byte, next_quoted, octal_state, hex_state};
@@ -63,7 +64,7 @@ pub(crate) fn quoted(alloc: Global, text: &[u8], quote: Quote) -> Result<(Front,
 /// The literal that holds the bytes; the value of a character is that of its byte as a `char`.
 fn literal(quote: Quote, held: Vec<u8>) -> TokenKind
     requires { HoldsOne (quote_of quote) held.items }
-    ensures value { lexeme_of [] result ≡ literal_of (quote_of quote) held.items }
+    ensures value { lexeme_of (in_table []) result ≡ literal_of (quote_of quote) held.items }
     ensures nameless { IsNameless result }
 {
     match quote {

@@ -1,5 +1,6 @@
 //! The tokens of a text.
 ghost use Rattle.std.specs.Prelude.{◌≡◌, ◌+◌, ◌<◌, ◌≤◌, ◌^◌, length, map, All, IfOk, IfErr, OnOk, OnErr, IfSome, ◌++◌};
+ghost use Rattle.cpc_tree.specs.Erase.{in_table};
 ghost use Rattle.cpc_tree.specs.Tokens.{placed_of};
 ghost use Rattle.cpc_tree.specs.Cut.{text_start, place_behind, IsFaulty, IsCut, IsLexFault, HasOneAnswer};
 ghost use Rattle.cpc_lexer.specs.Faults.{IfFault};
@@ -28,8 +29,8 @@ pub fn tokens(
 ) -> Result<Vec<Token>, Stop<LexFault>>
     requires { length names.old + length text.now < 2 ^ 63 }
     // The tokens are those of the text, each name by the table as it is afterwards.
-    ensures cut { IfOk result (λ v. IsCut text.now dialect (map (placed_of names.new) v.items)) }
-    ensures table { IfOk result (λ v. names.new ≡ with_tokens names.old (map (placed_of names.new) v.items)) }
+    ensures cut { IfOk result (λ v. IsCut text.now dialect (map (placed_of (in_table names.new)) v.items)) }
+    ensures table { IfOk result (λ v. names.new ≡ with_tokens names.old (map (placed_of (in_table names.new)) v.items)) }
     ensures below { IfOk result (λ v. All (TokenBelow (length names.new)) v.items) }
 
     ensures fault { IfErr result (λ stop. IfFault stop (λ f. IsLexFault text.now dialect f.place f.number)) }

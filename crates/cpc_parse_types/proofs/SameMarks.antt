@@ -171,17 +171,21 @@ begin_word names (t ∷ rest) word e = word_of_kind names t.kind word e
 pub word_is : (names : Names) (ts : List Token) (word : Keyword) (b : Bool) → (IsTrue b ↔ (first_word ts ≡ Some word)) → b ≡ begins_word word (placed names ts)
 word_is names ts word b e = both b (begins_word word (placed names ts)) (λ i. begin_word names ts word (e.0 i)) (λ i. e.1 (word_begun names ts word i))
 
+-- one spelling of names; any other would do
+pub unnamed : Names
+unnamed n = []
+
 -- the first token, where it is the mark
 pub first_is : (ts : List Token) (t : Token) (rest : List Token) (mark : Punctuator) (b : Bool) → ts ≡ t ∷ rest → ((names : Names) → b ≡ begins mark (placed names ts)) → b ≡ true
     → ts ≡ record { place = t.place; kind = T.Punctuator mark } ∷ rest
 first_is ts t rest mark b e f i =
-    let k : begins mark (placed [] (t ∷ rest)) ≡ true = subst (λ z. begins mark (placed [] z) ≡ true) e (sym (f []) ∙ i) in
-    let h : t ≡ record { place = t.place; kind = T.Punctuator mark } = ap (λ z. record { place = t.place; kind = z }) (kind_mark [] t.kind mark k) in
+    let k : begins mark (placed unnamed (t ∷ rest)) ≡ true = subst (λ z. begins mark (placed unnamed z) ≡ true) e (sym (f unnamed) ∙ i) in
+    let h : t ≡ record { place = t.place; kind = T.Punctuator mark } = ap (λ z. record { place = t.place; kind = z }) (kind_mark unnamed t.kind mark k) in
     e ∙ ap (λ z. z ∷ rest) h
 
 pub first_word_is : (ts : List Token) (t : Token) (rest : List Token) (word : Keyword) (b : Bool) → ts ≡ t ∷ rest → ((names : Names) → b ≡ begins_word word (placed names ts)) → b ≡ true
     → ts ≡ record { place = t.place; kind = T.Keyword word } ∷ rest
 first_word_is ts t rest word b e f i =
-    let k : begins_word word (placed [] (t ∷ rest)) ≡ true = subst (λ z. begins_word word (placed [] z) ≡ true) e (sym (f []) ∙ i) in
-    let h : t ≡ record { place = t.place; kind = T.Keyword word } = ap (λ z. record { place = t.place; kind = z }) (kind_word [] t.kind word k) in
+    let k : begins_word word (placed unnamed (t ∷ rest)) ≡ true = subst (λ z. begins_word word (placed unnamed z) ≡ true) e (sym (f unnamed) ∙ i) in
+    let h : t ≡ record { place = t.place; kind = T.Keyword word } = ap (λ z. record { place = t.place; kind = z }) (kind_word unnamed t.kind word k) in
     e ∙ ap (λ z. z ∷ rest) h

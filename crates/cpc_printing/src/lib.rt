@@ -1,5 +1,5 @@
-//! Laws of printing: what is printed is read back, nests no deeper than it was read, has no parenthesis too many, and can
-//! be spelled.
+//! Laws of printing: what is printed is read back, has no parenthesis too many, can be spelled, and, where parameters'
+//! pointers are brackets, nests no deeper than it was read.
 #![tactic(auto)]
 
 mod laws;

@@ -2,7 +2,7 @@
 ghost use Rattle.std.specs.Prelude.{◌≡◌, ℕ, List, pos, [], ◌∷◌, ◌++◌, Some, None, codes, IfOk, OnOk, string_bytes};
 ghost use Rattle.cpc_num.specs.declared.kinds.Kind.TheVariants.{Int};
 ghost use Rattle.cpc_tree.specs.Syntax.{Stmts, Expr, AndExpr, NoExpr, ENamed, EInteger, Block, Call, Return};
-ghost use Rattle.cpc_tree.specs.Erase.{Names, expr_of, stmt_of, list_of, program_of};
+ghost use Rattle.cpc_tree.specs.Erase.{Names, expr_of, stmt_of, list_of, program_of, in_table};
 ghost use Rattle.cpc_small.specs.Small.{Small, IsText, IsSmall, small_body, small_program};
 ghost use Rattle.cpc_small.specs.Layout.{print_line, return_line, lines, laid_out};
 
@@ -32,7 +32,7 @@ fn inner_of(statement: &Statement) -> &[Statement]
 
 // The statements of the function that a program begins with.
 fn main_of(program: &Program) -> &[Statement]
-    ensures { (s : Small) → program_of program.now ≡ small_program s → list_of program.now.names result.now ≡ small_body s.numbers s.value }
+    ensures { (s : Small) → program_of program.now ≡ small_program s → list_of (in_table program.now.names) result.now ≡ small_body s.numbers s.value }
 {
     match program.items.as_slice().first() {
         Some(Item::Function(function)) => inner_of(&function.body),

@@ -10,7 +10,7 @@ use Rattle.cpc_tree.specs.declared.program.Field as GField
 use Rattle.cpc_tree.specs.declared.program.Item as GItem
 use Rattle.cpc_tree.specs.declared.program.Item.TheVariants as I
 use Rattle.cpc_tree.specs.declared.program.Program as GProgram
-use Rattle.cpc_tree.specs.Erase.{Names, text_of, expr_of, row_of, exprs_of, stmt_of, stmts_of, maybe_of, parameter_of, field_of, item_of, program_of}
+use Rattle.cpc_tree.specs.Erase.{Names, text_of, expr_of, row_of, exprs_of, stmt_of, stmts_of, maybe_of, parameter_of, field_of, item_of, program_of, in_table}
 use Rattle.cpc_tree.specs.Located.{bare_expr, bare_exprs, bare_stmt, bare_stmts, bare_maybe, bare_variable, bare_parameter, bare_item, bare}
 use Rattle.cpc_tree.specs.Locate.{ident, located_expr, located_row, located_exprs, located_stmt, located_stmts, located_maybe, located_parameter, located_field, located_item, located}
 
@@ -92,4 +92,4 @@ bare_items names (I.Function f ∷ xs) = rw (bare_parameters names f.parameters.
 
 -- the program without places is the same either way
 pub bare_program : (p : GProgram.Program) → bare (located p) ≡ program_of p
-bare_program p = bare_items p.names p.items.items
+bare_program p = bare_items (in_table p.names) p.items.items

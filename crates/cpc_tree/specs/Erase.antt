@@ -20,11 +20,19 @@ use Rattle.cpc_tree.specs.declared.program.Program as GProgram
 use Rattle.std.specs.Prelude.{Box}
 use Rattle.std.specs.Global.{Global}
 
+-- the text of each name
 abbrev pub Names : Type 0
-Names = List Text
+Names = Name → Text
 
 abbrev pub text_of : Names → Name → Text
-text_of names n = get_or names n.0 []
+text_of names n = names n
+
+-- the texts of a table, in the order of their names
+abbrev pub Table : Type 0
+Table = List Text
+
+abbrev pub in_table : Table → Names
+in_table table n = get_or table n.0 []
 
 abbrev mutual
   pub type_of : Names → GType.CType → Ty
@@ -117,7 +125,7 @@ item_of names (I.Function f) = FunctionItem (function_of names f)
 
 -- the program that a tree means
 abbrev pub program_of : GProgram.Program → Program
-program_of p = map (item_of p.names) p.items.items
+program_of p = map (item_of (in_table p.names)) p.items.items
 
 -- the statements of a Vec
 abbrev pub list_of : Names → List GStatement.Statement → Stmts

@@ -1,7 +1,7 @@
 -- From the trees of src/ to programs with places.
 use Rattle.std.specs.Prelude.{List, [], ◌∷◌, Option, Some, None, map, option_map, Box}
 use Rattle.std.specs.Global.{Global}
-use Rattle.cpc_tree.specs.Erase.{Names, text_of, type_of}
+use Rattle.cpc_tree.specs.Erase.{Names, text_of, type_of, in_table}
 use Rattle.cpc_tree.specs.Located.{Ident, LExpr, LNamed, LInteger, LCharacter, LText, LUnary, LBinary, LAnd, LOr, LChoose, LCast, LSizeOf, LIndex, LMember, LArrow, LCall, LExprs, NoLExpr, AndLExpr, LStmt, LStmts, NoLStmt, AndLStmt, MaybeLStmt, NoneLStmt, SomeLStmt, LVariable, LParameter, LFunction, LItem, LStruct, LGlobal, LPrototype, LFunctionItem, LProgram}
 use Rattle.cpc_tree.specs.Located as L
 use Rattle.cpc_tree.specs.declared.program.Expr as GExpr
@@ -107,4 +107,4 @@ located_item names (I.Function f) = LFunctionItem (located_function names f)
 
 -- a tree as a program with its places
 abbrev pub located : GProgram.Program → LProgram
-located p = record { items = map (located_item p.names) p.items.items; end = p.end }
+located p = record { items = map (located_item (in_table p.names)) p.items.items; end = p.end }

@@ -1,5 +1,5 @@
 use Rattle.std.proofs.Common.{◌≡◌, ◌≤◌, ◌∙◌, ◌+◌, ap, sym, subst, map, take, length, refl, arith, List, ℤ}
-use Rattle.cpc_tree.specs.Erase.{program_of, item_of, list_of}
+use Rattle.cpc_tree.specs.Erase.{program_of, item_of, list_of, in_table}
 use Rattle.cpc_cli.specs.Answer.{EndsIn, IsPrefix}
 use Rattle.cpc_cli.specs.Lines.{numbers_of, numbers_in, lines}
 use Rattle.cpc_cli.proofs.SmallOutput.{ends_in, shows}
@@ -9,7 +9,7 @@ pub returns-in-Ok-clause-wrote : goal.returns-in-Ok-clause-wrote
 returns-in-Ok-clause-wrote g c =
     let p = c.args.program.now in
     let zs : List ℤ = c.in_ok-numbers.numbers.items in
-    let found : zs ≡ numbers_of (program_of p) = c.in_ok-numbers.ensures p.names ∙ c.statements.ensures p.names ∙ ap (λ items. numbers_of (map (item_of p.names) items)) c.as_slice.ensures.value in
+    let found : zs ≡ numbers_of (program_of p) = c.in_ok-numbers.ensures (in_table p.names) ∙ c.statements.ensures (in_table p.names) ∙ ap (λ items. numbers_of (map (item_of (in_table p.names)) items)) c.as_slice.ensures.value in
     let seen : c.as_slice-2.result.now ≡ zs = c.as_slice-2.ensures.value in
     let wrote = c.in-Ok.ensures.wrote in
     let steps : c.print_all.new.steps + 2 ≡ length zs + 2 + 2 = omega (arith, wrote.2.0, ap length seen) in
@@ -19,7 +19,7 @@ pub returns-clause-wrote : goal.returns-clause-wrote
 returns-clause-wrote g c =
     let p = c.args.program.now in
     let zs : List ℤ = c.in_ok-numbers.numbers.items in
-    let found : zs ≡ numbers_of (program_of p) = c.in_ok-numbers.ensures p.names ∙ c.statements.ensures p.names ∙ ap (λ items. numbers_of (map (item_of p.names) items)) c.as_slice.ensures.value in
+    let found : zs ≡ numbers_of (program_of p) = c.in_ok-numbers.ensures (in_table p.names) ∙ c.statements.ensures (in_table p.names) ∙ ap (λ items. numbers_of (map (item_of (in_table p.names)) items)) c.as_slice.ensures.value in
     let seen : c.as_slice-2.result.now ≡ zs = c.as_slice-2.ensures.value in
     let wrote = c.in-Err.ensures.wrote in
     let part = wrote.2 in

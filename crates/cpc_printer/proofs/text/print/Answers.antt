@@ -1,6 +1,6 @@
 use Rattle.std.proofs.Common.{◌≡◌, ap, ◌∙◌, not, IfOk, List, All, subst}
 use Rattle.cpc_base.specs.declared.stop.Dialect.{Dialect}
-use Rattle.cpc_tree.specs.Erase.{program_of}
+use Rattle.cpc_tree.specs.Erase.{program_of, in_table}
 use Rattle.cpc_tree.specs.Tokens.{Lexeme}
 use Rattle.cpc_tree.specs.Spelling.{IsSpellable, CutsTo}
 use Rattle.cpc_layout.specs.Sheets.{row_of}
@@ -12,7 +12,7 @@ use Rattle.cpc_printer.proofs.text.print.Goals as goal
 pub returns : goal.returns
 returns c =
     let program = program_of c.args.program.now in
-    let names = c.args.program.now.names in
+    let names = in_table c.args.program.now.names in
     let style : c.new-sheet.result.is_tight ≡ is_tight_for program = c.new-sheet.ensures.style ∙ (ap not c.fits.ensures ∙ not_not _) in
     let none = c.new-sheet.ensures.row names in
     let put = c.in_ok-items.ensures.row names in

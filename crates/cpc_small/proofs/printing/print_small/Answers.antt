@@ -1,5 +1,6 @@
 -- What is laid out has the pieces of the small text.
 use Rattle.std.proofs.Common.{◌≡◌, ◌++◌, Vec, Global, ℕ, ap, sym, ◌∙◌, subst}
+use Rattle.cpc_tree.specs.Erase.{in_table}
 use Rattle.cpc_base.specs.Bytes.{Text}
 use Rattle.cpc_small.specs.Small.{IsText}
 use Rattle.cpc_small.specs.Layout.{lines, laid_out}
@@ -8,7 +9,7 @@ use Rattle.cpc_small.proofs.printing.print_small.Goals as goal
 
 pub returns-clause-layout : goal.returns-clause-layout
 returns-clause-layout c s e =
-    let written = c.in_ok-write_statements.ensures c.args.program.now.names s (c.main_of.ensures s e) in
+    let written = c.in_ok-write_statements.ensures (in_table c.args.program.now.names) s (c.main_of.ensures s e) in
     ap (λ (v : Vec ℕ Global). v.items) c.into_bytes.ensures.value ∙ c.in_ok-push_str.ensures.bytes ∙ written ∙ ap (λ (t : Text). t ++ lines s.numbers s.value) c.in_ok-text.ensures.ok
 
 pub returns-clause-same : goal.returns-clause-same
