@@ -10,7 +10,8 @@ use Rattle.cpc_tree.specs.Syntax.{Ty, TyVoid, TyInt, TyCondvar, TyPointer, TyCod
 use Rattle.cpc_tree.specs.Located.{LExpr, LNamed, LExprs, NoLExpr, AndLExpr, bare_expr}
 use Rattle.cpc_tree.specs.Typing.{Meant, AFunction, NotMeant, Typed, used, list_of_tys, cells}
 use Rattle.cpc_tree.specs.Primitives.{Primitive, Puts, Now, CondNew, Malloc, Free, Yield, Sleep, IoWait, Wait, RtFrame, RtBox, RtFrameFree, RtUnbox, RtReady, RtWait, RtSleep, RtIo, RtDetach, primitive_named, Taken, AnyInteger, SetOf, FreeOf, any_pointer, takes_first}
-use Rattle.cpc_rules.specs.Rule.{Broken, at_if, Undeclared, Disagree, WrongNumber, CpsInNative, NotClosed, RtCall, CpsForm}
+use Rattle.cpc_rules.specs.declared.rule.Rule.TheVariants.{Undeclared, Disagree, WrongNumber, CpsInNative, NotClosed, RtCall, CpsForm}
+use Rattle.cpc_rules.specs.Rule.{Broken, at_if}
 use Rattle.cpc_rules.specs.Scopes.{Scope, meant, takes_typed}
 use Rattle.cpc_rules.specs.Operators.{Where, typed_at, used_of, first, is_detached, is_cps}
 

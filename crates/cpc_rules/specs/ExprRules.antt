@@ -5,7 +5,8 @@ use Rattle.cpc_num.specs.declared.kinds.Op.TheVariants.{Add}
 use Rattle.cpc_tree.specs.declared.program.UnaryOp.TheVariants.{AddressOf}
 use Rattle.cpc_tree.specs.Located.{LExpr, LNamed, LInteger, LCharacter, LText, LUnary, LBinary, LAnd, LOr, LChoose, LCast, LSizeOf, LIndex, LMember, LArrow, LCall, LExprs, NoLExpr, AndLExpr}
 use Rattle.cpc_tree.specs.Primitives.{primitive_named}
-use Rattle.cpc_rules.specs.Rule.{Broken, at_if, Disagree, Incomplete, CallInside}
+use Rattle.cpc_rules.specs.declared.rule.Rule.TheVariants.{Disagree, Incomplete, CallInside}
+use Rattle.cpc_rules.specs.Rule.{Broken, at_if}
 use Rattle.cpc_rules.specs.Scopes.{meant, measured}
 use Rattle.cpc_rules.specs.Operators.{Where, typed_at, first, name_breaks, no_rule, binary_breaks, address_breaks, member_breaks, arrow_breaks}
 use Rattle.cpc_rules.specs.Calls.{Wanted, String, wanted, callee, pointer_breaks, named_breaks, number_breaks, suit_breaks}

@@ -4,7 +4,9 @@ use Rattle.cpc_base.specs.Bytes.{Text}
 use Rattle.cpc_base.specs.declared.stop.Dialect.{Dialect}
 use Rattle.cpc_base.specs.declared.stop.Dialect.TheVariants as D
 use Rattle.cpc_tree.specs.Located.{Ident, LStmt, Block, Declare, If, While, DoWhile, For, Goto, Label, Break, Continue, LStmts, NoLStmt, AndLStmt, MaybeLStmt, NoneLStmt, SomeLStmt, LParameter}
-use Rattle.cpc_rules.specs.Rule.{Rule, Broken, at_if, NoLabel, LabelTwice, Stray, Reserved, TooMany}
+use Rattle.cpc_rules.specs.declared.rule.Rule.{Rule}
+use Rattle.cpc_rules.specs.declared.rule.Rule.TheVariants.{NoLabel, LabelTwice, Stray, Reserved, TooMany}
+use Rattle.cpc_rules.specs.Rule.{Broken, at_if}
 
 -- whether a name is among these
 abbrev pub among : Text → List Ident → Bool

@@ -9,7 +9,8 @@ use Rattle.cpc_tree.specs.declared.program.Mode.TheVariants.{Extern, Native, Cps
 use Rattle.cpc_tree.specs.Syntax.{Ty, TyVoid, TyInt, TyStruct, TyArray, StructItem, GlobalItem, PrototypeItem, FunctionItem, Program}
 use Rattle.cpc_tree.specs.Located.{Ident, LExpr, LText, LStmt, Block, LVariable, LParameter, LFunction, LItem, LStruct, LGlobal, LPrototype, LFunctionItem, bare_item}
 use Rattle.cpc_tree.specs.Typing.{parameter_type, same_type, size}
-use Rattle.cpc_rules.specs.Rule.{Broken, at_if, Undeclared, Twice, Disagree, Incomplete, CpsForm}
+use Rattle.cpc_rules.specs.declared.rule.Rule.TheVariants.{Undeclared, Twice, Disagree, Incomplete, CpsForm}
+use Rattle.cpc_rules.specs.Rule.{Broken, at_if}
 use Rattle.cpc_rules.specs.Scopes as S
 use Rattle.cpc_rules.specs.Scopes.{cell_limit, is_sized}
 use Rattle.cpc_rules.specs.Operators.{Where, is_cps}

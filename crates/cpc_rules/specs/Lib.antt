@@ -7,3 +7,5 @@ pub mod StmtRules
 pub mod FunctionRules
 pub mod ItemRules
 pub mod Rules
+pub mod Noted
+pub mod Apart

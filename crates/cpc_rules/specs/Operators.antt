@@ -11,7 +11,8 @@ use Rattle.cpc_tree.specs.declared.program.Mode.TheVariants.{Extern, Native, Cps
 use Rattle.cpc_tree.specs.Syntax.{Ty, TyInt, TyPointer, TyStruct}
 use Rattle.cpc_tree.specs.Located.{Ident, LExpr, LNamed, LInteger, LCharacter, LText, LUnary, LBinary, LAnd, LOr, LChoose, LCast, LSizeOf, LIndex, LMember, LArrow, LCall, bare_expr}
 use Rattle.cpc_tree.specs.Typing.{Meant, ALocal, AGlobal, AFunction, NotMeant, Typed, used, typed_place, same_type, fields}
-use Rattle.cpc_rules.specs.Rule.{Broken, at_if, Undeclared, Disagree, NoPlace, NoField, Incomplete, NotClosed, CpsAsValue}
+use Rattle.cpc_rules.specs.declared.rule.Rule.TheVariants.{Undeclared, Disagree, NoPlace, NoField, Incomplete, NotClosed, CpsAsValue}
+use Rattle.cpc_rules.specs.Rule.{Broken, at_if}
 use Rattle.cpc_rules.specs.Scopes.{Scope, typed, measured}
 
 -- Where an expression or a statement stands: what is in scope, how the function around it runs and what its result is,

@@ -1,12 +1,10 @@
--- The rules that a program can break, and lists of broken rules with their places.
-use Rattle.std.specs.Prelude.{◌≡◌, ℕ, ◌≤◌, ◌<◌, ◌⊎◌, Bool, true, false, List, [], ◌∷◌}
+-- Rules that are broken, with their places, and the first of these.
+use Rattle.std.specs.Prelude.{◌≡◌, ℕ, ◌≤◌, ◌<◌, ◌⊎◌, Bool, true, false, List, [], ◌∷◌, All, codes}
 use Rattle.cpc_base.specs.Bytes.{Text}
 use Rattle.cpc_base.specs.declared.stop.Place.{Place}
-use Rattle.std.specs.Prelude.{codes}
-
-pub data Rule : Type 0 where
-  Undeclared Twice Disagree NoPlace WrongNumber CpsInNative NoLabel LabelTwice Stray NoField : Rule
-  Incomplete Reserved BadReturn NotClosed CpsAsValue NoMain TooMany TooBroad CallInside RtCall CpsForm : Rule
+use Rattle.std.specs.List.{Contains}
+use Rattle.cpc_rules.specs.declared.rule.Rule.{Rule}
+use Rattle.cpc_rules.specs.declared.rule.Rule.TheVariants.{Undeclared, Twice, Disagree, NoPlace, WrongNumber, CpsInNative, NoLabel, LabelTwice, Stray, NoField, Incomplete, Reserved, BadReturn, NotClosed, CpsAsValue, NoMain, TooMany, TooBroad, CallInside, RtCall, CpsForm}
 
 -- the number by which a rule is told
 abbrev pub number : Rule → ℕ
@@ -72,3 +70,7 @@ IsBefore q r = (q.line < r.line) ⊎ ((q.line ≡ r.line) × (q.column < r.colum
 -- pairs in order: by their places, and at one place by the numbers of their rules
 abbrev pub IsNoLater : Place × Rule → Place × Rule → Type 0
 IsNoLater a b = IsBefore a.0 b.0 ⊎ ((a.0 ≡ b.0) × (number a.1 ≤ number b.1))
+
+-- the first broken rule: no other stands before it
+abbrev pub IsFirst : Broken → Place → Rule → Type 0
+IsFirst broken q rule = Contains broken (q, rule) × All (λ other. IsNoLater (q, rule) other) broken

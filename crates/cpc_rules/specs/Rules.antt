@@ -1,7 +1,5 @@
 -- What a program breaks, in each dialect, and the first of it.
-use Rattle.std.specs.Prelude.{ℕ, suc, ◌+◌, ◌*◌, Bool, true, false, ◌&&◌, not, if◌then◌else◌, List, [], ◌∷◌, ◌++◌, length, bytes_eq, codes, nat_lt, All}
-use Rattle.std.specs.List.{Contains}
-use Rattle.cpc_base.specs.declared.stop.Place.{Place}
+use Rattle.std.specs.Prelude.{ℕ, suc, ◌+◌, ◌*◌, Bool, true, false, ◌&&◌, not, if◌then◌else◌, List, [], ◌∷◌, ◌++◌, length, bytes_eq, codes, nat_lt}
 use Rattle.cpc_base.specs.declared.stop.Dialect.{Dialect}
 use Rattle.cpc_base.specs.declared.stop.Dialect.TheVariants as D
 use Rattle.cpc_num.specs.declared.kinds.Kind.TheVariants.{Int}
@@ -9,7 +7,8 @@ use Rattle.cpc_tree.specs.declared.program.Mode.{Mode}
 use Rattle.cpc_tree.specs.declared.program.Mode.TheVariants.{Native, Cps}
 use Rattle.cpc_tree.specs.Syntax.{Ty, TyInt}
 use Rattle.cpc_tree.specs.Located.{LFunction, LItem, LFunctionItem, LProgram, bare}
-use Rattle.cpc_rules.specs.Rule.{Rule, Broken, at_if, NoMain, TooBroad, IsNoLater}
+use Rattle.cpc_rules.specs.declared.rule.Rule.TheVariants.{NoMain, TooBroad}
+use Rattle.cpc_rules.specs.Rule.{Broken, at_if}
 use Rattle.cpc_rules.specs.Operators.{is_cps}
 use Rattle.cpc_rules.specs.FunctionRules.{statements, variables}
 use Rattle.cpc_rules.specs.ItemRules.{items_breaks}
@@ -57,7 +56,3 @@ breadth_breaks D.Event xs = []
 -- the broken rules of a program
 abbrev pub breaks : Dialect → LProgram → Broken
 breaks dialect p = items_breaks dialect (bare p) [] p.items ++ (at_if (not (has_main p.items)) p.end NoMain ++ breadth_breaks dialect p.items)
-
--- the first broken rule: no other stands before it
-abbrev pub IsFirst : Broken → Place → Rule → Type 0
-IsFirst broken q rule = Contains broken (q, rule) × All (λ other. IsNoLater (q, rule) other) broken

@@ -6,7 +6,8 @@ use Rattle.cpc_num.specs.declared.kinds.Kind.TheVariants.{Int}
 use Rattle.cpc_tree.specs.Syntax.{Ty, TyVoid, TyInt, TyStruct, TyArray, EBinary, Variable}
 use Rattle.cpc_tree.specs.Located.{Ident, LExpr, LExprs, LStmt, Block, Empty, Declare, Assign, Call, Detach, Spawn, If, While, DoWhile, For, Goto, Label, Break, Continue, Return, LStmts, NoLStmt, AndLStmt, MaybeLStmt, NoneLStmt, SomeLStmt, bare_expr}
 use Rattle.cpc_tree.specs.Typing.{Meant, NotMeant, Typed, AValue, APlace, used, is_testable}
-use Rattle.cpc_rules.specs.Rule.{Broken, at_if, Undeclared, Twice, Disagree, NoPlace, CpsInNative, Incomplete, BadReturn, NotClosed, CpsForm}
+use Rattle.cpc_rules.specs.declared.rule.Rule.TheVariants.{Undeclared, Twice, Disagree, NoPlace, CpsInNative, Incomplete, BadReturn, NotClosed, CpsForm}
+use Rattle.cpc_rules.specs.Rule.{Broken, at_if}
 use Rattle.cpc_rules.specs.Scopes.{Scope, meant, typed, takes_value, takes_typed, with_name, with_block, is_sized, is_here}
 use Rattle.cpc_rules.specs.Operators.{Where, typed_at, first, is_detached, is_cps, binary_breaks}
 use Rattle.cpc_rules.specs.Calls.{Callee, NoCallee, Takes, callee, section_callee, spawn_callee, is_event, wanted, result, number_breaks}

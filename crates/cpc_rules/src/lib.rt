@@ -1,2 +1,8 @@
-//! The rules of the language: what scopes are, and which pairs of place and rule a program breaks.
+//! The rules of the language: what scopes are, which pairs of place and rule a program breaks, and the first of them.
 #![tactic(auto)]
+
+mod first;
+mod rule;
+
+pub use first::{Breach, First, noted_is_first};
+pub use rule::Rule;
