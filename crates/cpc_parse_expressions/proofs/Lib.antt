@@ -1,0 +1,14 @@
+pub mod Endings
+pub mod Sorts
+pub mod PostfixWords
+pub mod UnaryWords
+pub mod TierWords
+pub mod ExprStarts
+pub mod Parens
+pub mod ExprExact
+pub mod Rows
+pub mod Steps
+pub mod Follow
+pub mod Stages
+pub mod Enclosing
+pub mod Passages
