@@ -1,0 +1,17 @@
+pub mod Places
+pub mod Marks
+pub mod Initials
+pub mod Globals
+pub mod Fields
+pub mod Behinds
+pub mod Firsts
+pub mod Plain
+pub mod Items
+pub mod Answer
+pub mod Ends
+pub mod Loop
+pub mod Parsed
+pub mod Steps
+pub mod Rows
+pub mod FirstSteps
+pub mod FieldSteps

@@ -1,0 +1,2 @@
+pub mod ItemReaders
+pub mod ItemViews
