@@ -1,0 +1,7 @@
+//! Texts, read and printed again.
+#![tactic(auto)]
+
+#[cfg(test)]
+mod hostile;
+#[cfg(test)]
+mod tests;
