@@ -1,0 +1,10 @@
+pub mod Nodes
+pub mod Strays
+pub mod Gathered
+pub mod Parameters
+pub mod Held
+pub mod Spelled
+pub mod Counted
+pub mod Many
+pub mod Broad
+pub mod Mains

@@ -1,0 +1,47 @@
+-- What texts begin with and hold, and the names that are kept.
+use Rattle.std.proofs.Common.{◌≡◌, ℕ, ◌+◌, ◌-◌, ◌<◌, Bool, true, false, ◌&&◌, ◌||◌, eqb, List, [], ◌∷◌, length, get_or, take, drop, refl, sym, ap, ◌∙◌, arith, None}
+use Rattle.std.specs.Prelude.{codes, slice_get}
+use Rattle.std.specs.Option.{unwrap_or}
+use Rattle.std.specs.List.{starts_with}
+use Rattle.std.proofs.lemmas.List.{drop_more, take_all, length-drop}
+use Rattle.std.proofs.lemmas.Option.{unwrap_or-slice_get}
+use Rattle.cpc_base.specs.Bytes.{Text}
+use Rattle.cpc_base.specs.declared.stop.Dialect.{Dialect}
+use Rattle.cpc_base.specs.declared.stop.Dialect.TheVariants as D
+use Rattle.cpc_rules.specs.FunctionRules.{begins_with, holds_bars, is_reserved}
+
+and_true : (a b : Bool) → (a && b) ≡ ((a && true) && b)
+and_true true b = refl
+and_true false b = refl
+
+pub begins_is : (w x : Text) → starts_with eqb x w ≡ begins_with w x
+begins_is [] x = refl
+begins_is (b ∷ w) [] = refl
+begins_is (b ∷ w) (c ∷ x) = ap (λ t. eqb b c && t) (begins_is w x) ∙ and_true (eqb b c) (begins_with w x)
+
+-- two underscores here, or further on
+pub bars_more : (x : Text) (i : ℕ) → i < length x → holds_bars (drop i x) ≡ (begins_with (codes "__") (drop i x) || holds_bars (drop (i + 1) x))
+bars_more x i h =
+    ap holds_bars (drop_more x i 0 h)
+    ∙ ap (λ y. begins_with (codes "__") y || holds_bars (drop (i + 1) x)) (sym (drop_more x i 0 h))
+
+rest_whole : (x : Text) (i : ℕ) → take (length x - i) (drop i x) ≡ drop i x
+rest_whole x i = take_all (length x - i) (drop i x) (omega (arith, length-drop i x))
+
+-- none here, so what is further on decides
+pub bars_step : (x : Text) (i : ℕ) (t : Bool) → i < length x → t ≡ begins_with (codes "__") (take (length x - i) (drop i x)) → t ≡ false → holds_bars (drop i x) ≡ holds_bars x
+    → holds_bars (drop (i + 1) x) ≡ holds_bars x
+bars_step x i t h e f k =
+    let here : begins_with (codes "__") (drop i x) ≡ false = ap (begins_with (codes "__")) (sym (rest_whole x i)) ∙ (sym e ∙ f) in
+    sym (ap (λ b. b || holds_bars (drop (i + 1) x)) here) ∙ (sym (bars_more x i h) ∙ k)
+
+empty_kept : (dialect : Dialect) → false ≡ is_reserved dialect []
+empty_kept D.Event = refl
+empty_kept D.Cpc = refl
+
+-- a name that the table does not have has no bytes
+pub absent_empty : (table : List Text) (n : ℕ) → None ≡ slice_get table n → [] ≡ get_or table n []
+absent_empty table n e = ap (λ o. unwrap_or o []) e ∙ unwrap_or-slice_get table n []
+
+pub absent_kept : (dialect : Dialect) (table : List Text) (n : ℕ) → None ≡ slice_get table n → false ≡ is_reserved dialect (get_or table n [])
+absent_kept dialect table n e = empty_kept dialect ∙ ap (is_reserved dialect) (absent_empty table n e)

@@ -1,0 +1,68 @@
+//! The function `main`, with which a program begins.
+ghost use Rattle.std.specs.Prelude.{◌≡◌, [], ◌∷◌, map, not, bytes_eq, codes};
+ghost use Rattle.cpc_tree.specs.Erase.{in_table};
+ghost use Rattle.cpc_tree.specs.Locate.{located_function, located_item};
+ghost use Rattle.cpc_rules.specs.declared.rule.Rule.TheVariants.{NoMain};
+ghost use Rattle.cpc_rules.specs.Rule.{at_if};
+ghost use Rattle.cpc_rules.specs.Rules.{is_main, has_main};
+ghost use Rattle.cpc_rules.specs.Noted.{noted, first_of};
+
+use cpc_base::{Name, Names, Place};
+use cpc_num::Kind;
+use cpc_rules::{First, Rule};
+use cpc_tree::program::{CType, Function, Item, Mode};
+
+/// Whether a name of a table is `main`. A name that the table does not have is not.
+fn is_named_main(names: &Names, name: Name) -> bool
+    ensures { result ≡ bytes_eq (in_table names.now name) (codes "main") }
+{
+    match names.text(name) {
+        Some(text) => text == b"main".as_slice(),
+        None => false,
+    }
+}
+
+/// Whether a program may begin with a function: a native or cps function `main` with the result `int` and no parameters.
+pub fn is_main(names: &Names, function: &Function) -> bool
+    ensures { result ≡ is_main (located_function (in_table names.now) function.now) }
+{
+    if !function.parameters.is_empty() {
+        return false;
+    }
+    match function.mode {
+        Mode::Native | Mode::Cps => match function.result {
+            CType::Int(Kind::Int) => is_named_main(names, function.word.name),
+            _ => false,
+        },
+        _ => false,
+    }
+}
+
+/// Whether one of a program's items is such a function.
+fn has_main(names: &Names, items: &[Item]) -> bool
+    ensures { result ≡ has_main (map (located_item (in_table names.now)) items.now) }
+{
+    for item in items {
+        if is_main_item(names, item) {
+            return true;
+        }
+    }
+    false
+}
+
+/// Whether an item is such a function.
+fn is_main_item(names: &Names, item: &Item) -> bool
+    ensures { result ≡ has_main (located_item (in_table names.now) item.now ∷ []) }
+{
+    match item {
+        Item::Function(function) => is_main(names, function),
+        _ => false,
+    }
+}
+
+/// Notes at the end of a program, `end`, that it has no function to begin with.
+pub fn main_rules(first: &mut First, names: &Names, items: &[Item], end: Place)
+    ensures { first_of first.new ≡ noted (first_of first.old) (at_if (not (has_main (map (located_item (in_table names.now)) items.now))) end NoMain) }
+{
+    first.note_if(!has_main(names, items), end, Rule::NoMain);
+}
