@@ -1,0 +1,5 @@
+pub mod NumberLemmas
+pub mod CommandLemmas
+pub mod UsageLemmas
+pub mod FullRows
+pub mod FileGiven

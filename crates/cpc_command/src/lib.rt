@@ -1,0 +1,13 @@
+//! The words of the command line `cpc` is called with.
+#![tactic(auto)]
+
+mod build;
+mod laws;
+mod number;
+#[cfg(test)]
+mod tests;
+mod words;
+
+pub use laws::{asking_words, other_words, taken_words};
+pub use number::{DEFAULT_STEPS, MOST_STEPS};
+pub use words::{Command, Usage, read_words};
