@@ -1,0 +1,29 @@
+use Rattle.std.proofs.Common.{◌≡◌, ◌∙◌, ◌+◌, ◌++◌, ◌∷◌, [], ap, sym, subst, length, map, take, List, arith}
+use Rattle.std.proofs.lemmas.List.{length-take-le}
+use Rattle.std.proofs.Math.Seq.{take-length}
+use Rattle.cpc_tree.specs.Erase.{item_of}
+use Rattle.cpc_tree.specs.declared.program.Item.{Item}
+use Rattle.cpc_types.specs.Counted.{AreDeclared, AreSizes}
+use Rattle.cpc_types.specs.declared.items.Items.{Items}
+use Rattle.cpc_types.proofs.Declares.{sizes_known}
+use Rattle.cpc_types.proofs.Declared.{appended, next_item, within_all}
+use Rattle.cpc_types.proofs.items.Items.append.Goals as goal
+
+pub returns-clause-declared : goal.returns-clause-declared
+returns-clause-declared c =
+    let old = c.args.self.now in
+    let new : Items = record { names = c.push.new.self; tags = c.push-2.new.self; sizes = c.push-3.new.self } in
+    let xs = take c.args.place c.args.list.now in
+    let d = c.requires.declared in
+    let e : old.names.count ≡ length xs = c.requires.all ∙ sym (length-take-le c.args.place c.args.list.now (omega arith)) in
+    let all : take old.names.count xs ≡ xs = ap (λ n. take n xs) e ∙ take-length xs in
+    let P : List Item → Type 0 = λ l. AreDeclared l new in
+    subst P (sym (next_item c.args.list.now c.args.place _ c.requires.within c.index-list-place.is))
+    (appended xs _ old new _ d c.in_ok-push.ensures.index c.in_ok-push-2.ensures.index
+    (c.in_ok-push-2.ensures.count ∙ ap (λ n. n + 1) d.together ∙ sym c.in_ok-push.ensures.count)
+    (c.in_ok-push.ensures.names ∙ ap (λ k. old.names.names.items ++ k ∷ []) c.name_of.ensures)
+    (c.in_ok-push-2.ensures.names ∙ ap (λ k. old.tags.names.items ++ k ∷ []) c.tag_of.ensures)
+    c.in_ok-push-3.ensures.items
+    (λ names apart.
+    let Q : List Item → Type 0 = λ l. AreSizes old names (map (item_of names) l) in
+    c.declared_size-size.ensures names (map (item_of names) xs) (subst Q all (sizes_known names apart xs old d (within_all xs old d)))))

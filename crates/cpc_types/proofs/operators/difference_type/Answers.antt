@@ -1,0 +1,15 @@
+use Rattle.std.proofs.Common.{◌∙◌, sym, ap}
+use Rattle.std.proofs.lemmas.Result.{IfOk-weaker}
+use Rattle.cpc_tree.specs.Erase.{type_of}
+use Rattle.cpc_types.specs.Found.{is_measured}
+use Rattle.cpc_types.proofs.OperatorParts.{pointed_left, difference_moved}
+use Rattle.cpc_types.proofs.operators.difference_type.Goals as goal
+
+pub returns-in-Some-kind_of : goal.returns-in-Some-kind_of
+returns-in-Some-kind_of c = IfOk-weaker c.movable.result _ _
+    (λ rest h names apart p complete.
+    let a = type_of names c.args.t.now in
+    let b = type_of names c.args.u.now in
+    let e = c.in-Some.ensures names in
+    h names p (complete ∙ ap (is_measured p) (pointed_left a b _ e)) ∙ sym (difference_moved p a b _ _ e (c.in-Some-kind_of.ensures names)))
+    c.movable.ensures

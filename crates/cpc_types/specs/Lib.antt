@@ -1,0 +1,10 @@
+pub mod Blocks
+pub mod Counted
+pub mod Declaring
+pub mod Forms
+pub mod Found
+pub mod Indexed
+pub mod Meanings
+pub mod Scoped
+pub mod Shapes
+pub mod Listed
