@@ -1,5 +1,5 @@
 -- The numbers of cells of types.
-use Rattle.std.proofs.Common.{◌≡◌, ℕ, ◌+◌, ◌*◌, ◌^◌, ◌<◌, ◌≤◌, inl, inr, suc, zero, List, ◌∷◌, ◌++◌, length, get_or, drop, map, reverse, add-one, Option, Some, None, option_map, refl, ap, sym, ◌∙◌, arith, length-append}
+use Rattle.std.proofs.Common.{◌≡◌, ℕ, ◌+◌, ◌*◌, ◌^◌, ◌<◌, ◌≤◌, inl, inr, suc, zero, List, ◌∷◌, ◌++◌, length, get_or, drop, map, reverse, add-one, Option, Some, None, option_map, nat_lt, true, false, refl, ap, sym, ◌∙◌, arith, length-append}
 use Rattle.std.proofs.lemmas.Bool.{cases_lt}
 use Rattle.std.proofs.lemmas.Bool.Decides.{nat_tests}
 use Rattle.cpc_tree.specs.Erase.{Names, type_of, field_of}
@@ -9,6 +9,7 @@ use Rattle.cpc_tree.specs.Typing.{◌>>=◌}
 use Rattle.cpc_tree.specs.Syntax.{Variable}
 use Rattle.std.proofs.Math.Seq.{drop-cons}
 use Rattle.cpc_tree.specs.declared.program.Field.{Field}
+use Rattle.cpc_rules.specs.ItemRules.{is_oversized}
 use Rattle.cpc_types.specs.Counted.{capped, capped_size, count, fields_count}
 
 length_times : (n : ℕ) (xs : List Ty) → length (T.times n xs) ≡ n * length xs
@@ -126,3 +127,25 @@ field_counted names p fs i x total c s h is e low sum =
     ap (λ gs. option_map (λ n. capped (total + n)) (fields_count p (map (field_of names) gs))) d
     ∙ ap (option_map (λ n. capped (total + n))) (fields_next p (field_of names x) rest)
     ∙ count_step (T.size p (type_of names x.of)) (fields_count p rest) total c s e low sum
+
+-- ---- too many cells
+
+over_capped : (k : ℕ) → nat_lt 65536 (capped k) ≡ nat_lt 65536 k
+over_capped k = elim (cases_lt 65536 k) [
+  | inl h ↦ let e : capped k ≡ 65537 = capped_high k h in let a : nat_lt 65536 k ≡ true = grind (arith, nat_tests) in ap (nat_lt 65536) e ∙ sym a
+  | inr h ↦ ap (nat_lt 65536) (capped_low k h)
+]
+
+over_is : (o : Option ℕ) (c : ℕ) → Some c ≡ option_map capped o → nat_lt 65536 c ≡ is_oversized o
+over_is None c e = cc
+over_is (Some k) c e = let f : c ≡ capped k = cc in ap (nat_lt 65536) f ∙ over_capped k
+
+under_is : (o : Option ℕ) → None ≡ option_map capped o → false ≡ is_oversized o
+under_is None e = refl
+under_is (Some k) e = cc
+
+pub over_some : (p : Program) (fs : List Variable) (c : ℕ) → Some c ≡ option_map capped (fields_count p fs) → nat_lt 65536 c ≡ is_oversized (fields_count p fs)
+over_some p fs c e = over_is (fields_count p fs) c e
+
+pub over_none : (p : Program) (fs : List Variable) → None ≡ option_map capped (fields_count p fs) → false ≡ is_oversized (fields_count p fs)
+over_none p fs e = under_is (fields_count p fs) e

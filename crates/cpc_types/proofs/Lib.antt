@@ -7,6 +7,7 @@ pub mod ExprParts
 pub mod FieldPlaces
 pub mod FormParts
 pub mod Indexes
+pub mod Integrals
 pub mod Latest
 pub mod OperatorParts
 pub mod Scopes

@@ -8,3 +8,4 @@ pub mod Meanings
 pub mod Scoped
 pub mod Shapes
 pub mod Listed
+pub mod Integral

@@ -13,9 +13,9 @@ use cpc_base::NoMemory;
 use cpc_tree::program::{CType, Expr};
 use std::alloc::Global;
 
-// Whether a value of the type u may be written to a type. `null` tells whether it is the literal 0.
+/// Whether a value of the type u may be written to a type. `null` tells whether it is the literal 0.
 #[tactic(auto, using(std::proofs::lemmas::Grind::common_steps, crate::proofs::Taking::integer_takes, crate::proofs::Taking::pointer_takes, crate::proofs::Taking::pointer_takes_other, crate::proofs::Taking::code_takes, crate::proofs::Taking::condvar_takes))]
-fn takes_value(t: &CType, null: bool, u: &CType) -> bool
+pub fn takes_value(t: &CType, null: bool, u: &CType) -> bool
     ensures { (names : Names) → AreApart names → result ≡ R.takes_value (type_of names t.now) null (type_of names u.now) }
 {
     match t {

@@ -34,7 +34,7 @@ fn can_move(t: &CType, u: &CType, scope: &Scope) -> bool
 }
 
 /// Whether an expression is a name.
-pub(crate) fn is_named(e: &Expr) -> bool
+pub fn is_named(e: &Expr) -> bool
     ensures { (names : Names) → result ≡ is_named (expr_of names e.now) }
 {
     match e {
@@ -44,7 +44,7 @@ pub(crate) fn is_named(e: &Expr) -> bool
 }
 
 /// An operator on one operand. `named` tells whether it is a name.
-pub(crate) fn unary_form(
+pub fn unary_form(
     alloc: Global,
     op: UnaryOp,
     named: bool,
@@ -66,7 +66,7 @@ pub(crate) fn unary_form(
 
 /// An operator on two operands. `nulls` tells which of them are the literal 0.
 #[tactic(auto, using(std::proofs::lemmas::Grind::common_steps, crate::proofs::FormParts::binary_some, crate::proofs::FormParts::binary_left, crate::proofs::FormParts::binary_right))]
-pub(crate) fn binary_form(
+pub fn binary_form(
     alloc: Global,
     op: Op,
     nulls: (bool, bool),
@@ -88,7 +88,7 @@ pub(crate) fn binary_form(
 
 /// `&&` and `||`.
 #[tactic(auto, using(std::proofs::lemmas::Grind::common_steps, crate::proofs::FormParts::tested_both))]
-pub(crate) fn test_form(left: TypeFound, right: TypeFound) -> TypeFound
+pub fn test_form(left: TypeFound, right: TypeFound) -> TypeFound
     ensures { (names : Names) → found_of names result ≡ T.test_type (found_of names left) (found_of names right) }
 {
     let first = is_tested(left);
@@ -98,12 +98,7 @@ pub(crate) fn test_form(left: TypeFound, right: TypeFound) -> TypeFound
 
 /// `?:`. `nulls` tells which of the two arms are the literal 0.
 #[tactic(auto, using(std::proofs::lemmas::Grind::common_steps, crate::proofs::FormParts::choice_some, crate::proofs::FormParts::choice_left, crate::proofs::FormParts::choice_right, crate::proofs::FormParts::choice_untested))]
-pub(crate) fn choice_form(
-    nulls: (bool, bool),
-    test: TypeFound,
-    yes: TypeFound,
-    no: TypeFound,
-) -> TypeFound
+pub fn choice_form(nulls: (bool, bool), test: TypeFound, yes: TypeFound, no: TypeFound) -> TypeFound
     ensures { (names : Names) → AreApart names → found_of names result ≡ choice_of nulls.0 nulls.1 (found_of names test) (found_of names yes) (found_of names no) }
 {
     if !is_tested(test) {
@@ -120,7 +115,7 @@ pub(crate) fn choice_form(
 
 /// A cast. `null` tells whether the operand is the literal 0.
 #[tactic(auto, using(std::proofs::lemmas::Grind::common_steps, crate::proofs::FormParts::cast_some, crate::proofs::FormParts::cast_none))]
-pub(crate) fn cast_form(
+pub fn cast_form(
     alloc: Global,
     of: &CType,
     null: bool,
@@ -140,7 +135,7 @@ pub(crate) fn cast_form(
 
 /// `sizeof`.
 #[tactic(auto, using(std::proofs::lemmas::Grind::common_steps, crate::proofs::FormParts::size_typed))]
-pub(crate) fn size_form(of: &CType, scope: &Scope) -> TypeFound
+pub fn size_form(of: &CType, scope: &Scope) -> TypeFound
     ensures { (names : Names) → AreApart names → found_of names result ≡ R.typed (scope_of names scope.now) (ESizeOf (type_of names of.now)) }
 {
     if is_complete(of, scope) {
@@ -152,7 +147,7 @@ pub(crate) fn size_form(of: &CType, scope: &Scope) -> TypeFound
 
 /// An element.
 #[tactic(auto, using(std::proofs::lemmas::Grind::common_steps, crate::proofs::FormParts::index_some, crate::proofs::FormParts::index_apart, crate::proofs::FormParts::index_left, crate::proofs::FormParts::index_right))]
-pub(crate) fn index_form(
+pub fn index_form(
     alloc: Global,
     operand: TypeFound,
     index: TypeFound,
@@ -173,7 +168,7 @@ pub(crate) fn index_form(
 }
 
 /// A field of a place.
-pub(crate) fn member_form(
+pub fn member_form(
     alloc: Global,
     found: TypeFound,
     field: Name,
@@ -190,7 +185,7 @@ pub(crate) fn member_form(
 
 /// A field of what a pointer points to.
 #[tactic(auto, using(std::proofs::lemmas::Grind::common_steps, crate::proofs::FormParts::arrow_some, crate::proofs::FormParts::arrow_none))]
-pub(crate) fn arrow_form(
+pub fn arrow_form(
     alloc: Global,
     found: TypeFound,
     field: Name,

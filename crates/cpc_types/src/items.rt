@@ -5,20 +5,23 @@ ghost use Rattle.cpc_tree.specs.Syntax.{Program};
 ghost use Rattle.cpc_types.specs.Indexed.{IsIndex, last_below};
 ghost use Rattle.cpc_types.specs.Declaring.{item_at};
 ghost use Rattle.cpc_types.specs.Counted.{AreDeclared, AreSizes, name_of, tag_of, tag_size, declared_size};
+ghost use Rattle.cpc_types.specs.Integral.{AreIntegral, AreTold, tag_integral, declared_integral};
 
 use crate::index::Index;
+use crate::integers::fields_integers;
 use crate::sizes::fields_size;
 use cpc_base::{Name, NoMemory};
 use cpc_tree::program::Item;
 use std::alloc::Global;
 
-/// What items declare, of which a number is in scope: names, tags, and the cells of each struct that is complete,
-/// capped.
+/// What items declare, of which a number is in scope: names, tags, the cells of each struct that is complete, capped,
+/// and whether these are all integers.
 #[derive(Drop)]
 pub(crate) struct Items {
     names: Index,
     tags: Index,
     sizes: Vec<Option<u64>>,
+    integral: Vec<bool>,
 }
 
 // The name of a variable or a function that an item declares.
@@ -54,16 +57,29 @@ fn declared_size(item: &Item, items: &Items) -> Option<u64>
     }
 }
 
+// Whether the struct that an item declares has cells that are all integers, where these items are in scope.
+fn declared_integral(item: &Item, items: &Items) -> bool
+    requires { IsIndex items.now.tags }
+    ensures { (names : Names) (p : Program) → AreSizes items.now names p → AreIntegral items.now names p → result ≡ declared_integral names p item.now }
+{
+    match item {
+        Item::Struct { fields, .. } => fields_integers(fields, items),
+        _ => false,
+    }
+}
+
 impl Items {
     /// All the items of a list are in scope. `NoMemory` is want of memory.
     pub(crate) fn of(alloc: Global, list: &[Item]) -> Result<Items, NoMemory>
         ensures declared { IfOk result (λ items. AreDeclared list.now items) }
+        ensures told { IfOk result (λ items. AreTold list.now items) }
         ensures all { IfOk result (λ items. items.names.count ≡ length list.now) }
     {
         let mut items = Items {
             names: Index::new(alloc),
             tags: Index::new(alloc),
             sizes: Vec::new(alloc),
+            integral: Vec::new(alloc),
         };
         for i in 0..list.len() {
             items.append(list, i)?;
@@ -75,15 +91,19 @@ impl Items {
     fn append(&mut self, list: &[Item], place: usize) -> Result<(), NoMemory>
         requires within { place < length list.now }
         requires declared { AreDeclared (take place list.now) self.old }
+        requires told { AreTold (take place list.now) self.old }
         requires all { self.old.names.count ≡ place }
         ensures declared { OnOk result (AreDeclared (take (place + 1) list.now) self.new) }
+        ensures told { OnOk result (AreTold (take (place + 1) list.now) self.new) }
         ensures all { OnOk result (self.new.names.count ≡ place + 1) }
     {
         let item = &list[place];
         let size = declared_size(item, self);
+        let integral = declared_integral(item, self);
         self.names.push(name_of(item))?;
         self.tags.push(tag_of(item))?;
         self.sizes.push(size)?;
+        self.integral.push(integral)?;
         Ok(())
     }
 
@@ -98,6 +118,7 @@ impl Items {
         ensures same_names { self.new.names.names.items ≡ self.old.names.names.items }
         ensures same_tags { self.new.tags.names.items ≡ self.old.tags.names.items }
         ensures same_sizes { self.new.sizes.items ≡ self.old.sizes.items }
+        ensures same_flags { self.new.integral.items ≡ self.old.integral.items }
         ensures name_count { self.new.names.count ≡ count }
         ensures tag_count { self.new.tags.count ≡ count }
     {
@@ -138,6 +159,20 @@ impl Items {
                 None => None,
             },
             None => None,
+        }
+    }
+
+    /// Whether the struct that has a tag has cells that are all integers.
+    pub(crate) fn is_integral(&self, tag: Name) -> bool
+        requires { IsIndex self.now.tags }
+        ensures { result ≡ tag_integral self.now tag }
+    {
+        match self.tags.place(tag) {
+            Some(place) => match self.integral.get(place) {
+                Some(integral) => *integral,
+                None => false,
+            },
+            None => false,
         }
     }
 }

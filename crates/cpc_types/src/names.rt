@@ -63,7 +63,7 @@ fn meant_type(alloc: Global, meant: Meant) -> Result<TypeFound, NoMemory>
 }
 
 /// The type of a name. `NoMemory` is want of memory.
-pub(crate) fn name_type(alloc: Global, name: Name, scope: &Scope) -> Result<TypeFound, NoMemory>
+pub fn name_type(alloc: Global, name: Name, scope: &Scope) -> Result<TypeFound, NoMemory>
     ensures { IfOk result (λ found. (names : Names) → AreApart names → found_of names found ≡ T.type_named (R.meant (scope_of names scope.now) (names name))) }
 {
     meant_type(alloc, scope.meant(name))

@@ -19,8 +19,11 @@ use std::alloc::Global;
 /// The type of an expression: of a value, or of a place. An expression that has no type is none of them.
 #[derive(Drop, Debug)]
 pub enum TypeFound {
+    /// A value of this type.
     Value(CType),
+    /// A place that holds this type.
     Place(CType),
+    /// No type.
     Absent,
 }
 

@@ -4,6 +4,7 @@ ghost use Rattle.std.proofs.Props.{props};
 ghost use Rattle.cpc_tree.specs.Erase.{Names, type_of, field_of, item_of};
 ghost use Rattle.cpc_rules.specs.Apart.{AreApart};
 ghost use Rattle.cpc_types.specs.Counted.{AreDeclared};
+ghost use Rattle.cpc_types.specs.Integral.{AreTold};
 
 use crate::blocks::Blocks;
 use crate::items::Items;
@@ -20,6 +21,7 @@ pub struct Scope<'p> {
     items: Items,
     blocks: Blocks,
     ghost declared: { AreDeclared program.now.items.items items } by { Prim.hlevel props },
+    ghost told: { AreTold program.now.items.items items } by { Prim.hlevel props },
 }
 
 impl<'p> Scope<'p> {
@@ -29,6 +31,7 @@ impl<'p> Scope<'p> {
     ghost use Rattle.cpc_types.specs.Blocks.{without_block, with_parameters};
     ghost use Rattle.cpc_types.specs.Indexed.{IsIndex};
     ghost use Rattle.cpc_types.specs.Counted.{AreSizes};
+    ghost use Rattle.cpc_types.specs.Integral.{AreIntegral};
     ghost use Rattle.cpc_types.specs.Meanings.{meant_of};
     ghost use Rattle.cpc_types.specs.Scoped.{all_items, first_items, items_of, scope_of};
 
@@ -124,10 +127,11 @@ impl<'p> Scope<'p> {
     }
 
     /// What the items in scope declare.
-    #[tactic(auto, using(std::proofs::lemmas::Grind::common_steps, crate::proofs::Scopes::sizes_scope))]
+    #[tactic(auto, using(std::proofs::lemmas::Grind::common_steps, crate::proofs::Scopes::sizes_scope, crate::proofs::Integrals::flags_scope))]
     pub(crate) fn items(&self) -> &Items
         ensures index { IsIndex result.now.tags }
         ensures sizes { (names : Names) → AreApart names → AreSizes result.now names (scope_of names self.now).items }
+        ensures integral { (names : Names) → AreApart names → AreIntegral result.now names (scope_of names self.now).items }
     {
         &self.items
     }

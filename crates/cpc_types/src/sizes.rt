@@ -5,6 +5,7 @@ ghost use Rattle.cpc_rules.specs.Apart.{AreApart};
 ghost use Rattle.cpc_tree.specs.Syntax.{Program};
 ghost use Rattle.cpc_tree.specs.Typing as T;
 ghost use Rattle.cpc_rules.specs.Scopes as R;
+ghost use Rattle.cpc_rules.specs.ItemRules as IR;
 ghost use Rattle.cpc_types.specs.Indexed.{IsIndex};
 ghost use Rattle.cpc_types.specs.Counted.{capped, capped_size, fields_count, AreSizes};
 ghost use Rattle.cpc_types.specs.Scoped.{scope_of};
@@ -102,6 +103,17 @@ pub fn is_sized(of: &CType, scope: &Scope) -> bool
 {
     match measure(of, scope.items()) {
         Some(count) => 0 < count && count <= CELL_LIMIT,
+        None => false,
+    }
+}
+
+/// Whether fields that are complete have more cells together than a struct may have.
+#[tactic(auto, using(std::proofs::lemmas::Grind::common_steps, crate::proofs::CellCounts::over_some, crate::proofs::CellCounts::over_none))]
+pub fn are_oversized(fields: &[Field], scope: &Scope) -> bool
+    ensures { (names : Names) → AreApart names → result ≡ IR.is_oversized (fields_count (scope_of names scope.now).items (map (field_of names) fields.now)) }
+{
+    match fields_size(fields, scope.items()) {
+        Some(count) => CELL_LIMIT < count,
         None => false,
     }
 }

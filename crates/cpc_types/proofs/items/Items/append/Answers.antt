@@ -7,12 +7,14 @@ use Rattle.cpc_types.specs.Counted.{AreDeclared, AreSizes}
 use Rattle.cpc_types.specs.declared.items.Items.{Items}
 use Rattle.cpc_types.proofs.Declares.{sizes_known}
 use Rattle.cpc_types.proofs.Declared.{appended, next_item, within_all}
+use Rattle.cpc_types.specs.Integral.{AreTold, AreIntegral}
+use Rattle.cpc_types.proofs.Integrals.{told_more, flags_known}
 use Rattle.cpc_types.proofs.items.Items.append.Goals as goal
 
 pub returns-clause-declared : goal.returns-clause-declared
 returns-clause-declared c =
     let old = c.args.self.now in
-    let new : Items = record { names = c.push.new.self; tags = c.push-2.new.self; sizes = c.push-3.new.self } in
+    let new : Items = record { names = c.push.new.self; tags = c.push-2.new.self; sizes = c.push-3.new.self; integral = c.push-4.new.self } in
     let xs = take c.args.place c.args.list.now in
     let d = c.requires.declared in
     let e : old.names.count ≡ length xs = c.requires.all ∙ sym (length-take-le c.args.place c.args.list.now (omega arith)) in
@@ -27,3 +29,20 @@ returns-clause-declared c =
     (λ names apart.
     let Q : List Item → Type 0 = λ l. AreSizes old names (map (item_of names) l) in
     c.declared_size-size.ensures names (map (item_of names) xs) (subst Q all (sizes_known names apart xs old d (within_all xs old d)))))
+
+pub returns-clause-told : goal.returns-clause-told
+returns-clause-told c =
+    let old = c.args.self.now in
+    let new : Items = record { names = c.push.new.self; tags = c.push-2.new.self; sizes = c.push-3.new.self; integral = c.push-4.new.self } in
+    let xs = take c.args.place c.args.list.now in
+    let d = c.requires.declared in
+    let e : old.names.count ≡ length xs = c.requires.all ∙ sym (length-take-le c.args.place c.args.list.now (omega arith)) in
+    let all : take old.names.count xs ≡ xs = ap (λ n. take n xs) e ∙ take-length xs in
+    let P : List Item → Type 0 = λ l. AreTold l new in
+    subst P (sym (next_item c.args.list.now c.args.place _ c.requires.within c.index-list-place.is))
+    (told_more xs _ old new _ c.requires.told c.in_ok-push-4.ensures.items
+    (λ names apart.
+    let Q : List Item → Type 0 = λ l. AreSizes old names (map (item_of names) l) in
+    let R : List Item → Type 0 = λ l. AreIntegral old names (map (item_of names) l) in
+    c.declared_integral-integral.ensures names (map (item_of names) xs) (subst Q all (sizes_known names apart xs old d (within_all xs old d)))
+    (subst R all (flags_known names apart xs old d c.requires.told (within_all xs old d)))))
