@@ -1,0 +1,4 @@
+pub mod NativeValues
+pub mod NativeStatements
+pub mod NativeItems
+pub mod Widened

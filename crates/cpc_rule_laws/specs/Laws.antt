@@ -1,0 +1,16 @@
+-- Laws of the rules and of reading in the two dialects, as statements.
+use Rattle.std.specs.Prelude.{◌≡◌, true, []}
+use Rattle.cpc_base.specs.Bytes.{Text}
+use Rattle.cpc_base.specs.declared.stop.Dialect.TheVariants as D
+use Rattle.cpc_tree.specs.Located.{LProgram}
+use Rattle.cpc_tree.specs.Grammar.{Parses}
+use Rattle.cpc_rules.specs.Rules.{breaks}
+use Rattle.cpc_rule_laws.specs.Native.{are_native}
+
+-- a program of native code that breaks no rule of the dialect Cpc breaks none of the dialect Event
+abbrev pub NativeProgramsPass : Type 0
+NativeProgramsPass = (p : LProgram) → are_native p.items ≡ true → breaks D.Cpc p ≡ [] → breaks D.Event p ≡ []
+
+-- a text that is read as a program in the dialect Cpc is read as it in the dialect Event
+abbrev pub EventReadsMore : Type 0
+EventReadsMore = (text : Text) (p : LProgram) → Parses D.Cpc text p → Parses D.Event text p

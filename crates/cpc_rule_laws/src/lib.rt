@@ -1,0 +1,6 @@
+//! Laws of the rules and of reading in the two dialects. Nothing of this crate runs.
+#![tactic(auto)]
+
+mod laws;
+
+pub use laws::{event_reads_more, native_programs_pass};
