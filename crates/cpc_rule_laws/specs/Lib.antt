@@ -1,2 +1,3 @@
 pub mod Native
+pub mod Rows
 pub mod Laws

@@ -1,5 +1,5 @@
 //! The laws, each as the contract of a function that does nothing.
-ghost use Rattle.cpc_rule_laws.specs.Laws.{EventReadsMore, NativeProgramsPass};
+ghost use Rattle.cpc_rule_laws.specs.Laws.{EventReadsMore, NativeProgramsPass, PlacesDoNotMatter, UnbrokenAtAnyPlaces};
 
 /// A program of native code alone, in which nothing is spawned, is an event program as it stands: where it breaks no rule of the
 /// dialect Cpc it breaks none of the dialect Event.
@@ -10,4 +10,11 @@ pub fn native_programs_pass()
 /// A text that is read as a program in the dialect Cpc is read as the same one in the dialect Event.
 pub fn event_reads_more()
     ensures law { EventReadsMore }
+{}
+
+/// Whether a rule is broken does not depend on places: programs that are equal without their places break the same rules, in the
+/// same order, and where the one breaks none the other breaks none.
+pub fn places_do_not_matter()
+    ensures law { PlacesDoNotMatter }
+    ensures unbroken { UnbrokenAtAnyPlaces }
 {}

@@ -3,4 +3,4 @@
 
 mod laws;
 
-pub use laws::{event_reads_more, native_programs_pass};
+pub use laws::{event_reads_more, native_programs_pass, places_do_not_matter};
