@@ -7,3 +7,4 @@ pub mod PlacesValues
 pub mod PlacesStatements
 pub mod PlacesFunctions
 pub mod PlacesItems
+pub mod Refusals

@@ -18,7 +18,7 @@ abbrev pub EventReadsMore : Type 0
 EventReadsMore = (text : Text) (p : LProgram) → Parses D.Cpc text p → Parses D.Event text p
 
 -- whether a rule is broken does not depend on places: programs that are equal without their places break the same rules,
--- in the same order
+-- in the same order of the row
 abbrev pub PlacesDoNotMatter : Type 0
 PlacesDoNotMatter = (dialect : Dialect) (p q : LProgram) → bare p ≡ bare q → rules_of (breaks dialect p) ≡ rules_of (breaks dialect q)
 

@@ -1,3 +1,4 @@
 pub mod Native
 pub mod Rows
 pub mod Laws
+pub mod Refusals

@@ -3,4 +3,6 @@
 
 mod laws;
 
-pub use laws::{event_reads_more, native_programs_pass, places_do_not_matter};
+pub use laws::{
+    event_reads_more, native_programs_pass, places_do_not_matter, places_tell_the_first,
+};
