@@ -8,3 +8,4 @@ pub mod Counted
 pub mod Many
 pub mod Broad
 pub mod Mains
+pub mod Told

@@ -35,7 +35,7 @@ bars_step x i t h e f k =
     let here : begins_with (codes "__") (drop i x) ≡ false = ap (begins_with (codes "__")) (sym (rest_whole x i)) ∙ (sym e ∙ f) in
     sym (ap (λ b. b || holds_bars (drop (i + 1) x)) here) ∙ (sym (bars_more x i h) ∙ k)
 
-empty_kept : (dialect : Dialect) → false ≡ is_reserved dialect []
+pub empty_kept : (dialect : Dialect) → false ≡ is_reserved dialect []
 empty_kept D.Event = refl
 empty_kept D.Cpc = refl
 

@@ -1,7 +1,8 @@
 //! Names that the language keeps for itself.
 ghost use Rattle.std.specs.Prelude.{◌≡◌, map};
-ghost use Rattle.cpc_tree.specs.Erase.{in_table};
+ghost use Rattle.cpc_tree.specs.Erase.{Names as Spelling, in_table};
 ghost use Rattle.cpc_tree.specs.Locate.{ident};
+ghost use Rattle.cpc_rules.specs.Apart.{Spells};
 ghost use Rattle.cpc_rules.specs.FunctionRules.{begins_with, holds_bars, is_kept, is_reserved, reserved_breaks};
 ghost use Rattle.cpc_rules.specs.Noted.{noted, first_of};
 
@@ -58,12 +59,20 @@ fn is_reserved_name(dialect: Dialect, names: &Names, word: Word) -> bool
     }
 }
 
-/// Notes each name that the language keeps for itself.
-pub fn name_rules(first: &mut First, dialect: Dialect, names: &Names, words: &[Word])
+/// Notes each name of a table that the language keeps for itself.
+fn note_reserved(first: &mut First, dialect: Dialect, names: &Names, words: &[Word])
     ensures { first_of first.new ≡ noted (first_of first.old) (reserved_breaks dialect (map (ident (in_table names.now)) words.now)) }
 {
     for word in words {
         let is_broken = is_reserved_name(dialect, names, *word);
         first.note_if(is_broken, word.place, Rule::Reserved);
     }
+}
+
+/// Notes each name that the language keeps for itself.
+pub fn name_rules(first: &mut First, dialect: Dialect, names: &Names, words: &[Word])
+    ensures table { first_of first.new ≡ noted (first_of first.old) (reserved_breaks dialect (map (ident (in_table names.now)) words.now)) }
+    ensures spelled { (spelling : Spelling) → Spells names.now spelling → first_of first.new ≡ noted (first_of first.old) (reserved_breaks dialect (map (ident spelling) words.now)) }
+{
+    note_reserved(first, dialect, names, words);
 }

@@ -1,5 +1,8 @@
 //! Types that the rules of C give (C11 6.3.1.8 and 6.5), and what a scope holds as it is entered and left.
-use crate::{Meant, Scope, TypeFound, assignable, cells, is_sized, same_type, typing};
+use crate::{
+    Meant, Scope, TypeFound, are_oversized, assignable, cells, has_integers, is_sized, same_type,
+    typing,
+};
 use cpc_base::{Name, Names, NoMemory, Place};
 use cpc_num::{Kind, Op};
 use cpc_tree::program::{
@@ -275,6 +278,18 @@ fn sizes(alloc: Global, scope: &Scope) -> Result<bool, NoMemory> {
     Ok(whole && incomplete && fits && oversized)
 }
 
+// A struct may have 65,536 cells, and no more.
+fn struct_cells(alloc: Global, scope: &Scope) -> Result<bool, NoMemory> {
+    let integers = has_integers(&CType::Struct(Name(0)), scope);
+    let pointers = has_integers(&pointer(alloc, CType::Void)?, scope);
+    let mut fields = Vec::new(alloc);
+    fields.push(field(1, array(alloc, CType::Struct(Name(0)), 16384)?))?;
+    let most = are_oversized(&fields, scope);
+    fields.push(field(2, CType::Int(Kind::Char)))?;
+    let more = are_oversized(&fields, scope);
+    Ok(integers && !pointers && !most && more)
+}
+
 #[test]
 fn items_come_and_go(rt: HostRuntime) -> Result<(), NoMemory> {
     let alloc = rt.alloc();
@@ -282,6 +297,7 @@ fn items_come_and_go(rt: HostRuntime) -> Result<(), NoMemory> {
     assert!(rt; program.items.len() == 10);
     let mut scope = Scope::of(alloc, &program)?;
     assert!(rt; sizes(alloc, &scope)?);
+    assert!(rt; struct_cells(alloc, &scope)?);
     scope.enter_items(2);
     assert!(rt; matches!(scope.meant(Name(3)), Meant::Global(_)));
     assert!(rt; matches!(scope.meant(Name(4)), Meant::Nothing));

@@ -4,7 +4,7 @@ use Rattle.cpc_tree.specs.Locate.{ident}
 use Rattle.cpc_rules.specs.FunctionRules.{reserved_breaks}
 use Rattle.cpc_rules.specs.Noted.{noted, first_of}
 use Rattle.cpc_check_names.proofs.Held.{left}
-use Rattle.cpc_check_names.proofs.reserved.name_rules.Given as goal
+use Rattle.cpc_check_names.proofs.reserved.note_reserved.Given as goal
 
 -- with what is left, all of the row is noted
 abbrev pub invariant-loop-word : goal.invariant-loop-word
