@@ -1,0 +1,6 @@
+//! Positions in the body of a function: where a thread stands, and where it goes.
+#![tactic(auto)]
+
+mod parts;
+
+pub use parts::{Part, Phase, Point};
