@@ -1,0 +1,6 @@
+pub mod Counted
+pub mod Meets
+pub mod Ordered
+pub mod Shown
+pub mod Signed
+pub mod Takes
