@@ -1,0 +1,6 @@
+pub mod Cells
+pub mod First
+pub mod Known
+pub mod Numbers
+pub mod Offsets
+pub mod Tabled

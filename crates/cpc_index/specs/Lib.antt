@@ -1,0 +1,5 @@
+pub mod Indexed
+pub mod Meanings
+pub mod Placed
+pub mod Sized
+pub mod Tabled

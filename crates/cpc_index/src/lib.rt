@@ -1,0 +1,14 @@
+//! What the names of a program stand for, found without going through its items.
+#![tactic(auto)]
+
+mod index;
+mod items;
+mod meant;
+mod places;
+mod sizes;
+mod tables;
+#[cfg(test)]
+mod tests;
+
+pub use index::Index;
+pub use meant::Meant;
