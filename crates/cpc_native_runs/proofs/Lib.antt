@@ -1,0 +1,4 @@
+pub mod Stands
+pub mod Asked
+pub mod Meeting
+pub mod Alike

@@ -1,0 +1,18 @@
+//! The laws, each as the contract of a function that does nothing.
+ghost use Rattle.cpc_native_runs.specs.Laws.{PlainRunsAlike, PlainRunsSame, PlainRunsWithin};
+
+/// A program of native code alone, in which nothing is spawned, detached or waited for, is its own event program: each step of its
+/// threads is one step of its callbacks.
+pub fn plain_runs_alike()
+    ensures law { PlainRunsAlike }
+{}
+
+/// Where its threads are never stuck, its threaded and its event runs show the same, whatever the history.
+pub fn plain_runs_same()
+    ensures law { PlainRunsSame }
+{}
+
+/// And its event runs show each state of its threads within the cost that a program may have.
+pub fn plain_runs_within()
+    ensures law { PlainRunsWithin }
+{}
