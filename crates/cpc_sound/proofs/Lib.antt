@@ -6,3 +6,5 @@ pub mod Binary
 pub mod Scalars
 pub mod Lookups
 pub mod Expressions
+pub mod Control
+pub mod Paths

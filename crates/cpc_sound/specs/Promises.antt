@@ -1,10 +1,12 @@
 -- What is promised of programs that break no rule, as statements.
-use Rattle.std.specs.Prelude.{◌≡◌, true, List, Some}
-use Rattle.cpc_tree.specs.Syntax.{Ty, Expr}
+use Rattle.std.specs.Prelude.{◌≡◌, Bool, true, List, Some}
+use Rattle.cpc_tree.specs.Syntax.{Ty, Expr, Stmt}
 use Rattle.cpc_tree.specs.Typing.{Typed, typing, typed_place, used, is_scalar}
 use Rattle.cpc_tree.specs.Registers.{addresses}
+use Rattle.cpc_tree.specs.Points.{Path, Here, found, begin, next_point}
 use Rattle.cpc_meaning.specs.Eval.{Context, place, value}
 use Rattle.cpc_sound.specs.Suits.{Comes, Suits, SuitSlots, ScopeOf, AllBoxed, SuitsSpot}
+use Rattle.cpc_sound.specs.Control.{StaysIn, GoesOnward, IsPoint, HasNext}
 
 -- An expression that has a type, in a frame whose variables have their slots, has a value that suits its type, or a fault; and a place
 -- likewise.
@@ -14,3 +16,9 @@ ExpressionsAnswer =
     → ScopeOf ts c.scope → SuitSlots ts c.slots → AllBoxed c.slots (addresses c.scope e) → typing c.program c.scope e ≡ Some d
     → ((t : Ty) → used d ≡ Some t → is_scalar t ≡ true → Comes (Suits t) (value c e))
     × ((t : Ty) → typed_place d ≡ Some t → Comes (SuitsSpot c.slots t) (place c e))
+
+-- A body begins where something stands; and from there control goes to where something stands, or to the end, but for a return.
+abbrev pub ControlStays : Type 0
+ControlStays =
+    (body : Stmt) → IsPoint body (begin body)
+    × ((p : Path) (h : Bool) → StaysIn body → GoesOnward (found body p) → HasNext body (next_point body (Here p) h))

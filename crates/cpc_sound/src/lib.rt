@@ -3,9 +3,14 @@
 //! Nothing here runs. The functions below carry, as their contracts, what is known of the meaning of programs that are well typed.
 #![tactic(auto)]
 
-ghost use Rattle.cpc_sound.specs.Promises.{ExpressionsAnswer};
+ghost use Rattle.cpc_sound.specs.Promises.{ControlStays, ExpressionsAnswer};
 
 /// An expression that has a type has a value that suits it, or a fault.
 pub fn expressions_answer()
     ensures { ExpressionsAnswer }
+{}
+
+/// In a body whose labels are there, and in which `break` and `continue` stand in loops, control stays where something stands.
+pub fn control_stays()
+    ensures { ControlStays }
 {}
