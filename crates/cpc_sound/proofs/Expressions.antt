@@ -98,33 +98,33 @@ field_comes p s o t tag x f v e g h k =
     (comes_needed IsCell (field p tag x) f _ h
     (comes_then (Suits (TyPointer t)) IsCell (moved s v (pos f.0)) pointed (moved_comes t s v (pos f.0) k) (pointed_comes t))))
 
-struct_spot : (slots : List Slot) (t : Ty) (tag : Text) (spot : Spot) → struct_tag t ≡ Some tag → SuitsSpot slots t spot → IsCell spot
-struct_spot slots t tag (InCell c n k) e h = tt
-struct_spot slots (TyStruct tag) u (InSlot k) e h = not_true h.2
-struct_spot slots _ u (InSlot k) e h = no_some u e
+struct_spot : (ts : List Ty) (slots : List Slot) (t : Ty) (tag : Text) (spot : Spot) → struct_tag t ≡ Some tag → SuitsSpot ts slots t spot → IsCell spot
+struct_spot ts slots t tag (InCell c n k) e h = tt
+struct_spot ts slots (TyStruct tag) u (InSlot k) e h = not_true h.2
+struct_spot ts slots _ u (InSlot k) e h = no_some u e
 
 -- the value of a place that is used as a value
-read_comes : (slots : List Slot) (s : Store) (t u : Ty) (spot : Spot) → used (APlace t) ≡ Some u → is_scalar u ≡ true → SuitsSpot slots t spot → Comes (Suits u) (read slots s (Some t) spot)
-read_comes slots s (TyArray t m) u (InCell c n k) e sc h = subst (λ u. Suits u (At c n k)) (some_is (TyPointer t) u e) tt
-read_comes slots s (TyArray t m) u (InSlot k) e sc h = not_true h.2
-read_comes slots s (TyStruct tag) u spot e sc h = no_some u e
-read_comes slots s TyVoid u spot e sc h = not_true (ap is_scalar (some_is TyVoid u e) ∙ sc)
-read_comes slots s (TyInt kind) u (InCell c n k) e sc h = subst (λ u. Comes (Suits u) (read slots s (Some (TyInt kind)) (InCell c n k))) (some_is (TyInt kind) u e) (load_comes (TyInt kind) (S.Int kind) c n k s refl)
-read_comes slots s TyCondvar u (InCell c n k) e sc h = subst (λ u. Comes (Suits u) (read slots s (Some TyCondvar) (InCell c n k))) (some_is TyCondvar u e) (load_comes TyCondvar S.Cond c n k s refl)
-read_comes slots s (TyPointer t) u (InCell c n k) e sc h = subst (λ u. Comes (Suits u) (read slots s (Some (TyPointer t)) (InCell c n k))) (some_is (TyPointer t) u e) (load_comes (TyPointer t) S.Pointer c n k s refl)
-read_comes slots s (TyCode r ps) u (InCell c n k) e sc h = subst (λ u. Comes (Suits u) (read slots s (Some (TyCode r ps)) (InCell c n k))) (some_is (TyCode r ps) u e) (load_comes (TyCode r ps) S.Code c n k s refl)
-read_comes slots s (TyInt kind) u (InSlot k) e sc h = subst (λ o. Comes (Suits u) (slot_value o)) (sym h.1) (subst (λ u. Suits u h.0) (some_is (TyInt kind) u e) h.3)
-read_comes slots s TyCondvar u (InSlot k) e sc h = subst (λ o. Comes (Suits u) (slot_value o)) (sym h.1) (subst (λ u. Suits u h.0) (some_is TyCondvar u e) h.3)
-read_comes slots s (TyPointer t) u (InSlot k) e sc h = subst (λ o. Comes (Suits u) (slot_value o)) (sym h.1) (subst (λ u. Suits u h.0) (some_is (TyPointer t) u e) h.3)
-read_comes slots s (TyCode r ps) u (InSlot k) e sc h = subst (λ o. Comes (Suits u) (slot_value o)) (sym h.1) (subst (λ u. Suits u h.0) (some_is (TyCode r ps) u e) h.3)
+read_comes : (ts : List Ty) (slots : List Slot) (s : Store) (t u : Ty) (spot : Spot) → used (APlace t) ≡ Some u → is_scalar u ≡ true → SuitsSpot ts slots t spot → Comes (Suits u) (read slots s (Some t) spot)
+read_comes ts slots s (TyArray t m) u (InCell c n k) e sc h = subst (λ u. Suits u (At c n k)) (some_is (TyPointer t) u e) tt
+read_comes ts slots s (TyArray t m) u (InSlot k) e sc h = not_true h.2
+read_comes ts slots s (TyStruct tag) u spot e sc h = no_some u e
+read_comes ts slots s TyVoid u spot e sc h = not_true (ap is_scalar (some_is TyVoid u e) ∙ sc)
+read_comes ts slots s (TyInt kind) u (InCell c n k) e sc h = subst (λ u. Comes (Suits u) (read slots s (Some (TyInt kind)) (InCell c n k))) (some_is (TyInt kind) u e) (load_comes (TyInt kind) (S.Int kind) c n k s refl)
+read_comes ts slots s TyCondvar u (InCell c n k) e sc h = subst (λ u. Comes (Suits u) (read slots s (Some TyCondvar) (InCell c n k))) (some_is TyCondvar u e) (load_comes TyCondvar S.Cond c n k s refl)
+read_comes ts slots s (TyPointer t) u (InCell c n k) e sc h = subst (λ u. Comes (Suits u) (read slots s (Some (TyPointer t)) (InCell c n k))) (some_is (TyPointer t) u e) (load_comes (TyPointer t) S.Pointer c n k s refl)
+read_comes ts slots s (TyCode r ps) u (InCell c n k) e sc h = subst (λ u. Comes (Suits u) (read slots s (Some (TyCode r ps)) (InCell c n k))) (some_is (TyCode r ps) u e) (load_comes (TyCode r ps) S.Code c n k s refl)
+read_comes ts slots s (TyInt kind) u (InSlot k) e sc h = subst (λ o. Comes (Suits u) (slot_value o)) (sym h.1) (subst (λ u. Suits u h.0) (some_is (TyInt kind) u e) h.3)
+read_comes ts slots s TyCondvar u (InSlot k) e sc h = subst (λ o. Comes (Suits u) (slot_value o)) (sym h.1) (subst (λ u. Suits u h.0) (some_is TyCondvar u e) h.3)
+read_comes ts slots s (TyPointer t) u (InSlot k) e sc h = subst (λ o. Comes (Suits u) (slot_value o)) (sym h.1) (subst (λ u. Suits u h.0) (some_is (TyPointer t) u e) h.3)
+read_comes ts slots s (TyCode r ps) u (InSlot k) e sc h = subst (λ o. Comes (Suits u) (slot_value o)) (sym h.1) (subst (λ u. Suits u h.0) (some_is (TyCode r ps) u e) h.3)
 
 -- the same, where the type is told
-read_as : (slots : List Slot) (s : Store) (o : Option Ty) (t u : Ty) (spot : Spot) → o ≡ Some t → used (APlace t) ≡ Some u → is_scalar u ≡ true → SuitsSpot slots t spot → Comes (Suits u) (read slots s o spot)
-read_as slots s o t u spot e f sc h = subst (λ o. Comes (Suits u) (read slots s o spot)) (sym e) (read_comes slots s t u spot f sc h)
+read_as : (ts : List Ty) (slots : List Slot) (s : Store) (o : Option Ty) (t u : Ty) (spot : Spot) → o ≡ Some t → used (APlace t) ≡ Some u → is_scalar u ≡ true → SuitsSpot ts slots t spot → Comes (Suits u) (read slots s o spot)
+read_as ts slots s o t u spot e f sc h = subst (λ o. Comes (Suits u) (read slots s o spot)) (sym e) (read_comes ts slots s t u spot f sc h)
 
-cell_suits : (slots : List Slot) (t : Ty) (spot : Spot) → IsCell spot → SuitsSpot slots t spot
-cell_suits slots t (InCell c n k) h = tt
-cell_suits slots t (InSlot k) h = absurd h
+cell_suits : (ts : List Ty) (slots : List Slot) (t : Ty) (spot : Spot) → IsCell spot → SuitsSpot ts slots t spot
+cell_suits ts slots t (InCell c n k) h = tt
+cell_suits ts slots t (InSlot k) h = absurd h
 
 -- ---- signs
 
@@ -189,12 +189,12 @@ module _ (c : Context) (ts : List Ty) (in_scope : ScopeOf ts c.scope) (in_slots 
 
   -- ---- names
 
-  slot_comes : (k : ℕ) (t : Ty) → slice_get ts k ≡ Some t → Comes (SuitsSpot c.slots t) (slot_spot k (slice_get c.slots k))
+  slot_comes : (k : ℕ) (t : Ty) → slice_get ts k ≡ Some t → Comes (SuitsSpot ts c.slots t) (slot_spot k (slice_get c.slots k))
   slot_comes k t e = go (slice_get c.slots k) refl (slot_suits ts c.slots k t in_slots e)
     where
-      go : (o : Option Slot) → slice_get c.slots k ≡ o → SuitsSome t o → Comes (SuitsSpot c.slots t) (slot_spot k o)
+      go : (o : Option Slot) → slice_get c.slots k ≡ o → SuitsSome t o → Comes (SuitsSpot ts c.slots t) (slot_spot k o)
       go None f h = absurd h
-      go (Some (Register v)) f h = (v, f, h.0, h.1)
+      go (Some (Register v)) f h = (v, f, h.0, h.1, e)
       go (Some (Boxed n)) f h = tt
 
   boxed_comes : (k : ℕ) (t : Ty) (o : Option Slot) → IsBoxed o → Comes (Suits (pointer_type t)) (address (slot_spot k o))
@@ -203,10 +203,10 @@ module _ (c : Context) (ts : List Ty) (in_scope : ScopeOf ts c.scope) (in_slots 
   boxed_comes k t (Some (Boxed n)) h = pointer_suits t Auto n 0
 
   -- where a variable is
-  spot_comes : (x : Text) (t : Ty) (m : Meant) → named c.program c.scope x ≡ m → type_named m ≡ Some (APlace t) → Comes (SuitsSpot c.slots t) (spot_named c.slots m)
+  spot_comes : (x : Text) (t : Ty) (m : Meant) → named c.program c.scope x ≡ m → type_named m ≡ Some (APlace t) → Comes (SuitsSpot ts c.slots t) (spot_named c.slots m)
   spot_comes x t (ALocal k u) e h =
       let f : u ≡ t = cc in
-      subst (λ t. Comes (SuitsSpot c.slots t) (slot_spot k (slice_get c.slots k))) f (slot_comes k u (local_is ts c.program c.scope x k u in_scope e).0)
+      subst (λ t. Comes (SuitsSpot ts c.slots t) (slot_spot k (slice_get c.slots k))) f (slot_comes k u (local_is ts c.program c.scope x k u in_scope e).0)
   spot_comes x t (AGlobal n u) e h = tt
   spot_comes x t (AFunction Native r ps) e h = absurd (cc)
   spot_comes x t (AFunction Detached r ps) e h = absurd (cc)
@@ -217,8 +217,8 @@ module _ (c : Context) (ts : List Ty) (in_scope : ScopeOf ts c.scope) (in_slots 
   -- the value of a name
   name_comes : (x : Text) (d : Typed) (t : Ty) (m : Meant) → named c.program c.scope x ≡ m → type_named m ≡ Some d → used d ≡ Some t → is_scalar t ≡ true → Comes (Suits t) (value_named c.slots c.store x m)
   name_comes x d t (ALocal k u) e h f sc =
-      comes_then (SuitsSpot c.slots u) (Suits t) (spot_named c.slots (ALocal k u)) _ (spot_comes x u (ALocal k u) e refl) λ spot g. read_comes c.slots c.store u t spot (used_as (APlace u) d t h f) sc g
-  name_comes x d t (AGlobal n u) e h f sc = read_comes c.slots c.store u t (InCell Static n 0) (used_as (APlace u) d t h f) sc tt
+      comes_then (SuitsSpot ts c.slots u) (Suits t) (spot_named c.slots (ALocal k u)) _ (spot_comes x u (ALocal k u) e refl) λ spot g. read_comes ts c.slots c.store u t spot (used_as (APlace u) d t h f) sc g
+  name_comes x d t (AGlobal n u) e h f sc = read_comes ts c.slots c.store u t (InCell Static n 0) (used_as (APlace u) d t h f) sc tt
   name_comes x d t (AFunction Native r ps) e h f sc = as_value _ d t (Gives (Code x)) h f tt
   name_comes x d t (AFunction Detached r ps) e h f sc = as_value _ d t (Gives (Code x)) h f tt
   name_comes x d t (AFunction Extern r ps) e h f sc = no_some d h
@@ -242,12 +242,12 @@ module _ (c : Context) (ts : List Ty) (in_scope : ScopeOf ts c.scope) (in_slots 
 
   -- the places that are no names
   abbrev SpotOf : Expr → Ty → Spot → Type 0
-  SpotOf (ENamed x) t spot = SuitsSpot c.slots t spot
+  SpotOf (ENamed x) t spot = SuitsSpot ts c.slots t spot
   SpotOf _ t spot = IsCell spot
 
-  of_place : (e : Expr) (t : Ty) (spot : Spot) → SpotOf e t spot → SuitsSpot c.slots t spot
+  of_place : (e : Expr) (t : Ty) (spot : Spot) → SpotOf e t spot → SuitsSpot ts c.slots t spot
   of_place (ENamed x) t spot h = h
-  of_place _ t spot h = cell_suits c.slots t spot h
+  of_place _ t spot h = cell_suits ts c.slots t spot h
 
   -- the address of a cell
   address_of : (t : Ty) (a : Answer Spot) → Comes IsCell a → Comes (Suits (pointer_type t)) (address a)
@@ -350,7 +350,7 @@ module _ (c : Context) (ts : List Ty) (in_scope : ScopeOf ts c.scope) (in_slots 
         let m = then_some (target l.0) _ d l.2 in
         comes_then (Suits l.0) (Suits t) (value c e) _ (value_of e k.0 l.0 b k.1 l.1 (pointer_scalar l.0 m.0 m.1)) λ v g.
         comes_then IsCell (Suits t) (pointed v) _ (pointed_comes m.0 v (subst (λ t. Suits t v) (target_is l.0 m.0 m.1) g)) λ spot i.
-        read_as c.slots c.store _ m.0 t spot (place_type_is (EUnary Dereference e) m.0 (h ∙ sym m.2)) (used_as (APlace m.0) d t m.2 f) sc (cell_suits c.slots m.0 spot i)
+        read_as ts c.slots c.store _ m.0 t spot (place_type_is (EUnary Dereference e) m.0 (h ∙ sym m.2)) (used_as (APlace m.0) d t m.2 f) sc (cell_suits ts c.slots m.0 spot i)
     value_of (EUnary Minus e) d t b h f sc =
         let k = sign_some Minus (typing c.program c.scope e) d h in
         let l = integer_sign k.0 d k.2 in
@@ -435,15 +435,15 @@ module _ (c : Context) (ts : List Ty) (in_scope : ScopeOf ts c.scope) (in_slots 
         comes_then (Suits (TyPointer g.element)) (Suits t) (operate c.program c.store Add (used_type c a) (used_type c i) v w) _
         (sum_pointer a i g.operand_type g.index_type g.sum g.element v w (used_type_is a g.operand g.operand_type g.is_operand g.is_operand_type) (used_type_is i g.index g.index_type g.is_index g.is_index_type) g.is_sum g.is_element j k) λ x l.
         comes_then IsCell (Suits t) (pointed x) _ (pointed_comes g.element x l) λ spot m.
-        read_as c.slots c.store _ g.element t spot (place_type_is (EIndex a i) g.element (h ∙ sym g.is_place)) (used_as (APlace g.element) d t g.is_place f) sc (cell_suits c.slots g.element spot m)
+        read_as ts c.slots c.store _ g.element t spot (place_type_is (EIndex a i) g.element (h ∙ sym g.is_place)) (used_as (APlace g.element) d t g.is_place f) sc (cell_suits ts c.slots g.element spot m)
     value_of (EMember e x) d t b h f sc =
         let k = then_some (typing c.program c.scope e) _ d h in
         let g = field_of (typed_place k.0) x d k.2 in
         let is_e = k.1 ∙ ap (λ d. Some d) (place_is k.0 g.struct g.is_struct) in
-        comes_then (SuitsSpot c.slots g.struct) (Suits t) (place c e) _ (comes_as (SpotOf e g.struct) (SuitsSpot c.slots g.struct) (place c e) (place_of e g.struct b is_e) (of_place e g.struct)) λ spot i.
-        comes_then (Suits (TyPointer g.struct)) (Suits t) (pointer_to spot) _ (cell_at g.struct spot (struct_spot c.slots g.struct g.tag spot g.is_tag i)) λ v j.
+        comes_then (SuitsSpot ts c.slots g.struct) (Suits t) (place c e) _ (comes_as (SpotOf e g.struct) (SuitsSpot ts c.slots g.struct) (place c e) (place_of e g.struct b is_e) (of_place e g.struct)) λ spot i.
+        comes_then (Suits (TyPointer g.struct)) (Suits t) (pointer_to spot) _ (cell_at g.struct spot (struct_spot ts c.slots g.struct g.tag spot g.is_tag i)) λ v j.
         comes_then IsCell (Suits t) (field_spot c.program c.store (place_type c e) x v) _ (field_comes c.program c.store (place_type c e) g.struct g.tag x g.found v (place_type_is e g.struct is_e) g.is_tag g.is_found j) λ there l.
-        read_as c.slots c.store _ g.found.1 t there (place_type_is (EMember e x) g.found.1 (h ∙ sym g.is_place)) (used_as (APlace g.found.1) d t g.is_place f) sc (cell_suits c.slots g.found.1 there l)
+        read_as ts c.slots c.store _ g.found.1 t there (place_type_is (EMember e x) g.found.1 (h ∙ sym g.is_place)) (used_as (APlace g.found.1) d t g.is_place f) sc (cell_suits ts c.slots g.found.1 there l)
     value_of (EArrow e x) d t b h f sc =
         let k = then_some (typing c.program c.scope e) _ d h in
         let m = then_some (used k.0) _ d k.2 in
@@ -451,7 +451,7 @@ module _ (c : Context) (ts : List Ty) (in_scope : ScopeOf ts c.scope) (in_slots 
         comes_then (Suits m.0) (Suits t) (value c e) _ (value_of e k.0 m.0 b k.1 m.1 (pointer_scalar m.0 g.struct g.is_struct)) λ v j.
         comes_then IsCell (Suits t) (field_spot c.program c.store (pointed_type (used_type c e)) x v) _
         (field_comes c.program c.store (pointed_type (used_type c e)) g.struct g.tag x g.found v (ap pointed_type (used_type_is e k.0 m.0 k.1 m.1) ∙ g.is_struct) g.is_tag g.is_found (subst (λ t. Suits t v) (target_is m.0 g.struct g.is_struct) j)) λ there l.
-        read_as c.slots c.store _ g.found.1 t there (place_type_is (EArrow e x) g.found.1 (h ∙ sym g.is_place)) (used_as (APlace g.found.1) d t g.is_place f) sc (cell_suits c.slots g.found.1 there l)
+        read_as ts c.slots c.store _ g.found.1 t there (place_type_is (EArrow e x) g.found.1 (h ∙ sym g.is_place)) (used_as (APlace g.found.1) d t g.is_place f) sc (cell_suits ts c.slots g.found.1 there l)
     value_of (ECall g es) d t b h f sc = no_some d h
 
     place_of : (e : Expr) (t : Ty) → boxes e → typed_as e (APlace t) → Comes (SpotOf e t) (place c e)
@@ -486,8 +486,8 @@ module _ (c : Context) (ts : List Ty) (in_scope : ScopeOf ts c.scope) (in_slots 
         let k = then_some (typing c.program c.scope e) _ (APlace t) h in
         let g = field_of (typed_place k.0) x (APlace t) k.2 in
         let is_e = k.1 ∙ ap (λ d. Some d) (place_is k.0 g.struct g.is_struct) in
-        comes_then (SuitsSpot c.slots g.struct) IsCell (place c e) _ (comes_as (SpotOf e g.struct) (SuitsSpot c.slots g.struct) (place c e) (place_of e g.struct b is_e) (of_place e g.struct)) λ spot i.
-        comes_then (Suits (TyPointer g.struct)) IsCell (pointer_to spot) _ (cell_at g.struct spot (struct_spot c.slots g.struct g.tag spot g.is_tag i)) λ v j.
+        comes_then (SuitsSpot ts c.slots g.struct) IsCell (place c e) _ (comes_as (SpotOf e g.struct) (SuitsSpot ts c.slots g.struct) (place c e) (place_of e g.struct b is_e) (of_place e g.struct)) λ spot i.
+        comes_then (Suits (TyPointer g.struct)) IsCell (pointer_to spot) _ (cell_at g.struct spot (struct_spot ts c.slots g.struct g.tag spot g.is_tag i)) λ v j.
         field_comes c.program c.store (place_type c e) g.struct g.tag x g.found v (place_type_is e g.struct is_e) g.is_tag g.is_found j
     place_of (EArrow e x) t b h =
         let k = then_some (typing c.program c.scope e) _ (APlace t) h in
@@ -527,6 +527,6 @@ module _ (c : Context) (ts : List Ty) (in_scope : ScopeOf ts c.scope) (in_slots 
 pub expressions_answer : ExpressionsAnswer
 expressions_answer c ts e d in_scope in_slots b h = (
   λ t f sc. value_of c ts in_scope in_slots e d t b h f sc,
-  λ t f. comes_as (SpotOf c ts in_scope in_slots e t) (SuitsSpot c.slots t) (place c e)
+  λ t f. comes_as (SpotOf c ts in_scope in_slots e t) (SuitsSpot ts c.slots t) (place c e)
       (place_of c ts in_scope in_slots e t b (h ∙ ap (λ d. Some d) (place_is d t f))) (of_place c ts in_scope in_slots e t),
 )

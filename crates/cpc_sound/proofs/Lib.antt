@@ -8,3 +8,6 @@ pub mod Lookups
 pub mod Expressions
 pub mod Control
 pub mod Paths
+pub mod Requests
+pub mod Types
+pub mod Acts

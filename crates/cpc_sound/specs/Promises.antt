@@ -15,7 +15,7 @@ ExpressionsAnswer =
     (c : Context) (ts : List Ty) (e : Expr) (d : Typed)
     → ScopeOf ts c.scope → SuitSlots ts c.slots → AllBoxed c.slots (addresses c.scope e) → typing c.program c.scope e ≡ Some d
     → ((t : Ty) → used d ≡ Some t → is_scalar t ≡ true → Comes (Suits t) (value c e))
-    × ((t : Ty) → typed_place d ≡ Some t → Comes (SuitsSpot c.slots t) (place c e))
+    × ((t : Ty) → typed_place d ≡ Some t → Comes (SuitsSpot ts c.slots t) (place c e))
 
 -- A body begins where something stands; and from there control goes to where something stands, or to the end, but for a return.
 abbrev pub ControlStays : Type 0

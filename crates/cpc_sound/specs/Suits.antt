@@ -64,7 +64,7 @@ abbrev pub AllBoxed : List Slot → List ℕ → Type 0
 AllBoxed slots [] = Unit {0}
 AllBoxed slots (k ∷ ks) = IsBoxed (slice_get slots k) × AllBoxed slots ks
 
--- a place of a type: a cell, or a register
-abbrev pub SuitsSpot : List Slot → Ty → Spot → Type 0
-SuitsSpot slots t (InCell c n k) = Unit {0}
-SuitsSpot slots t (InSlot k) = (v : Value) × (slice_get slots k ≡ Some (Register v)) × (is_scalar t ≡ true) × Suits t v
+-- a place of a type: a cell, or a variable of the type that is a register
+abbrev pub SuitsSpot : List Ty → List Slot → Ty → Spot → Type 0
+SuitsSpot ts slots t (InCell c n k) = Unit {0}
+SuitsSpot ts slots t (InSlot k) = (v : Value) × (slice_get slots k ≡ Some (Register v)) × (is_scalar t ≡ true) × Suits t v × (slice_get ts k ≡ Some t)
