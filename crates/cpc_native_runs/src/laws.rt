@@ -1,5 +1,5 @@
 //! The laws, each as the contract of a function that does nothing.
-ghost use Rattle.cpc_native_runs.specs.Laws.{PlainRunsAlike, PlainRunsSame, PlainRunsWithin};
+ghost use Rattle.cpc_native_runs.specs.Laws.{PlainRunsAlike, PlainRunsSame, PlainRunsWithin, NativeIsPlain, TextsAreShaped, NativeTextIsPlain};
 
 /// A program of native code alone, in which nothing is spawned, detached or waited for, is its own event program: each step of its
 /// threads is one step of its callbacks.
@@ -15,4 +15,19 @@ pub fn plain_runs_same()
 /// And its event runs show each state of its threads within the cost that a program may have.
 pub fn plain_runs_within()
     ensures law { PlainRunsWithin }
+{}
+
+/// A program of native code that breaks no rule of the dialect Cpc is plain, where it has the shape that texts give trees.
+pub fn native_is_plain()
+    ensures law { NativeIsPlain }
+{}
+
+/// A text gives trees of that shape.
+pub fn texts_are_shaped()
+    ensures law { TextsAreShaped }
+{}
+
+/// So a text of native code that breaks no rule of the dialect Cpc gives a plain program.
+pub fn native_text_is_plain()
+    ensures law { NativeTextIsPlain }
 {}

@@ -3,4 +3,7 @@
 
 mod laws;
 
-pub use laws::{plain_runs_alike, plain_runs_same, plain_runs_within};
+pub use laws::{
+    native_is_plain, native_text_is_plain, plain_runs_alike, plain_runs_same, plain_runs_within,
+    texts_are_shaped,
+};
