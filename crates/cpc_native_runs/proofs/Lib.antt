@@ -5,3 +5,4 @@ pub mod Alike
 pub mod Names
 pub mod Native
 pub mod Shaped
+pub mod Refused

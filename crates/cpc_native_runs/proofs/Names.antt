@@ -1,5 +1,5 @@
 -- Names that the language keeps stand for nothing in a program that breaks no rule.
-use Rattle.std.proofs.Common.{◌≡◌, Bool, true, false, ◌&&◌, ◌||◌, List, [], ◌∷◌, ◌++◌, reverse, Option, Some, None, bytes_eq, cond, refl, sym, ◌∙◌, ap}
+use Rattle.std.proofs.Common.{◌≡◌, Bool, true, false, ◌&&◌, List, [], ◌∷◌, ◌++◌, reverse, Option, Some, None, bytes_eq, cond, refl, sym, ◌∙◌, ap}
 use Rattle.std.proofs.lemmas.List.{reverse-append}
 use Rattle.cpc_base.specs.Bytes.{Text}
 use Rattle.cpc_base.specs.declared.stop.Dialect.TheVariants as D
@@ -15,6 +15,8 @@ use Rattle.cpc_rules.specs.FunctionRules.{is_kept, is_reserved, holds_bars, rese
 use Rattle.cpc_rules.specs.ItemRules.{parameter_block}
 use Rattle.cpc_meaning.proofs.Functions.{same_text}
 use Rattle.cpc_rule_laws.proofs.NativeValues.{left_none, right_none, unbroken}
+use Rattle.cpc_rule_laws.proofs.NativeStatements.{and_left, and_right}
+use Rattle.cpc_native_runs.proofs.Stands.{either_false}
 
 -- ---- names of primitives
 
@@ -22,21 +24,13 @@ all_kept : List (Text × Primitive) → Bool
 all_kept [] = true
 all_kept (p ∷ ps) = is_kept p.0 && all_kept ps
 
-both_left : (a b : Bool) → (a && b) ≡ true → a ≡ true
-both_left true b e = refl
-both_left false b e = absurd cc
-
-both_right : (a b : Bool) → (a && b) ≡ true → b ≡ true
-both_right true b e = e
-both_right false b e = absurd cc
-
 kept_in : (ps : List (Text × Primitive)) → all_kept ps ≡ true → (x : Text) (prim : Primitive) → primitive_in ps x ≡ Some prim → is_kept x ≡ true
 unfolding all_kept
 kept_in [] h x prim e = absurd cc
-kept_in (p ∷ ps) h x prim e = go (bytes_eq p.0 x) refl (kept_in ps (both_right (is_kept p.0) (all_kept ps) h) x prim) e
+kept_in (p ∷ ps) h x prim e = go (bytes_eq p.0 x) refl (kept_in ps (and_right (is_kept p.0) (all_kept ps) h) x prim) e
   where
     go : (b : Bool) → bytes_eq p.0 x ≡ b → (primitive_in ps x ≡ Some prim → is_kept x ≡ true) → cond b (Some p.1) (primitive_in ps x) ≡ Some prim → is_kept x ≡ true
-    go true i later k = ap is_kept (sym (same_text p.0 x i)) ∙ both_left (is_kept p.0) (all_kept ps) h
+    go true i later k = ap is_kept (sym (same_text p.0 x i)) ∙ and_left (is_kept p.0) (all_kept ps) h
     go false i later k = later k
 
 -- the names of primitives are kept
@@ -46,14 +40,6 @@ primitive_kept x prim e = kept_in primitives refl x prim e
 
 -- ---- names that are not reserved
 
-either_left : (a b : Bool) → (a || b) ≡ false → a ≡ false
-either_left true b e = e
-either_left false b e = refl
-
-either_right : (a b : Bool) → (a || b) ≡ false → b ≡ false
-either_right true b e = absurd cc
-either_right false b e = e
-
 -- names of which none is reserved
 abbrev pub Unreserved : List Ident → Type 0
 Unreserved xs = reserved_breaks D.Cpc xs ≡ []
@@ -62,10 +48,10 @@ first_unreserved : (x : Ident) (xs : List Ident) → Unreserved (x ∷ xs) → i
 first_unreserved x xs h = unbroken (is_reserved D.Cpc x.text) x.place Reserved (left_none (at_if (is_reserved D.Cpc x.text) x.place Reserved) _ h)
 
 pub first_unkept : (x : Ident) (xs : List Ident) → Unreserved (x ∷ xs) → is_kept x.text ≡ false
-first_unkept x xs h = either_left (is_kept x.text) (holds_bars x.text) (first_unreserved x xs h)
+first_unkept x xs h = (either_false (is_kept x.text) (holds_bars x.text) (first_unreserved x xs h)).0
 
 pub first_no_bars : (x : Ident) (xs : List Ident) → Unreserved (x ∷ xs) → holds_bars x.text ≡ false
-first_no_bars x xs h = either_right (is_kept x.text) (holds_bars x.text) (first_unreserved x xs h)
+first_no_bars x xs h = (either_false (is_kept x.text) (holds_bars x.text) (first_unreserved x xs h)).1
 
 rest_unreserved : (x : Ident) (xs : List Ident) → Unreserved (x ∷ xs) → Unreserved xs
 rest_unreserved x xs h = right_none (at_if (is_reserved D.Cpc x.text) x.place Reserved) _ h

@@ -17,13 +17,14 @@ use Rattle.cpc_rules.specs.FunctionRules.{reserved_breaks, parameter_names, loca
 use Rattle.cpc_rules.specs.ItemRules.{outside, types, cps_breaks, declared_breaks, parameters_breaks, sized_breaks, in_body, body_breaks, function_breaks, item_breaks, items_breaks}
 use Rattle.cpc_rule_laws.specs.Native.{spawns_none, all_spawn_none, maybe_spawns_none, is_native_item, are_native}
 use Rattle.cpc_rule_laws.proofs.NativeValues.{left_none, right_none, unbroken}
+use Rattle.cpc_rule_laws.proofs.NativeStatements.{and_left, and_right}
 use Rattle.cpc_native_runs.specs.Plain.{is_shared, shares, calls_shared, is_plain_stmt, are_plain, is_plain_arm, is_plain_item, is_plain}
 use Rattle.cpc_native_runs.specs.Shape.{is_step, is_shaped, all_shaped, is_shaped_arm, is_block, is_shaped_item, are_shaped}
 use Rattle.cpc_native_runs.specs.Laws.{NativeIsPlain}
-use Rattle.cpc_native_runs.proofs.Stands.{and_left, and_right, not_true}
+use Rattle.cpc_native_runs.proofs.Stands.{not_true}
 use Rattle.cpc_native_runs.proofs.Names.{primitive_kept, Unreserved, first_unkept, first_no_bars, front_unreserved, back_unreserved, NoneKept, block_none_kept, name_none_kept, parameters_apart, NoneDeclared, item_name, more_none_declared}
 
-both_true : (a b : Bool) → a ≡ true → b ≡ true → (a && b) ≡ true
+pub both_true : (a b : Bool) → a ≡ true → b ≡ true → (a && b) ≡ true
 both_true a b e f = rw e f
 
 -- where native code of the dialect Cpc stands, in which no kept name stands for anything

@@ -1,5 +1,5 @@
 -- Texts give trees of the shape in which the rules see every name.
-use Rattle.std.proofs.Common.{◌≡◌, ℕ, Bool, true, ◌&&◌, List, [], ◌∷◌, ◌++◌, Option, Some, refl}
+use Rattle.std.proofs.Common.{◌≡◌, ℕ, true, List, [], ◌∷◌, ◌++◌, Option, Some, refl}
 use Rattle.cpc_base.specs.declared.stop.Place.{Place}
 use Rattle.cpc_tree.specs.Syntax.{Ty}
 use Rattle.cpc_tree.specs.Tokens.{Placed}
@@ -7,13 +7,10 @@ use Rattle.cpc_tree.specs.Located.{LExpr, LStmt, LVariable, LItem}
 use Rattle.cpc_tree.specs.StmtGrammar.{Right, Value, Calls, Section, given, begun, stmts, maybe, ReadsSimple, assigned, updated, stepped_behind, stepped_before, performed, detached, ReadsLocalPart, unset, set, ReadsLocalRow, last_local, more_locals, ReadsLocal, local, ReadsFirst, no_first, simple_first, local_first, ReadsStep, no_step, some_step, ReadsStmt, block, empty, simple, labelled, if_alone, if_else, while, do_while, for, goto, break, continue, return, spawn, ReadsBlock, no_part, a_stmt, a_local}
 use Rattle.cpc_tree.specs.ItemGrammar as I
 use Rattle.cpc_tree.specs.ItemGrammar.{ReadsGlobal, ReadsGlobals, last_global, more_globals, ReadsItem, struct, globals, function, prototype, ReadsItems, no_item, items}
+use Rattle.cpc_rule_laws.proofs.NativeStatements.{and_left, and_right}
 use Rattle.cpc_native_runs.specs.Shape.{is_step, is_shaped, all_shaped, is_shaped_item, are_shaped}
 use Rattle.cpc_native_runs.specs.Laws.{TextsAreShaped, NativeTextIsPlain}
-use Rattle.cpc_native_runs.proofs.Stands.{and_left, and_right}
-use Rattle.cpc_native_runs.proofs.Native.{native_is_plain}
-
-both_true : (a b : Bool) → a ≡ true → b ≡ true → (a && b) ≡ true
-both_true a b e f = rw e f
+use Rattle.cpc_native_runs.proofs.Native.{both_true, native_is_plain}
 
 -- ---- rows of statements
 

@@ -13,23 +13,16 @@ use Rattle.cpc_meaning.specs.Start.{begins_with_bars, cut_where, before_bars}
 use Rattle.cpc_meaning.specs.Threads as T
 use Rattle.cpc_meaning.specs.Threads.{shown_in}
 use Rattle.cpc_meaning.proofs.Functions.{named_so}
+use Rattle.cpc_rule_laws.proofs.NativeStatements.{and_left, and_right}
 use Rattle.cpc_native_runs.specs.Plain.{is_plain_stmt, are_plain, is_plain_arm, is_plain_function, is_plain}
 
 -- ---- tests
-
-pub and_left : (a b : Bool) → (a && b) ≡ true → a ≡ true
-and_left true b e = refl
-and_left false b e = absurd cc
-
-pub and_right : (a b : Bool) → (a && b) ≡ true → b ≡ true
-and_right true b e = e
-and_right false b e = absurd cc
 
 pub not_true : (b : Bool) → not b ≡ true → b ≡ false
 not_true true e = absurd cc
 not_true false e = refl
 
-either_false : (a b : Bool) → (a || b) ≡ false → (a ≡ false) × (b ≡ false)
+pub either_false : (a b : Bool) → (a || b) ≡ false → (a ≡ false) × (b ≡ false)
 either_false true b h = absurd cc
 either_false false b h = (refl, h)
 

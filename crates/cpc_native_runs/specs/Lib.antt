@@ -1,3 +1,4 @@
 pub mod Plain
 pub mod Shape
 pub mod Laws
+pub mod Refusals
