@@ -1,0 +1,29 @@
+//! Functions that are declared beside others of their names.
+ghost use Rattle.std.specs.Prelude.{◌≡◌};
+ghost use Rattle.cpc_tree.specs.Erase.{Names};
+ghost use Rattle.cpc_tree.specs.Syntax.{Program};
+ghost use Rattle.cpc_tree.specs.Locate.{ident};
+ghost use Rattle.cpc_rules.specs.Apart.{AreApart};
+ghost use Rattle.cpc_rules.specs.Noted.{noted, first_of};
+ghost use Rattle.cpc_rules.specs.ItemRules as R;
+ghost use Rattle.cpc_check_items.specs.Signatures.{signature_of};
+ghost use Rattle.cpc_check_items.specs.Pasts.{AreEarlier};
+
+use crate::earlier::Earlier;
+use crate::joins::{is_clash, is_disagreeing};
+use crate::signatures::Signature;
+use cpc_rules::{First, Rule};
+use cpc_tree::program::Word;
+
+/// Notes a function that may not be declared beside earlier items, or that disagrees with one of them.
+pub(crate) fn declared_rules(first: &mut First, earlier: &Earlier, word: Word, new: &Signature)
+    ensures { (names : Names) → AreApart names → (before : Program) → AreEarlier names before earlier.now → first_of first.new ≡ noted (first_of first.old) (R.declared_breaks before (ident names word) (signature_of names new.now)) }
+{
+    let past = earlier.past(word.name);
+    if is_clash(&past, new) {
+        first.note(word.place, Rule::Twice);
+    } else {
+        let is_broken = is_disagreeing(&past, new);
+        first.note_if(is_broken, word.place, Rule::Disagree);
+    }
+}
