@@ -1,5 +1,9 @@
 -- The points of the code as the points of a body.
-use Rattle.std.specs.Prelude.{List, map}
+use Rattle.std.specs.Prelude.{List, map, Option, Some, None}
+use Rattle.std.specs.Borrow.{Bor}
+use Rattle.cpc_tree.specs.Erase.{Names, stmt_of}
+use Rattle.cpc_tree.specs.Syntax.{MaybeStmt, Absent, Present}
+use Rattle.cpc_tree.specs.declared.program.Statement.{Statement}
 use Rattle.cpc_tree.specs.Points as P
 use Rattle.cpc_points.specs.declared.parts.Part.{Part}
 use Rattle.cpc_points.specs.declared.parts.Part.TheVariants as V
@@ -26,3 +30,8 @@ point_at F.End path = P.End
 
 abbrev pub point_of : Point → P.Point
 point_of p = point_at p.phase (path_of p.path.items)
+
+-- a statement that may be there
+abbrev pub maybe_seen : Names → Option (Bor Statement) → MaybeStmt
+maybe_seen names None = Absent
+maybe_seen names (Some s) = Present (stmt_of names s.now)
