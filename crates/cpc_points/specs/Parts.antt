@@ -1,7 +1,9 @@
 -- The statements in a statement, by the part that they are.
-use Rattle.std.specs.Prelude.{ℕ, zero, suc, Bool, [], ◌∷◌}
+use Rattle.std.specs.Prelude.{ℕ, zero, suc, Bool, [], ◌∷◌, Option, Some, None}
+use Rattle.cpc_points.specs.declared.parts.Part as G
+use Rattle.cpc_points.specs.Seen.{part_of}
 use Rattle.cpc_tree.specs.Syntax.{Stmt, Block, Empty, Declare, Assign, Call, Detach, Spawn, If, While, DoWhile, For, Goto, Label, Break, Continue, Stmts, NoStmt, AndStmt, MaybeStmt, Absent, Present}
-use Rattle.cpc_tree.specs.Points.{Part, Nth, TheTest, TheYes, TheNo, TheStep, TheBody, Move, Into, Out, ToLabel, Broken, Continued, NoMove, enter, under, or_out, loop_out, if_holds, enter_step}
+use Rattle.cpc_tree.specs.Points.{Part, Nth, TheTest, TheYes, TheNo, TheStep, TheBody, Path, Move, Into, Out, ToLabel, Broken, Continued, NoMove, enter, under, or_out, loop_out, if_holds, enter_step}
 
 -- the n-th of these
 abbrev pub nth : Stmts → ℕ → MaybeStmt
@@ -65,3 +67,9 @@ tested _ n h = NoMove
 abbrev pub or_else : Move → Move → Move
 or_else NoMove n = n
 or_else m n = m
+
+-- where the first of these begins, or else a part that stands in for it
+abbrev pub entered : Stmts → Option G.Part → Path
+entered (AndStmt s ss) o = Nth 0 ∷ enter s
+entered NoStmt (Some n) = part_of n ∷ []
+entered NoStmt None = []

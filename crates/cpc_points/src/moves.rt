@@ -33,7 +33,7 @@ pub(crate) enum Move<'a> {
 }
 
 /// The n-th of a row of statements.
-fn nth(row: &[Statement], n: usize) -> Option<&Statement>
+pub(crate) fn nth(row: &[Statement], n: usize) -> Option<&Statement>
     ensures { (names : Names) → maybe_seen names result ≡ S.nth (list_of names row.now) n }
 {
     if n < row.len() { Some(&row[n]) } else { None }

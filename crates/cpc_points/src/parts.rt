@@ -1,7 +1,7 @@
 //! Positions in the body of a function: the parts of statements, from the outermost one in.
 ghost use Rattle.std.specs.Prelude.{◌≡◌, [], IfOk};
 ghost use Rattle.cpc_tree.specs.Points as P;
-ghost use Rattle.cpc_points.specs.Seen.{point_of};
+ghost use Rattle.cpc_points.specs.Seen.{path_of, point_of};
 
 use cpc_base::NoMemory;
 use std::alloc::Global;
@@ -50,5 +50,12 @@ impl Point {
             phase: Phase::End,
             path: Vec::with_capacity(alloc, depth)?,
         })
+    }
+
+    /// From a call to the arrival of its value.
+    pub fn arrive(&mut self)
+        ensures { point_of self.new ≡ P.Arrival (path_of self.old.path.items) }
+    {
+        self.phase = Phase::Arrival;
     }
 }
