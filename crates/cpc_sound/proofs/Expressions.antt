@@ -197,10 +197,10 @@ module _ (c : Context) (ts : List Ty) (in_scope : ScopeOf ts c.scope) (in_slots 
       go (Some (Register v)) f h = (v, f, h.0, h.1, e)
       go (Some (Boxed n)) f h = tt
 
-  boxed_comes : (k : ℕ) (t : Ty) (o : Option Slot) → IsBoxed o → Comes (Suits (pointer_type t)) (address (slot_spot k o))
-  boxed_comes k t None h = absurd h
-  boxed_comes k t (Some (Register v)) h = absurd h
-  boxed_comes k t (Some (Boxed n)) h = pointer_suits t Auto n 0
+  boxed_comes : (k : ℕ) (t : Ty) (o : Option Slot) → SuitsSome t o → IsBoxed o → Comes (Suits (pointer_type t)) (address (slot_spot k o))
+  boxed_comes k t None g h = absurd g
+  boxed_comes k t (Some (Register v)) g h = absurd h
+  boxed_comes k t (Some (Boxed n)) g h = pointer_suits t Auto n 0
 
   -- where a variable is
   spot_comes : (x : Text) (t : Ty) (m : Meant) → named c.program c.scope x ≡ m → type_named m ≡ Some (APlace t) → Comes (SuitsSpot ts c.slots t) (spot_named c.slots m)
@@ -230,7 +230,7 @@ module _ (c : Context) (ts : List Ty) (in_scope : ScopeOf ts c.scope) (in_slots 
       → Comes (Suits t) (address_named c.slots x m)
   address_comes x d t (ALocal k u) b e h f =
       let i = subst (AllBoxed c.slots) (local_is ts c.program c.scope x k u in_scope e).1 b in
-      as_value (pointer_type u) (address_type d) t _ (ap (λ o. and_then o (λ d. Some (address_type d))) h) f (boxed_comes k u (slice_get c.slots k) i.0)
+      as_value (pointer_type u) (address_type d) t _ (ap (λ o. and_then o (λ d. Some (address_type d))) h) f (boxed_comes k u (slice_get c.slots k) (slot_suits ts c.slots k u in_slots (local_is ts c.program c.scope x k u in_scope e).0) i.0)
   address_comes x d t (AGlobal n u) b e h f = as_value (pointer_type u) (address_type d) t (Gives (At Static n 0)) (ap (λ o. and_then o (λ d. Some (address_type d))) h) f (pointer_suits u Static n 0)
   address_comes x d t (AFunction Native r ps) b e h f = as_value _ (address_type d) t (Gives (Code x)) (ap (λ o. and_then o (λ d. Some (address_type d))) h) f tt
   address_comes x d t (AFunction Detached r ps) b e h f = as_value _ (address_type d) t (Gives (Code x)) (ap (λ o. and_then o (λ d. Some (address_type d))) h) f tt

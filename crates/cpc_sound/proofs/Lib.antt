@@ -10,4 +10,5 @@ pub mod Control
 pub mod Paths
 pub mod Requests
 pub mod Types
+pub mod Copies
 pub mod Acts

@@ -54,12 +54,12 @@ abbrev pub ScopeOf : List Ty → Scope → Type 0
 ScopeOf ts [] = Unit {0}
 ScopeOf ts (l ∷ scope) = (slice_get ts l.slot ≡ Some l.type) × ScopeOf ts scope
 
--- a slot that is a block
+-- no register
 abbrev pub IsBoxed : Option Slot → Type 0
-IsBoxed (Some (Boxed n)) = Unit {0}
-IsBoxed _ = ⊥
+IsBoxed (Some (Register v)) = ⊥
+IsBoxed _ = Unit {0}
 
--- the slots of these numbers are blocks
+-- none of the slots of these numbers is a register
 abbrev pub AllBoxed : List Slot → List ℕ → Type 0
 AllBoxed slots [] = Unit {0}
 AllBoxed slots (k ∷ ks) = IsBoxed (slice_get slots k) × AllBoxed slots ks
