@@ -86,6 +86,16 @@ ActOk d p f scope ts slots s found (Enters g vs) =
 ActOk d p f scope ts slots s found (Leaves v t) = Suits f.result v × CopyStays s t
 ActOk d p f scope ts slots s found (AsksFor r) = (t : Ty) × IsRequest d p f.mode r.asked r.arguments t × Awaits p scope found t
 
+-- what is done where a value arrives
+abbrev pub ArrivedOk : List Ty → List Slot → Store → Found → Act → Type 0
+ArrivedOk ts slots s found (GoesOn h t after) = GoesOnward found × Wrote ts slots s (after, t)
+ArrivedOk ts slots s found _ = ⊥
+
+-- what is done at the end
+abbrev pub LeftOk : Ty → Store → Act → Type 0
+LeftOk r s (Leaves v t) = Suits r v × CopyStays s t
+LeftOk r s _ = ⊥
+
 module _ (d : Dialect) (p : Program) (f : Function) (scope : Scope) (ts : List Ty) (slots : List Slot) (s : Store) (in_scope : ScopeOf ts scope) (in_slots : SuitSlots ts slots) where
   abbrev c : Context
   c = record { program = p; scope = scope; slots = slots; store = s }
@@ -333,8 +343,8 @@ module _ (d : Dialect) (p : Program) (f : Function) (scope : Scope) (ts : List T
   act_comes Nothing g st b = absurd st
 
   -- what a function does at its end
-  pub end_comes : Comes (ActOk d p f scope ts slots s Nothing) (leaves c Unset)
-  end_comes = leaves_come Nothing Unset tt
+  pub end_comes : Comes (LeftOk f.result s) (leaves c Unset)
+  end_comes = comes_then (CopyStays s) (LeftOk f.result s) (free_slots slots s) _ (free_comes slots s) (λ t k. (tt, k))
 
   -- ---- values that arrive
 
@@ -347,8 +357,8 @@ module _ (d : Dialect) (p : Program) (f : Function) (scope : Scope) (ts : List T
   target_onward _ x e b = no_some x e
 
   -- a value arrives
-  pub arrival_comes : (found : Found) (r : Ty) (v : Value) → Awaits p scope found r → Suits r v → AllBoxed slots (found_addresses scope found) → Comes (ActOk d p f scope ts slots s found) (arrives c found (Some v))
+  pub arrival_comes : (found : Found) (r : Ty) (v : Value) → Awaits p scope found r → Suits r v → AllBoxed slots (found_addresses scope found) → Comes (ArrivedOk ts slots s found) (arrives c found (Some v))
   arrival_comes found r v awaits h b =
       let o = target_onward found awaits.0 awaits.1 b in
-      comes_needed (ActOk d p f scope ts slots s found) (target_of found) awaits.0 _ awaits.1
-      (comes_then (Wrote ts slots s) (ActOk d p f scope ts slots s found) (deliver c awaits.0 v) _ (deliver_comes awaits.0 r v awaits.2 o.1 h) (λ r k. (o.0, k)))
+      comes_needed (ArrivedOk ts slots s found) (target_of found) awaits.0 _ awaits.1
+      (comes_then (Wrote ts slots s) (ArrivedOk ts slots s found) (deliver c awaits.0 v) _ (deliver_comes awaits.0 r v awaits.2 o.1 h) (λ r k. (o.0, k)))

@@ -12,3 +12,4 @@ pub mod Requests
 pub mod Types
 pub mod Copies
 pub mod Acts
+pub mod Frames

@@ -1,4 +1,4 @@
 pub mod Suits
-pub mod Typed
 pub mod Control
+pub mod Typed
 pub mod Promises

@@ -6,16 +6,19 @@ use Rattle.cpc_base.specs.declared.stop.Dialect.TheVariants as D
 use Rattle.cpc_num.specs.declared.kinds.Kind.TheVariants.{Int, Long}
 use Rattle.cpc_tree.specs.declared.program.Mode.{Mode}
 use Rattle.cpc_tree.specs.declared.program.Mode.TheVariants.{Extern, Native, Cps, Detached}
-use Rattle.cpc_tree.specs.Syntax.{Ty, TyVoid, TyInt, TyPointer, TyCode, Expr, ENamed, EText, Exprs, NoExpr, AndExpr, Stmt, Block, Declare, Assign, Call, Detach, Spawn, If, While, DoWhile, For, Label, Return, Stmts, NoStmt, AndStmt, MaybeStmt, Absent, Present, Function, Program}
+use Rattle.cpc_tree.specs.Syntax.{Ty, TyVoid, TyInt, TyPointer, TyCode, Expr, ENamed, EText, Exprs, NoExpr, AndExpr, Stmt, Block, Declare, Assign, Call, Detach, Spawn, If, While, DoWhile, For, Label, Return, Stmts, NoStmt, AndStmt, MaybeStmt, Absent, Present, Variable, Function, Program}
 use Rattle.cpc_tree.specs.Primitives.{Primitive, Puts, RtDetach, primitive_named, Taken, AnyInteger, SetOf, FreeOf, takes_first, callback_and_pointer}
-use Rattle.cpc_tree.specs.Typing.{Scope, Meant, AFunction, NotMeant, ALocal, AGlobal, Typed, APlace, named, typing, used, is_testable, function_named, function_type, parameter_types, list_of_tys}
+use Rattle.cpc_tree.specs.Typing.{Scope, Meant, AFunction, NotMeant, ALocal, AGlobal, Typed, APlace, named, typing, used, is_testable, size, function_named, function_type, parameter_types, list_of_tys}
 use Rattle.cpc_tree.specs.Points.{Found, Simple, Test, Nothing, extended, extended_all, declared, locals_in}
+use Rattle.cpc_tree.specs.Registers.{variables, outer_scope}
 use Rattle.cpc_meaning.specs.Act.{right_side}
+use Rattle.cpc_meaning.specs.Start.{main_name}
 use Rattle.cpc_meaning.specs.Layout.{layout}
 use Rattle.cpc_meaning.specs.Requests.{section_takes}
 use Rattle.cpc_rules.specs.Operators.{is_detached}
 use Rattle.cpc_rules.specs.Calls.{gives, gives_up, is_rt, is_closed}
 use Rattle.cpc_sound.specs.Suits.{converts}
+use Rattle.cpc_sound.specs.Control.{StaysIn}
 
 -- ---- values
 
@@ -199,3 +202,22 @@ abbrev mutual
   pub ArmTyped : Dialect → Program → Function → Scope → ℕ → MaybeStmt → Type 0
   ArmTyped d p f scope n Absent = Unit {0}
   ArmTyped d p f scope n (Present s) = BodyTyped d p f scope n s
+
+-- ---- programs
+
+-- the types of variables are complete
+abbrev pub AllSized : Program → List Variable → Type 0
+AllSized p [] = Unit {0}
+AllSized p (x ∷ xs) = ((n : ℕ) × (size p x.type ≡ Some n)) × AllSized p xs
+
+-- a function whose variables have sizes, whose body is typed, and in which control stays
+pub record TypedFunction (d : Dialect) (p : Program) (f : Function) : Type 0 where
+  pub sized : AllSized p (variables f)
+  pub body : BodyTyped d p f (outer_scope f) (length f.parameters) f.body
+  pub control : StaysIn f.body
+
+-- a program of typed functions that has a `main`
+pub record TypedProgram (d : Dialect) (p : Program) : Type 0 where
+  pub functions : (x : Text) (f : Function) → function_named p x ≡ Some f → TypedFunction d p f
+  pub main : Function
+  pub is_main : function_named p main_name ≡ Some main
