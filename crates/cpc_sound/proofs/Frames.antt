@@ -173,7 +173,7 @@ module _ (d : Dialect) (p : Program) where
   frame_boxed f slots h = all_within f slots (addressed f) h (λ k e. e)
 
 module _ (d : Dialect) (p : Program) (typed : TypedProgram d p) where
-  abbrev entered : Bool → Function → Store → Frame Point × Store → Type 0
+  abbrev pub entered : Bool → Function → Store → Frame Point × Store → Type 0
   entered closed g s r = (r.0.function ≡ g.called) × FrameOk d p closed r.0.function r.0.slots g × AtPoint d p g r.0.point None × CopyStays s r.1
 
   -- a function is entered

@@ -13,3 +13,5 @@ pub mod Types
 pub mod Copies
 pub mod Acts
 pub mod Frames
+pub mod Agendas
+pub mod Sections
