@@ -15,3 +15,4 @@ pub mod Acts
 pub mod Frames
 pub mod Agendas
 pub mod Sections
+pub mod Machines

@@ -33,7 +33,7 @@ use Rattle.cpc_sound.proofs.Answers.{some_is, no_some, not_true, comes_then, com
 use Rattle.cpc_sound.proofs.Copies.{IsLive, CopyStays, free_stays, alloc_stays}
 use Rattle.cpc_sound.proofs.Requests.{AllSuit, IsWhole, AllTaken, SectionGiven, PrimitiveGiven, IsRequest, AsksPrimitive, AsksHost, AsksSpawn, AsksSection}
 use Rattle.cpc_sound.proofs.Frames.{Given, given, Running, Asking, DoneOk, WentOk, entered, frame_comes, plain_comes, answer_comes}
-use Rattle.cpc_sound.proofs.Agendas.{Each}
+use Rattle.cpc_sound.proofs.Agendas.{Each, each_append}
 
 -- ---- acts on the store
 
@@ -246,7 +246,7 @@ module _ (d : Dialect) (p : Program) (typed : TypedProgram d p) where
       record { function = f; section = section; arguments = rest_suit section.cells section.others vs (subst (λ us. AllTaken p (section_takes us) vs) section.parameters h) }
 
   -- a job is found where there is one more
-  more_jobs : (jobs more : List Job) (n : ℕ) → HasJob jobs n → HasJob (jobs ++ more) n
+  pub more_jobs : (jobs more : List Job) (n : ℕ) → HasJob jobs n → HasJob (jobs ++ more) n
   more_jobs jobs more n h = record { job = h.job; is_job = go jobs h.is_job; ok = h.ok }
     where
       go : (js : List Job) → job_numbered js n ≡ Some h.job → job_numbered (js ++ more) n ≡ Some h.job
@@ -256,3 +256,27 @@ module _ (d : Dialect) (p : Program) (typed : TypedProgram d p) where
           either : (b : Bool) → cond b (Some j) (job_numbered js n) ≡ Some h.job → (job_numbered js n ≡ Some h.job → job_numbered (js ++ more) n ≡ Some h.job) → cond b (Some j) (job_numbered (js ++ more) n) ≡ Some h.job
           either true e rest = e
           either false e rest = rest e
+
+  numbered_ok : (jobs : List Job) (n : ℕ) (i : Job) → Each JobOk jobs → job_numbered jobs n ≡ Some i → JobOk i
+  numbered_ok [] n i h e = no_some i e
+  numbered_ok (j ∷ jobs) n i h e = go (j.number == n) e (numbered_ok jobs n i h.1)
+    where
+      go : (b : Bool) → cond b (Some j) (job_numbered jobs n) ≡ Some i → (job_numbered jobs n ≡ Some i → JobOk i) → JobOk i
+      go true e rest = subst JobOk (some_is j i e) h.0
+      go false e rest = rest e
+
+  last_there : (jobs : List Job) (j : Job) → (i : Job) × (job_numbered (jobs ++ j ∷ []) j.number ≡ Some i)
+  last_there [] j = (j, go (j.number == j.number) (let e : (j.number == j.number) ≡ true = grind arith in e))
+    where
+      go : (b : Bool) → b ≡ true → cond b (Some j) None ≡ Some j
+      go true e = refl
+      go false e = not_true e
+  last_there (l ∷ jobs) j = go (l.number == j.number) (last_there jobs j)
+    where
+      go : (b : Bool) → (i : Job) × (job_numbered (jobs ++ j ∷ []) j.number ≡ Some i) → (i : Job) × (cond b (Some l) (job_numbered (jobs ++ j ∷ []) j.number) ≡ Some i)
+      go true rest = (l, refl)
+      go false rest = rest
+
+  -- the job that was added last has its number
+  pub last_job : (jobs : List Job) (j : Job) → Each JobOk jobs → JobOk j → HasJob (jobs ++ j ∷ []) j.number
+  last_job jobs j h k = let i = last_there jobs j in record { job = i.0; is_job = i.1; ok = numbered_ok (jobs ++ j ∷ []) j.number i.0 (each_append JobOk jobs (j ∷ []) h (k, tt)) i.1 }
