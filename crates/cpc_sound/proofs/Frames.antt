@@ -36,7 +36,7 @@ Given [] vs = Unit {0}
 Given (x ∷ xs) [] = Unit {0}
 Given (x ∷ xs) (v ∷ vs) = Suits x.type v × Given xs vs
 
-given_none : (xs : List Variable) → Given xs []
+pub given_none : (xs : List Variable) → Given xs []
 given_none [] = tt
 given_none (x ∷ xs) = tt
 

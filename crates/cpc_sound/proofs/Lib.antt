@@ -16,3 +16,5 @@ pub mod Frames
 pub mod Agendas
 pub mod Sections
 pub mod Machines
+pub mod Threads
+pub mod Events

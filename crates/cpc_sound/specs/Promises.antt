@@ -1,11 +1,18 @@
 -- What is promised of programs that break no rule, as statements.
 use Rattle.std.specs.Prelude.{◌≡◌, Bool, true, List, Some}
-use Rattle.cpc_tree.specs.Syntax.{Ty, Expr, Stmt}
+use Rattle.cpc_tree.specs.Syntax.{Ty, Expr, Stmt, Program}
 use Rattle.cpc_tree.specs.Typing.{Typed, typing, typed_place, used, is_scalar}
 use Rattle.cpc_tree.specs.Registers.{addresses}
 use Rattle.cpc_tree.specs.Points.{Path, Here, found, begin, next_point}
 use Rattle.cpc_meaning.specs.Eval.{Context, place, value}
 use Rattle.cpc_sound.specs.Suits.{Comes, Suits, SuitSlots, ScopeOf, AllBoxed, SuitsSpot}
+use Rattle.cpc_base.specs.declared.stop.Dialect.TheVariants as D
+use Rattle.cpc_tree.specs.Trace.{is_over}
+use Rattle.cpc_matching.specs.Systems.{NeverStuck}
+use Rattle.cpc_meaning.specs.Trees.{trees}
+use Rattle.cpc_meaning.specs.History.{History}
+use Rattle.cpc_meaning.specs.Matching.{RunsNeverStuck, event_system}
+use Rattle.cpc_sound.specs.Typed.{TypedProgram}
 use Rattle.cpc_sound.specs.Control.{StaysIn, GoesOnward, IsPoint, HasNext}
 
 -- An expression that has a type, in a frame whose variables have their slots, has a value that suits its type, or a fault; and a place
@@ -22,3 +29,11 @@ abbrev pub ControlStays : Type 0
 ControlStays =
     (body : Stmt) → IsPoint body (begin body)
     × ((p : Path) (h : Bool) → StaysIn body → GoesOnward (found body p) → HasNext body (next_point body (Here p) h))
+
+-- The threads of a well typed program are never stuck.
+abbrev pub TypedThreadsNeverStuck : Type 0
+TypedThreadsNeverStuck = (p : Program) → TypedProgram D.Cpc p → RunsNeverStuck p
+
+-- Neither are the callbacks of a well typed event program.
+abbrev pub TypedCallbacksNeverStuck : Type 0
+TypedCallbacksNeverStuck = (p : Program) → TypedProgram D.Event p → (h : History) → NeverStuck is_over (event_system (trees p) h)

@@ -3,7 +3,7 @@
 //! Nothing here runs. The functions below carry, as their contracts, what is known of the meaning of programs that are well typed.
 #![tactic(auto)]
 
-ghost use Rattle.cpc_sound.specs.Promises.{ControlStays, ExpressionsAnswer};
+ghost use Rattle.cpc_sound.specs.Promises.{ControlStays, ExpressionsAnswer, TypedCallbacksNeverStuck, TypedThreadsNeverStuck};
 
 /// An expression that has a type has a value that suits it, or a fault.
 pub fn expressions_answer()
@@ -13,4 +13,14 @@ pub fn expressions_answer()
 /// In a body whose labels are there, and in which `break` and `continue` stand in loops, control stays where something stands.
 pub fn control_stays()
     ensures { ControlStays }
+{}
+
+/// The threads of a well typed program are never stuck, whatever the history.
+pub fn typed_threads_never_stuck()
+    ensures { TypedThreadsNeverStuck }
+{}
+
+/// The callbacks of a well typed event program are never stuck, whatever the history.
+pub fn typed_callbacks_never_stuck()
+    ensures { TypedCallbacksNeverStuck }
 {}
