@@ -43,7 +43,7 @@ place_is : (d : Typed) (t : Ty) → typed_place d ≡ Some t → d ≡ APlace t
 place_is (APlace u) t e = ap (λ t. APlace t) (some_is u t e)
 place_is (AValue u) t e = no_some t e
 
-sign_some : (sign : UnaryOp) (o : Option Typed) (d : Typed) → sign_type sign o ≡ Some d → (x : Typed) × (o ≡ Some x) × (unary_type sign x ≡ Some d)
+pub sign_some : (sign : UnaryOp) (o : Option Typed) (d : Typed) → sign_type sign o ≡ Some d → (x : Typed) × (o ≡ Some x) × (unary_type sign x ≡ Some d)
 sign_some sign None d e = no_some d e
 sign_some sign (Some x) d e = (x, refl, e)
 
@@ -165,7 +165,7 @@ arms_come true r t u x y e f h k = comes_then (Suits t) (Suits r) x (at_type r) 
 arms_come false r t u x y e f h k = comes_then (Suits u) (Suits r) y (at_type r) k (λ w i. cast_comes r u w f i)
 
 -- what is told of a test
-tested_is : (o : Option Typed) (t : Ty) → tested_type o ≡ Some t → (d : Typed) × (o ≡ Some d) × (used d ≡ Some t) × (is_testable t ≡ true)
+pub tested_is : (o : Option Typed) (t : Ty) → tested_type o ≡ Some t → (d : Typed) × (o ≡ Some d) × (used d ≡ Some t) × (is_testable t ≡ true)
 tested_is o t e =
     let a = then_some o _ t e in
     let b = then_some (used a.0) _ t a.2 in

@@ -18,3 +18,5 @@ pub mod Sections
 pub mod Machines
 pub mod Threads
 pub mod Events
+pub mod More
+pub mod Unbroken
