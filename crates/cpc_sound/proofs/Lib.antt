@@ -20,3 +20,4 @@ pub mod Threads
 pub mod Events
 pub mod More
 pub mod Unbroken
+pub mod Agreement

@@ -7,7 +7,7 @@ use Rattle.cpc_sound.proofs.Answers.{not_true}
 use Rattle.cpc_sound.proofs.Conversions.{kind_is}
 use Rattle.cpc_sound.proofs.Scalars.{both_true}
 
-number_is : (m n : ℕ) → (m == n) ≡ true → m ≡ n
+pub number_is : (m n : ℕ) → (m == n) ≡ true → m ≡ n
 number_is m n e = grind arith
 
 mutual
