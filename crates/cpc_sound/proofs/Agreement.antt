@@ -220,7 +220,7 @@ module _ (d : Dialect) (p : Program) (facts : Facts p) (f : Function) (w : Where
   callback_here q qs (LArrow a v x) c h k = not_true k
   callback_here q qs (LCall a g vs) c h k = not_true k
 
-  taken_here : (t : Taken) (e : LExpr) → arg_breaks w (wanted_of t) e (expr_breaks w e) ≡ [] → GetsTaken p scope t (bare_expr e)
+  pub taken_here : (t : Taken) (e : LExpr) → arg_breaks w (wanted_of t) e (expr_breaks w e) ≡ [] → GetsTaken p scope t (bare_expr e)
   taken_here AnyInteger e h = let c = suits_here Integer e h in integer_gets e c.0 (used c.0) c.1 refl c.2
   taken_here (SetOf (TyCode r ps)) e h = let c = suits_here (Callback (TyCode r ps)) e h in callback_here r ps e c.0 c.1 c.2
   taken_here (SetOf TyVoid) e h = of_here TyVoid e h
@@ -241,7 +241,7 @@ module _ (d : Dialect) (p : Program) (facts : Facts p) (f : Function) (w : Where
 
   -- ---- sections
 
-  section_meant : (m : Meant) → is_callee (section_callee w.scope m) ≡ true → (ps : List Ty) × (m ≡ AFunction Detached (TyInt Int) ps) × (takes_section w.scope ps ≡ true)
+  pub section_meant : (m : Meant) → is_callee (section_callee w.scope m) ≡ true → (ps : List Ty) × (m ≡ AFunction Detached (TyInt Int) ps) × (takes_section w.scope ps ≡ true)
   section_meant (AFunction Detached (TyInt Int) ps) h = go (takes_section w.scope ps) refl h
     where
       go : (b : Bool) → takes_section w.scope ps ≡ b → is_callee (cond b (Takes (map (λ t. Of t) ps) (TyInt Int)) NoCallee) ≡ true → (us : List Ty) × (AFunction Detached (TyInt Int) ps ≡ AFunction Detached (TyInt Int) us) × (takes_section w.scope us ≡ true)

@@ -21,3 +21,4 @@ pub mod Events
 pub mod More
 pub mod Unbroken
 pub mod Agreement
+pub mod Callees
