@@ -113,7 +113,7 @@ module _ (d : Dialect) (p : Program) (facts : Facts p) (f : Function) (w : Where
 
   -- ---- what is called
 
-  number_here : (c : Callee) (ws : List Wanted) (r : Ty) (es : LExprs) (q : Place) → c ≡ Takes ws r → number_breaks c es q ≡ [] → length (count es) ≡ length ws
+  pub number_here : (c : Callee) (ws : List Wanted) (r : Ty) (es : LExprs) (q : Place) → c ≡ Takes ws r → number_breaks c es q ≡ [] → length (count es) ≡ length ws
   number_here (Takes us u) ws r es q e h = number_is (length (count es)) (length us) (holds_then (length (count es) == length us) q WrongNumber h) ∙ ap (λ c. length (wanted c)) e
   number_here NoCallee ws r es q e h = absurd (cc)
 

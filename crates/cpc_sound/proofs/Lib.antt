@@ -22,3 +22,5 @@ pub mod More
 pub mod Unbroken
 pub mod Agreement
 pub mod Callees
+pub mod Shapes
+pub mod Bodies
