@@ -237,3 +237,134 @@ module _ (d : Dialect) (p : Program) (facts : Facts p) (f : Function) where
       let at2 = at_name w scope n (variable x t) at in
       let k = split (expr_breaks w2 e) (fits_breaks (Some (APlace t)) e (typed_at w2 e) x.place) h2.1 in
       record { type = t; is_place = ap (λ b. type_named (cond b (ALocal n t) (named p scope x.text))) (text_same x.text); gets = fits_here w2 scope2 at2 t e x.place k.0 k.1 }
+
+  step_here : (w : Where) (scope : Scope) (at : At d p f w scope) (r : MaybeLStmt) → StepWritten r → maybe_breaks w r ≡ [] → StepTyped d p f scope (bare_maybe r)
+  step_here w scope at NoneLStmt s h = tt
+  step_here w scope at (SomeLStmt (Assign q o v op e)) s h =
+      let k = split (target_breaks w v) _ h in
+      let l = split (expr_breaks w e) _ k.1 in
+      assign_here w scope at o v op e k.0 l.0 l.1
+  step_here w scope at (SomeLStmt (Call q o to g es)) s h =
+      let k = split (to_breaks w to o (result (callee w g es))) _ h in
+      let c = call_here d p facts f w scope at g es k.1 in
+      (c.0, c.2, deliver_here w scope at to o (result (callee w g es)) c.0 c.1 k.0)
+  step_here w scope at (SomeLStmt (Detach q o k to x es)) s h =
+      let l = split (to_breaks w to o (Some (TyInt Int))) _ h in
+      let c = section_here w scope at k x es l.1 in
+      (c.0, c.1, deliver_here w scope at to o (Some (TyInt Int)) (TyInt Int) refl l.0)
+  step_here w scope at (SomeLStmt _) s h = absurd s
+
+  mutual
+    pub stmt_here : (w : Where) (scope : Scope) (n : ℕ) → At d p f w scope → (s : LStmt) → Written s → stmt_breaks w s ≡ [] → BodyTyped d p f scope n (bare_stmt s)
+    stmt_here w scope n at (Block q ss) s h = stmts_here (inner w) scope n (at_inner w scope at) ss s h
+    stmt_here w scope n at (Empty q) s h = tt
+    stmt_here w scope n at (Declare q x t start) s h = declare_here w scope n at q x t start h
+    stmt_here w scope n at (Assign q o v op e) s h = step_here w scope at (SomeLStmt (Assign q o v op e)) tt h
+    stmt_here w scope n at (Call q o to g es) s h = step_here w scope at (SomeLStmt (Call q o to g es)) tt h
+    stmt_here w scope n at (Detach q o k to x es) s h = step_here w scope at (SomeLStmt (Detach q o k to x es)) tt h
+    stmt_here w scope n at (Spawn q x es) s h = spawn_here w scope at q x es h
+    stmt_here w scope n at (If q c a r) s h =
+        let k = split (test_breaks w c) _ h in
+        let l = split (stmt_breaks w a) (maybe_breaks w r) k.1 in
+        (test_here w scope at c k.0, stmt_here w scope n at a s.0 l.0, maybe_here w scope (n + declared (bare_stmt a)) at r s.1 l.1)
+    stmt_here w scope n at (While q c a) s h =
+        let k = split (test_breaks w c) (stmt_breaks w a) h in
+        (test_here w scope at c k.0, stmt_here w scope n at a s k.1)
+    stmt_here w scope n at (DoWhile q a c) s h =
+        let k = split (stmt_breaks w a) (test_breaks w c) h in
+        (stmt_here w scope n at a s k.0, test_here w scope at c k.1)
+    stmt_here w scope n at (For q ss c r a) s h =
+        let k = split (stmts_breaks (inner w) ss) _ h in
+        let w2 = all_behind (inner w) ss in
+        let scope2 = extended_all scope n (bare_stmts ss) in
+        let at2 = at_all_behind (inner w) scope n ss (at_inner w scope at) in
+        let l = split (maybe_test w2 c) _ k.1 in
+        let m = split (maybe_breaks w2 r) (stmt_breaks w2 a) l.1 in
+        (stmts_here (inner w) scope n (at_inner w scope at) ss (all_first_written ss s.0) k.0, maybe_test_here w2 scope2 at2 c l.0, step_here w2 scope2 at2 r s.1 m.0,
+        stmt_here w2 scope2 (n + length (locals_in (bare_stmts ss))) at2 a s.2 m.1)
+    stmt_here w scope n at (Goto q x) s h = tt
+    stmt_here w scope n at (Label x a) s h = stmt_here w scope n at a s h
+    stmt_here w scope n at (Break q) s h = tt
+    stmt_here w scope n at (Continue q) s h = tt
+    stmt_here w scope n at (Return q None) s h = tt
+    stmt_here w scope n at (Return q (Some e)) s h = return_here w scope at q e h
+
+    pub stmts_here : (w : Where) (scope : Scope) (n : ℕ) → At d p f w scope → (ss : LStmts) → AllWritten ss → stmts_breaks w ss ≡ [] → AllTyped d p f scope n (bare_stmts ss)
+    stmts_here w scope n at NoLStmt s h = tt
+    stmts_here w scope n at (AndLStmt a ss) s h =
+        let k = split (stmt_breaks w a) (stmts_breaks (behind w a) ss) h in
+        (stmt_here w scope n at a s.0 k.0, stmts_here (behind w a) (extended scope n (bare_stmt a)) (n + declared (bare_stmt a)) (at_behind w scope n a at) ss s.1 k.1)
+
+    maybe_here : (w : Where) (scope : Scope) (n : ℕ) → At d p f w scope → (r : MaybeLStmt) → MaybeWritten r → maybe_breaks w r ≡ [] → ArmTyped d p f scope n (bare_maybe r)
+    maybe_here w scope n at NoneLStmt s h = tt
+    maybe_here w scope n at (SomeLStmt a) s h = stmt_here w scope n at a s h
+
+-- ---- sizes
+
+pub all_sized : (p : Program) (xs ys : List Variable) → AllSized p xs → AllSized p ys → AllSized p (xs ++ ys)
+all_sized p [] ys h k = k
+all_sized p (x ∷ xs) ys h k = (h.0, all_sized p xs ys h.1 k)
+
+behind_items : (w : Where) (s : LStmt) → (behind w s).scope.items ≡ w.scope.items
+behind_items w (Declare q x t start) = refl
+behind_items w (Block q ss) = refl
+behind_items w (Empty q) = refl
+behind_items w (Assign q o v op e) = refl
+behind_items w (Call q o to g es) = refl
+behind_items w (Detach q o k to g es) = refl
+behind_items w (Spawn q g es) = refl
+behind_items w (If q c s r) = refl
+behind_items w (While q c s) = refl
+behind_items w (DoWhile q s c) = refl
+behind_items w (For q ss c r s) = refl
+behind_items w (Goto q x) = refl
+behind_items w (Label x s) = refl
+behind_items w (Break q) = refl
+behind_items w (Continue q) = refl
+behind_items w (Return q e) = refl
+
+all_behind_items : (w : Where) (ss : LStmts) → (all_behind w ss).scope.items ≡ w.scope.items
+all_behind_items w NoLStmt = refl
+all_behind_items w (AndLStmt s ss) = all_behind_items (behind w s) ss ∙ behind_items w s
+
+module _ (p : Program) where
+  mutual
+    pub stmt_sized : (w : Where) → Grows w.scope.items p → (s : LStmt) → stmt_breaks w s ≡ [] → AllSized p (locals (bare_stmt s))
+    stmt_sized w g (Block q ss) h = stmts_sized (inner w) g ss h
+    stmt_sized w g (Declare q x t start) h =
+        let h1 = split (at_if (is_here w.scope.blocks x.text) x.place Twice) _ h in
+        let h2 = split (at_if (not (is_sized w.scope t)) x.place Incomplete) _ h1.1 in
+        let n = size_of w.scope t (holds_then (is_sized w.scope t) x.place Incomplete h2.0) in
+        ((n.0, sizes_grow w.scope.items p g t n.0 n.1), tt)
+    stmt_sized w g (If q c a r) h =
+        let k = split (test_breaks w c) _ h in
+        let l = split (stmt_breaks w a) (maybe_breaks w r) k.1 in
+        all_sized p (locals (bare_stmt a)) (locals_arm (bare_maybe r)) (stmt_sized w g a l.0) (maybe_sized w g r l.1)
+    stmt_sized w g (While q c a) h = stmt_sized w g a (split (test_breaks w c) (stmt_breaks w a) h).1
+    stmt_sized w g (DoWhile q a c) h = stmt_sized w g a (split (stmt_breaks w a) (test_breaks w c) h).0
+    stmt_sized w g (For q ss c r a) h =
+        let k = split (stmts_breaks (inner w) ss) _ h in
+        let w2 = all_behind (inner w) ss in
+        let l = split (maybe_test w2 c) _ k.1 in
+        let m = split (maybe_breaks w2 r) (stmt_breaks w2 a) l.1 in
+        all_sized p (locals_in (bare_stmts ss)) (locals (bare_stmt a)) (stmts_sized (inner w) g ss k.0) (stmt_sized w2 (subst (λ items. Grows items p) (sym (all_behind_items (inner w) ss)) g) a m.1)
+    stmt_sized w g (Label x a) h = stmt_sized w g a h
+    stmt_sized w g (Empty q) h = tt
+    stmt_sized w g (Assign q o v op e) h = tt
+    stmt_sized w g (Call q o to c es) h = tt
+    stmt_sized w g (Detach q o k to c es) h = tt
+    stmt_sized w g (Spawn q c es) h = tt
+    stmt_sized w g (Goto q x) h = tt
+    stmt_sized w g (Break q) h = tt
+    stmt_sized w g (Continue q) h = tt
+    stmt_sized w g (Return q e) h = tt
+
+    pub stmts_sized : (w : Where) → Grows w.scope.items p → (ss : LStmts) → stmts_breaks w ss ≡ [] → AllSized p (locals_in (bare_stmts ss))
+    stmts_sized w g NoLStmt h = tt
+    stmts_sized w g (AndLStmt a ss) h =
+        let k = split (stmt_breaks w a) (stmts_breaks (behind w a) ss) h in
+        all_sized p (locals (bare_stmt a)) (locals_in (bare_stmts ss)) (stmt_sized w g a k.0) (stmts_sized (behind w a) (subst (λ items. Grows items p) (sym (behind_items w a)) g) ss k.1)
+
+    maybe_sized : (w : Where) → Grows w.scope.items p → (r : MaybeLStmt) → maybe_breaks w r ≡ [] → AllSized p (locals_arm (bare_maybe r))
+    maybe_sized w g NoneLStmt h = tt
+    maybe_sized w g (SomeLStmt a) h = stmt_sized w g a h
