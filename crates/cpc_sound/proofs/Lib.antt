@@ -24,3 +24,4 @@ pub mod Agreement
 pub mod Callees
 pub mod Shapes
 pub mod Bodies
+pub mod Loops
