@@ -43,7 +43,7 @@ meant_later : (items : Program) (bs : List R.Block) (v : Variable) (x : Text) �
 meant_later items [] v x e = simp (e) refl
 meant_later items (b ∷ bs) v x e = simp (e) refl
 
-either_false : (a b : Bool) → (a || b) ≡ false → (a ≡ false) × (b ≡ false)
+pub either_false : (a b : Bool) → (a || b) ≡ false → (a ≡ false) × (b ≡ false)
 either_false true b e = not_true (sym e)
 either_false false b e = (refl, e)
 

@@ -25,3 +25,4 @@ pub mod Callees
 pub mod Shapes
 pub mod Bodies
 pub mod Loops
+pub mod Items
