@@ -87,7 +87,7 @@ list_is [] [] e = refl
 list_is (t ∷ ts) (u ∷ us) e = let h = both_true (same_type t u) (same_list ts us) e in ap (λ t. t ∷ ts) (type_is t u h.0) ∙ ap (λ ts. u ∷ ts) (list_is ts us h.1)
 list_is _ _ e = not_true e
 
-abbrev signed : Signature → Meant
+abbrev pub signed : Signature → Meant
 signed s = AFunction s.mode s.result s.parameters
 
 agrees_is : (new : Signature) (mode : Mode) (r : Ty) (ps : List Ty) → agrees new mode r ps ≡ true → AFunction mode r ps ≡ signed new
@@ -106,7 +106,7 @@ settled new mode is_defined r ps c e = agrees_is new mode r ps (go (clashes new 
     go false false h e = not_true (sym e)
 
 -- what was declared of a name before is what is declared now
-abbrev Agreed : Signature → Meant → Type 0
+abbrev pub Agreed : Signature → Meant → Type 0
 Agreed new m = (m ≡ NotMeant) ⊎ (m ≡ signed new)
 
 agreed_either : (b : Bool) (a c : Meant) (new : Signature) → (b ≡ true → Agreed new a) → (b ≡ false → Agreed new c) → Agreed new (cond b a c)

@@ -26,3 +26,4 @@ pub mod Shapes
 pub mod Bodies
 pub mod Loops
 pub mod Items
+pub mod Knowing
