@@ -27,3 +27,4 @@ pub mod Bodies
 pub mod Loops
 pub mod Items
 pub mod Knowing
+pub mod Growing
