@@ -1,5 +1,5 @@
 -- An answer stays one when only the status is filled in, and each end may give way to want of memory.
-use Rattle.std.proofs.Common.{◌≡◌, ℕ, ◌<◌, List, [], ◌++◌, refl, ap, sym, subst, ◌∙◌, inl, inr, ◌⊎◌, Option, Some, arith}
+use Rattle.std.proofs.Common.{◌≡◌, ℕ, ◌<◌, Bool, List, [], ◌++◌, refl, ap, sym, subst, ◌∙◌, inl, inr, ◌⊎◌, Option, Some, arith}
 use Rattle.std.proofs.lemmas.List.{append-nil}
 use Rattle.cpc_base.specs.Bytes.{Text}
 use Rattle.cpc_base.specs.Outside.{Files}
@@ -8,12 +8,13 @@ use Rattle.cpc_tree.specs.Texts.{output}
 use Rattle.cpc_meaning.specs.Events.{event}
 use Rattle.cpc_meaning.specs.Runs.{live_cells}
 use Rattle.cpc_cli.specs.Accepted.{Accepts}
-use Rattle.cpc_cli.specs.Command.{Command, Run, Check, Asks, command_of, named}
-use Rattle.cpc_cli.specs.Answer.{Answer, Rises, status_of, untold, Does, DoesInPart, NotAccepted, EndedIn, did, not_begun, unwritten_in, starved_in, IsEnd, misused, starved, performed, NoRun, Nothing, Ran, RanWhole, RanInPart, EndsIn, Shows, IsPrefix}
+use Rattle.cpc_command.specs.Commands.{Command, Run, Translate, Check, command_of}
+use Rattle.cpc_cli.specs.Command.{Asks, named}
+use Rattle.cpc_cli.specs.Answer.{Answer, Rises, status_of, untold, Does, DoesInPart, NotAccepted, EndedIn, did, not_begun, unwritten_in, starved_in, IsEnd, misused, starved, performed, NoRun, Nothing, Printed, Ran, RanWhole, RanInPart, StandsSo, shown, IsPrefix}
 use Rattle.cpc_cli.specs.declared.answer.Role.{Role}
 use Rattle.cpc_cli.specs.declared.answer.Report.{Report}
 use Rattle.cpc_cli.specs.declared.answer.Outcome.{Outcome}
-use Rattle.cpc_cli.specs.declared.answer.Outcome.TheVariants.{Ended, Accepted}
+use Rattle.cpc_cli.specs.declared.answer.Outcome.TheVariants.{Ended, Stopped, Accepted, Translated}
 use Rattle.cpc_cli.specs.declared.answer.End.{End}
 use Rattle.cpc_cli.specs.declared.answer.End.TheVariants.{Done, Usage, Refused, Unread, Unwritten, Memory, TooLong}
 
@@ -39,31 +40,46 @@ module _ (told : Option Files) (unread : Text → Type 0) (unwritten : Type 0) (
     cells = same.cells ∙ h.cells ∙ ap (λ n. live_cells (event q untold n)) (sym same.steps);
   }
 
-  ran_whole : (q : Program) → RanWhole q old out → RanWhole q new out
-  ran_whole q h = record { ran = ran q h.ran; ends = subst (λ n. EndsIn q n out) (sym same.steps) h.ends }
+  printed : (q : Program) → Printed q old → Printed q new
+  printed q h = record { printed = subst (λ t. Accepts t q) (sym same.printed) h.printed; steps = same.steps ∙ h.steps; cells = same.cells ∙ h.cells }
 
-  ran_in_part : (q : Program) → RanInPart q old out → RanInPart q new out
-  ran_in_part q h = record { ran = ran q h.ran; part = subst (λ n. Shows q n out) (sym same.steps) h.part }
+  same_shown : (text : Bool) (q : Program) → shown text old.printed.items q old.steps ≡ shown text new.printed.items q new.steps
+  same_shown text q = ap (λ t. shown text t q old.steps) (sym same.printed) ∙ ap (shown text new.printed.items q) (sym same.steps)
 
-  whole_in_part : (q : Program) → RanWhole q old out → RanInPart q new out
-  whole_in_part q h =
-      let shown : Shows q old.steps out = subst (IsPrefix out) h.ends.whole (whole_prefix out) in
-      record { ran = ran q h.ran; part = subst (λ n. Shows q n out) (sym same.steps) shown }
+  ran_whole : (q : Program) (bound : ℕ) (text : Bool) (outcome : Outcome) → RanWhole q bound text old out outcome → RanWhole q bound text new out outcome
+  ran_whole q bound text outcome h = record { ran = ran q h.ran; stands = subst (λ n. StandsSo q bound n outcome) (sym same.steps) h.stands; whole = h.whole ∙ same_shown text q }
+
+  ran_in_part : (q : Program) (text : Bool) → RanInPart q text old out → RanInPart q text new out
+  ran_in_part q text h = record { ran = ran q h.ran; part = subst (IsPrefix out) (same_shown text q) h.part }
+
+  whole_in_part : (q : Program) (bound : ℕ) (text : Bool) (outcome : Outcome) → RanWhole q bound text old out outcome → RanInPart q text new out
+  whole_in_part q bound text outcome h = record { ran = ran q h.ran; part = subst (IsPrefix out) (h.whole ∙ same_shown text q) (whole_prefix out) }
 
   does : (command : Command) (outcome : Outcome) → Does told command old out outcome → Does told command new out outcome
-  does (Run file) Ended h = (h.0, ran_whole h.0 h.1, h.2)
-  does (Run file) Accepted h = h
+  does (Run file steps text) outcome h = (h.0, ran_whole h.0 steps text outcome h.1, h.2)
+  does (Translate file) Translated h = (h.0, printed h.0 h.1, h.2 ∙ sym same.printed, h.3)
+  does (Translate file) Ended h = h
+  does (Translate file) (Stopped n) h = h
+  does (Translate file) Accepted h = h
   does (Check file) Ended h = h
+  does (Check file) (Stopped n) h = h
+  does (Check file) Translated h = h
   does (Check file) Accepted h = (no_run h.0, h.1, h.2)
 
   in_part : (command : Command) → DoesInPart told command old out → DoesInPart told command new out
-  in_part (Run file) h = (h.0, ran_in_part h.0 h.1, h.2)
+  in_part (Run file steps text) h = (h.0, ran_in_part h.0 text h.1, h.2)
+  in_part (Translate file) h = (h.0, printed h.0 h.1, subst (IsPrefix out) (sym same.printed) h.2, h.3)
   in_part (Check file) h = (no_run h.0, h.1, h.2)
 
   in_part_from_whole : (command : Command) (outcome : Outcome) → Does told command old out outcome → DoesInPart told command new out
-  in_part_from_whole (Run file) Ended h = (h.0, whole_in_part h.0 h.1, h.2)
-  in_part_from_whole (Run file) Accepted h = absurd h
+  in_part_from_whole (Run file steps text) outcome h = (h.0, whole_in_part h.0 steps text outcome h.1, h.2)
+  in_part_from_whole (Translate file) Translated h = (h.0, printed h.0 h.1, subst (IsPrefix out) (h.2 ∙ sym same.printed) (whole_prefix out), h.3)
+  in_part_from_whole (Translate file) Ended h = absurd h
+  in_part_from_whole (Translate file) (Stopped n) h = absurd h
+  in_part_from_whole (Translate file) Accepted h = absurd h
   in_part_from_whole (Check file) Ended h = absurd h
+  in_part_from_whole (Check file) (Stopped n) h = absurd h
+  in_part_from_whole (Check file) Translated h = absurd h
   in_part_from_whole (Check file) Accepted h = (no_run h.0, subst (IsPrefix out) h.1 (whole_prefix out), h.2)
 
   ended_as : (command : Command) (end : End) → EndedIn told command unread unwritten old out end → EndedIn told command unread unwritten new out end
@@ -108,7 +124,10 @@ module _ (words : List Text) (told : Option Files) (rose : Rises) (report : Repo
   not_read command Unwritten asks h e = absurd h
 
   ended_read : (command : Command) (end : End) → command_of words ≡ Some command → EndedIn told command rose.shelf rose.out report out end → status_of end ≡ 8 → Cause
-  ended_read command _ asks (did outcome h) e = absurd (omega (arith, e))
+  ended_read command _ asks (did Ended h) e = absurd (omega (arith, e))
+  ended_read command _ asks (did (Stopped n) h) e = absurd (omega (arith, e))
+  ended_read command _ asks (did Accepted h) e = absurd (omega (arith, e))
+  ended_read command _ asks (did Translated h) e = absurd (omega (arith, e))
   ended_read command _ asks (not_begun end h none) e = not_read command end asks h e
   ended_read command _ asks (unwritten_in u h) e = absurd (omega (arith, e))
   ended_read command _ asks (starved_in h) e = absurd (omega (arith, e))

@@ -3,35 +3,34 @@ use Rattle.std.proofs.Common.{◌≡◌, ◌≢◌, ◌≤◌, length, ℕ, List
 use Rattle.cpc_base.specs.Bytes.{Text}
 use Rattle.cpc_base.specs.Outside.{Files}
 use Rattle.cpc_tree.specs.Syntax.{Program}
-use Rattle.cpc_tree.specs.Trace.{Ended as EndedWith}
-use Rattle.cpc_tree.specs.Texts.{output}
-use Rattle.cpc_meaning.specs.Threads.{threaded}
 use Rattle.cpc_meaning.specs.Runs.{SameRuns}
-use Rattle.cpc_cli.specs.Command.{Command, Run, Check, command_of, named, limit_of}
+use Rattle.cpc_command.specs.Commands.{Command, Run, Translate, Check, command_of}
+use Rattle.cpc_cli.specs.Command.{named, limit_of}
 use Rattle.cpc_cli.specs.Accepted.{Accepts}
-use Rattle.cpc_cli.specs.Answer.{Answer, Rises, untold, Does, NotAccepted, EndedIn, did, not_begun, unwritten_in, starved_in, IsEnd, misused, starved, performed, RanWhole, EndsIn, Nothing, status_of, line_of}
-use Rattle.cpc_cli.specs.Exact.{Due, for_usage, for_absent, for_too_long, for_refused, for_check, for_run, NoneRose, Gives}
+use Rattle.cpc_cli.specs.Answer.{Answer, Rises, Does, NotAccepted, EndedIn, did, not_begun, unwritten_in, starved_in, IsEnd, misused, starved, performed, RanWhole, Printed, Nothing, status_of, line_of}
+use Rattle.cpc_cli.specs.Exact.{Due, for_usage, for_absent, for_too_long, for_refused, for_check, for_translate, for_run, NoneRose, Gives}
 use Rattle.cpc_cli.specs.declared.answer.Role.TheVariants as R
 use Rattle.cpc_cli.specs.declared.answer.Report.{Report}
 use Rattle.cpc_cli.specs.declared.answer.Outcome.{Outcome}
-use Rattle.cpc_cli.specs.declared.answer.Outcome.TheVariants.{Ended, Accepted}
+use Rattle.cpc_cli.specs.declared.answer.Outcome.TheVariants.{Ended, Stopped, Accepted, Translated}
 use Rattle.cpc_cli.specs.declared.answer.End.{End}
 use Rattle.cpc_cli.specs.declared.answer.End.TheVariants.{Done, Usage, Refused, Unread, Unwritten, Memory, TooLong}
 
 module _ (files : Files) (words : List Text) (rose : Rises) (none : NoneRose files rose) (report : Report) (out : Text) where
-  -- a run that ended shows what the accepted program's threaded run shows
-  run_due : (file : Text) (q : Program) → command_of words ≡ Some (Run file) → RanWhole q report out
-      → (text : Text) → files file ≡ Some text → length text ≤ limit_of R.Text → (p : Program) → Accepts text p → SameRuns p q → Due files words (Done Ended) out
-  run_due file q asks whole text is fits p accepts same =
-      let back = same.back untold report.steps in
-      let shown : output (threaded p untold back.0).trace ≡ out = ap output back.2 ∙ sym whole.ends.whole in
-      subst (Due files words (Done Ended)) shown (for_run file text p back.0 asks is fits accepts (back.3 ∙ whole.ends.over))
-
   did_due : (command : Command) (outcome : Outcome) → command_of words ≡ Some command → Does (Some files) command report out outcome → Due files words (Done outcome) out
-  did_due (Run file) Ended asks (q, whole, accepted) =
-      let text = accepted files refl in run_due file q asks whole text.0 text.1 text.2.0 text.2.1.0 text.2.1.1 text.2.1.2
-  did_due (Run file) Accepted asks h = absurd h
+  did_due (Run file bound is_shown) outcome asks (q, whole, accepted) =
+      let text = accepted files refl in
+      subst (Due files words (Done outcome)) (sym whole.whole)
+      (for_run file text.0 report.printed.items text.2.1.0 q bound report.steps is_shown outcome asks text.1 text.2.0 text.2.1.1 whole.ran.printed text.2.1.2 whole.stands)
+  did_due (Translate file) Translated asks (q, printed, wrote, accepted) =
+      let text = accepted files refl in
+      subst (Due files words (Done Translated)) (sym wrote) (for_translate file text.0 report.printed.items text.2.1.0 q asks text.1 text.2.0 text.2.1.1 printed.printed text.2.1.2)
+  did_due (Translate file) Ended asks h = absurd h
+  did_due (Translate file) (Stopped n) asks h = absurd h
+  did_due (Translate file) Accepted asks h = absurd h
   did_due (Check file) Ended asks h = absurd h
+  did_due (Check file) (Stopped n) asks h = absurd h
+  did_due (Check file) Translated asks h = absurd h
   did_due (Check file) Accepted asks (no_run, wrote, accepted) =
       let text = accepted files refl in
       subst (Due files words (Done Accepted)) (sym wrote) (for_check file text.0 text.2.1.0 asks text.1 text.2.0 text.2.1.1)

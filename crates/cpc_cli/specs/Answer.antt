@@ -1,5 +1,5 @@
 -- The answer of a command line: why it ended, and what it said of that.
-use Rattle.std.specs.Prelude.{◌≡◌, ℕ, ◌<◌, ◌≤◌, List, [], ◌∷◌, ◌++◌, length, Option, None, Some, ◌⊎◌, codes, decimal}
+use Rattle.std.specs.Prelude.{◌≡◌, ℕ, ◌<◌, ◌≤◌, Bool, true, false, List, [], ◌∷◌, ◌++◌, length, Option, None, Some, ◌⊎◌, codes, decimal}
 use Rattle.std.specs.Option.{option_map_or}
 use Rattle.std.specs.Io.KnownBytes.{append_known}
 use Rattle.cpc_base.specs.Bytes.{Text}
@@ -12,12 +12,13 @@ use Rattle.cpc_meaning.specs.Events.{event}
 use Rattle.cpc_meaning.specs.Runs.{SameRuns, live_cells}
 use Rattle.cpc_small.specs.Small.{RefusedAt}
 use Rattle.cpc_cli.specs.Accepted.{Accepts}
-use Rattle.cpc_cli.specs.Command.{Command, Run, Check, command_of, named, limit_of}
+use Rattle.cpc_command.specs.Commands.{Command, Check, Translate, Run, command_of}
+use Rattle.cpc_cli.specs.Command.{named, limit_of}
 use Rattle.cpc_cli.specs.declared.answer.Role.{Role}
 use Rattle.cpc_cli.specs.declared.answer.Role.TheVariants as R
 use Rattle.cpc_cli.specs.declared.answer.Report.{Report}
 use Rattle.cpc_cli.specs.declared.answer.Outcome.{Outcome}
-use Rattle.cpc_cli.specs.declared.answer.Outcome.TheVariants.{Ended, Accepted}
+use Rattle.cpc_cli.specs.declared.answer.Outcome.TheVariants.{Ended, Stopped, Accepted, Translated}
 use Rattle.cpc_cli.specs.declared.answer.End.{End}
 use Rattle.cpc_cli.specs.declared.answer.End.TheVariants.{Done, Usage, Refused, Unread, Unwritten, Memory, TooLong}
 
@@ -66,30 +67,68 @@ pub record Nothing (report : Report) (out : Text) : Type 0 where
   pub no_run : NoRun report
   pub silent : out ≡ []
 
--- after so many steps q's event run is over with nobody waiting, and not before, and the bytes are its output
-pub record EndsIn (q : Program) (steps : ℕ) (out : Text) : Type 0 where
-  pub over : (event q untold steps).outcome ≡ EndedWith 0
-  pub first : (n : ℕ) → n < steps → (event q untold n).outcome ≡ Going
-  pub whole : out ≡ output (event q untold steps).trace
+-- q's event run is over after n steps with nobody waiting, and not before, within the bound
+pub record IsOver (q : Program) (bound n : ℕ) : Type 0 where
+  pub within : n ≤ bound
+  pub over : (event q untold n).outcome ≡ EndedWith 0
+  pub first : (m : ℕ) → m < n → (event q untold m).outcome ≡ Going
 
--- the bytes are a prefix of the output of the first steps of q's event run
-abbrev pub Shows : (q : Program) → (steps : ℕ) → (out : Text) → Type 0
-Shows q steps out = IsPrefix out (output (event q untold steps).trace)
+-- q's event run is not over after n steps, which are as many as the bound allows
+pub record IsStopped (q : Program) (bound n : ℕ) : Type 0 where
+  pub at_bound : n ≡ bound
+  pub going : (event q untold n).outcome ≡ Going
+
+-- how q's event run stands after n steps, of which there may be so many
+abbrev pub StandsSo : (q : Program) → (bound n : ℕ) → Outcome → Type 0
+StandsSo q bound n Ended = IsOver q bound n
+StandsSo q bound n (Stopped m) = (m ≡ n) × IsStopped q bound n
+StandsSo q bound n Accepted = ⊥
+StandsSo q bound n Translated = ⊥
+
+-- what goes before the output of a run: the printed text and a line, where the text is wanted
+abbrev pub heading : (text : Bool) → (printed : Text) → Text
+heading true printed = printed ++ codes "/* run */\n"
+heading false printed = []
+
+-- what q's event run has written after n steps
+abbrev pub written : (q : Program) → (n : ℕ) → Text
+written q n = output (event q untold n).trace
+
+-- the same behind what goes before it
+abbrev pub shown : (text : Bool) → (printed : Text) → (q : Program) → (n : ℕ) → Text
+shown text printed q n = heading text printed ++ written q n
 
 -- the printed text is read as q, and the report tells the state of q's event run after its steps
 pub record Ran (q : Program) (report : Report) : Type 0 where
   pub printed : Accepts report.printed.items q
   pub cells : report.cells ≡ live_cells (event q untold report.steps)
 
--- the run is over, and the bytes are its output
-pub record RanWhole (q : Program) (report : Report) (out : Text) : Type 0 where
+-- the run stands so, and the bytes are what it has written
+pub record RanWhole (q : Program) (bound : ℕ) (text : Bool) (report : Report) (out : Text) (outcome : Outcome) : Type 0 where
   pub ran : Ran q report
-  pub ends : EndsIn q report.steps out
+  pub stands : StandsSo q bound report.steps outcome
+  pub whole : out ≡ shown text report.printed.items q report.steps
 
--- the bytes are a prefix of the output of the steps made
-pub record RanInPart (q : Program) (report : Report) (out : Text) : Type 0 where
+-- the bytes are a prefix of what the run has written after the steps made
+pub record RanInPart (q : Program) (text : Bool) (report : Report) (out : Text) : Type 0 where
   pub ran : Ran q report
-  pub part : Shows q report.steps out
+  pub part : IsPrefix out (shown text report.printed.items q report.steps)
+
+-- how a run ended: it stands so, and the bytes are what it has written; or a sink or memory failed, and they are a prefix of that
+abbrev pub RanTo : (q : Program) (bound : ℕ) (text : Bool) (printed : Text) (steps : ℕ) (unwritten : Type 0) (out : Text) → End → Type 0
+RanTo q bound text printed steps unwritten out (Done outcome) = StandsSo q bound steps outcome × (out ≡ shown text printed q steps)
+RanTo q bound text printed steps unwritten out Unwritten = unwritten × IsPrefix out (shown text printed q steps)
+RanTo q bound text printed steps unwritten out Memory = IsPrefix out (shown text printed q steps)
+RanTo q bound text printed steps unwritten out Usage = ⊥
+RanTo q bound text printed steps unwritten out (Refused at) = ⊥
+RanTo q bound text printed steps unwritten out (Unread role) = ⊥
+RanTo q bound text printed steps unwritten out (TooLong role) = ⊥
+
+-- the printed text is read as q, and nothing was run
+pub record Printed (q : Program) (report : Report) : Type 0 where
+  pub printed : Accepts report.printed.items q
+  pub steps : report.steps ≡ 0
+  pub cells : report.cells ≡ 0
 
 -- ---- what each command does
 
@@ -105,16 +144,23 @@ TextHas told name P = FileHas told name (λ text. (length text ≤ limit_of R.Te
 abbrev pub AcceptedAs : (told : Option Files) → (name : Text) → (Program → Type 0) → Type 0
 AcceptedAs told name P = TextHas told name (λ text. (p : Program) × Accepts text p × P p)
 
--- the command's work, done: `run` runs what the printed text is read as, a program with the same runs as the accepted one
+-- the command's work, done: `run` runs what the printed text is read as, a program with the same runs as the accepted one,
+-- `translate` writes it
 abbrev pub Does : Option Files → Command → Report → Text → Outcome → Type 0
-Does told (Run file) report out Ended = (q : Program) × RanWhole q report out × AcceptedAs told file (λ p. SameRuns p q)
-Does told (Run file) report out Accepted = ⊥
-Does told (Check file) report out Ended = ⊥
+Does told (Run file steps text) report out outcome = (q : Program) × RanWhole q steps text report out outcome × AcceptedAs told file (λ p. SameRuns p q)
+Does told (Translate file) report out Translated = (q : Program) × Printed q report × (out ≡ report.printed.items) × AcceptedAs told file (λ p. SameRuns p q)
+Does told (Translate file) report out Ended = ⊥
+Does told (Translate file) report out (Stopped n) = ⊥
+Does told (Translate file) report out Accepted = ⊥
 Does told (Check file) report out Accepted = NoRun report × (out ≡ codes "accepted\n") × AcceptedAs told file (λ p. Unit {0})
+Does told (Check file) report out Ended = ⊥
+Does told (Check file) report out (Stopped n) = ⊥
+Does told (Check file) report out Translated = ⊥
 
 -- the command's work, broken off by a sink or by want of memory
 abbrev pub DoesInPart : Option Files → Command → Report → Text → Type 0
-DoesInPart told (Run file) report out = (q : Program) × RanInPart q report out × AcceptedAs told file (λ p. SameRuns p q)
+DoesInPart told (Run file steps text) report out = (q : Program) × RanInPart q text report out × AcceptedAs told file (λ p. SameRuns p q)
+DoesInPart told (Translate file) report out = (q : Program) × Printed q report × IsPrefix out report.printed.items × AcceptedAs told file (λ p. SameRuns p q)
 DoesInPart told (Check file) report out = NoRun report × IsPrefix out (codes "accepted\n") × AcceptedAs told file (λ p. Unit {0})
 
 -- ---- why a call ended
@@ -146,7 +192,10 @@ pub data IsEnd (words : List Text) (told : Option Files) (unread : Text → Type
 -- ---- what a call says of its end
 
 abbrev pub status_of : End → ℕ
-status_of (Done outcome) = 0
+status_of (Done (Stopped n)) = 6
+status_of (Done Ended) = 0
+status_of (Done Accepted) = 0
+status_of (Done Translated) = 0
 status_of Usage = 2
 status_of (Refused at) = 3
 status_of (Unread role) = 8
@@ -158,15 +207,18 @@ status_of (TooLong role) = 13
 abbrev pub name_in : List Text → Role → Text
 name_in words role = option_map_or (λ command. named command role) (command_of words) []
 
--- the line on `err`
-abbrev pub line_of : List Text → End → Text
-line_of words (Done outcome) = []
-line_of words Usage = codes "usage: cpc check, translate, run or exec FILE with options, or cpc sample N\n"
-line_of words (Refused at) = codes "refused " ++ (decimal at.line ++ (codes ":" ++ (decimal at.column ++ codes " form 1 not yet\n")))
-line_of words (Unread role) = codes "read fault: " ++ (name_in words role ++ codes "\n")
-line_of words Unwritten = codes "write fault\n"
-line_of words Memory = codes "no memory\n"
-line_of words (TooLong role) = codes "too long: " ++ (name_in words role ++ (codes " limit " ++ (decimal (limit_of role) ++ codes "\n")))
+-- the line on `err`, by the names of the files
+abbrev pub line_of : (name : Role → Text) → End → Text
+line_of name (Done (Stopped n)) = codes "stopped after " ++ (decimal n ++ codes " steps\n")
+line_of name (Done Ended) = []
+line_of name (Done Accepted) = []
+line_of name (Done Translated) = []
+line_of name Usage = codes "usage: cpc check, translate, run or exec FILE with options, or cpc sample N\n"
+line_of name (Refused at) = codes "refused " ++ (decimal at.line ++ (codes ":" ++ (decimal at.column ++ codes " form 1 not yet\n")))
+line_of name (Unread role) = codes "read fault: " ++ (name role ++ codes "\n")
+line_of name Unwritten = codes "write fault\n"
+line_of name Memory = codes "no memory\n"
+line_of name (TooLong role) = codes "too long: " ++ (name role ++ (codes " limit " ++ (decimal (limit_of role) ++ codes "\n")))
 
 -- the line went out with its status, or `err` failed in it
 abbrev pub Said : (line : Text) → (due : ℕ) → (failed : Type 0) → (status : ℕ) → (err : Text) → Type 0
@@ -177,4 +229,4 @@ Said line due failed status err = ((status ≡ due) × (err ≡ line)) ⊎ ((sta
 -- there is an end with its cause, and what was said of it
 abbrev pub Answer : List Text → Option Files → Rises → Report → (out err : Text) → Type 0
 Answer words told rose report out err =
-    (end : End) × IsEnd words told rose.shelf rose.out report out end × Said (line_of words end) (status_of end) rose.err report.status err
+    (end : End) × IsEnd words told rose.shelf rose.out report out end × Said (line_of (name_in words) end) (status_of end) rose.err report.status err

@@ -1,18 +1,18 @@
 -- What is due to a command line by its words and the files alone: the answer where nothing fails and memory is ample.
-use Rattle.std.specs.Prelude.{◌≡◌, ℕ, ◌<◌, ◌≤◌, List, [], length, Option, None, Some, codes}
+use Rattle.std.specs.Prelude.{◌≡◌, ℕ, ◌<◌, ◌≤◌, Bool, List, [], length, Option, None, Some, codes}
 use Rattle.cpc_base.specs.Bytes.{Text}
 use Rattle.cpc_base.specs.declared.stop.Place.{Place}
 use Rattle.cpc_base.specs.Outside.{Files}
 use Rattle.cpc_tree.specs.Syntax.{Program}
-use Rattle.cpc_tree.specs.Trace.{Ended as EndedWith}
-use Rattle.cpc_tree.specs.Texts.{output}
-use Rattle.cpc_meaning.specs.Threads.{threaded}
+use Rattle.cpc_meaning.specs.Runs.{SameRuns}
 use Rattle.cpc_small.specs.Small.{RefusedAt}
 use Rattle.cpc_cli.specs.Accepted.{Accepts}
-use Rattle.cpc_cli.specs.Command.{Command, Run, Check, command_of, named, limit_of}
-use Rattle.cpc_cli.specs.Answer.{Rises, untold, status_of, line_of}
+use Rattle.cpc_command.specs.Commands.{Command, Check, Translate, Run, command_of}
+use Rattle.cpc_cli.specs.Command.{named, limit_of}
+use Rattle.cpc_cli.specs.Answer.{Rises, StandsSo, shown, status_of, line_of, name_in}
 use Rattle.cpc_cli.specs.declared.answer.Role.TheVariants as R
-use Rattle.cpc_cli.specs.declared.answer.Outcome.TheVariants.{Ended, Accepted}
+use Rattle.cpc_cli.specs.declared.answer.Outcome.{Outcome}
+use Rattle.cpc_cli.specs.declared.answer.Outcome.TheVariants.{Accepted, Translated}
 use Rattle.cpc_cli.specs.declared.answer.End.{End}
 use Rattle.cpc_cli.specs.declared.answer.End.TheVariants.{Done, Usage, Refused, Unread, TooLong}
 
@@ -26,9 +26,11 @@ pub data Due (files : Files) (words : List Text) : End → Text → Type 0 where
       → length text ≤ limit_of R.Text → RefusedAt text at → Due files words (Refused at) []
   for_check : (file text : Text) (p : Program) → command_of words ≡ Some (Check file) → files file ≡ Some text
       → length text ≤ limit_of R.Text → Accepts text p → Due files words (Done Accepted) (codes "accepted\n")
-  for_run : (file text : Text) (p : Program) (m : ℕ) → command_of words ≡ Some (Run file) → files file ≡ Some text
-      → length text ≤ limit_of R.Text → Accepts text p → (threaded p untold m).outcome ≡ EndedWith 0
-      → Due files words (Done Ended) (output (threaded p untold m).trace)
+  for_translate : (file text printed : Text) (p q : Program) → command_of words ≡ Some (Translate file) → files file ≡ Some text
+      → length text ≤ limit_of R.Text → Accepts text p → Accepts printed q → SameRuns p q → Due files words (Done Translated) printed
+  for_run : (file text printed : Text) (p q : Program) (bound n : ℕ) (is_shown : Bool) (outcome : Outcome) → command_of words ≡ Some (Run file bound is_shown) → files file ≡ Some text
+      → length text ≤ limit_of R.Text → Accepts text p → Accepts printed q → SameRuns p q → StandsSo q bound n outcome
+      → Due files words (Done outcome) (shown is_shown printed q n)
 
 -- no count rose, but those of names that are absent
 pub record NoneRose (files : Files) (rose : Rises) : Type 0 where
@@ -41,4 +43,4 @@ pub record Gives (files : Files) (words : List Text) (status : ℕ) (out err : T
   pub end : End
   pub due : Due files words end out
   pub its_status : status ≡ status_of end
-  pub its_line : err ≡ line_of words end
+  pub its_line : err ≡ line_of (name_in words) end

@@ -1,11 +1,10 @@
 //! How a call ends, and what it says of that.
-ghost use Rattle.std.specs.Prelude.{◌≡◌, ◌⊎◌, IfOk, map, string_bytes};
+ghost use Rattle.std.specs.Prelude.{◌≡◌, ◌⊎◌, IfOk, string_bytes};
 ghost use Rattle.std.specs.Io.KnownBytes.{append_known};
 ghost use Rattle.cpc_base.specs.Outside.{Rose};
 ghost use Rattle.cpc_cli.specs.Answer.{status_of, line_of, Wrote, Said};
 ghost use Rattle.cpc_cli.specs.declared.answer.End.{End};
 
-use crate::words::{Command, read_words};
 use cpc_base::{Failed, Place, Sink, write_all};
 use std::alloc::{AllocError, Global};
 
@@ -21,8 +20,12 @@ pub enum Role {
 pub enum Outcome {
     /// The run is over, and nobody waits.
     Ended,
+    /// The run made so many steps, as many as it may, and is not over.
+    Stopped(u64),
     /// The text was checked and accepted.
     Accepted,
+    /// The text was translated.
+    Translated,
 }
 
 /// Why a call ended.
@@ -61,7 +64,8 @@ fn status(end: End) -> u8
     ensures { result ≡ status_of end }
 {
     match end {
-        End::Done(_) => 0,
+        End::Done(Outcome::Stopped(_)) => 6,
+        End::Done(Outcome::Ended | Outcome::Accepted | Outcome::Translated) => 0,
         End::Usage => 2,
         End::Refused(_) => 3,
         End::Unread(_) => 8,
@@ -71,16 +75,14 @@ fn status(end: End) -> u8
     }
 }
 
-fn line(alloc: Global, words: &[String], end: End) -> Result<String, AllocError>
-    ensures { IfOk result (λ line. string_bytes line ≡ line_of (map string_bytes words.now) end) }
+fn line(alloc: Global, file: &str, end: End) -> Result<String, AllocError>
+    ensures { IfOk result (λ line. string_bytes line ≡ line_of (λ _. file.now) end) }
 {
-    let file = match read_words(words) {
-        Some(Command::Run(file)) => file,
-        Some(Command::Check(file)) => file,
-        None => "",
-    };
     match end {
-        End::Done(_) => Ok(String::new(alloc)),
+        End::Done(Outcome::Stopped(steps)) => format!(in alloc; "stopped after {steps} steps\n"),
+        End::Done(Outcome::Ended | Outcome::Accepted | Outcome::Translated) => {
+            Ok(String::new(alloc))
+        }
         End::Usage => format!(in alloc;
             "usage: cpc check, translate, run or exec FILE with options, or cpc sample N\n"
         ),
@@ -109,12 +111,13 @@ fn say<E: Sink>(line: &[u8], due: u8, err: &mut E) -> u8
     }
 }
 
-/// Writes the line of an end, or that of want of memory where there is none for the line, and gives the status.
-pub fn conclude<E: Sink>(alloc: Global, words: &[String], end: End, err: &mut E) -> u8
+/// Writes the line of an end, or that of want of memory where there is none for the line, and gives the status. `file`
+/// is the name of the file that the words name.
+pub fn conclude<E: Sink>(alloc: Global, file: &str, end: End, err: &mut E) -> u8
     ensures said { Wrote (E.taken err.old) (E.taken err.new) (λ e. (last : End) × (last ≡ end ⊎ last ≡ End.Memory)
-        × Said (line_of (map string_bytes words.now) last) (status_of last) (Rose (E.faults err.old) (E.faults err.new)) result e) }
+        × Said (line_of (λ _. file.now) last) (status_of last) (Rose (E.faults err.old) (E.faults err.new)) result e) }
 {
-    match line(alloc, words, end) {
+    match line(alloc, file, end) {
         Ok(line) => say(line.as_bytes(), status(end), err),
         Err(_) => say(b"no memory\n", 11, err),
     }

@@ -4,12 +4,10 @@
 mod answer;
 mod run;
 mod top;
-mod words;
 
 pub use answer::{End, Outcome, Report, Role};
 pub use run::run_program;
 pub use top::{TEXT_LIMIT, cpc_main};
-pub use words::{Command, read_words};
 
 #[cfg(test)]
 mod tests;

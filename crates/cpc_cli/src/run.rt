@@ -5,9 +5,11 @@ ghost use Rattle.cpc_base.specs.Outside.{Rose};
 ghost use Rattle.cpc_base.specs.declared.stop.Stop.TheVariants.{Fault};
 ghost use Rattle.cpc_tree.specs.Erase.{Names, program_of, expr_of, exprs_of, stmt_of, list_of, item_of};
 ghost use Rattle.cpc_small.specs.Small.{IsSmall};
-ghost use Rattle.cpc_cli.specs.Answer.{Wrote, IsPrefix, EndsIn, Shows};
+ghost use Rattle.cpc_cli.specs.Answer.{Wrote, IsPrefix, StandsSo, written};
+ghost use Rattle.cpc_cli.specs.declared.answer.Outcome.TheVariants.{Ended, Stopped};
 ghost use Rattle.cpc_cli.specs.Lines.{literal, only_literal, number_in, numbers_in, numbers_of_body, numbers_of, lines};
 
+use crate::answer::Outcome;
 use cpc_base::{Failed, Sink, Stop, write_all};
 use cpc_tree::program::{Expr, Item, Program, Statement};
 use std::alloc::{AllocError, Global};
@@ -114,29 +116,43 @@ fn print_all<O: Sink>(
     Ok(())
 }
 
-/// Runs a program of one function whose statements print numbers, and then return. Counts the steps of its event
-/// run: the loop turns and takes the call of `main`; each print is a step, the return is one, and the end of the run.
+/// Runs a program of one function whose statements print numbers, and then return, for `bound` steps at most. Counts the
+/// steps of its event run: the loop turns and takes the call of `main`; each print is a step, the return is one, and the
+/// end of the run.
 ///
 /// Err is a fault of the sink, or want of memory; what went out then is a prefix of the output of the steps counted.
 pub fn run_program<O: Sink>(
     alloc: Global,
     program: &Program,
+    bound: u64,
     out: &mut O,
     steps: &mut u64,
-) -> Result<(), Stop<Failed>>
+) -> Result<Outcome, Stop<Failed>>
     requires small { IsSmall (program_of program.now) }
     requires fresh { steps.old ≡ 0 }
     ensures wrote { Wrote (O.taken out.old) (O.taken out.new) (λ o. MatchResult result
-        (λ _. EndsIn (program_of program.now) steps.new o) (λ _. Shows (program_of program.now) steps.new o)) }
+        (λ outcome. StandsSo (program_of program.now) bound steps.new outcome × (o ≡ written (program_of program.now) steps.new))
+        (λ _. IsPrefix o (written (program_of program.now) steps.new))) }
     ensures cause { (fault : _) → IsErrOf result (Fault fault) → Rose (O.faults out.old) (O.faults out.new) }
 {
     let numbers = numbers_in(alloc, statements(program.items.as_slice()))?;
-    *steps = 2;
-    match print_all(alloc, numbers.as_slice(), out, steps) {
-        Ok(()) => {
-            *steps += 2;
-            Ok(())
-        }
+    let within = bound.saturating_sub(2).min(numbers.len() as u64) as usize;
+    *steps = bound.min(2);
+    match print_all(alloc, &numbers.as_slice()[..within], out, steps) {
+        Ok(()) => Ok(end_of(numbers.len() as u64 + 4, bound, steps)),
         Err(stop) => Err(stop),
     }
+}
+
+// How a run of so many steps stands at its bound, and its steps.
+fn end_of(all: u64, bound: u64, steps: &mut u64) -> Outcome
+    ensures over { all ≤ bound → (result ≡ Ended) × (steps.new ≡ all) }
+    ensures stopped { bound < all → (result ≡ Stopped bound) × (steps.new ≡ bound) }
+{
+    if all <= bound {
+        *steps = all;
+        return Outcome::Ended;
+    }
+    *steps = bound;
+    Outcome::Stopped(bound)
 }

@@ -150,18 +150,70 @@ const USAGE: &[u8] =
 
 #[test]
 fn words_that_are_no_command_line(rt: HostRuntime) -> Result<(), Fail> {
-    let lines: [&[&str]; 5] = [
+    let lines: [&[&str]; 10] = [
         &[],
         &["run"],
         &["frobnicate", "a.c"],
         &["run", "a.c", "b.c"],
         &["a.c", "run"],
+        &["run", "a.c", "--steps", "0"],
+        &["run", "a.c", "--steps", "1000000000001"],
+        &["run", "a.c", "--steps", "7x"],
+        &["check", "a.c", "--text"],
+        &["translate", "a.c", "--steps", "5"],
     ];
     for line in lines {
         let left = call(rt.alloc(), line, ample(SEVEN))?;
         assert_eq!(rt; left.status, 2);
         assert_eq!(rt; left.err.as_slice(), USAGE);
         assert_eq!(rt; left.out.as_slice(), b"".as_slice());
+    }
+    Ok(())
+}
+
+const SEVEN_PRINTED: &[u8] = b"int main(void) {\n    cpc_print(7);\n    return 0;\n}\n";
+
+#[test]
+fn a_program_is_translated(rt: HostRuntime) -> Result<(), Fail> {
+    let left = call(rt.alloc(), ["translate", "a.c"].as_slice(), ample(SEVEN))?;
+    assert_eq!(rt; left.status, 0);
+    assert_eq!(rt; left.out.as_slice(), SEVEN_PRINTED);
+    assert_eq!(rt; left.printed.as_slice(), SEVEN_PRINTED);
+    assert_eq!(rt; left.steps, 0);
+    let shown = call(
+        rt.alloc(),
+        ["run", "a.c", "--text"].as_slice(),
+        ample(SEVEN),
+    )?;
+    assert_eq!(rt; shown.status, 0);
+    assert_eq!(rt;
+        shown.out.as_slice(),
+        b"int main(void) {\n    cpc_print(7);\n    return 0;\n}\n/* run */\n7\n".as_slice()
+    );
+    Ok(())
+}
+
+// A bound of so many steps, and what the three lines' run does in them: it is over after six.
+const BOUNDS: [(&str, u64, &[u8], &[u8]); 7] = [
+    ("1", 1, b"", b"stopped after 1 steps\n"),
+    ("2", 2, b"", b"stopped after 2 steps\n"),
+    ("3", 3, b"7\n", b"stopped after 3 steps\n"),
+    ("4", 4, b"7\n10\n", b"stopped after 4 steps\n"),
+    ("5", 5, b"7\n10\n", b"stopped after 5 steps\n"),
+    ("6", 6, b"7\n10\n", b""),
+    ("1000000000000", 6, b"7\n10\n", b""),
+];
+
+#[test]
+fn a_run_is_stopped_at_its_bound(rt: HostRuntime) -> Result<(), Fail> {
+    for (bound, steps, out, line) in BOUNDS {
+        let words = ["run", "a.c", "--steps", bound];
+        let left = call(rt.alloc(), words.as_slice(), ample(THREE_LINES))?;
+        let status = if line.is_empty() { 0 } else { 6 };
+        assert_eq!(rt; left.status, status);
+        assert_eq!(rt; left.steps, steps);
+        assert_eq!(rt; left.out.as_slice(), out);
+        assert_eq!(rt; left.err.as_slice(), line);
     }
     Ok(())
 }

@@ -1,13 +1,14 @@
 use Rattle.std.proofs.Common.{◌≡◌, ◌∙◌, ap, sym, subst, refl, codes, take, []}
 use Rattle.cpc_base.proofs.Pieces.{append_known-nil}
+use Rattle.cpc_command.specs.Commands.{Check}
 use Rattle.cpc_cli.specs.Answer.{did, unwritten_in}
 use Rattle.cpc_cli.specs.declared.answer.Outcome.TheVariants.{Accepted}
-use Rattle.cpc_cli.proofs.TopLemmas.{check_not_begun, accepted_some, is_front}
+use Rattle.cpc_cli.proofs.TopLemmas.{begun_not, accepted_some, is_front}
 use Rattle.cpc_cli.proofs.top.check_file.Goals as goal
 
 pub returns-in-Err-clause-ended : goal.returns-in-Err-clause-ended
 returns-in-Err-clause-ended g c =
-    ([], sym (append_known-nil (g.O.Sink.taken c.args.out.now)), check_not_begun _ _ _ c.in-Err.end (c.in-Err.ensures.refused c.in-Err.end refl) c.requires)
+    ([], sym (append_known-nil (g.O.Sink.taken c.args.out.now)), begun_not _ (Check c.args.file.now) c.args.file.now refl _ c.in-Err.end (c.in-Err.ensures.refused c.in-Err.end refl) c.requires)
 
 pub returns-in-Ok-clause-ended : goal.returns-in-Ok-clause-ended
 returns-in-Ok-clause-ended g c = (codes "accepted\n", c.in-Ok.ensures.all, did Accepted (c.requires.no_run, refl, accepted_some _ _ c.in_default.ensures.accepted))

@@ -1,0 +1,22 @@
+use Rattle.std.proofs.Common.{◌≡◌, ◌∙◌, [], ap, sym, refl, Err, map, string_bytes}
+use Rattle.cpc_base.proofs.Pieces.{append_known-nil}
+use Rattle.cpc_base.specs.declared.stop.Stop.TheVariants.{Fault}
+use Rattle.cpc_command.specs.Commands.{asked}
+use Rattle.cpc_cli.specs.Answer.{misused, starved, performed}
+use Rattle.cpc_cli.proofs.TopLemmas.{line_named}
+use Rattle.cpc_cli.proofs.top.follow.Goals as goal
+
+pub returns-in-Ok-clause-ended : goal.returns-in-Ok-clause-ended
+returns-in-Ok-clause-ended g c =
+    let ended = c.perform.ensures.ended in
+    (ended.0, ended.1, performed (asked c.in-Ok.command) c.in-Ok.ensures.command ended.2)
+
+pub returns-in-Ok-clause-line : goal.returns-in-Ok-clause-line
+returns-in-Ok-clause-line g c = line_named (map string_bytes c.args.words.now) (asked c.in-Ok.command) c.file_of.result.now c.in-Ok.ensures.command c.file_of.ensures c.perform.result
+
+pub returns-in-Err-Memory-clause-ended : goal.returns-in-Err-Memory-clause-ended
+returns-in-Err-Memory-clause-ended g c = ([], sym (append_known-nil (g.O.Sink.taken c.args.out.now)), starved c.requires)
+
+pub returns-in-Err-Fault-clause-ended : goal.returns-in-Err-Fault-clause-ended
+returns-in-Err-Fault-clause-ended g c =
+    ([], sym (append_known-nil (g.O.Sink.taken c.args.out.now)), misused (c.in-Err-Fault.ensures.usage c.in-Err-Fault.field-0-0 (ap Err c.in-Err-Fault.field-0-is)) c.requires)
