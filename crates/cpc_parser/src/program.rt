@@ -63,6 +63,8 @@ pub fn parse(
     ensures program { IfOk result (λ p. (p.names ≡ names) × IsProgram dialect (placed (in_table names) tokens.now) end (located p)) }
     ensures fault { IfFault result (λ f. IsParseFault dialect (placed (in_table names) tokens.now) end f.place f.number) }
     ensures complete { (q : LProgram) → IsProgram dialect (placed (in_table names) tokens.now) end q → IsRead q result }
+    // The program's names are those of its tokens: texts of names that agree on the tokens agree on the program.
+    ensures alike { IfOk result (λ p. (a b : Spelling) → placed a tokens.now ≡ placed b tokens.now → map (located_item a) p.items.items ≡ map (located_item b) p.items.items) }
 {
     match items(alloc, nesting_limit(dialect), tokens) {
         Ok(items) => Ok(Program { names, items, end }),

@@ -1,9 +1,10 @@
-use Rattle.std.proofs.Common.{◌≡◌, [], map, refl, sym, subst, ◌∙◌}
+use Rattle.std.proofs.Common.{◌≡◌, [], map, refl, ap, sym, subst, ◌∙◌}
 use Rattle.cpc_tree.specs.Erase.{in_table}
 use Rattle.cpc_tree.specs.Locate.{located_item}
 use Rattle.cpc_reading.specs.Reading.{Read, Fault, Deep}
 use Rattle.cpc_parse_types.specs.Views.{placed, Refuses}
 use Rattle.cpc_parser.specs.ItemViews.{flat, program_whole}
+use Rattle.cpc_parser.proofs.Loop.{same_read}
 use Rattle.cpc_parser.proofs.Parsed.{read_program, is_read, syntax_place, deep_place, no_syntax, no_depth}
 use Rattle.cpc_parser.proofs.program.parse.Goals as goal
 
@@ -18,6 +19,10 @@ returns-in-Ok-clause-complete c = λ q p.
     let ts = placed (in_table c.args.names) c.args.tokens.now in
     let v = map (located_item (in_table c.args.names)) c.in-Ok.items.items in
     is_read c.args.dialect ts c.args.end v q (subst (λ d. flat (program_whole d) ts ≡ Read (v, 0, [])) c.nesting_limit.ensures (c.in-Ok.ensures (in_table c.args.names))) p
+
+pub returns-in-Ok-clause-alike : goal.returns-in-Ok-clause-alike
+returns-in-Ok-clause-alike c = λ a b e.
+    ap (λ u. u.0) (same_read (map (located_item a) c.in-Ok.items.items, 0, []) (map (located_item b) c.in-Ok.items.items, 0, []) (sym (c.in-Ok.ensures a) ∙ (ap (flat (program_whole c.nesting_limit.result)) e ∙ c.in-Ok.ensures b)))
 
 pub returns-in-Err-Syntax-clause-fault : goal.returns-in-Err-Syntax-clause-fault
 returns-in-Err-Syntax-clause-fault c =
