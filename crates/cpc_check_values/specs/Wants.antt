@@ -1,0 +1,124 @@
+-- Primitives, and what calls want, as the code has them.
+use Rattle.std.specs.Prelude.{ℕ, List, [], ◌∷◌, ◌++◌, length, map, Option, Some, None, option_map, codes, find, bytes_eq}
+use Rattle.cpc_base.specs.Bytes.{Text}
+use Rattle.cpc_num.specs.declared.kinds.Kind.TheVariants.{Int, Long}
+use Rattle.cpc_tree.specs.Erase.{Names, type_of, parameter_of}
+use Rattle.cpc_tree.specs.Syntax.{TyVoid, TyInt, TyCondvar}
+use Rattle.cpc_tree.specs.Typing.{parameter_type, function_type}
+use Rattle.cpc_tree.specs.Primitives as P
+use Rattle.cpc_rules.specs.Calls as C
+use Rattle.cpc_tree.specs.declared.program.Parameter.{Parameter}
+use Rattle.cpc_check_values.specs.declared.primitives.Primitive.{Primitive}
+use Rattle.cpc_check_values.specs.declared.primitives.Primitive.TheVariants as R
+use Rattle.cpc_check_values.specs.declared.wants.Wanted.{Wanted}
+use Rattle.cpc_check_values.specs.declared.wants.Wanted.TheVariants as W
+use Rattle.cpc_check_values.specs.declared.wants.Callee.{Callee}
+use Rattle.cpc_check_values.specs.declared.wants.Callee.TheVariants as V
+
+-- a primitive of the code
+abbrev pub primitive_of : Primitive → P.Primitive
+primitive_of R.Print = P.Print
+primitive_of R.Putc = P.Putc
+primitive_of R.Puts = P.Puts
+primitive_of R.Now = P.Now
+primitive_of R.CondNew = P.CondNew
+primitive_of R.CondFree = P.CondFree
+primitive_of R.Signal = P.Signal
+primitive_of R.SignalAll = P.SignalAll
+primitive_of R.Exit = P.Exit
+primitive_of R.Malloc = P.Malloc
+primitive_of R.Free = P.Free
+primitive_of R.Yield = P.Yield
+primitive_of R.Sleep = P.Sleep
+primitive_of R.IoWait = P.IoWait
+primitive_of R.Wait = P.Wait
+primitive_of R.RtFrame = P.RtFrame
+primitive_of R.RtBox = P.RtBox
+primitive_of R.RtFrameFree = P.RtFrameFree
+primitive_of R.RtUnbox = P.RtUnbox
+primitive_of R.RtReady = P.RtReady
+primitive_of R.RtWait = P.RtWait
+primitive_of R.RtSleep = P.RtSleep
+primitive_of R.RtIo = P.RtIo
+primitive_of R.RtDetach = P.RtDetach
+
+-- its name
+abbrev pub spelling_of : Primitive → Text
+spelling_of R.Print = codes "cpc_print"
+spelling_of R.Putc = codes "cpc_putc"
+spelling_of R.Puts = codes "cpc_puts"
+spelling_of R.Now = codes "cpc_now"
+spelling_of R.CondNew = codes "cpc_cond_new"
+spelling_of R.CondFree = codes "cpc_cond_free"
+spelling_of R.Signal = codes "cpc_signal"
+spelling_of R.SignalAll = codes "cpc_signal_all"
+spelling_of R.Exit = codes "cpc_exit"
+spelling_of R.Malloc = codes "malloc"
+spelling_of R.Free = codes "free"
+spelling_of R.Yield = codes "cpc_yield"
+spelling_of R.Sleep = codes "cpc_sleep"
+spelling_of R.IoWait = codes "cpc_io_wait"
+spelling_of R.Wait = codes "cpc_wait"
+spelling_of R.RtFrame = codes "rt_frame"
+spelling_of R.RtBox = codes "rt_box"
+spelling_of R.RtFrameFree = codes "rt_frame_free"
+spelling_of R.RtUnbox = codes "rt_unbox"
+spelling_of R.RtReady = codes "rt_ready"
+spelling_of R.RtWait = codes "rt_wait"
+spelling_of R.RtSleep = codes "rt_sleep"
+spelling_of R.RtIo = codes "rt_io"
+spelling_of R.RtDetach = codes "rt_detach"
+
+-- all of them
+abbrev pub all_primitives : List Primitive
+all_primitives = R.Print ∷ R.Putc ∷ R.Puts ∷ R.Now ∷ R.CondNew ∷ R.CondFree ∷ R.Signal ∷ R.SignalAll ∷ R.Exit ∷ R.Malloc ∷ R.Free ∷ R.Yield ∷ R.Sleep ∷ R.IoWait ∷ R.Wait ∷ R.RtFrame ∷ R.RtBox ∷ R.RtFrameFree ∷ R.RtUnbox ∷ R.RtReady ∷ R.RtWait ∷ R.RtSleep ∷ R.RtIo ∷ R.RtDetach ∷ []
+
+-- the one of a name
+unfoldable pub primitive_found : Text → Option Primitive
+primitive_found x = find (λ p. bytes_eq x (spelling_of p)) all_primitives
+
+-- what an argument must be
+abbrev pub want_of : Names → Wanted → C.Wanted
+want_of names W.AnyInteger = C.Integer
+want_of names (W.Of t) = C.Of (type_of names t.now)
+want_of names W.Int = C.Of (TyInt Int)
+want_of names W.Long = C.Of (TyInt Long)
+want_of names W.Condvar = C.Of TyCondvar
+want_of names W.Pointer = C.Of P.any_pointer
+want_of names W.Callback = C.Callback (function_type TyVoid (P.any_pointer ∷ TyInt Int ∷ []))
+want_of names W.Text = C.String
+want_of names W.Section = C.ForSection
+
+-- the types of parameters, as they are wanted of arguments
+abbrev pub wants_of : Names → List Parameter → List C.Wanted
+wants_of names ps = map (λ t. C.Of t) (map parameter_type (map (parameter_of names) ps))
+
+-- what the arguments of the section's function must be, where there is one
+abbrev pub section_wants : Names → Option (List Parameter) → List C.Wanted
+section_wants names None = []
+section_wants names (Some ps) = wants_of names ps
+
+-- what the arguments of a primitive must be; those of `rt_detach` go on with the ones of a section's function
+abbrev pub primitive_wants : Names → P.Primitive → Option (List Parameter) → List C.Wanted
+primitive_wants names P.Puts o = C.String ∷ []
+primitive_wants names P.RtDetach o = map C.wanted_of (P.takes_first P.RtDetach) ++ C.ForSection ∷ section_wants names o
+primitive_wants names p o = map C.wanted_of (P.takes_first p)
+
+-- what is called
+abbrev pub callee_of : Names → Callee → C.Callee
+callee_of names (V.Function mode r ps) = C.Takes (wants_of names ps.now) (type_of names r.now)
+callee_of names (V.Primitive p o) = C.Takes (primitive_wants names (primitive_of p) (option_map (λ ps. ps.now) o)) (C.gives (primitive_of p))
+callee_of names (V.Section ps) = C.Takes (wants_of names ps.now) (TyInt Int)
+callee_of names (V.Code r ps) = C.Takes (map (λ t. C.Of t) (map (type_of names) ps.items)) (type_of names r.value)
+callee_of names V.Unknown = C.NoCallee
+callee_of names V.NoCode = C.NoCallee
+
+-- how many arguments are wanted, where a function is called
+abbrev pub wants_count : C.Callee → Option ℕ
+wants_count C.NoCallee = None
+wants_count (C.Takes wants result) = Some (length wants)
+
+-- the function of a section, by its parameters
+abbrev pub section_callee_of : Names → Option (List Parameter) → C.Callee
+section_callee_of names None = C.NoCallee
+section_callee_of names (Some ps) = C.Takes (wants_of names ps) (TyInt Int)
