@@ -1,0 +1,14 @@
+use Rattle.cpc_tree.specs.Locate.{located_expr}
+use Rattle.cpc_rules.specs.Noted.{first_of}
+use Rattle.cpc_check_values.specs.Stands.{where_of}
+use Rattle.cpc_check_statements.proofs.Parts.{target_noted}
+use Rattle.cpc_check_statements.proofs.places.target_rules.Goals as goal
+
+pub returns-clause-noted : goal.returns-clause-noted
+returns-clause-noted c = λ names spells.
+    let t = c.in_ok-found.ensures.typed names spells in
+    let k = c.in_ok-found.ensures.noted names spells in
+    let n = c.note_place.ensures names in
+    let p = c.first_place.ensures names in
+    let e = target_noted (where_of names c.args.w.now) (first_of c.args.first.now) (located_expr names c.args.target.now) in
+    cc
