@@ -1,3 +1,4 @@
 pub mod Agreeing
 pub mod Telling
 pub mod Notes
+pub mod Grouped

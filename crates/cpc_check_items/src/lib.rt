@@ -11,6 +11,7 @@ mod parameters;
 mod prototypes;
 mod signatures;
 mod structs;
+mod wholes;
 
 pub use bodies::Bodies;
 pub use earlier::Earlier;
@@ -19,3 +20,4 @@ pub use globals::{global_rules, string_rules};
 pub use prototypes::prototype_rules;
 pub use signatures::Signature;
 pub use structs::struct_rules;
+pub use wholes::parts_are_wholes;
