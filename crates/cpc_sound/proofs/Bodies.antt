@@ -69,7 +69,7 @@ writable_is (AValue t) e = not_true e
 
 module _ (d : Dialect) (p : Program) (facts : Facts p) (f : Function) where
   -- with one more name
-  at_name : (w : Where) (scope : Scope) (n : ℕ) (v : Variable) → At d p f w scope → At d p f (in_scope w (with_name w.scope v)) (record { called = v.called; type = v.type; slot = n } ∷ scope)
+  pub at_name : (w : Where) (scope : Scope) (n : ℕ) (v : Variable) → At d p f w scope → At d p f (in_scope w (with_name w.scope v)) (record { called = v.called; type = v.type; slot = n } ∷ scope)
   at_name w scope n v at = record { names = names; grows = at.grows; mode = at.mode; result = at.result; dialect = at.dialect }
     where
       go : (x : Text) (b : Bool) → bytes_eq v.called x ≡ b → Matches x (meant (with_name w.scope v) x) (cond b (ALocal n v.type) (named p scope x))

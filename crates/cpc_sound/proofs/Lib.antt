@@ -28,3 +28,4 @@ pub mod Loops
 pub mod Items
 pub mod Knowing
 pub mod Growing
+pub mod Programs
