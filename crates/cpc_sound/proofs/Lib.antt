@@ -29,3 +29,5 @@ pub mod Items
 pub mod Knowing
 pub mod Growing
 pub mod Programs
+pub mod Grammar
+pub mod Accepted

@@ -42,7 +42,7 @@ abbrev mutual
   MaybeWritten NoneLStmt = Unit {0}
   MaybeWritten (SomeLStmt s) = Written s
 
-first_written : (s : LStmt) → IsFirst s → Written s
+pub first_written : (s : LStmt) → IsFirst s → Written s
 first_written (Declare q x t start) h = tt
 first_written (Assign q o v op e) h = tt
 first_written (Call q o to f es) h = tt
@@ -52,3 +52,9 @@ first_written _ h = absurd h
 pub all_first_written : (ss : LStmts) → AllFirst ss → AllWritten ss
 all_first_written NoLStmt h = tt
 all_first_written (AndLStmt s ss) h = (first_written s h.0, all_first_written ss h.1)
+
+pub step_first : (s : LStmt) → IsStep s → IsFirst s
+step_first (Assign q o v op e) h = tt
+step_first (Call q o to f es) h = tt
+step_first (Detach q o k to f es) h = tt
+step_first _ h = absurd h

@@ -1,12 +1,18 @@
 -- What is promised of programs that break no rule, as statements.
-use Rattle.std.specs.Prelude.{◌≡◌, Bool, true, List, Some}
+use Rattle.std.specs.Prelude.{◌≡◌, Bool, true, List, [], Some}
 use Rattle.cpc_tree.specs.Syntax.{Ty, Expr, Stmt, Program}
 use Rattle.cpc_tree.specs.Typing.{Typed, typing, typed_place, used, is_scalar}
 use Rattle.cpc_tree.specs.Registers.{addresses}
 use Rattle.cpc_tree.specs.Points.{Path, Here, found, begin, next_point}
 use Rattle.cpc_meaning.specs.Eval.{Context, place, value}
 use Rattle.cpc_sound.specs.Suits.{Comes, Suits, SuitSlots, ScopeOf, AllBoxed, SuitsSpot}
+use Rattle.cpc_base.specs.declared.stop.Place.{Place}
+use Rattle.cpc_base.specs.declared.stop.Dialect.{Dialect}
 use Rattle.cpc_base.specs.declared.stop.Dialect.TheVariants as D
+use Rattle.cpc_tree.specs.Tokens.{Placed}
+use Rattle.cpc_tree.specs.Located.{LProgram, bare}
+use Rattle.cpc_tree.specs.Grammar.{IsProgram}
+use Rattle.cpc_rules.specs.Rules.{breaks}
 use Rattle.cpc_tree.specs.Trace.{is_over}
 use Rattle.cpc_matching.specs.Systems.{NeverStuck}
 use Rattle.cpc_meaning.specs.Trees.{trees}
@@ -37,3 +43,16 @@ TypedThreadsNeverStuck = (p : Program) → TypedProgram D.Cpc p → RunsNeverStu
 -- Neither are the callbacks of a well typed event program.
 abbrev pub TypedCallbacksNeverStuck : Type 0
 TypedCallbacksNeverStuck = (p : Program) → TypedProgram D.Event p → (h : History) → NeverStuck is_over (event_system (trees p) h)
+
+-- A program that is read from tokens and breaks no rule is well typed.
+abbrev pub AcceptedIsTyped : Type 0
+AcceptedIsTyped = (dialect : Dialect) (list : List Placed) (end : Place) (p : LProgram) → IsProgram dialect list end p → breaks dialect p ≡ [] → TypedProgram dialect (bare p)
+
+-- So its threads are never stuck, where it is one of the dialect Cpc.
+abbrev pub AcceptedThreadsNeverStuck : Type 0
+AcceptedThreadsNeverStuck = (list : List Placed) (end : Place) (p : LProgram) → IsProgram D.Cpc list end p → breaks D.Cpc p ≡ [] → RunsNeverStuck (bare p)
+
+-- And its callbacks are never stuck, where it is one of the dialect Event.
+abbrev pub AcceptedCallbacksNeverStuck : Type 0
+AcceptedCallbacksNeverStuck =
+    (list : List Placed) (end : Place) (p : LProgram) → IsProgram D.Event list end p → breaks D.Event p ≡ [] → (h : History) → NeverStuck is_over (event_system (trees (bare p)) h)

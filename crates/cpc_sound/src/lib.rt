@@ -3,7 +3,7 @@
 //! Nothing here runs. The functions below carry, as their contracts, what is known of the meaning of programs that are well typed.
 #![tactic(auto)]
 
-ghost use Rattle.cpc_sound.specs.Promises.{ControlStays, ExpressionsAnswer, TypedCallbacksNeverStuck, TypedThreadsNeverStuck};
+ghost use Rattle.cpc_sound.specs.Promises.{AcceptedCallbacksNeverStuck, AcceptedIsTyped, AcceptedThreadsNeverStuck, ControlStays, ExpressionsAnswer, TypedCallbacksNeverStuck, TypedThreadsNeverStuck};
 
 /// An expression that has a type has a value that suits it, or a fault.
 pub fn expressions_answer()
@@ -23,4 +23,19 @@ pub fn typed_threads_never_stuck()
 /// The callbacks of a well typed event program are never stuck, whatever the history.
 pub fn typed_callbacks_never_stuck()
     ensures { TypedCallbacksNeverStuck }
+{}
+
+/// A program that is read from tokens and breaks no rule is well typed.
+pub fn accepted_is_typed()
+    ensures { AcceptedIsTyped }
+{}
+
+/// The threads of a program that is read from tokens and breaks no rule of the dialect Cpc are never stuck, whatever the history.
+pub fn accepted_threads_never_stuck()
+    ensures { AcceptedThreadsNeverStuck }
+{}
+
+/// The callbacks of a program that is read from tokens and breaks no rule of the dialect Event are never stuck, whatever the history.
+pub fn accepted_callbacks_never_stuck()
+    ensures { AcceptedCallbacksNeverStuck }
 {}
