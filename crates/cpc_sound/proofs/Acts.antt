@@ -1,5 +1,5 @@
 -- What typed statements and tests do, in a frame whose variables have their slots: they fault, or what they do is well formed.
-use Rattle.std.proofs.Common.{◌≡◌, ◌⊎◌, inl, inr, ℕ, zero, suc, Bool, true, false, not, cond, List, [], ◌∷◌, ◌++◌, slice_get, slice_set, Option, Some, None, refl, sym, ◌∙◌, ap, subst}
+use Rattle.std.proofs.Common.{◌≡◌, ℕ, zero, suc, Bool, true, false, cond, List, [], ◌∷◌, ◌++◌, slice_get, slice_set, Option, Some, None, refl, sym, ◌∙◌, ap, subst}
 use Rattle.cpc_base.specs.Bytes.{Text}
 use Rattle.cpc_base.specs.declared.stop.Dialect.{Dialect}
 use Rattle.cpc_num.specs.declared.kinds.Kind.TheVariants.{Int, Long}
@@ -7,23 +7,23 @@ use Rattle.cpc_num.specs.declared.kinds.Op.{Op}
 use Rattle.cpc_num.specs.declared.kinds.Fault.TheVariants as F
 use Rattle.cpc_tree.specs.declared.program.Mode.{Mode}
 use Rattle.cpc_tree.specs.declared.program.Mode.TheVariants.{Extern, Native, Cps, Detached}
-use Rattle.cpc_tree.specs.Syntax.{Ty, TyVoid, TyInt, TyCondvar, TyPointer, TyCode, TyStruct, TyArray, Tys, Expr, ENamed, EInteger, ECharacter, EText, EUnary, EBinary, EAnd, EOr, EChoose, ECast, ESizeOf, EIndex, EMember, EArrow, ECall, Exprs, NoExpr, AndExpr, Stmt, Block, Empty, Declare, Assign, Call, Detach, Spawn, If, While, DoWhile, For, Goto, Label, Break, Continue, Return, Function, Program}
-use Rattle.cpc_tree.specs.Typing.{Scope, Meant, ALocal, AGlobal, AFunction, NotMeant, Typed, APlace, typed_place, named, typing, used, is_scalar, function_named, function_type, parameter_types, code_parameters, same_type, tys_of, list_of_tys}
+use Rattle.cpc_tree.specs.Syntax.{Ty, TyVoid, TyInt, TyPointer, TyCode, Tys, Expr, ENamed, EInteger, ECharacter, EText, EUnary, EBinary, EAnd, EOr, EChoose, ECast, ESizeOf, EIndex, EMember, EArrow, ECall, Exprs, NoExpr, AndExpr, Stmt, Block, Empty, Declare, Assign, Call, Detach, Spawn, If, While, DoWhile, For, Goto, Label, Break, Continue, Return, Function, Program}
+use Rattle.cpc_tree.specs.Typing.{Scope, Meant, ALocal, AGlobal, AFunction, NotMeant, Typed, APlace, typed_place, named, typing, used, function_named, function_type, parameter_types, code_parameters, same_type, list_of_tys}
 use Rattle.cpc_tree.specs.Points.{Found, Simple, Test, Nothing}
 use Rattle.cpc_tree.specs.Registers.{addresses, addresses_all, addresses_if}
-use Rattle.cpc_tree.specs.Primitives.{Primitive, Puts, RtDetach, primitive_named, SetOf, FreeOf, takes_first, callback_and_pointer}
+use Rattle.cpc_tree.specs.Primitives.{Primitive, Puts, RtDetach, primitive_named, SetOf, takes_first, callback_and_pointer}
 use Rattle.cpc_store.specs.declared.values.Class.TheVariants.{Auto}
-use Rattle.cpc_store.specs.Store.{Value, Unset, Whole, Null, At, Code, Cond, Store, save, free}
-use Rattle.cpc_meaning.specs.Answer.{Answer, Gives, Faults, NoAnswer, ◌>>=◌, of_result, needed}
+use Rattle.cpc_store.specs.Store.{Value, Unset, Null, At, Code, Store, save, free}
+use Rattle.cpc_meaning.specs.Answer.{Gives, Faults, ◌>>=◌}
 use Rattle.cpc_meaning.specs.Eval.{Slot, Register, Boxed, Context, Spot, InSlot, InCell, and_then, place, place_type, used_type, value, values, holds, assigned}
 use Rattle.cpc_meaning.specs.Slots.{free_slots}
-use Rattle.cpc_meaning.specs.Requests.{Builtin, Host, ToSpawn, Section, takes, section_takes, all_taken, all_long, arguments, byte_values, detach_takes}
-use Rattle.cpc_meaning.specs.Act.{Act, GoesOn, Enters, Leaves, AsksFor, write, assign, right_side, assigns, calls, function_of_type, callee, calls_value, asks_with, puts_text, calls_named, calls_expr, detaches, spawns, leaves, returns, simple_act, test_act, found_act, target_of, deliver, arrives}
+use Rattle.cpc_meaning.specs.Requests.{Builtin, takes, section_takes, all_taken, all_long, arguments, byte_values, detach_takes}
+use Rattle.cpc_meaning.specs.Act.{Act, GoesOn, Enters, Leaves, AsksFor, write, assign, right_side, assigns, calls, function_of_type, callee, calls_value, asks_with, puts_text, calls_named, calls_expr, detaches, spawns, leaves, simple_act, found_act, target_of, deliver, arrives}
 use Rattle.cpc_rules.specs.Operators.{is_detached}
 use Rattle.cpc_rules.specs.Calls.{gives, is_closed}
-use Rattle.cpc_sound.specs.Suits.{Comes, Suits, converts, SuitsSlot, SuitSlots, ScopeOf, IsBoxed, AllBoxed, SuitsSpot}
+use Rattle.cpc_sound.specs.Suits.{Comes, Suits, SuitsSlot, SuitSlots, ScopeOf, IsBoxed, AllBoxed, SuitsSpot}
 use Rattle.cpc_sound.specs.Control.{Stands, GoesOnward}
-use Rattle.cpc_sound.specs.Typed.{Gets, IsTest, Assigns, Delivers, AllGet, EachGets, AllGetTaken, GetsTaken, IsSection, Detaches, TakesArguments, is_for, is_own, is_variable, is_pointer_call, Calls, CallsHost, CallsFunction, CallsPrimitive, CallsPointer, IsOpen, IsTyped, FoundTyped}
+use Rattle.cpc_sound.specs.Typed.{Gets, Assigns, Delivers, AllGet, EachGets, AllGetTaken, GetsTaken, IsSection, Detaches, TakesArguments, is_for, is_own, is_variable, is_pointer_call, Calls, CallsHost, CallsFunction, CallsPrimitive, CallsPointer, IsOpen, IsTyped, FoundTyped}
 use Rattle.cpc_meaning.proofs.Functions.{found_again}
 use Rattle.cpc_sound.proofs.Answers.{some_is, no_some, not_true, comes_then, comes_as, comes_needed, comes_result}
 use Rattle.cpc_sound.proofs.Conversions.{holds_comes}
@@ -33,7 +33,7 @@ use Rattle.cpc_sound.proofs.Lookups.{boxed_left, boxed_right}
 use Rattle.cpc_sound.proofs.Copies.{CopyStays, save_stays, free_stays}
 use Rattle.cpc_sound.proofs.Types.{type_is, list_back}
 use Rattle.cpc_sound.proofs.Paths.{found_addresses, simple_addresses}
-use Rattle.cpc_sound.proofs.Requests.{Becomes, AllSuit, AllBecome, EachBecomes, AllWhole, AllReady, AllTaken, SectionGiven, callback_type, PrimitiveGiven, IsRequest, AsksPrimitive, AsksHost, AsksSpawn, AsksSection, IsCallback, becomes_comes, arguments_come, longs_come, all_taken_come, converts_scalar, value_suits, got_comes, all_get_come, each_gets_come, code_comes, all_ready_come}
+use Rattle.cpc_sound.proofs.Requests.{Becomes, AllSuit, AllBecome, EachBecomes, AllWhole, AllReady, AllTaken, callback_type, PrimitiveGiven, IsRequest, AsksPrimitive, AsksHost, AsksSpawn, AsksSection, IsCallback, becomes_comes, arguments_come, longs_come, all_taken_come, value_suits, got_comes, all_get_come, each_gets_come, code_comes, all_ready_come}
 
 abbrev result_of : Ty → Ty
 result_of (TyCode r ps) = r
@@ -184,6 +184,7 @@ module _ (d : Dialect) (p : Program) (f : Function) (scope : Scope) (ts : List T
     where
       code : value c (ENamed x) ≡ Gives (Code x)
       code = simp (is_x) refl
+
       callback_value : (a : Expr) → GetsTaken p scope (SetOf callback_type) a → Comes (IsCallback p callback_type) (value c a)
       callback_value (ENamed y) g = subst (Comes (IsCallback p callback_type)) (sym (code_comes c ts in_scope in_slots callback_type y g)) (g.function, g.is_function, g.is_type)
       callback_value _ g = absurd g
@@ -213,7 +214,7 @@ module _ (d : Dialect) (p : Program) (f : Function) (scope : Scope) (ts : List T
       let bb = boxed_right slots (addresses scope a) (addresses_all scope (AndExpr e (AndExpr (ENamed x) es))) b in
       comes_then (DetachReady x g.3.function) (ActOk d p f scope ts slots s found) (values c (AndExpr a (AndExpr e (AndExpr (ENamed x) es)))) _
       (detach_values x g.3.function a e es g.2.0 g.2.1 g.0 g.1 g.2.2 g.3.arguments (boxed_left slots (addresses scope a) (addresses_all scope (AndExpr e (AndExpr (ENamed x) es))) b)
-        (boxed_left slots (addresses scope e) (addresses_all scope es) bb) (boxed_right slots (addresses scope e) (addresses_all scope es) bb)) λ vs h.
+      (boxed_left slots (addresses scope e) (addresses_all scope es) bb) (boxed_right slots (addresses scope e) (addresses_all scope es) bb)) λ vs h.
       comes_then (PrimitiveGiven p RtDetach) (ActOk d p f scope ts slots s found) (all_taken (takes p RtDetach vs) vs) _ (detach_taken x g.3.function g.3.section vs h)
       (λ ws k. (TyVoid, AsksPrimitive RtDetach ws is_d closed k, awaits))
   asks_come found RtDetach _ g is_d closed b awaits = absurd g
@@ -349,9 +350,11 @@ module _ (d : Dialect) (p : Program) (f : Function) (scope : Scope) (ts : List T
   -- ---- values that arrive
 
   target_onward : (found : Found) (x : Option Expr) → target_of found ≡ Some x → AllBoxed slots (found_addresses scope found) → GoesOnward found × AllBoxed slots (addresses_if scope x)
-  target_onward (Simple (Call y g es)) x e b =
-      (tt, subst (λ y. AllBoxed slots (addresses_if scope y)) (some_is y x e)
-        (boxed_left slots (addresses_if scope y) (addresses scope g) (boxed_left slots (addresses_if scope y ++ addresses scope g) (addresses_all scope es) b)))
+  target_onward (Simple (Call y g es)) x e b = (
+    tt,
+    subst (λ y. AllBoxed slots (addresses_if scope y)) (some_is y x e)
+        (boxed_left slots (addresses_if scope y) (addresses scope g) (boxed_left slots (addresses_if scope y ++ addresses scope g) (addresses_all scope es) b)),
+  )
   target_onward (Simple (Detach y g es)) x e b = (tt, subst (λ y. AllBoxed slots (addresses_if scope y)) (some_is y x e) (boxed_left slots (addresses_if scope y) (addresses_all scope es) b))
   target_onward (Simple (Spawn g es)) x e b = (tt, subst (λ y. AllBoxed slots (addresses_if scope y)) (some_is None x e) tt)
   target_onward _ x e b = no_some x e

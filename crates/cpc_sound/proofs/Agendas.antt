@@ -1,5 +1,5 @@
 -- What holds of all items of an agenda holds of them after each act on it.
-use Rattle.std.proofs.Common.{◌≡◌, ◌==◌, ◌||◌, ◌+◌, not, nat_lt, ℕ, suc, ℤ, pos, Bool, true, false, cond, List, [], ◌∷◌, ◌++◌, map, length, Option, Some, None, Result, Ok, Err, refl, sym, ◌∙◌, ap, subst, arith}
+use Rattle.std.proofs.Common.{◌≡◌, ◌==◌, ◌||◌, ◌+◌, not, nat_lt, ℕ, suc, ℤ, pos, Bool, true, false, cond, List, [], ◌∷◌, ◌++◌, map, length, Some, None, Result, Ok, Err, refl, subst, arith}
 use Rattle.std.specs.Prelude.{filter, int_lt, unsigned_abs}
 use Rattle.cpc_num.specs.declared.kinds.Fault.{Fault}
 use Rattle.cpc_num.specs.declared.kinds.Fault.TheVariants as F
@@ -7,11 +7,11 @@ use Rattle.cpc_num.specs.declared.kinds.Kind.TheVariants.{Int}
 use Rattle.cpc_base.specs.declared.poll.Direction.{Direction}
 use Rattle.cpc_base.specs.declared.poll.Event.{Event}
 use Rattle.cpc_base.specs.declared.poll.Event.TheVariants.{Done, Ready}
-use Rattle.cpc_tree.specs.Syntax.{Ty, TyInt}
+use Rattle.cpc_tree.specs.Syntax.{TyInt}
 use Rattle.cpc_tree.specs.Lists.{is_empty, holds_number}
 use Rattle.cpc_tree.specs.Trace.{Told}
-use Rattle.cpc_store.specs.Store.{Value, Whole}
-use Rattle.cpc_meaning.specs.Agenda.{Due, OnCondition, OnDescriptor, Timer, OnSection, Agenda, new_agenda, no_result, due, ready_all, ready_one, begin_round, first_passing, without_first, without, waits_on, cond_new, where_live, cond_free, wait, waiter, signal, signal_all, put_timer, sleep, io, section, needs_poll, completed, out, not_out, finish_section, finish_sections, waits_for, descriptor_waiter, wake, wake_all, is_due, sleeper, ring, poll}
+use Rattle.cpc_store.specs.Store.{Value}
+use Rattle.cpc_meaning.specs.Agenda.{Due, OnCondition, OnDescriptor, Timer, OnSection, Agenda, new_agenda, no_result, due, ready_all, ready_one, begin_round, first_passing, without_first, without, waits_on, cond_new, where_live, cond_free, wait, waiter, signal, signal_all, put_timer, sleep, io, section, completed, not_out, finish_section, finish_sections, waits_for, descriptor_waiter, wake, wake_all, is_due, sleeper, ring, poll}
 use Rattle.cpc_sound.specs.Suits.{Suits}
 
 -- ---- lists
@@ -84,7 +84,12 @@ module _ {T : Type 0} (Fine : T → Type 0) (Out : ℕ → Type 0) where
   pub ready_all_ok : (items : List T) (a : Agenda T) → Each Fine items → AgendaOk a → AgendaOk (ready_all items a)
   ready_all_ok items a h k = record {
     ready = each_append DueOk a.ready (map (λ item. due item no_result) items) k.ready (dues items h);
-    round = k.round; waiters = k.waiters; descriptors = k.descriptors; timers = k.timers; sections = k.sections }
+    round = k.round;
+    waiters = k.waiters;
+    descriptors = k.descriptors;
+    timers = k.timers;
+    sections = k.sections;
+  }
 
   pub ready_one_ok : (item : T) (a : Agenda T) → Fine item → AgendaOk a → AgendaOk (ready_one item a)
   ready_one_ok item a h k = ready_all_ok (item ∷ []) a (h, tt) k
@@ -111,21 +116,25 @@ module _ {T : Type 0} (Fine : T → Type 0) (Out : ℕ → Type 0) where
 
   pub wait_ok : (n : ℕ) (item : T) (a : Agenda T) → Fine item → AgendaOk a → OkThen AgendaOk (wait n item a)
   wait_ok n item a h k = where_live_ok n a (record a { waiters = a.waiters ++ record { item = item; condition = n } ∷ [] }) (record {
-    ready = k.ready; round = k.round;
+    ready = k.ready;
+    round = k.round;
     waiters = each_append (λ (w : OnCondition T). Fine w.item) a.waiters (record { item = item; condition = n } ∷ []) k.waiters (h, tt);
-    descriptors = k.descriptors; timers = k.timers; sections = k.sections })
+    descriptors = k.descriptors;
+    timers = k.timers;
+    sections = k.sections;
+  })
 
   pub signal_ok : (n : ℕ) (a : Agenda T) → AgendaOk a → OkThen AgendaOk (signal n a)
   signal_ok n a k = where_live_ok n a _
       (ready_all_ok (map waiter (first_passing (waits_on n) a.waiters)) (record a { waiters = without_first (waits_on n) a.waiters })
-        (each_map (λ (w : OnCondition T). Fine w.item) Fine waiter (first_passing (waits_on n) a.waiters) (λ w h. h) (each_first (λ (w : OnCondition T). Fine w.item) (waits_on n) a.waiters k.waiters))
-        (record { ready = k.ready; round = k.round; waiters = each_without_first (λ (w : OnCondition T). Fine w.item) (waits_on n) a.waiters k.waiters; descriptors = k.descriptors; timers = k.timers; sections = k.sections }))
+      (each_map (λ (w : OnCondition T). Fine w.item) Fine waiter (first_passing (waits_on n) a.waiters) (λ w h. h) (each_first (λ (w : OnCondition T). Fine w.item) (waits_on n) a.waiters k.waiters))
+      (record { ready = k.ready; round = k.round; waiters = each_without_first (λ (w : OnCondition T). Fine w.item) (waits_on n) a.waiters k.waiters; descriptors = k.descriptors; timers = k.timers; sections = k.sections }))
 
   pub signal_all_ok : (n : ℕ) (a : Agenda T) → AgendaOk a → OkThen AgendaOk (signal_all n a)
   signal_all_ok n a k = where_live_ok n a _
       (ready_all_ok (map waiter (filter (waits_on n) a.waiters)) (record a { waiters = without (waits_on n) a.waiters })
-        (each_map (λ (w : OnCondition T). Fine w.item) Fine waiter (filter (waits_on n) a.waiters) (λ w h. h) (each_filter (λ (w : OnCondition T). Fine w.item) (waits_on n) a.waiters k.waiters))
-        (record { ready = k.ready; round = k.round; waiters = each_filter (λ (w : OnCondition T). Fine w.item) (λ w. not (waits_on n w)) a.waiters k.waiters; descriptors = k.descriptors; timers = k.timers; sections = k.sections }))
+      (each_map (λ (w : OnCondition T). Fine w.item) Fine waiter (filter (waits_on n) a.waiters) (λ w h. h) (each_filter (λ (w : OnCondition T). Fine w.item) (waits_on n) a.waiters k.waiters))
+      (record { ready = k.ready; round = k.round; waiters = each_filter (λ (w : OnCondition T). Fine w.item) (λ w. not (waits_on n w)) a.waiters k.waiters; descriptors = k.descriptors; timers = k.timers; sections = k.sections }))
 
   pub sleep_ok : (z : ℤ) (item : T) (a : Agenda T) → Fine item → AgendaOk a → OkThen AgendaOk (sleep z item a)
   sleep_ok z item a h k = go (int_lt z (pos 0))
@@ -135,12 +144,24 @@ module _ {T : Type 0} (Fine : T → Type 0) (Out : ℕ → Type 0) where
         timers_made = suc a.timers_made;
       })))
       go true = tt
-      go false = record { ready = k.ready; round = k.round; waiters = k.waiters; descriptors = k.descriptors;
-        timers = each_timer (λ (w : Timer T). Fine w.item) (record { item = item; deadline = a.now + unsigned_abs z; number = a.timers_made }) a.timers h k.timers; sections = k.sections }
+      go false = record {
+        ready = k.ready;
+        round = k.round;
+        waiters = k.waiters;
+        descriptors = k.descriptors;
+        timers = each_timer (λ (w : Timer T). Fine w.item) (record { item = item; deadline = a.now + unsigned_abs z; number = a.timers_made }) a.timers h k.timers;
+        sections = k.sections;
+      }
 
   pub io_ok : (fd : ℤ) (way : Direction) (item : T) (a : Agenda T) → Fine item → AgendaOk a → AgendaOk (io fd way item a)
-  io_ok fd way item a h k = record { ready = k.ready; round = k.round; waiters = k.waiters;
-    descriptors = each_append (λ (w : OnDescriptor T). Fine w.item) a.descriptors (record { item = item; descriptor = fd; direction = way } ∷ []) k.descriptors (h, tt); timers = k.timers; sections = k.sections }
+  io_ok fd way item a h k = record {
+    ready = k.ready;
+    round = k.round;
+    waiters = k.waiters;
+    descriptors = each_append (λ (w : OnDescriptor T). Fine w.item) a.descriptors (record { item = item; descriptor = fd; direction = way } ∷ []) k.descriptors (h, tt);
+    timers = k.timers;
+    sections = k.sections;
+  }
 
   pub section_ok : (item : T) (a : Agenda T) → Fine item → Out a.sections_made → AgendaOk a → OkThen AgendaOk (section item a)
   section_ok item a h o k = go (nat_lt (length a.sections) 1024)
@@ -149,8 +170,14 @@ module _ {T : Type 0} (Fine : T → Type 0) (Out : ℕ → Type 0) where
         sections = a.sections ++ record { item = item; section = a.sections_made } ∷ [];
         sections_made = suc a.sections_made;
       })) (Err F.Sections))
-      go true = record { ready = k.ready; round = k.round; waiters = k.waiters; descriptors = k.descriptors; timers = k.timers;
-        sections = each_append OutOk a.sections (record { item = item; section = a.sections_made } ∷ []) k.sections ((h, o), tt) }
+      go true = record {
+        ready = k.ready;
+        round = k.round;
+        waiters = k.waiters;
+        descriptors = k.descriptors;
+        timers = k.timers;
+        sections = each_append OutOk a.sections (record { item = item; section = a.sections_made } ∷ []) k.sections ((h, o), tt);
+      }
       go false = tt
 
   -- ---- polls
@@ -158,9 +185,13 @@ module _ {T : Type 0} (Fine : T → Type 0) (Out : ℕ → Type 0) where
   finish_ok : (n : ℕ) (v : Value) (a : Agenda T) → Suits (TyInt Int) v → AgendaOk a → AgendaOk (finish_section n v a)
   finish_ok n v a h k = record {
     ready = each_append DueOk a.ready (map (λ s. due s.item v) (filter (λ s. s.section == n) a.sections)) k.ready
-      (each_map OutOk DueOk (λ s. due s.item v) (filter (λ s. s.section == n) a.sections) (λ s g. (g.0, h)) (each_filter OutOk (λ s. s.section == n) a.sections k.sections));
-    round = k.round; waiters = k.waiters; descriptors = k.descriptors; timers = k.timers;
-    sections = each_filter OutOk (λ s. not (s.section == n)) a.sections k.sections }
+        (each_map OutOk DueOk (λ s. due s.item v) (filter (λ s. s.section == n) a.sections) (λ s g. (g.0, h)) (each_filter OutOk (λ s. s.section == n) a.sections k.sections));
+    round = k.round;
+    waiters = k.waiters;
+    descriptors = k.descriptors;
+    timers = k.timers;
+    sections = each_filter OutOk (λ s. not (s.section == n)) a.sections k.sections;
+  }
 
   finish_all_ok : (ns : List ℕ) (vs : List Value) (a : Agenda T) → Each (Suits (TyInt Int)) vs → AgendaOk a → AgendaOk (finish_sections ns vs a)
   finish_all_ok [] vs a h k = k

@@ -1,21 +1,18 @@
 -- Where the rules and the meaning agree on names and types, what is assignable by the rules can be assigned.
-use Rattle.std.proofs.Common.{◌≡◌, ◌⊎◌, inl, inr, ◌&&◌, ◌||◌, ◌==◌, not, ℕ, zero, suc, Bool, true, false, cond, List, [], ◌∷◌, ◌++◌, map, length, Option, Some, None, bytes_eq, refl, sym, ◌∙◌, ap, subst, arith}
+use Rattle.std.proofs.Common.{◌≡◌, ◌⊎◌, inl, inr, ◌&&◌, ◌||◌, ℕ, Bool, true, false, cond, List, [], ◌∷◌, ◌++◌, map, length, Option, Some, None, bytes_eq, refl, sym, ◌∙◌, ap, subst, arith}
 use Rattle.cpc_base.specs.Bytes.{Text}
-use Rattle.cpc_base.specs.declared.stop.Place.{Place}
 use Rattle.cpc_base.specs.declared.stop.Dialect.{Dialect}
 use Rattle.cpc_num.specs.declared.kinds.Kind.TheVariants.{Int, Long}
 use Rattle.cpc_tree.specs.declared.program.Mode.{Mode}
 use Rattle.cpc_tree.specs.declared.program.Mode.TheVariants.{Extern, Native, Cps, Detached}
 use Rattle.cpc_tree.specs.Syntax.{Ty, TyVoid, TyInt, TyCondvar, TyPointer, TyCode, TyStruct, TyArray, Tys, Expr, ENamed, Exprs, NoExpr, AndExpr, Function, Program}
 use Rattle.cpc_tree.specs.Located.{Ident, LExpr, LNamed, LInteger, LCharacter, LText, LUnary, LBinary, LAnd, LOr, LChoose, LCast, LSizeOf, LIndex, LMember, LArrow, LCall, LExprs, NoLExpr, AndLExpr, bare_expr, bare_exprs}
-use Rattle.cpc_tree.specs.Typing.{Scope, Meant, ALocal, AGlobal, AFunction, NotMeant, Typed, AValue, APlace, type_named, named, item_named, typing, used, size, cells, field, is_null, is_reference, same_type, tys_of, function_named, function_type, parameter_types}
+use Rattle.cpc_tree.specs.Typing.{Scope, Meant, ALocal, AGlobal, AFunction, NotMeant, Typed, AValue, APlace, type_named, named, item_named, typing, used, size, cells, field, is_null, is_reference, same_type, tys_of, function_named, parameter_types}
 use Rattle.cpc_tree.specs.Primitives.{Primitive, primitive_named, Taken, AnyInteger, SetOf, FreeOf}
 use Rattle.cpc_rules.specs.declared.rule.Rule.TheVariants.{Disagree}
-use Rattle.cpc_rules.specs.Rule.{Broken, at_if}
-use Rattle.cpc_rules.specs.Scopes as S
 use Rattle.cpc_rules.specs.Scopes.{meant, typed, takes_value, takes_typed}
 use Rattle.cpc_rules.specs.Operators.{Where, typed_at, first, is_detached}
-use Rattle.cpc_rules.specs.Calls.{Wanted, Integer, Of, Callback, String, ForSection, wanted_of, Takes, NoCallee, is_callee, section_callee, takes_section, all_integers, are_integers, is_integer, is_integer_used, is_function, is_function_name, count, suits, suit_breaks}
+use Rattle.cpc_rules.specs.Calls.{Wanted, Integer, Of, Callback, wanted_of, Takes, NoCallee, is_callee, section_callee, takes_section, all_integers, are_integers, is_integer_used, is_function, is_function_name, count, suits, suit_breaks}
 use Rattle.cpc_rules.specs.ExprRules.{expr_breaks, arg_breaks, args_breaks}
 use Rattle.cpc_store.specs.declared.values.Scalar.{Scalar}
 use Rattle.cpc_meaning.specs.Layout.{layout, scalars}
@@ -25,9 +22,9 @@ use Rattle.cpc_sound.specs.Typed.{Gets, AllGet, EachGets, NamesFunction, GetsTak
 use Rattle.cpc_sound.proofs.Answers.{some_is, no_some, not_true}
 use Rattle.cpc_sound.proofs.Options.{then_some, then_of}
 use Rattle.cpc_sound.proofs.Scalars.{both_true, either_true, null_int}
-use Rattle.cpc_sound.proofs.Types.{type_is, number_is}
+use Rattle.cpc_sound.proofs.Types.{type_is}
 use Rattle.cpc_sound.proofs.More.{typing_more}
-use Rattle.cpc_sound.proofs.Unbroken.{split, not_broken, holds_not, holds_then, typed_of}
+use Rattle.cpc_sound.proofs.Unbroken.{split, holds_then, typed_of}
 
 -- ---- assignable types
 
@@ -195,8 +192,16 @@ module _ (d : Dialect) (p : Program) (facts : Facts p) (f : Function) (w : Where
       let is_m : named p scope x.text ≡ AFunction mode r ps = subst (λ m. Matches x.text m (named p scope x.text)) i (at.names x.text) in
       let g = facts.function x.text mode r ps (item_of p scope x.text mode r ps is_m) v.2 in
       let code : takes_typed (TyCode q qs) (ENamed x.text) (AValue (TyCode r (tys_of ps))) ≡ true = subst (λ c. takes_typed (TyCode q qs) (ENamed x.text) c ≡ true) v.1 l in
-      record { mode = mode; result = r; parameters = ps; function = g.0; is_meant = is_m; is_value = v.0; is_function = g.1;
-        is_type = code_is q qs (TyCode r (tys_of ps)) code ∙ ap (λ r. TyCode r (tys_of ps)) (sym g.3) ∙ ap (λ ps. TyCode g.0.result (tys_of ps)) (sym g.4) }
+      record {
+        mode = mode;
+        result = r;
+        parameters = ps;
+        function = g.0;
+        is_meant = is_m;
+        is_value = v.0;
+        is_function = g.1;
+        is_type = code_is q qs (TyCode r (tys_of ps)) code ∙ ap (λ r. TyCode r (tys_of ps)) (sym g.3) ∙ ap (λ ps. TyCode g.0.result (tys_of ps)) (sym g.4);
+      }
   names_here q qs x c (ALocal n u) i j k l = not_true j
   names_here q qs x c (AGlobal n u) i j k l = not_true j
   names_here q qs x c NotMeant i j k l = not_true j

@@ -1,17 +1,16 @@
 -- What binary operators and `?:` come to, by the rules of their types.
-use Rattle.std.proofs.Common.{◌≡◌, ◌&&◌, ◌||◌, ℕ, ℤ, pos, ◌-ℤ◌, Bool, true, false, cond, Option, Some, None, refl, sym, ◌∙◌, ap, subst}
+use Rattle.std.proofs.Common.{◌≡◌, ◌&&◌, ◌||◌, pos, ◌-ℤ◌, Bool, true, false, cond, Option, Some, None, refl, ◌∙◌, ap, subst}
 use Rattle.std.specs.Prelude.{is_some, int_lt, int_le}
 use Rattle.cpc_num.specs.declared.kinds.Kind.{Kind}
 use Rattle.cpc_num.specs.declared.kinds.Kind.TheVariants.{Int, Long}
 use Rattle.cpc_num.specs.declared.kinds.Op.{Op}
 use Rattle.cpc_num.specs.declared.kinds.Op.TheVariants.{Mul, Div, Rem, Add, Sub, Shl, Shr, Lt, Le, Gt, Ge, Eq, Ne, BitAnd, BitXor, BitOr}
 use Rattle.cpc_num.specs.Number.{promoted, common}
-use Rattle.cpc_tree.specs.Syntax.{Ty, TyVoid, TyInt, TyCondvar, TyPointer, TyCode, TyStruct, TyArray, Program}
-use Rattle.cpc_tree.specs.Typing.{size, is_scalar, binary_type, common_type, sum_type, difference_type, shift_type, order_type, equality_type, choice_type, cast_type, movable, same_type, is_reference, are_comparable}
+use Rattle.cpc_tree.specs.Syntax.{Ty, TyInt, TyPointer, Program}
+use Rattle.cpc_tree.specs.Typing.{size, binary_type, common_type, sum_type, difference_type, shift_type, order_type, movable, same_type, is_reference, are_comparable}
 use Rattle.cpc_store.specs.Store.{Value, Unset, Whole, Null, At, Code, Cond, Store}
-use Rattle.cpc_meaning.specs.Answer.{Answer, Gives, Faults}
-use Rattle.cpc_meaning.specs.Eval.{work_kind, result_kind, operate}
-use Rattle.cpc_sound.specs.Suits.{Comes, Suits, converts}
+use Rattle.cpc_meaning.specs.Eval.{result_kind, operate}
+use Rattle.cpc_sound.specs.Suits.{Comes, Suits}
 use Rattle.cpc_sound.proofs.Answers.{some_is, no_some, not_true, if_some}
 use Rattle.cpc_sound.proofs.Operators.{ints_come, moves_come, distance_comes, two_come, is_distance, is_ordered, order_comes, on_two}
 

@@ -1,12 +1,12 @@
 -- A statement that breaks no rule is well typed, and the variables that it declares have sizes.
-use Rattle.std.proofs.Common.{◌≡◌, ◌&&◌, ◌||◌, ◌==◌, not, nat_lt, nat_le, ℕ, zero, suc, ◌+◌, Bool, true, false, cond, List, [], ◌∷◌, ◌++◌, map, length, Option, Some, None, bytes_eq, refl, sym, ◌∙◌, ap, subst, arith}
+use Rattle.std.proofs.Common.{◌≡◌, ◌||◌, not, ℕ, ◌+◌, Bool, true, false, cond, List, [], ◌∷◌, ◌++◌, map, length, Option, Some, None, bytes_eq, refl, sym, ◌∙◌, ap, subst}
 use Rattle.std.specs.Prelude.{option_map, is_some}
 use Rattle.cpc_base.specs.Bytes.{Text}
 use Rattle.cpc_base.specs.declared.stop.Place.{Place}
 use Rattle.cpc_base.specs.declared.stop.Dialect.{Dialect}
 use Rattle.cpc_base.specs.declared.stop.Dialect.TheVariants as D
 use Rattle.cpc_num.specs.declared.kinds.Op.{Op}
-use Rattle.cpc_num.specs.declared.kinds.Kind.TheVariants.{Int, Long}
+use Rattle.cpc_num.specs.declared.kinds.Kind.TheVariants.{Int}
 use Rattle.cpc_tree.specs.declared.program.Mode.{Mode}
 use Rattle.cpc_tree.specs.declared.program.Mode.TheVariants.{Extern, Native, Cps, Detached}
 use Rattle.cpc_tree.specs.Syntax.{Ty, TyVoid, TyInt, TyCondvar, TyPointer, TyCode, TyStruct, TyArray, Expr, ENamed, EBinary, Exprs, Variable, Function, Program}
@@ -15,23 +15,22 @@ use Rattle.cpc_tree.specs.Located.{Ident, LExpr, LExprs, LStmt, Block, Empty, De
 use Rattle.cpc_tree.specs.Typing.{Scope, Meant, ALocal, AGlobal, AFunction, NotMeant, Typed, AValue, APlace, type_named, named, typing, typing_of, used, size, is_null, is_testable, binary_type, function_named, parameter_types}
 use Rattle.cpc_tree.specs.Points.{extended, extended_all, declared, locals, locals_in, locals_arm}
 use Rattle.cpc_rules.specs.declared.rule.Rule.TheVariants.{Disagree, NoPlace, Twice, Incomplete, BadReturn, CpsInNative, CpsForm, NotClosed}
-use Rattle.cpc_rules.specs.Rule.{Broken, at_if}
+use Rattle.cpc_rules.specs.Rule.{at_if}
 use Rattle.cpc_rules.specs.Scopes as R
 use Rattle.cpc_rules.specs.Scopes.{meant, typed, takes_value, takes_typed, with_name, with_block, is_sized, has_cells, is_here}
 use Rattle.cpc_rules.specs.Operators.{Where, typed_at, first, is_detached, is_cps, binary_breaks}
 use Rattle.cpc_rules.specs.Calls.{Of, Callee, Takes, NoCallee, is_callee, callee, section_callee, spawn_callee, is_event, wanted, result, number_breaks}
-use Rattle.cpc_rules.specs.ExprRules.{expr_breaks, args_breaks, call_breaks}
-use Rattle.cpc_rules.specs.StmtRules.{in_scope, inner, variable, behind, all_behind, is_writable, place_breaks, target_breaks, type_of, fits_breaks, result_breaks, assign_breaks, given_breaks, to_breaks, is_tested, tested_breaks, test_breaks, maybe_test, start_breaks, local_breaks, wrong_name, started_breaks, spawn_breaks, section_breaks, is_void, unfit_return, return_breaks, stmt_breaks, stmts_breaks, maybe_breaks}
+use Rattle.cpc_rules.specs.ExprRules.{expr_breaks, args_breaks}
+use Rattle.cpc_rules.specs.StmtRules.{in_scope, inner, variable, behind, all_behind, is_writable, place_breaks, target_breaks, fits_breaks, result_breaks, assign_breaks, given_breaks, to_breaks, is_tested, tested_breaks, test_breaks, maybe_test, local_breaks, wrong_name, started_breaks, spawn_breaks, section_breaks, is_void, unfit_return, return_breaks, stmt_breaks, stmts_breaks, maybe_breaks}
 use Rattle.cpc_meaning.specs.Act.{right_side}
 use Rattle.cpc_meaning.proofs.Functions.{text_same}
-use Rattle.cpc_sound.specs.Typed.{Gets, IsTest, IsTestIf, Assigns, Delivers, AllGet, Calls, Detaches, IsOpen, IsTyped, StepTyped, BodyTyped, AllTyped, ArmTyped, AllSized}
-use Rattle.cpc_sound.proofs.Answers.{some_is, no_some, not_true}
-use Rattle.cpc_sound.proofs.Options.{then_some, then_of}
-use Rattle.cpc_sound.proofs.Scalars.{both_true}
+use Rattle.cpc_sound.specs.Typed.{Gets, IsTest, IsTestIf, Assigns, Delivers, AllGet, Detaches, IsOpen, IsTyped, StepTyped, BodyTyped, AllTyped, ArmTyped, AllSized}
+use Rattle.cpc_sound.proofs.Answers.{some_is, not_true}
+use Rattle.cpc_sound.proofs.Options.{then_some}
 use Rattle.cpc_sound.proofs.Unbroken.{split, not_broken, holds_not, holds_then, negated, binary_some, typed_of}
 use Rattle.cpc_sound.proofs.Agreement.{Matches, Grows, sizes_grow, Facts, At, item_of, takes_converts, typed_here, gets_here, args_here, section_meant, detaches_here}
 use Rattle.cpc_sound.proofs.Callees.{number_here, call_here}
-use Rattle.cpc_sound.proofs.Shapes.{IsStep, IsFirst, AllFirst, StepWritten, Written, AllWritten, MaybeWritten, all_first_written}
+use Rattle.cpc_sound.proofs.Shapes.{StepWritten, Written, AllWritten, MaybeWritten, all_first_written}
 
 -- ---- names
 
@@ -75,6 +74,7 @@ module _ (d : Dialect) (p : Program) (facts : Facts p) (f : Function) where
       go : (x : Text) (b : Bool) → bytes_eq v.called x ≡ b → Matches x (meant (with_name w.scope v) x) (cond b (ALocal n v.type) (named p scope x))
       go x true e = subst (λ m. Matches x m (ALocal n v.type)) (sym (meant_first w.scope.items w.scope.blocks v x e)) (n, refl)
       go x false e = subst (λ m. Matches x m (named p scope x)) (sym (meant_later w.scope.items w.scope.blocks v x e)) (at.names x)
+
       names : (x : Text) → Matches x (meant (with_name w.scope v) x) (named p (record { called = v.called; type = v.type; slot = n } ∷ scope) x)
       names x = go x (bytes_eq v.called x) refl
 
@@ -134,9 +134,17 @@ module _ (d : Dialect) (p : Program) (facts : Facts p) (f : Function) where
         let r = binary_value (meant w.scope) w.scope.items op (bare_expr v) (bare_expr e) b.0 b.1 in
         let is_r : whole ≡ Some (AValue r.0) = b.1 ∙ ap (λ d. Some d) r.1 in
         let l : result_breaks (Some (APlace t.0)) (Some (AValue r.0)) o ≡ [] = subst (λ c. result_breaks c (Some (AValue r.0)) o ≡ []) t.1 (subst (λ c. result_breaks (typed_at w v) c o ≡ []) is_r k.1) in
-        record { type = t.0; is_place = place_here v t.0 t.1; gets = record {
-          typed = AValue r.0; type = r.0; is_typed = typed_here d p facts f w scope at (EBinary op (bare_expr v) (bare_expr e)) (AValue r.0) is_r; is_type = refl;
-          converts = takes_converts t.0 r.0 false (holds_then (takes_value t.0 false r.0) o Disagree l) (λ e. not_true e) } }
+        record {
+          type = t.0;
+          is_place = place_here v t.0 t.1;
+          gets = record {
+            typed = AValue r.0;
+            type = r.0;
+            is_typed = typed_here d p facts f w scope at (EBinary op (bare_expr v) (bare_expr e)) (AValue r.0) is_r;
+            is_type = refl;
+            converts = takes_converts t.0 r.0 false (holds_then (takes_value t.0 false r.0) o Disagree l) (λ e. not_true e);
+          };
+        }
 
     deliver_here : (to : Option LExpr) (o : Place) (u : Option Ty) (r : Ty) → u ≡ Some r → to_breaks w to o u ≡ [] → Delivers p scope r (option_map bare_expr to)
     deliver_here None o u r e h = tt
@@ -182,9 +190,10 @@ module _ (d : Dialect) (p : Program) (facts : Facts p) (f : Function) where
     started_here : (x : Ident) (c : Callee) (es : LExprs) → started_breaks w x c es ≡ [] → (is_callee c ≡ true) × ((ps : List Ty) (r : Ty) → c ≡ Takes (map (λ t. Of t) ps) r → AllGet p scope ps (bare_exprs es))
     started_here x c es h =
         let k = split (wrong_name (meant w.scope x.text) c x.place) _ h in
-        let l = split (number_breaks c es x.place) (args_breaks w (wanted c) es) k.1 in
-        (right_name (meant w.scope x.text) c x.place k.0,
-        λ ps r e. args_here d p facts f w scope at ps es (number_here d p facts f w scope at c (map (λ t. Of t) ps) r es x.place e l.0) (subst (λ c. args_breaks w (wanted c) es ≡ []) e l.1))
+        let l = split (number_breaks c es x.place) (args_breaks w (wanted c) es) k.1 in (
+          right_name (meant w.scope x.text) c x.place k.0,
+          λ ps r e. args_here d p facts f w scope at ps es (number_here d p facts f w scope at c (map (λ t. Of t) ps) r es x.place e l.0) (subst (λ c. args_breaks w (wanted c) es ≡ []) e l.1),
+        )
 
     section_here : (k : Place) (x : Ident) (es : LExprs) → section_breaks w k x es ≡ [] → IsOpen d f.mode × Detaches p scope x.text (bare_exprs es)
     section_here k x es h =
@@ -192,9 +201,10 @@ module _ (d : Dialect) (p : Program) (facts : Facts p) (f : Function) where
         let h2 = split (at_if (is_event w.dialect) k CpsForm) _ h1.1 in
         let s = started_here x (section_callee w.scope (meant w.scope x.text)) es h2.1 in
         let m = section_meant d p facts f w scope at (meant w.scope x.text) s.0 in
-        let e : section_callee w.scope (meant w.scope x.text) ≡ Takes (map (λ t. Of t) m.0) (TyInt Int) = ap (section_callee w.scope) m.1 ∙ ap (λ b. cond b (Takes (map (λ t. Of t) m.0) (TyInt Int)) NoCallee) m.2 in
-        (record { dialect = sym at.dialect ∙ cpc_is w.dialect (holds_not (is_event w.dialect) k CpsForm h2.0); not_detached = ap is_detached (sym at.mode) ∙ cps_is w.mode (holds_then (is_cps w.mode) k CpsInNative h1.0) },
-        detaches_here d p facts f w scope at x.text m.0 es m.1 m.2 (s.1 m.0 (TyInt Int) e))
+        let e : section_callee w.scope (meant w.scope x.text) ≡ Takes (map (λ t. Of t) m.0) (TyInt Int) = ap (section_callee w.scope) m.1 ∙ ap (λ b. cond b (Takes (map (λ t. Of t) m.0) (TyInt Int)) NoCallee) m.2 in (
+          record { dialect = sym at.dialect ∙ cpc_is w.dialect (holds_not (is_event w.dialect) k CpsForm h2.0); not_detached = ap is_detached (sym at.mode) ∙ cps_is w.mode (holds_then (is_cps w.mode) k CpsInNative h1.0) },
+          detaches_here d p facts f w scope at x.text m.0 es m.1 m.2 (s.1 m.0 (TyInt Int) e),
+        )
 
     spawn_meant : (m : Meant) → is_callee (spawn_callee m) ≡ true → (r : Ty) × (ps : List Ty) × (m ≡ AFunction Cps r ps)
     spawn_meant (AFunction Cps r ps) h = (r, ps, refl)
@@ -212,9 +222,10 @@ module _ (d : Dialect) (p : Program) (facts : Facts p) (f : Function) where
         let s = started_here x (spawn_callee (meant w.scope x.text)) es h2.1 in
         let m = spawn_meant (meant w.scope x.text) s.0 in
         let is_m : named p scope x.text ≡ AFunction Cps m.0 m.1 = subst (λ m. Matches x.text m (named p scope x.text)) m.2 (at.names x.text) in
-        let g = facts.function x.text Cps m.0 m.1 (item_of p scope x.text Cps m.0 m.1 is_m) refl in
-        (record { dialect = sym at.dialect ∙ cpc_is w.dialect (holds_not (is_event w.dialect) q CpsForm h1.0); not_detached = ap is_detached (sym at.mode) ∙ holds_not (is_detached w.mode) x.place NotClosed h2.0 },
-        (g.0, g.1, subst (λ us. AllGet p scope us (bare_exprs es)) (sym g.4) (s.1 m.1 m.0 (ap spawn_callee m.2))))
+        let g = facts.function x.text Cps m.0 m.1 (item_of p scope x.text Cps m.0 m.1 is_m) refl in (
+          record { dialect = sym at.dialect ∙ cpc_is w.dialect (holds_not (is_event w.dialect) q CpsForm h1.0); not_detached = ap is_detached (sym at.mode) ∙ holds_not (is_detached w.mode) x.place NotClosed h2.0 },
+          (g.0, g.1, subst (λ us. AllGet p scope us (bare_exprs es)) (sym g.4) (s.1 m.1 m.0 (ap spawn_callee m.2))),
+        )
 
     return_here : (q : Place) (e : LExpr) → return_breaks w q (Some e) ≡ [] → Gets p scope f.result (bare_expr e)
     return_here q e h =
@@ -279,9 +290,12 @@ module _ (d : Dialect) (p : Program) (facts : Facts p) (f : Function) where
         let scope2 = extended_all scope n (bare_stmts ss) in
         let at2 = at_all_behind (inner w) scope n ss (at_inner w scope at) in
         let l = split (maybe_test w2 c) _ k.1 in
-        let m = split (maybe_breaks w2 r) (stmt_breaks w2 a) l.1 in
-        (stmts_here (inner w) scope n (at_inner w scope at) ss (all_first_written ss s.0) k.0, maybe_test_here w2 scope2 at2 c l.0, step_here w2 scope2 at2 r s.1 m.0,
-        stmt_here w2 scope2 (n + length (locals_in (bare_stmts ss))) at2 a s.2 m.1)
+        let m = split (maybe_breaks w2 r) (stmt_breaks w2 a) l.1 in (
+          stmts_here (inner w) scope n (at_inner w scope at) ss (all_first_written ss s.0) k.0,
+          maybe_test_here w2 scope2 at2 c l.0,
+          step_here w2 scope2 at2 r s.1 m.0,
+          stmt_here w2 scope2 (n + length (locals_in (bare_stmts ss))) at2 a s.2 m.1,
+        )
     stmt_here w scope n at (Goto q x) s h = tt
     stmt_here w scope n at (Label x a) s h = stmt_here w scope n at a s h
     stmt_here w scope n at (Break q) s h = tt

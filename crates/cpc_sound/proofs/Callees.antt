@@ -1,27 +1,27 @@
 -- A call that breaks no rule is well typed.
-use Rattle.std.proofs.Common.{◌≡◌, ◌&&◌, ◌==◌, ◌-◌, not, ℕ, zero, suc, Bool, true, false, cond, List, [], ◌∷◌, ◌++◌, map, length, Option, Some, None, refl, sym, ◌∙◌, ap, subst, arith}
+use Rattle.std.proofs.Common.{◌≡◌, ◌&&◌, ◌==◌, ◌-◌, not, ℕ, suc, Bool, true, false, cond, List, [], ◌∷◌, ◌++◌, map, length, Option, Some, None, refl, sym, ◌∙◌, ap, subst, arith}
 use Rattle.cpc_base.specs.Bytes.{Text}
 use Rattle.cpc_base.specs.declared.stop.Place.{Place}
 use Rattle.cpc_base.specs.declared.stop.Dialect.{Dialect}
 use Rattle.cpc_base.specs.declared.stop.Dialect.TheVariants as D
-use Rattle.cpc_num.specs.declared.kinds.Kind.TheVariants.{Int, Long}
+use Rattle.cpc_num.specs.declared.kinds.Kind.TheVariants.{Int}
 use Rattle.cpc_tree.specs.declared.program.Mode.{Mode}
 use Rattle.cpc_tree.specs.declared.program.Mode.TheVariants.{Extern, Native, Cps, Detached}
-use Rattle.cpc_tree.specs.Syntax.{Ty, TyVoid, TyInt, TyCondvar, TyPointer, TyCode, TyStruct, TyArray, Tys, Expr, ENamed, Exprs, Function, Program}
+use Rattle.cpc_tree.specs.Syntax.{Ty, TyVoid, TyInt, TyCondvar, TyPointer, TyCode, TyStruct, TyArray, Tys, Expr, ENamed, Function, Program}
 use Rattle.cpc_tree.specs.Located.{Ident, LExpr, LNamed, LInteger, LCharacter, LText, LUnary, LBinary, LAnd, LOr, LChoose, LCast, LSizeOf, LIndex, LMember, LArrow, LCall, LExprs, NoLExpr, AndLExpr, bare_expr, bare_exprs}
-use Rattle.cpc_tree.specs.Typing.{Scope, Meant, ALocal, AGlobal, AFunction, NotMeant, Typed, named, typing, used, function_named, function_type, parameter_types, list_of_tys}
-use Rattle.cpc_tree.specs.Primitives.{Primitive, Print, Putc, Puts, Now, CondNew, CondFree, Signal, SignalAll, Exit, Malloc, Free, Yield, Sleep, IoWait, Wait, RtFrame, RtBox, RtFrameFree, RtUnbox, RtReady, RtWait, RtSleep, RtIo, RtDetach, primitive_named, SetOf, takes_first}
+use Rattle.cpc_tree.specs.Typing.{Scope, Meant, ALocal, AGlobal, AFunction, NotMeant, Typed, named, used, function_type, list_of_tys}
+use Rattle.cpc_tree.specs.Primitives.{Primitive, Puts, RtDetach, primitive_named, SetOf, takes_first}
 use Rattle.cpc_rules.specs.declared.rule.Rule.TheVariants.{Disagree, WrongNumber, NotClosed, RtCall, CpsForm, CpsInNative}
-use Rattle.cpc_rules.specs.Rule.{Broken, at_if}
+use Rattle.cpc_rules.specs.Rule.{at_if}
 use Rattle.cpc_rules.specs.Scopes.{meant}
 use Rattle.cpc_rules.specs.Operators.{Where, typed_at, used_of, first, is_detached, is_cps}
-use Rattle.cpc_rules.specs.Calls.{Wanted, Of, String, ForSection, Callback, wanted_of, Callee, Takes, NoCallee, is_callee, section_callee, section_of, detached_wants, wants, gives, gives_up, is_rt, is_closed, is_event, primitive_breaks, function_breaks, code_callee, named_callee, callee, is_code, no_code, pointer_breaks, named_breaks, count, number_breaks, wanted, result}
+use Rattle.cpc_rules.specs.Calls.{Wanted, Of, String, ForSection, Callback, Callee, Takes, NoCallee, is_callee, section_callee, section_of, detached_wants, wants, gives, gives_up, is_rt, is_closed, is_event, primitive_breaks, function_breaks, code_callee, named_callee, callee, is_code, no_code, pointer_breaks, named_breaks, count, number_breaks, wanted, result}
 use Rattle.cpc_rules.specs.ExprRules.{expr_breaks, called_breaks, arg_breaks, args_breaks, call_breaks}
-use Rattle.cpc_sound.specs.Typed.{Gets, GetsTaken, AllGet, EachGets, TakesArguments, is_for, is_own, is_variable, is_pointer_call, Calls, CallsHost, CallsFunction, CallsPrimitive, CallsPointer}
+use Rattle.cpc_sound.specs.Typed.{Gets, GetsTaken, AllGet, TakesArguments, is_for, is_own, is_variable, is_pointer_call, Calls, CallsHost, CallsFunction, CallsPrimitive, CallsPointer}
 use Rattle.cpc_sound.proofs.Answers.{some_is, no_some, not_true}
 use Rattle.cpc_sound.proofs.Types.{number_is}
 use Rattle.cpc_sound.proofs.Unbroken.{split, not_broken, holds_not, holds_then, have_all, negated, typed_of}
-use Rattle.cpc_sound.proofs.Agreement.{Matches, Facts, At, item_of, typed_here, gets_here, suits_here, of_here, args_here, taken_here, all_taken_here, section_meant, detaches_here}
+use Rattle.cpc_sound.proofs.Agreement.{Matches, Facts, At, item_of, typed_here, suits_here, of_here, args_here, taken_here, all_taken_here, section_meant, detaches_here}
 
 module _ (d : Dialect) (p : Program) (facts : Facts p) (f : Function) (w : Where) (scope : Scope) (at : At d p f w scope) where
   -- ---- the arguments of primitives
@@ -100,8 +100,8 @@ module _ (d : Dialect) (p : Program) (facts : Facts p) (f : Function) (w : Where
       let m : length (count es) ≡ length rest - 1 = omega (arith, n, left.1) in
       subst (λ c. TakesArguments p scope RtDetach (bare_exprs (AndLExpr a (AndLExpr b (AndLExpr c es))))) (sym x.1)
       (section_name a b x.0 es (taken_here d p facts f w scope at (SetOf (function_type TyVoid (TyPointer TyVoid ∷ TyInt Int ∷ []))) a h1.0) (of_here d p facts f w scope at (TyPointer TyVoid) b h2.0)
-        (subst (λ c. length (count es) ≡ length (detached_wants (section_of w.scope (Some c))) - 1) x.1 m)
-        (subst (λ c. args_breaks w (detached_wants (section_of w.scope (Some c))) (AndLExpr c es) ≡ []) x.1 h2.1))
+      (subst (λ c. length (count es) ≡ length (detached_wants (section_of w.scope (Some c))) - 1) x.1 m)
+      (subst (λ c. args_breaks w (detached_wants (section_of w.scope (Some c))) (AndLExpr c es) ≡ []) x.1 h2.1))
   detach_here NoLExpr n h = absurd (omega arith)
   detach_here (AndLExpr a NoLExpr) n h = absurd (omega arith)
   detach_here (AndLExpr a (AndLExpr b NoLExpr)) n h = absurd (omega arith)

@@ -1,11 +1,10 @@
 -- Control stays in a body: from what stands there it goes to what stands there.
-use Rattle.std.proofs.Common.{◌≡◌, ℕ, zero, suc, Bool, true, false, cond, List, [], ◌∷◌, Option, Some, None, bytes_eq, refl, sym, ap, ◌∙◌, subst}
+use Rattle.std.proofs.Common.{◌≡◌, ℕ, zero, suc, Bool, true, false, cond, [], ◌∷◌, Option, Some, None, bytes_eq, refl, sym, ap, subst}
 use Rattle.cpc_base.specs.Bytes.{Text}
 use Rattle.cpc_tree.specs.Syntax.{Expr, Stmt, Block, Empty, Declare, Assign, Call, Detach, Spawn, If, While, DoWhile, For, Goto, Label, Break, Continue, Return, Stmts, NoStmt, AndStmt, MaybeStmt, Absent, Present}
-use Rattle.cpc_tree.specs.Points.{Part, Nth, TheTest, TheYes, TheNo, TheStep, TheBody, Path, Point, Here, Arrival, End, Found, Simple, Test, Nothing, found, found_in, found_arm, enter, Move, Into, Out, ToLabel, Broken, Continued, NoMove, under, later, or_out, loop_out, if_holds, enter_rest, enter_arm, enter_step, after, after_all, after_arm, labelled, labelled_in, labelled_arm, path_under, path_later, or_else, begin, at_label, arrived, next_point}
+use Rattle.cpc_tree.specs.Points.{Part, Nth, TheTest, TheYes, TheNo, TheStep, TheBody, Path, Here, End, Found, Nothing, found, found_in, found_arm, enter, Move, Into, Out, ToLabel, Broken, Continued, NoMove, under, later, or_out, loop_out, if_holds, enter_rest, enter_arm, enter_step, after, after_all, after_arm, labelled, labelled_in, labelled_arm, path_under, path_later, or_else, begin, at_label, arrived, next_point}
 use Rattle.cpc_sound.specs.Promises.{ControlStays}
 use Rattle.cpc_sound.specs.Control.{Controlled, AllControlled, ArmControlled, IsLabel, StaysIn, Stands, GoesOnward, IsPoint, HasNext}
-use Rattle.cpc_sound.proofs.Answers.{no_some, some_is}
 
 -- ---- entry
 

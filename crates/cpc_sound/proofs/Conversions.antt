@@ -1,21 +1,20 @@
 -- Tests and conversions, on values that suit a type.
-use Rattle.std.proofs.Common.{◌≡◌, ◌&&◌, ℕ, Bool, true, false, cond, Option, Some, None, Result, Ok, Err, refl, sym, ◌∙◌, ap, subst}
-use Rattle.cpc_base.specs.Bytes.{Text}
+use Rattle.std.proofs.Common.{◌≡◌, ℕ, Bool, true, false, cond, Option, Some, None, Ok, Err, refl, sym, ◌∙◌}
 use Rattle.cpc_num.specs.declared.kinds.Kind.{Kind}
 use Rattle.cpc_num.specs.declared.kinds.Kind.TheVariants.{Char, UChar, Int, UInt, Long, ULong}
 use Rattle.cpc_num.specs.declared.kinds.Fault.TheVariants as F
 use Rattle.cpc_num.specs.Number.{same_kind}
-use Rattle.cpc_tree.specs.Syntax.{Ty, TyVoid, TyInt, TyCondvar, TyPointer, TyCode, TyStruct, TyArray, Tys}
-use Rattle.cpc_tree.specs.Typing.{same_type, same_types, is_testable, is_scalar}
+use Rattle.cpc_tree.specs.Syntax.{Ty, TyInt, TyCondvar, TyPointer, TyCode}
+use Rattle.cpc_tree.specs.Typing.{is_testable}
 use Rattle.cpc_store.specs.declared.values.Class.{Class}
 use Rattle.cpc_store.specs.declared.values.Scalar.{Scalar}
 use Rattle.cpc_store.specs.declared.values.Scalar.TheVariants as S
 use Rattle.cpc_store.specs.Store.{Value, Unset, Whole, Null, At, Code, Cond, Store, suits, load, load_cell, load_block, cells_of}
 use Rattle.cpc_meaning.specs.Layout.{scalar_of}
-use Rattle.cpc_meaning.specs.Answer.{Answer, Gives, of_result}
+use Rattle.cpc_meaning.specs.Answer.{of_result}
 use Rattle.cpc_meaning.specs.Eval.{holds, assigned, at_type}
 use Rattle.cpc_sound.specs.Suits.{Comes, Suits, converts}
-use Rattle.cpc_sound.proofs.Answers.{not_true, no_some, some_is}
+use Rattle.cpc_sound.proofs.Answers.{not_true}
 
 pub kind_is : (j k : Kind) → same_kind j k ≡ true → j ≡ k
 kind_is Char Char e = refl

@@ -1,38 +1,37 @@
 -- The callbacks of a typed program are never stuck.
-use Rattle.std.proofs.Common.{◌≡◌, not, ℕ, ℤ, Bool, true, false, List, [], ◌∷◌, map, Option, Some, None, Result, Ok, Err, refl, sym, ◌∙◌, ap, subst}
+use Rattle.std.proofs.Common.{◌≡◌, ℕ, true, false, List, [], ◌∷◌, Ok, refl, sym, ◌∙◌, ap, subst}
 use Rattle.cpc_base.specs.Bytes.{Text}
 use Rattle.cpc_base.specs.declared.stop.Dialect.TheVariants as D
-use Rattle.cpc_num.specs.declared.kinds.Fault.{Fault}
 use Rattle.cpc_num.specs.declared.kinds.Kind.TheVariants.{Int}
-use Rattle.cpc_tree.specs.Syntax.{Ty, TyVoid, TyInt, TyPointer, Function, Program}
-use Rattle.cpc_tree.specs.Typing.{function_named, parameter_types, code_parameters}
+use Rattle.cpc_tree.specs.Syntax.{Ty, TyVoid, TyInt, TyPointer, Program}
+use Rattle.cpc_tree.specs.Typing.{parameter_types, code_parameters}
 use Rattle.cpc_tree.specs.Points.{Point}
-use Rattle.cpc_tree.specs.Primitives.{Primitive, Print, Putc, Puts, Now, CondNew, CondFree, Signal, SignalAll, Exit, Malloc, Free, Yield, Sleep, IoWait, Wait, RtFrame, RtBox, RtFrameFree, RtUnbox, RtReady, RtWait, RtSleep, RtIo, RtDetach}
+use Rattle.cpc_tree.specs.Primitives.{Primitive, Yield, Sleep, IoWait, Wait, RtFrame, RtBox, RtFrameFree, RtUnbox, RtReady, RtWait, RtSleep, RtIo, RtDetach}
 use Rattle.cpc_tree.specs.Registers.{variables}
 use Rattle.cpc_tree.specs.Trace.{Sleeping, Waiting as WaitingMark, Awaiting}
 use Rattle.cpc_store.specs.declared.values.Class.TheVariants.{Auto, Frame as FrameClass}
-use Rattle.cpc_store.specs.Store.{Value, Unset, Whole, Null, At, Code, Cond}
-use Rattle.cpc_meaning.specs.Answer.{Answer, Gives, Faults, NoAnswer, ◌>>=◌, of_result}
+use Rattle.cpc_store.specs.Store.{Value, Unset, Whole, Code}
+use Rattle.cpc_meaning.specs.Answer.{NoAnswer}
 use Rattle.cpc_meaning.specs.Eval.{assigned}
-use Rattle.cpc_meaning.specs.Plain.{Frame, Stack}
+use Rattle.cpc_meaning.specs.Plain.{Stack}
 use Rattle.cpc_meaning.specs.Trees.{trees}
-use Rattle.cpc_meaning.specs.Agenda.{Agenda, ready_one, wait, sleep, io}
+use Rattle.cpc_meaning.specs.Agenda.{ready_one, wait, sleep, io}
 use Rattle.cpc_meaning.specs.Section.{allocated, freed}
-use Rattle.cpc_meaning.specs.Machine.{State, marks, with_agenda, reply, submits, direction_of}
+use Rattle.cpc_meaning.specs.Machine.{State, marks, submits, direction_of}
 use Rattle.cpc_meaning.specs.Events.{Callback, CallMain, CallWith, starts_callback, event_primitive, callbacks}
 use Rattle.cpc_meaning.specs.Start.{main_name, before_bars}
 use Rattle.cpc_rules.specs.Calls.{gives}
 use Rattle.cpc_sound.specs.Suits.{Comes, Suits}
 use Rattle.cpc_sound.specs.Typed.{TypedProgram, is_for}
 use Rattle.cpc_sound.specs.Promises.{TypedCallbacksNeverStuck}
-use Rattle.cpc_sound.proofs.Answers.{not_true, comes_then, comes_as}
+use Rattle.cpc_sound.proofs.Answers.{not_true, comes_then}
 use Rattle.cpc_sound.proofs.Conversions.{assigned_comes}
 use Rattle.cpc_sound.proofs.Types.{list_back}
-use Rattle.cpc_sound.proofs.Requests.{AllSuit, SectionGiven, PrimitiveGiven, IsCallback, callback_type}
-use Rattle.cpc_sound.proofs.Frames.{Given, given, given_none, Asking}
-use Rattle.cpc_sound.proofs.Agendas.{OkThen, AgendaOk, ready_one_ok, wait_ok, sleep_ok, io_ok}
+use Rattle.cpc_sound.proofs.Requests.{AllSuit, PrimitiveGiven, IsCallback, callback_type}
+use Rattle.cpc_sound.proofs.Frames.{given, given_none, Asking}
+use Rattle.cpc_sound.proofs.Agendas.{ready_one_ok, wait_ok, sleep_ok, io_ok}
 use Rattle.cpc_sound.proofs.Sections.{HasJob, allocated_comes, freed_comes}
-use Rattle.cpc_sound.proofs.Machines.{whole_is, cond_is, RestOk, StateOk, with_agenda_ok, reply_comes, replies_come, acts_come, runs_come, submits_come, is_shared, OwnOk, runs_on_and_on}
+use Rattle.cpc_sound.proofs.Machines.{whole_is, cond_is, RestOk, StateOk, reply_comes, replies_come, acts_come, runs_come, submits_come, is_shared, OwnOk, runs_on_and_on}
 
 module _ (p : Program) (typed : TypedProgram D.Event p) where
   -- a callback is a function of its type, with a pointer
@@ -124,7 +123,8 @@ module _ (p : Program) (typed : TypedProgram D.Event p) where
     starts = starts_come;
     owns = owns_come;
     spawns = λ R x vs k s g e is_g w h rest. absurd (cc);
-    detaches = λ R x vs k s e g h rest. absurd (cc) }
+    detaches = λ R x vs k s e g h rest. absurd (cc);
+  }
 
 pub callbacks_never_stuck : TypedCallbacksNeverStuck
 callbacks_never_stuck p typed h =

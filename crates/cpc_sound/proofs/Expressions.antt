@@ -1,5 +1,5 @@
 -- An expression that has a type has a value that suits it, or a fault.
-use Rattle.std.proofs.Common.{◌≡◌, ℕ, ℤ, pos, Bool, true, false, cond, List, [], ◌∷◌, ◌++◌, slice_get, Option, Some, None, Result, Ok, Err, refl, sym, ◌∙◌, ap, subst}
+use Rattle.std.proofs.Common.{◌≡◌, ℕ, ℤ, pos, Bool, true, false, List, ◌++◌, slice_get, Option, Some, None, Result, Ok, Err, refl, sym, ◌∙◌, ap, subst}
 use Rattle.cpc_base.specs.Bytes.{Text}
 use Rattle.cpc_num.specs.declared.kinds.Kind.{Kind}
 use Rattle.cpc_num.specs.declared.kinds.Kind.TheVariants.{Int, ULong}
@@ -11,14 +11,14 @@ use Rattle.cpc_tree.specs.Syntax.{Ty, TyVoid, TyInt, TyCondvar, TyPointer, TyCod
 use Rattle.cpc_tree.specs.declared.program.Mode.TheVariants.{Extern, Native, Cps, Detached}
 use Rattle.cpc_tree.specs.declared.program.UnaryOp.{UnaryOp}
 use Rattle.cpc_tree.specs.declared.program.UnaryOp.TheVariants.{Minus, Plus, Not, Complement, Dereference, AddressOf}
-use Rattle.cpc_tree.specs.Typing.{Scope, Meant, ALocal, AGlobal, AFunction, NotMeant, named, field, size, typing, type_named, Typed, AValue, APlace, used, typed_place, integer, target, struct_tag, field_type, is_scalar, is_testable, is_null, choice_type, cast_type, pointer_type, address_type, unary_type, sign_type, tested_type, test_type, binary_type, sum_type}
+use Rattle.cpc_tree.specs.Typing.{Meant, ALocal, AGlobal, AFunction, NotMeant, named, field, size, typing, type_named, Typed, AValue, APlace, used, typed_place, integer, target, struct_tag, field_type, is_scalar, is_testable, is_null, choice_type, cast_type, pointer_type, address_type, unary_type, sign_type, tested_type, binary_type, sum_type}
 use Rattle.cpc_tree.specs.Registers.{addresses, slot_of}
 use Rattle.cpc_store.specs.declared.values.Class.{Class}
 use Rattle.cpc_store.specs.declared.values.Class.TheVariants.{Static, Auto}
 use Rattle.cpc_store.specs.declared.values.Scalar.TheVariants as S
-use Rattle.cpc_store.specs.Store.{Value, Unset, Whole, Null, At, Code, Cond, Store}
-use Rattle.cpc_meaning.specs.Answer.{Answer, Gives, Faults, NoAnswer, ◌>>=◌, needed}
-use Rattle.cpc_meaning.specs.Eval.{Slot, Register, Boxed, Context, Spot, InSlot, InCell, and_then, place, value, address, place_type, used_type, field_spot, value_named, address_named, spot_named, slot_spot, slot_value, read, pointed, pointer_to, pointed_type, moved, operate, apply, on_number, number, holds, tested, and_also, or_else, chosen, truth_value, at_type}
+use Rattle.cpc_store.specs.Store.{Value, Unset, Whole, Null, At, Code, Store}
+use Rattle.cpc_meaning.specs.Answer.{Answer, Gives, ◌>>=◌}
+use Rattle.cpc_meaning.specs.Eval.{Slot, Register, Boxed, Context, Spot, InSlot, InCell, and_then, place, value, address, place_type, used_type, field_spot, value_named, address_named, spot_named, slot_spot, slot_value, read, pointed, pointer_to, pointed_type, moved, operate, apply, number, holds, tested, and_also, or_else, chosen, at_type}
 use Rattle.cpc_sound.specs.Promises.{ExpressionsAnswer}
 use Rattle.cpc_sound.specs.Suits.{Comes, Suits, converts, SuitsSome, SuitSlots, ScopeOf, IsBoxed, AllBoxed, SuitsSpot}
 use Rattle.cpc_sound.proofs.Answers.{some_is, no_some, not_true, comes_then, comes_as, comes_needed, if_some}

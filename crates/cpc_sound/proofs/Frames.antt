@@ -1,30 +1,30 @@
 -- Frames of typed functions: the slots that a call makes, and a step of the innermost frame.
-use Rattle.std.proofs.Common.{◌≡◌, ◌==◌, ◌||◌, ◌&&◌, not, ℕ, zero, suc, ◌+◌, Bool, true, false, cond, List, [], ◌∷◌, ◌++◌, map, length, slice_get, Option, Some, None, refl, sym, ◌∙◌, ap, subst, arith}
+use Rattle.std.proofs.Common.{◌≡◌, ◌==◌, ◌||◌, not, ℕ, zero, suc, ◌+◌, Bool, true, false, List, [], ◌∷◌, ◌++◌, map, slice_get, Option, Some, None, refl, sym, ◌∙◌, ap, subst, arith}
 use Rattle.cpc_base.specs.Bytes.{Text}
 use Rattle.cpc_base.specs.declared.stop.Dialect.{Dialect}
-use Rattle.cpc_tree.specs.Syntax.{Ty, Expr, Variable, Parameter, Function, Program}
+use Rattle.cpc_tree.specs.Syntax.{Ty, Variable, Parameter, Function, Program}
 use Rattle.cpc_tree.specs.Lists.{first_or, rest_of, holds_number}
 use Rattle.cpc_tree.specs.Typing.{is_scalar, size, function_named, parameter_types, parameter_type}
-use Rattle.cpc_tree.specs.Points.{Path, Point, Here, Arrival, End, Found, found, begin, next_point}
-use Rattle.cpc_tree.specs.Registers.{as_variable, variables, is_register, addressed, scope_in_function, outer_scope}
+use Rattle.cpc_tree.specs.Points.{Path, Point, Here, Arrival, End, found, next_point}
+use Rattle.cpc_tree.specs.Registers.{as_variable, variables, is_register, addressed, scope_in_function}
 use Rattle.cpc_tree.specs.declared.program.Mode.{Mode}
 use Rattle.cpc_store.specs.declared.values.Class.TheVariants.{Auto}
 use Rattle.cpc_store.specs.Store.{Value, Unset, Store, alloc}
-use Rattle.cpc_meaning.specs.Answer.{Answer, Gives, Faults, NoAnswer, ◌>>=◌, needed}
+use Rattle.cpc_meaning.specs.Answer.{Answer, Gives, ◌>>=◌}
 use Rattle.cpc_meaning.specs.Eval.{Slot, Register, Boxed, Context}
 use Rattle.cpc_meaning.specs.Slots.{first_cells, make_slot, make_slots, call_slots}
-use Rattle.cpc_meaning.specs.Act.{Stood, Act, GoesOn, Enters, Leaves, AsksFor, act, arrives}
-use Rattle.cpc_meaning.specs.Plain.{Form, Frame, Stack, Done, Went, Returned, Asks, stack_of, make_frame, moved_to, returned_to, perform, context, frames_step, plain, frames_answered, answered, waiting, waiting_frames, asking}
+use Rattle.cpc_meaning.specs.Act.{Act, GoesOn, Enters, Leaves, AsksFor, act, arrives}
+use Rattle.cpc_meaning.specs.Plain.{Frame, Stack, Done, Went, Returned, Asks, make_frame, returned_to, perform, frames_step, plain, frames_answered, answered, waiting, waiting_frames, asking}
 use Rattle.cpc_meaning.specs.Trees.{trees, first_point, stood_at, scope_from, point_after, arrival_at}
 use Rattle.cpc_rules.specs.Operators.{is_detached}
-use Rattle.cpc_sound.specs.Suits.{Comes, Suits, SuitsSlot, SuitSlots, IsBoxed, AllBoxed}
-use Rattle.cpc_sound.specs.Control.{Stands, GoesOnward, IsPoint, HasNext}
+use Rattle.cpc_sound.specs.Suits.{Comes, Suits, SuitSlots, IsBoxed, AllBoxed}
+use Rattle.cpc_sound.specs.Control.{Stands, GoesOnward, IsPoint}
 use Rattle.cpc_sound.specs.Typed.{AllSized, TypedFunction, TypedProgram}
-use Rattle.cpc_sound.proofs.Answers.{some_is, no_some, not_true, comes_then, comes_as, comes_needed}
+use Rattle.cpc_sound.proofs.Answers.{not_true, comes_then, comes_as, comes_needed}
 use Rattle.cpc_sound.proofs.Scalars.{both_true}
 use Rattle.cpc_sound.proofs.Copies.{CopyStays, alloc_stays}
 use Rattle.cpc_sound.proofs.Control.{begins, goes_next}
-use Rattle.cpc_sound.proofs.Paths.{types_of, found_addresses, function_scope, function_typed, function_boxed}
+use Rattle.cpc_sound.proofs.Paths.{types_of, function_scope, function_typed, function_boxed}
 use Rattle.cpc_sound.proofs.Requests.{AllSuit, IsRequest}
 use Rattle.cpc_sound.proofs.Acts.{Awaits, ActOk, ArrivedOk, LeftOk, Wrote, act_comes, end_comes, arrival_comes}
 
@@ -76,13 +76,15 @@ same_number n = grind arith
 
 all_within : (f : Function) (slots : List Slot) (ks : List ℕ) → NoneTaken f 0 slots → ((k : ℕ) → holds_number ks k ≡ true → holds_number (addressed f) k ≡ true) → AllBoxed slots ks
 all_within f slots [] h w = tt
-all_within f slots (k ∷ ks) h w =
-    (none_boxed f 0 k slots h (subst (λ m. holds_number (addressed f) m ≡ true) (let i : k ≡ 0 + k = omega arith in i) (w k (first_holds (k == k) (same_number k)))),
-    all_within f slots ks h (λ j e. w j (later_holds (k == j) e)))
+all_within f slots (k ∷ ks) h w = (
+  none_boxed f 0 k slots h (subst (λ m. holds_number (addressed f) m ≡ true) (let i : k ≡ 0 + k = omega arith in i) (w k (first_holds (k == k) (same_number k)))),
+  all_within f slots ks h (λ j e. w j (later_holds (k == j) e)),
+)
   where
     first_holds : (b : Bool) → b ≡ true → (b || holds_number ks k) ≡ true
     first_holds true e = refl
     first_holds false e = not_true e
+
     later_holds : {b : Bool} (a : Bool) → b ≡ true → (a || b) ≡ true
     later_holds true e = refl
     later_holds false e = e
@@ -241,30 +243,30 @@ module _ (d : Dialect) (p : Program) (typed : TypedProgram d p) where
     step_at (Here q) o h =
         comes_needed (done (Here q)) (function_named p x) f _ ok.is_function
         (comes_then (ActOk d p f (scope_in_function f q) (types_of f) slots s (found f.body q)) (done (Here q)) (act (ctx (function_named p x) (Here q)) f.result o (stood_at (function_named p x) (Here q))) _
-          (subst (λ u. Comes (ActOk d p f (scope_in_function f q) (types_of f) slots s (found f.body q)) (act (ctx u (Here q)) f.result o (stood_at u (Here q)))) (sym ok.is_function)
-            (act_comes d p f (scope_in_function f q) (types_of f) slots s (function_scope f q) ok.suits (found f.body q) (function_typed d p f q typed_f.body) h (function_boxed slots d p f q typed_f.body ok.boxed)))
-          (performs q))
+        (subst (λ u. Comes (ActOk d p f (scope_in_function f q) (types_of f) slots s (found f.body q)) (act (ctx u (Here q)) f.result o (stood_at u (Here q)))) (sym ok.is_function)
+        (act_comes d p f (scope_in_function f q) (types_of f) slots s (function_scope f q) ok.suits (found f.body q) (function_typed d p f q typed_f.body) h (function_boxed slots d p f q typed_f.body ok.boxed)))
+        (performs q))
     step_at (Arrival q) (Some v) h =
         comes_needed (done (Arrival q)) (function_named p x) f _ ok.is_function
         (comes_then (ArrivedOk (types_of f) slots s (found f.body q)) (done (Arrival q)) (act (ctx (function_named p x) (Arrival q)) f.result (Some v) (stood_at (function_named p x) (Arrival q))) _
-          (subst (λ u. Comes (ArrivedOk (types_of f) slots s (found f.body q)) (act (ctx u (Arrival q)) f.result (Some v) (stood_at u (Arrival q)))) (sym ok.is_function)
-            (arrival_comes d p f (scope_in_function f q) (types_of f) slots s (function_scope f q) ok.suits (found f.body q) h.0 v h.1 h.2 (function_boxed slots d p f q typed_f.body ok.boxed)))
-          (λ a k. as_done (Arrival q) _ (arrived (Arrival q) q (λ h. refl) a k)))
+        (subst (λ u. Comes (ArrivedOk (types_of f) slots s (found f.body q)) (act (ctx u (Arrival q)) f.result (Some v) (stood_at u (Arrival q)))) (sym ok.is_function)
+        (arrival_comes d p f (scope_in_function f q) (types_of f) slots s (function_scope f q) ok.suits (found f.body q) h.0 v h.1 h.2 (function_boxed slots d p f q typed_f.body ok.boxed)))
+        (λ a k. as_done (Arrival q) _ (arrived (Arrival q) q (λ h. refl) a k)))
     step_at (Arrival q) None h = absurd h
     step_at End o h =
         comes_needed (done End) (function_named p x) f _ ok.is_function
         (comes_then (LeftOk f.result s) (done End) (act (ctx (function_named p x) End) f.result o (stood_at (function_named p x) End)) _
-          (subst (λ u. Comes (LeftOk f.result s) (act (ctx u End) f.result o (stood_at u End))) (sym ok.is_function)
-            (end_comes d p f [] (types_of f) slots s tt ok.suits))
-          left)
+        (subst (λ u. Comes (LeftOk f.result s) (act (ctx u End) f.result o (stood_at u End))) (sym ok.is_function)
+        (end_comes d p f [] (types_of f) slots s tt ok.suits))
+        left)
 
     answer_at : (q : Path) (r : Ty) (v : Value) → Awaits p (scope_in_function f q) (found f.body q) r → Suits r v → Comes (WentOk d p closed R s) (frames_answered (trees p) s v (at (Here q) ∷ below))
     answer_at q r v awaits h =
         comes_needed (WentOk d p closed R s) (asking (stood_at (function_named p x) (Here q))) (found f.body q) _ (ap (λ o. asking (stood_at o (Here q))) ok.is_function)
         (comes_then (ArrivedOk (types_of f) slots s (found f.body q)) (WentOk d p closed R s) (arrives (ctx (function_named p x) (Here q)) (found f.body q) (Some v)) _
-          (subst (λ u. Comes (ArrivedOk (types_of f) slots s (found f.body q)) (arrives (ctx u (Here q)) (found f.body q) (Some v))) (sym ok.is_function)
-            (arrival_comes d p f (scope_in_function f q) (types_of f) slots s (function_scope f q) ok.suits (found f.body q) r v awaits h (function_boxed slots d p f q typed_f.body ok.boxed)))
-          (arrived (Here q) q (λ h. refl)))
+        (subst (λ u. Comes (ArrivedOk (types_of f) slots s (found f.body q)) (arrives (ctx u (Here q)) (found f.body q) (Some v))) (sym ok.is_function)
+        (arrival_comes d p f (scope_in_function f q) (types_of f) slots s (function_scope f q) ok.suits (found f.body q) r v awaits h (function_boxed slots d p f q typed_f.body ok.boxed)))
+        (arrived (Here q) q (λ h. refl)))
 
   -- a step of a stack
   pub plain_comes : (closed : Bool) (R : Ty) (s : Store) (k : Stack Point) → Running d p closed R k.frames k.arriving → Comes (DoneOk d p closed R s k.frames) (plain (trees p) s k)

@@ -1,7 +1,6 @@
 -- What is read as a program has the shapes of the grammar.
-use Rattle.std.proofs.Common.{◌≡◌, ℕ, true, List, [], ◌∷◌, ◌++◌, Option, Some, None, refl}
+use Rattle.std.proofs.Common.{◌≡◌, ℕ, true, List, [], ◌∷◌, Option, refl}
 use Rattle.cpc_tree.specs.declared.program.Mode.{Mode}
-use Rattle.cpc_tree.specs.declared.program.Mode.TheVariants as M
 use Rattle.cpc_base.specs.declared.stop.Place.{Place}
 use Rattle.cpc_tree.specs.Syntax.{Ty}
 use Rattle.cpc_tree.specs.Tokens.{Placed}
@@ -12,7 +11,7 @@ use Rattle.cpc_tree.specs.ItemGrammar as I
 use Rattle.cpc_tree.specs.ItemGrammar.{ReadsMode, ReadsGlobal, ReadsGlobals, ReadsItem, ReadsItems}
 use Rattle.cpc_sound.specs.Typed.{is_own}
 use Rattle.cpc_sound.proofs.Agendas.{Each, each_append}
-use Rattle.cpc_sound.proofs.Shapes.{IsStep, IsFirst, AllFirst, StepWritten, Written, AllWritten, MaybeWritten, step_first, first_written}
+use Rattle.cpc_sound.proofs.Shapes.{IsStep, IsFirst, AllFirst, StepWritten, Written, AllWritten, step_first, first_written}
 use Rattle.cpc_sound.proofs.Programs.{ItemShape}
 
 -- ---- simple statements

@@ -1,14 +1,14 @@
 -- Types that are complete stay so, and fields stay where they are, where more items are declared.
-use Rattle.std.proofs.Common.{◌≡◌, ◌||◌, ℕ, zero, suc, ◌+◌, Bool, true, false, cond, List, [], ◌∷◌, ◌++◌, map, reverse, length, Option, Some, None, bytes_eq, refl, sym, ◌∙◌, ap, subst}
+use Rattle.std.proofs.Common.{◌≡◌, ◌||◌, ℕ, ◌+◌, Bool, true, false, cond, List, [], ◌∷◌, ◌++◌, reverse, Some, None, bytes_eq, refl, sym, ◌∙◌, ap, subst}
 use Rattle.std.proofs.lemmas.List.{reverse-append}
 use Rattle.cpc_base.specs.Bytes.{Text}
 use Rattle.cpc_tree.specs.Syntax.{Ty, TyVoid, TyInt, TyCondvar, TyPointer, TyCode, TyStruct, TyArray, Variable, Item, StructItem, GlobalItem, PrototypeItem, FunctionItem, Program}
-use Rattle.cpc_tree.specs.Typing.{◌>>=◌, Cells, cells, cells_in, times, fields_cells, struct_cells, fields, fields_in, field, field_from, size}
+use Rattle.cpc_tree.specs.Typing.{◌>>=◌, Cells, cells, cells_in, fields_cells, struct_cells, fields, fields_in, field, field_from, size}
 use Rattle.cpc_rules.specs.ItemRules.{is_struct}
 use Rattle.cpc_meaning.proofs.Functions.{same_text}
-use Rattle.cpc_sound.proofs.Answers.{some_is, no_some, not_true}
+use Rattle.cpc_sound.proofs.Answers.{no_some}
 use Rattle.cpc_sound.proofs.Options.{then_some, then_of}
-use Rattle.cpc_sound.proofs.Agreement.{Grows, sizes_grow}
+use Rattle.cpc_sound.proofs.Agreement.{Grows}
 use Rattle.cpc_sound.proofs.Bodies.{either_false}
 use Rattle.cpc_sound.proofs.Items.{last_first}
 
@@ -101,8 +101,10 @@ grows_step before i fresh = record { cells = cells_there; fields = fields_there 
   where
     cells_there : (t : Ty) (ts : List Ty) → cells before t ≡ Some ts → cells (before ++ i ∷ []) t ≡ Some ts
     cells_there t ts h = subst (λ q. cells_in (struct_cells q) t ≡ Some ts) (sym (last_first before i)) (cells_more (struct_cells (reverse before)) (struct_cells (i ∷ reverse before)) (cells_stay before i fresh) t ts h)
+
     sizes_there : (t : Ty) (n : ℕ) → size before t ≡ Some n → size (before ++ i ∷ []) t ≡ Some n
     sizes_there t n h = let k = then_some (cells before t) _ n h in then_of (cells (before ++ i ∷ []) t) _ k.0 n (cells_there t k.0 k.1) k.2
+
     fields_there : (tag x : Text) (f : ℕ × Ty) → field before tag x ≡ Some f → field (before ++ i ∷ []) tag x ≡ Some f
     fields_there tag x f h =
         let k = then_some (fields before tag) _ f h in

@@ -1,26 +1,15 @@
 -- What is known of items that break no rule: what names stand for, and which functions are defined.
-use Rattle.std.proofs.Common.{◌≡◌, ◌⊎◌, inl, inr, ◌&&◌, ◌||◌, ◌==◌, not, nat_le, ℕ, zero, suc, ◌+◌, Bool, true, false, cond, List, [], ◌∷◌, ◌++◌, map, reverse, length, Option, Some, None, bytes_eq, refl, sym, ◌∙◌, ap, subst, append_assoc}
-use Rattle.std.proofs.lemmas.List.{reverse-append, append-nil}
+use Rattle.std.proofs.Common.{◌≡◌, ◌⊎◌, inl, inr, ◌&&◌, ◌||◌, not, ℕ, suc, Bool, true, false, cond, List, [], ◌∷◌, ◌++◌, map, reverse, Option, Some, None, bytes_eq, refl, sym, ◌∙◌, ap, subst}
+use Rattle.std.proofs.lemmas.List.{reverse-append}
 use Rattle.cpc_base.specs.Bytes.{Text}
-use Rattle.cpc_base.specs.declared.stop.Place.{Place}
-use Rattle.cpc_base.specs.declared.stop.Dialect.{Dialect}
-use Rattle.cpc_base.specs.declared.stop.Dialect.TheVariants as D
-use Rattle.cpc_num.specs.declared.kinds.Kind.TheVariants.{Int, Long}
 use Rattle.cpc_tree.specs.declared.program.Mode.{Mode}
 use Rattle.cpc_tree.specs.declared.program.Mode.TheVariants.{Extern, Native, Cps, Detached}
-use Rattle.cpc_tree.specs.Syntax.{Ty, TyVoid, TyInt, TyCondvar, TyPointer, TyCode, TyStruct, TyArray, Exprs, NoExpr, AndExpr, Expr, Variable, Parameter, Function, Item, StructItem, GlobalItem, PrototypeItem, FunctionItem, Program}
-use Rattle.cpc_tree.specs.Typing.{Scope, Meant, ALocal, AGlobal, AFunction, NotMeant, item_named, function_named, parameter_type, parameter_types, same_type, cells, cells_in, both, fields_cells, struct_cells, fields, fields_in, field, field_from, size}
-use Rattle.cpc_tree.specs.Primitives.{Primitive, primitive_in, primitive_named, primitives}
-use Rattle.cpc_rules.specs.Scopes.{in_items}
-use Rattle.cpc_rules.specs.FunctionRules.{is_kept}
-use Rattle.cpc_rules.specs.ItemRules.{is_struct, is_extern, same_mode, same_list, Signature, agrees, clashes, is_clash, disagrees, is_disagreeing, is_item, is_function, is_long, all_long, is_host_like}
-use Rattle.cpc_meaning.proofs.Functions.{same_text, text_same}
-use Rattle.cpc_sound.specs.Typed.{Gets, AllGet, EachGets, is_own}
-use Rattle.cpc_sound.proofs.Answers.{some_is, no_some, not_true}
-use Rattle.cpc_sound.proofs.Options.{then_some, then_of}
+use Rattle.cpc_tree.specs.Syntax.{Ty, Function, Item, StructItem, GlobalItem, PrototypeItem, FunctionItem, Program}
+use Rattle.cpc_tree.specs.Typing.{Meant, ALocal, AGlobal, AFunction, NotMeant, item_named, function_named, parameter_type, same_type}
+use Rattle.cpc_rules.specs.ItemRules.{same_mode, same_list, Signature, agrees, clashes, is_clash, disagrees, is_disagreeing, is_item, is_function}
+use Rattle.cpc_sound.proofs.Answers.{no_some, not_true}
 use Rattle.cpc_sound.proofs.Scalars.{both_true}
 use Rattle.cpc_sound.proofs.Types.{type_is}
-use Rattle.cpc_sound.proofs.Agreement.{Grows, Facts}
 use Rattle.cpc_sound.proofs.Bodies.{either_false}
 
 -- ---- one more item

@@ -1,24 +1,21 @@
 -- What is known after each item of a program that breaks no rule.
-use Rattle.std.proofs.Common.{◌≡◌, ◌⊎◌, inl, inr, ◌&&◌, ◌||◌, ◌==◌, not, nat_le, ℕ, zero, suc, ◌+◌, Bool, true, false, cond, List, [], ◌∷◌, ◌++◌, map, reverse, length, Option, Some, None, bytes_eq, refl, sym, ◌∙◌, ap, subst, append_assoc}
-use Rattle.std.proofs.lemmas.List.{reverse-append, append-nil}
+use Rattle.std.proofs.Common.{◌≡◌, inl, inr, nat_le, ℕ, Bool, true, false, cond, List, [], ◌∷◌, ◌++◌, reverse, length, Option, Some, None, bytes_eq, refl, sym, ◌∙◌, ap, subst}
 use Rattle.cpc_base.specs.Bytes.{Text}
 use Rattle.cpc_num.specs.declared.kinds.Kind.TheVariants.{Char, UChar, Int, UInt, Long, ULong}
 use Rattle.cpc_tree.specs.declared.program.Mode.{Mode}
-use Rattle.cpc_tree.specs.declared.program.Mode.TheVariants.{Extern, Native, Cps, Detached}
-use Rattle.cpc_tree.specs.Syntax.{Ty, TyVoid, TyInt, TyCondvar, TyPointer, TyCode, TyStruct, TyArray, Exprs, NoExpr, AndExpr, Expr, Variable, Parameter, Function, Item, StructItem, GlobalItem, PrototypeItem, FunctionItem, Program}
-use Rattle.cpc_tree.specs.Typing.{Scope, Meant, ALocal, AGlobal, AFunction, NotMeant, item_named, function_named, parameter_type, parameter_types, Cells, cells, cells_in, both, times, fields_cells, struct_cells, fields, fields_in, field, field_from, size}
+use Rattle.cpc_tree.specs.declared.program.Mode.TheVariants.{Extern}
+use Rattle.cpc_tree.specs.Syntax.{Ty, TyVoid, TyInt, TyCondvar, TyPointer, TyCode, TyStruct, TyArray, Exprs, NoExpr, AndExpr, Expr, Variable, Function, Item, StructItem, GlobalItem, Program}
+use Rattle.cpc_tree.specs.Typing.{Scope, Meant, ALocal, AGlobal, AFunction, NotMeant, item_named, function_named, parameter_types}
 use Rattle.cpc_tree.specs.Primitives.{Primitive, primitive_in, primitive_named, primitives}
 use Rattle.cpc_rules.specs.Scopes.{in_items}
 use Rattle.cpc_rules.specs.FunctionRules.{is_kept}
-use Rattle.cpc_rules.specs.ItemRules.{is_struct, Signature, is_clash, is_disagreeing, is_item, is_function, is_long, all_long, is_host_like}
+use Rattle.cpc_rules.specs.ItemRules.{Signature, is_clash, is_disagreeing, is_item, is_function, is_long, all_long, is_host_like}
 use Rattle.cpc_meaning.proofs.Functions.{same_text, text_same}
 use Rattle.cpc_sound.specs.Typed.{Gets, AllGet, EachGets, is_own}
 use Rattle.cpc_sound.proofs.Answers.{some_is, no_some, not_true}
-use Rattle.cpc_sound.proofs.Options.{then_some, then_of}
 use Rattle.cpc_sound.proofs.Scalars.{both_true}
 use Rattle.cpc_sound.proofs.Agendas.{Each}
-use Rattle.cpc_sound.proofs.Agreement.{Grows, sizes_grow, Facts}
-use Rattle.cpc_sound.proofs.Bodies.{either_false}
+use Rattle.cpc_sound.proofs.Agreement.{Facts}
 use Rattle.cpc_sound.proofs.Items.{last_first, named_more, named_rest, named_other, signed, Agreed, agreed, no_item, defined_more, defined_rest, is_defined}
 
 -- the last item that declares a name agrees with the first
@@ -38,7 +35,12 @@ pub record Known (program before : Program) : Type 0 where
 
 pub nothing_known : (program : Program) → Known program []
 nothing_known program = record {
-  same = λ x. refl; kept = λ x e. refl; extern = λ x r ps e. absurd (cc); defined = λ x g e. no_some g e; promised = λ x mode r ps e o. absurd (cc) }
+  same = λ x. refl;
+  kept = λ x e. refl;
+  extern = λ x r ps e. absurd (cc);
+  defined = λ x g e. no_some g e;
+  promised = λ x mode r ps e o. absurd (cc);
+}
 
 find : {A : Type 0} (o : Option A) (P : Option A → Type 0) → (o ≡ None → P None) → ((g : A) → o ≡ Some g → P (Some g)) → P o
 find None P f g = f refl
@@ -67,16 +69,19 @@ defined_other before i x none = go (function_named before x) refl
 module _ (program before : Program) (known : Known program before) where
   pub known_struct : (tag : Text) (fs : List Variable) → Known program (before ++ StructItem tag fs ∷ [])
   known_struct tag fs = record {
-      same = λ x. subst (λ q. Same (in_items q x) (item_named 0 (before ++ i ∷ []) x)) (sym (last_first before i)) (subst (Same (in_items (reverse before) x)) (sym (still x)) (known.same x));
-      kept = λ x e. still x ∙ known.kept x e;
-      extern = λ x r ps e. known.extern x r ps (sym (still x) ∙ e);
-      defined = λ x g e. still x ∙ known.defined x g (sym (function_named_still x) ∙ e);
-      promised = λ x mode r ps e o. known.promised x mode r ps (sym (still x) ∙ e) o }
+    same = λ x. subst (λ q. Same (in_items q x) (item_named 0 (before ++ i ∷ []) x)) (sym (last_first before i)) (subst (Same (in_items (reverse before) x)) (sym (still x)) (known.same x));
+    kept = λ x e. still x ∙ known.kept x e;
+    extern = λ x r ps e. known.extern x r ps (sym (still x) ∙ e);
+    defined = λ x g e. still x ∙ known.defined x g (sym (function_named_still x) ∙ e);
+    promised = λ x mode r ps e o. known.promised x mode r ps (sym (still x) ∙ e) o;
+  }
     where
       i : Item
       i = StructItem tag fs
+
       still : (x : Text) → item_named 0 (before ++ StructItem tag fs ∷ []) x ≡ item_named 0 before x
       still x = named_other before (StructItem tag fs) x (λ k. refl)
+
       function_named_still : (x : Text) → function_named (before ++ StructItem tag fs ∷ []) x ≡ function_named before x
       function_named_still x = defined_other before (StructItem tag fs) x refl
 
@@ -101,14 +106,18 @@ module _ (program before : Program) (known : Known program before) where
         same x =
             subst (λ q. Same (in_items q x) (item_named 0 (before ++ g_item ∷ []) x)) (sym (last_first before g_item))
             (bool_cases (bytes_eq y x)
-              (λ e. subst (λ b. Same (cond b (AGlobal 0 t) (in_items (reverse before) x)) (item_named 0 (before ++ g_item ∷ []) x)) (sym e) (g_matched x e))
-              (λ e. subst (λ b. Same (cond b (AGlobal 0 t) (in_items (reverse before) x)) (item_named 0 (before ++ g_item ∷ []) x)) (sym e) (subst (Same (in_items (reverse before) x)) (sym (g_other x e)) (known.same x))))
+            (λ e. subst (λ b. Same (cond b (AGlobal 0 t) (in_items (reverse before) x)) (item_named 0 (before ++ g_item ∷ []) x)) (sym e) (g_matched x e))
+            (λ e. subst (λ b. Same (cond b (AGlobal 0 t) (in_items (reverse before) x)) (item_named 0 (before ++ g_item ∷ []) x)) (sym e) (subst (Same (in_items (reverse before) x)) (sym (g_other x e)) (known.same x))))
+
         kept : (x : Text) → is_kept x ≡ true → item_named 0 (before ++ g_item ∷ []) x ≡ NotMeant
         kept x k = bool_cases (bytes_eq y x) (λ e. not_true (sym (subst (λ z. is_kept z ≡ false) (same_text y x e) not_kept) ∙ k)) (λ e. g_other x e ∙ known.kept x k)
+
         extern : (x : Text) (r : Ty) (ps : List Ty) → item_named 0 (before ++ g_item ∷ []) x ≡ AFunction Extern r ps → is_host_like r ps ≡ true
         extern x r ps h = bool_cases (bytes_eq y x) (λ e. let m = g_matched x e in absurd (global_no_function m.0 t Extern r ps (sym m.1 ∙ h))) (λ e. known.extern x r ps (sym (g_other x e) ∙ h))
+
         defined : (x : Text) (g : Function) → function_named (before ++ g_item ∷ []) x ≡ Some g → item_named 0 (before ++ g_item ∷ []) x ≡ AFunction g.mode g.result (parameter_types g)
         defined x g h = named_more 0 before (g_item ∷ []) x (AFunction g.mode g.result (parameter_types g)) tt (known.defined x g (sym (defined_other before g_item x refl) ∙ h))
+
         promised : (x : Text) (mode : Mode) (r : Ty) (ps : List Ty) → item_named 0 (before ++ g_item ∷ []) x ≡ AFunction mode r ps → is_own mode ≡ true → is_function x program ≡ true
         promised x mode r ps h o = bool_cases (bytes_eq y x) (λ e. let m = g_matched x e in absurd (global_no_function m.0 t mode r ps (sym m.1 ∙ h))) (λ e. known.promised x mode r ps (sym (g_other x e) ∙ h) o)
 
@@ -138,15 +147,18 @@ module _ (program before : Program) (known : Known program before) where
             subst (λ q. Same (in_items q x) (item_named 0 (before ++ i ∷ []) x)) (sym (last_first before i))
             (subst (λ m. Same m (item_named 0 (before ++ i ∷ []) x)) (sym (last_is (reverse before) x))
             (bool_cases (bytes_eq y x)
-              (λ e. subst (λ b. Same (cond b (signed new) (in_items (reverse before) x)) (item_named 0 (before ++ i ∷ []) x)) (sym e) (f_matched x e))
-              (λ e. subst (λ b. Same (cond b (signed new) (in_items (reverse before) x)) (item_named 0 (before ++ i ∷ []) x)) (sym e) (subst (Same (in_items (reverse before) x)) (sym (f_other x e)) (known.same x)))))
+            (λ e. subst (λ b. Same (cond b (signed new) (in_items (reverse before) x)) (item_named 0 (before ++ i ∷ []) x)) (sym e) (f_matched x e))
+            (λ e. subst (λ b. Same (cond b (signed new) (in_items (reverse before) x)) (item_named 0 (before ++ i ∷ []) x)) (sym e) (subst (Same (in_items (reverse before) x)) (sym (f_other x e)) (known.same x)))))
+
         kept : (x : Text) → is_kept x ≡ true → item_named 0 (before ++ i ∷ []) x ≡ NotMeant
         kept x k = bool_cases (bytes_eq y x) (λ e. not_true (sym (subst (λ z. is_kept z ≡ false) (same_text y x e) not_kept) ∙ k)) (λ e. f_other x e ∙ known.kept x k)
+
         extern : (x : Text) (r : Ty) (ps : List Ty) → item_named 0 (before ++ i ∷ []) x ≡ AFunction Extern r ps → is_host_like r ps ≡ true
         extern x r ps h = bool_cases (bytes_eq y x)
             (λ e. let k = same_signature new.mode Extern new.result r new.parameters ps (sym (f_matched x e) ∙ h) in
-              subst (λ r. is_host_like r ps ≡ true) k.1 (subst (λ ps. is_host_like new.result ps ≡ true) k.2 (host k.0)))
+            subst (λ r. is_host_like r ps ≡ true) k.1 (subst (λ ps. is_host_like new.result ps ≡ true) k.2 (host k.0)))
             (λ e. known.extern x r ps (sym (f_other x e) ∙ h))
+
         defined : (x : Text) (g : Function) → function_named (before ++ i ∷ []) x ≡ Some g → item_named 0 (before ++ i ∷ []) x ≡ AFunction g.mode g.result (parameter_types g)
         defined x g h = go (function_named before x) refl
           where
@@ -155,10 +167,11 @@ module _ (program before : Program) (known : Known program before) where
             go (Some f) e =
                 let k : f ≡ g = some_is f g (sym (defined_more before (i ∷ []) x f e) ∙ h) in
                 named_more 0 before (i ∷ []) x (AFunction g.mode g.result (parameter_types g)) tt (known.defined x g (e ∙ ap (λ f. Some f) k))
+
         promised : (x : Text) (mode : Mode) (r : Ty) (ps : List Ty) → item_named 0 (before ++ i ∷ []) x ≡ AFunction mode r ps → is_own mode ≡ true → is_function x program ≡ true
         promised x mode r ps h o = bool_cases (bytes_eq y x)
             (λ e. let k = same_signature new.mode mode new.result r new.parameters ps (sym (f_matched x e) ∙ h) in
-              subst (λ z. is_function z program ≡ true) (same_text y x e) (promise (ap is_own k.0 ∙ o)))
+            subst (λ z. is_function z program ≡ true) (same_text y x e) (promise (ap is_own k.0 ∙ o)))
             (λ e. known.promised x mode r ps (sym (f_other x e) ∙ h) o)
 
 -- ---- names of primitives
@@ -207,6 +220,7 @@ facts_of p known = record { extern = extern; function = function }
         let h = both_true (is_long r) _ (known.extern x r ps e) in
         let k = both_true (all_long ps) (nat_le (length ps) 8) h.1 in
         (long_is r h.0, λ es scope g. longs_get p scope ps es k.0 g)
+
     function : (x : Text) (mode : Mode) (r : Ty) (ps : List Ty) → item_named 0 p x ≡ AFunction mode r ps → is_own mode ≡ true
         → (g : Function) × (function_named p x ≡ Some g) × (g.mode ≡ mode) × (g.result ≡ r) × (parameter_types g ≡ ps)
     function x mode r ps e o =

@@ -1,11 +1,11 @@
 -- What the names of a frame stand for has its slot.
-use Rattle.std.proofs.Common.{◌≡◌, ℕ, zero, suc, Bool, true, false, cond, List, [], ◌∷◌, ◌++◌, slice_get, Option, Some, None, bytes_eq, refl, sym, ◌∙◌, ap, subst}
+use Rattle.std.proofs.Common.{◌≡◌, ℕ, zero, suc, Bool, true, false, cond, List, [], ◌∷◌, ◌++◌, slice_get, Some, bytes_eq, sym, ◌∙◌, ap, subst}
 use Rattle.cpc_base.specs.Bytes.{Text}
-use Rattle.cpc_tree.specs.Syntax.{Ty, Item, StructItem, GlobalItem, PrototypeItem, FunctionItem, Program}
-use Rattle.cpc_tree.specs.Typing.{Scope, Local, Meant, ALocal, AGlobal, AFunction, NotMeant, item_named, named}
+use Rattle.cpc_tree.specs.Syntax.{Ty, StructItem, GlobalItem, PrototypeItem, FunctionItem, Program}
+use Rattle.cpc_tree.specs.Typing.{Scope, Meant, ALocal, item_named, named}
 use Rattle.cpc_tree.specs.Registers.{slot_of}
-use Rattle.cpc_meaning.specs.Eval.{Slot, Register, Boxed}
-use Rattle.cpc_sound.specs.Suits.{SuitsSlot, SuitsSome, SuitSlots, ScopeOf, IsBoxed, AllBoxed}
+use Rattle.cpc_meaning.specs.Eval.{Slot}
+use Rattle.cpc_sound.specs.Suits.{SuitsSlot, SuitsSome, SuitSlots, ScopeOf, AllBoxed}
 
 no_either : (b : Bool) (a c : Meant) (k : ℕ) (t : Ty) → (a ≡ ALocal k t → ⊥) → (c ≡ ALocal k t → ⊥) → cond b a c ≡ ALocal k t → ⊥
 no_either true a c k t f g e = f e

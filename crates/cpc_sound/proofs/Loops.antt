@@ -1,19 +1,18 @@
 -- In a body that breaks no rule of labels and loops control stays.
-use Rattle.std.proofs.Common.{◌≡◌, ◌⊎◌, inl, inr, ◌||◌, not, Bool, true, false, cond, List, [], ◌∷◌, ◌++◌, Option, Some, None, bytes_eq, refl, sym, ◌∙◌, ap, subst}
+use Rattle.std.proofs.Common.{◌≡◌, ◌⊎◌, inl, inr, ◌||◌, not, Bool, true, false, cond, List, [], ◌∷◌, ◌++◌, Option, Some, None, bytes_eq, refl, sym, ap}
 use Rattle.cpc_base.specs.Bytes.{Text}
 use Rattle.cpc_tree.specs.Located.{Ident, LStmt, Block, Empty, Declare, Assign, Call, Detach, Spawn, If, While, DoWhile, For, Goto, Label, Break, Continue, Return, LStmts, NoLStmt, AndLStmt, MaybeLStmt, NoneLStmt, SomeLStmt, bare_stmt, bare_stmts, bare_maybe}
 use Rattle.cpc_tree.specs.Points.{Part, Nth, TheTest, TheYes, TheNo, TheStep, TheBody, Path, enter, labelled, labelled_in, labelled_arm, path_under, path_later, or_else}
 use Rattle.cpc_base.specs.declared.stop.Place.{Place}
 use Rattle.cpc_rules.specs.declared.rule.Rule.{Rule}
 use Rattle.cpc_rules.specs.declared.rule.Rule.TheVariants.{NoLabel, LabelTwice}
-use Rattle.cpc_rules.specs.Rule.{Broken, at_if}
+use Rattle.cpc_rules.specs.Rule.{at_if}
 use Rattle.cpc_rules.specs.FunctionRules.{among, repeated, labels, labels_in, labels_maybe, gotos, gotos_in, gotos_maybe, missing, label_breaks, stray_breaks, stray_in, stray_maybe}
 use Rattle.cpc_sound.specs.Control.{Controlled, AllControlled, ArmControlled, IsLabel, StaysIn}
 use Rattle.cpc_sound.proofs.Answers.{no_some, not_true}
-use Rattle.cpc_sound.proofs.Scalars.{either_true}
 use Rattle.cpc_sound.proofs.Agendas.{Each}
 use Rattle.cpc_sound.proofs.Unbroken.{split, not_broken, holds_then}
-use Rattle.cpc_sound.proofs.Shapes.{IsStep, IsFirst, AllFirst, StepWritten, Written, AllWritten, MaybeWritten}
+use Rattle.cpc_sound.proofs.Shapes.{IsFirst, AllFirst, StepWritten, Written, AllWritten, MaybeWritten}
 
 -- ---- labels
 
@@ -118,9 +117,10 @@ module _ (L : Text → Type 0) where
   mutual
     controlled : (b : Bool) (s : LStmt) → Written s → (b ≡ false → stray_breaks s ≡ []) → Each Goes (gotos s) → Controlled L b (bare_stmt s)
     controlled b (Block q ss) s h g = all_controlled b ss s h g
-    controlled b (If q c a r) s h g =
-        (controlled b a s.0 (λ e. (split (stray_breaks a) (stray_maybe r) (h e)).0) (each_left Goes (gotos a) (gotos_maybe r) g),
-        arm_controlled b r s.1 (λ e. (split (stray_breaks a) (stray_maybe r) (h e)).1) (each_right Goes (gotos a) (gotos_maybe r) g))
+    controlled b (If q c a r) s h g = (
+      controlled b a s.0 (λ e. (split (stray_breaks a) (stray_maybe r) (h e)).0) (each_left Goes (gotos a) (gotos_maybe r) g),
+      arm_controlled b r s.1 (λ e. (split (stray_breaks a) (stray_maybe r) (h e)).1) (each_right Goes (gotos a) (gotos_maybe r) g),
+    )
     controlled b (While q c a) s h g = controlled true a s (λ e. not_true (sym e)) g
     controlled b (DoWhile q a c) s h g = controlled true a s (λ e. not_true (sym e)) g
     controlled b (For q ss c r a) s h g = (first_controlled b ss s.0, step_controlled b r s.1, controlled true a s.2 (λ e. not_true (sym e)) g)
@@ -138,9 +138,10 @@ module _ (L : Text → Type 0) where
 
     all_controlled : (b : Bool) (ss : LStmts) → AllWritten ss → (b ≡ false → stray_in ss ≡ []) → Each Goes (gotos_in ss) → AllControlled L b (bare_stmts ss)
     all_controlled b NoLStmt s h g = tt
-    all_controlled b (AndLStmt a ss) s h g =
-        (controlled b a s.0 (λ e. (split (stray_breaks a) (stray_in ss) (h e)).0) (each_left Goes (gotos a) (gotos_in ss) g),
-        all_controlled b ss s.1 (λ e. (split (stray_breaks a) (stray_in ss) (h e)).1) (each_right Goes (gotos a) (gotos_in ss) g))
+    all_controlled b (AndLStmt a ss) s h g = (
+      controlled b a s.0 (λ e. (split (stray_breaks a) (stray_in ss) (h e)).0) (each_left Goes (gotos a) (gotos_in ss) g),
+      all_controlled b ss s.1 (λ e. (split (stray_breaks a) (stray_in ss) (h e)).1) (each_right Goes (gotos a) (gotos_in ss) g),
+    )
 
     arm_controlled : (b : Bool) (r : MaybeLStmt) → MaybeWritten r → (b ≡ false → stray_maybe r ≡ []) → Each Goes (gotos_maybe r) → ArmControlled L b (bare_maybe r)
     arm_controlled b NoneLStmt s h g = tt

@@ -1,5 +1,5 @@
 -- A machine of a typed program: what holds of its states is kept by each step, and a state that goes on has a step.
-use Rattle.std.proofs.Common.{◌≡◌, ◌⊎◌, inl, inr, ◌==◌, ℕ, zero, suc, ℤ, pos, Bool, true, false, cond, List, [], ◌∷◌, ◌++◌, map, length, Option, Some, None, Result, Ok, Err, refl, sym, ◌∙◌, ap, subst, arith}
+use Rattle.std.proofs.Common.{◌≡◌, ◌⊎◌, inl, inr, ℕ, zero, suc, ℤ, pos, Bool, true, false, List, [], ◌∷◌, ◌++◌, Option, Some, None, Result, Ok, Err, refl, sym, subst}
 use Rattle.cpc_base.specs.Bytes.{Text}
 use Rattle.cpc_base.specs.declared.stop.Dialect.{Dialect}
 use Rattle.cpc_base.specs.declared.stop.Dialect.TheVariants as D
@@ -11,32 +11,30 @@ use Rattle.cpc_tree.specs.Syntax.{Ty, TyVoid, TyInt, TyCondvar, TyPointer, Funct
 use Rattle.cpc_tree.specs.Lists.{is_empty, first_or, rest_of}
 use Rattle.cpc_tree.specs.Typing.{function_named, parameter_types}
 use Rattle.cpc_tree.specs.Points.{Point}
-use Rattle.cpc_tree.specs.Primitives.{Primitive, Print, Putc, Puts, Now, CondNew, CondFree, Signal, SignalAll, Exit, Malloc, Free, Yield, Sleep, IoWait, Wait, RtFrame, RtBox, RtFrameFree, RtUnbox, RtReady, RtWait, RtSleep, RtIo, RtDetach}
-use Rattle.cpc_tree.specs.Trace.{Told, Mark, Output, HostCall, Submitted, Outcome, Going, Ended, Exited, Failed, HistoryEnded, BadHistory, is_over}
+use Rattle.cpc_tree.specs.Primitives.{Primitive, Print, Putc, Puts, Now, CondNew, CondFree, Signal, SignalAll, Exit, Malloc, Free}
+use Rattle.cpc_tree.specs.Trace.{Told, Output, HostCall, Submitted, Outcome, Going, Ended, Exited, Failed, HistoryEnded, BadHistory, is_over}
 use Rattle.cpc_tree.specs.Registers.{variables}
 use Rattle.cpc_num.specs.declared.kinds.Kind.TheVariants.{Int, Long}
-use Rattle.cpc_store.specs.declared.values.Class.{Class}
-use Rattle.cpc_store.specs.declared.values.Class.TheVariants.{Static, Heap}
-use Rattle.cpc_store.specs.Store.{Value, Unset, Whole, Null, At, Code, Cond, Store, same_class}
-use Rattle.cpc_matching.specs.Steps.{after, or_stay}
-use Rattle.cpc_matching.specs.Systems.{System, NeverStuck, run, Goes, NotStuck}
+use Rattle.cpc_store.specs.declared.values.Class.TheVariants.{Heap}
+use Rattle.cpc_store.specs.Store.{Value, Unset, Whole, Null, At, Code, Cond, Store}
+use Rattle.cpc_matching.specs.Steps.{or_stay}
+use Rattle.cpc_matching.specs.Systems.{NeverStuck, run, NotStuck}
 use Rattle.cpc_meaning.specs.Answer.{Answer, Gives, Faults, NoAnswer, ◌>>=◌, of_result, needed}
-use Rattle.cpc_meaning.specs.Requests.{Asked, Builtin, Host, ToSpawn, Section, section_takes}
-use Rattle.cpc_meaning.specs.Plain.{Form, Stack, Frame, stack_of, Done, Went, Returned, Asks, plain, answered, make_frame}
+use Rattle.cpc_meaning.specs.Requests.{Asked}
+use Rattle.cpc_meaning.specs.Plain.{Stack, Done, Went, Returned, Asks, plain, answered, make_frame}
 use Rattle.cpc_meaning.specs.Trees.{trees}
 use Rattle.cpc_meaning.specs.Agenda.{Agenda, Due, new_agenda, begin_round, cond_new, cond_free, signal, signal_all, section, needs_poll, completed, out, not_out, poll}
 use Rattle.cpc_meaning.specs.History.{History}
 use Rattle.cpc_meaning.specs.Section.{Job, allocated, freed}
-use Rattle.cpc_meaning.specs.Copies.{copy_of, job_numbered, Collected, AllGave, OneFailed, NotClear, collect}
-use Rattle.cpc_meaning.specs.Machine.{State, Machine, ends, marks, with_agenda, with_store, runs, after_done, reply, int_of, cond_of, prints, replies, acts, primitive, ints_of, first_answer, host_call, asked_by, submits, polled, told_state, takes_poll, next_poll, next_round, turns_where, turns, schedules, runs_on, code_step, step_running, settled, try_step, unless_over, next}
+use Rattle.cpc_meaning.specs.Copies.{copy_of, Collected, AllGave, OneFailed, NotClear}
+use Rattle.cpc_meaning.specs.Machine.{State, Machine, marks, with_agenda, with_store, runs, after_done, reply, prints, replies, acts, primitive, ints_of, first_answer, host_call, asked_by, submits, polled, told_state, takes_poll, next_poll, next_round, turns_where, schedules, runs_on, code_step, step_running, settled, try_step, unless_over, next}
 use Rattle.cpc_meaning.specs.Matching.{system}
 use Rattle.cpc_sound.specs.Suits.{Comes, Suits}
-use Rattle.cpc_sound.specs.Typed.{IsSection, TypedProgram, is_for}
+use Rattle.cpc_sound.specs.Typed.{TypedProgram, is_for}
 use Rattle.cpc_rules.specs.Calls.{gives}
 use Rattle.cpc_meaning.proofs.Functions.{found_again}
-use Rattle.cpc_sound.proofs.Answers.{some_is, no_some, not_true, comes_then, comes_as, comes_needed, comes_result}
-use Rattle.cpc_sound.proofs.Requests.{AllSuit, IsWhole, AllWhole, IsCond, AllTaken, SectionGiven, PrimitiveGiven, IsRequest, AsksPrimitive, AsksHost, AsksSpawn, AsksSection}
-use Rattle.cpc_sound.proofs.Copies.{CopyStays}
+use Rattle.cpc_sound.proofs.Answers.{not_true, comes_then, comes_needed}
+use Rattle.cpc_sound.proofs.Requests.{AllSuit, IsWhole, AllWhole, IsCond, SectionGiven, PrimitiveGiven, IsRequest, AsksPrimitive, AsksHost, AsksSpawn, AsksSection}
 use Rattle.cpc_sound.proofs.Frames.{Given, Running, Asking, DoneOk, WentOk, entered, frame_comes, plain_comes, answer_comes}
 use Rattle.cpc_sound.proofs.Agendas.{Each, each_append, each_map, OkThen, DueOk, OutOk, AgendaOk, new_ok, ready_one_ok, begin_round_ok, cond_new_ok, cond_free_ok, signal_ok, signal_all_ok, section_ok, more_out, poll_ok, out_are}
 use Rattle.cpc_sound.proofs.Sections.{StoreActOk, allocated_comes, freed_comes, JobOk, HasJob, CollectedOk, collect_ok, copy_comes, submitted_ok, more_jobs, last_job}
@@ -92,7 +90,7 @@ module _ (d : Dialect) (p : Program) (typed : TypedProgram d p) {T : Type 0} (Fi
   runs_come x g vs s is_g h rest =
       comes_needed StateOk (function_named p x) g _ is_g
       (comes_then (entered d p typed false g s.store) StateOk (make_frame (trees p) g vs s.store) _ (frame_comes d p typed false g vs s.store (found_again p x g is_g) (λ e. not_true e) h)
-        (λ r k. ((g.result, (g, k.1, k.2, refl)), rest)))
+      (λ r k. ((g.result, (g, k.1, k.2, refl)), rest)))
 
   -- ---- sections
 
@@ -109,13 +107,13 @@ module _ (d : Dialect) (p : Program) (typed : TypedProgram d p) {T : Type 0} (Fi
       go (Ok a) e =
           comes_needed (λ (t : State Point T). (t.running ≡ s.running) × (t.store ≡ s.store) × RestOk t.agenda t.jobs) (function_named p x) g.0 _ g.1.is_function
           (comes_then (λ (cells : List Value). Unit {0}) (λ (t : State Point T). (t.running ≡ s.running) × (t.store ≡ s.store) × RestOk t.agenda t.jobs) (copy_of p g.0 (first_or Unset vs) s.store) _
-            (copy_comes d p typed x g.0 (first_or Unset vs) s.store g.1) λ cells k.
-            let job : Job = record { number = s.agenda.sections_made; function = x; arguments = rest_of vs; cells = cells; pointer = first_or Unset vs } in
-            let job_ok = submitted_ok d p typed x g.0 vs s.agenda.sections_made cells (first_or Unset vs) g.1 g.2 in
-            let more : List Job = s.jobs ++ job ∷ [] in
-            let known = more_out Fine (HasJob d p typed s.jobs) (HasJob d p typed more) s.agenda (λ n l. more_jobs d p typed s.jobs (job ∷ []) n l) rest.agenda in
-            let out = section_ok Fine (HasJob d p typed more) item s.agenda h (last_job d p typed s.jobs job rest.jobs_ok job_ok) known in
-            (refl, refl, record { agenda = subst (OkThen (AgendaOk Fine (HasJob d p typed more))) e out; jobs_ok = each_append (JobOk d p typed) s.jobs (job ∷ []) rest.jobs_ok (job_ok, tt) }))
+          (copy_comes d p typed x g.0 (first_or Unset vs) s.store g.1) λ cells k.
+          let job : Job = record { number = s.agenda.sections_made; function = x; arguments = rest_of vs; cells = cells; pointer = first_or Unset vs } in
+          let job_ok = submitted_ok d p typed x g.0 vs s.agenda.sections_made cells (first_or Unset vs) g.1 g.2 in
+          let more : List Job = s.jobs ++ job ∷ [] in
+          let known = more_out Fine (HasJob d p typed s.jobs) (HasJob d p typed more) s.agenda (λ n l. more_jobs d p typed s.jobs (job ∷ []) n l) rest.agenda in
+          let out = section_ok Fine (HasJob d p typed more) item s.agenda h (last_job d p typed s.jobs job rest.jobs_ok job_ok) known in
+          (refl, refl, record { agenda = subst (OkThen (AgendaOk Fine (HasJob d p typed more))) e out; jobs_ok = each_append (JobOk d p typed) s.jobs (job ∷ []) rest.jobs_ok (job_ok, tt) }))
 
 -- the primitives that both machines have
 abbrev pub is_shared : Primitive → Bool
@@ -234,8 +232,8 @@ module _ (d : Dialect) (p : Program) (typed : TypedProgram d p) {T : Type 0} (Fi
     takes_come s told polls (Some n) e ok = ok
     takes_come s told polls None e ok =
         polled_comes told (told_state told polls s) _ (collect_ok d p typed s.history.section_bound s.jobs (completed told.events) s.store
-          (out_are (HasJob d p typed s.jobs) (completed told.events) (out s.agenda) e
-            (each_map (OutOk Fine (HasJob d p typed s.jobs)) (HasJob d p typed s.jobs) (λ s. s.section) s.agenda.sections (λ w h. h.1) ok.1.agenda.sections))) ok
+        (out_are (HasJob d p typed s.jobs) (completed told.events) (out s.agenda) e
+        (each_map (OutOk Fine (HasJob d p typed s.jobs)) (HasJob d p typed s.jobs) (λ s. s.section) s.agenda.sections (λ w h. h.1) ok.1.agenda.sections))) ok
 
     poll_comes : (s : State Point T) (polls : List Told) → Good s → Comes Good (next_poll m s polls)
     poll_comes s [] ok = ok
@@ -255,7 +253,7 @@ module _ (d : Dialect) (p : Program) (typed : TypedProgram d p) {T : Type 0} (Fi
         let h : Each (DueOk Fine (HasJob d p typed s.jobs)) (x ∷ xs) = subst (Each (DueOk Fine (HasJob d p typed s.jobs))) e ok.1.agenda.round in
         own_ok.starts x.item x.result (with_agenda s (record s.agenda { round = xs })) h.0.0 h.0.1
         (with_agenda_ok d p typed Fine s.agenda (record s.agenda { round = xs }) s.jobs ok.1
-          (record { ready = ok.1.agenda.ready; round = h.1; waiters = ok.1.agenda.waiters; descriptors = ok.1.agenda.descriptors; timers = ok.1.agenda.timers; sections = ok.1.agenda.sections }))
+        (record { ready = ok.1.agenda.ready; round = h.1; waiters = ok.1.agenda.waiters; descriptors = ok.1.agenda.descriptors; timers = ok.1.agenda.timers; sections = ok.1.agenda.sections }))
 
     step_comes : (s : State Point T) (o : Option (Stack Point)) → RunningOk d p typed Fine o → Good s → Comes Good (step_running m s o)
     step_comes s None h ok = schedules_come s s.agenda.round refl ok

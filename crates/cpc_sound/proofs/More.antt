@@ -1,14 +1,14 @@
 -- An expression that has a type has it also where more is declared.
-use Rattle.std.proofs.Common.{◌≡◌, ◌&&◌, ℕ, Bool, true, false, cond, Option, Some, None, refl, sym, ◌∙◌, ap, subst}
+use Rattle.std.proofs.Common.{◌≡◌, ◌&&◌, ℕ, Bool, true, cond, Option, Some, None, refl, sym, ◌∙◌, ap}
 use Rattle.std.specs.Prelude.{is_some}
 use Rattle.cpc_base.specs.Bytes.{Text}
 use Rattle.cpc_num.specs.declared.kinds.Kind.TheVariants.{Long}
 use Rattle.cpc_num.specs.declared.kinds.Op.{Op}
 use Rattle.cpc_num.specs.declared.kinds.Op.TheVariants.{Add, Sub}
 use Rattle.cpc_tree.specs.declared.program.UnaryOp.TheVariants.{AddressOf}
-use Rattle.cpc_tree.specs.Syntax.{Ty, TyVoid, TyInt, TyCondvar, TyPointer, TyCode, TyStruct, TyArray, Expr, ENamed, EInteger, ECharacter, EText, EUnary, EBinary, EAnd, EOr, EChoose, ECast, ESizeOf, EIndex, EMember, EArrow, ECall, Program}
-use Rattle.cpc_tree.specs.Typing.{Meant, Typed, size, field, used, typed_place, target, struct_tag, type_named, address_type, unary_type, sign_type, tested_type, test_type, movable, sum_type, difference_type, binary_type, choice_type, cast_type, field_type, is_null, same_type, typing_of}
-use Rattle.cpc_sound.proofs.Answers.{some_is, no_some, if_some}
+use Rattle.cpc_tree.specs.Syntax.{Ty, TyInt, TyPointer, Expr, ENamed, EInteger, ECharacter, EText, EUnary, EBinary, EAnd, EOr, EChoose, ECast, ESizeOf, EIndex, EMember, EArrow, ECall, Program}
+use Rattle.cpc_tree.specs.Typing.{Meant, Typed, size, field, used, typed_place, target, struct_tag, type_named, sign_type, tested_type, movable, sum_type, difference_type, binary_type, field_type, is_null, same_type, typing_of}
+use Rattle.cpc_sound.proofs.Answers.{no_some, if_some}
 use Rattle.cpc_sound.proofs.Options.{then_some, then_of}
 use Rattle.cpc_sound.proofs.Scalars.{both_true}
 use Rattle.cpc_sound.proofs.Expressions.{sign_some, tested_is}

@@ -1,21 +1,19 @@
 -- What operators, tests and conversions come to, on values that suit their operands' types.
-use Rattle.std.proofs.Common.{◌≡◌, ℕ, Bool, true, false, not, ◌&&◌, ◌||◌, cond, ℤ, pos, ◌+ℤ◌, ◌-ℤ◌, ◌*ℤ◌, int_div, List, length, Option, Some, None, Result, Ok, Err, refl, sym, ◌∙◌, ap, subst}
-use Rattle.std.specs.Prelude.{is_some, int_lt, int_le}
-use Rattle.cpc_base.specs.Bytes.{Text}
+use Rattle.std.proofs.Common.{◌≡◌, ℕ, Bool, true, false, ◌&&◌, cond, ℤ, pos, ◌+ℤ◌, ◌-ℤ◌, ◌*ℤ◌, int_div, List, length, Option, Some, None, Result, Ok, Err, refl, sym, ◌∙◌, ap, subst}
+use Rattle.std.specs.Prelude.{is_some, int_le}
 use Rattle.cpc_num.specs.declared.kinds.Fault.{Fault}
 use Rattle.cpc_num.specs.declared.kinds.Kind.{Kind}
 use Rattle.cpc_num.specs.declared.kinds.Kind.TheVariants.{Int, Long}
 use Rattle.cpc_num.specs.declared.kinds.Op.{Op}
-use Rattle.cpc_num.specs.declared.kinds.Op.TheVariants.{Mul, Div, Rem, Add, Sub, Shl, Shr, Lt, Le, Gt, Ge, Eq, Ne, BitAnd, BitXor, BitOr}
-use Rattle.cpc_num.specs.Number.{promoted, common}
-use Rattle.cpc_tree.specs.Syntax.{Ty, TyVoid, TyInt, TyCondvar, TyPointer, TyCode, TyStruct, TyArray, Program}
-use Rattle.cpc_tree.specs.Typing.{size, is_scalar, binary_type, common_type, sum_type, difference_type, shift_type, order_type, equality_type, movable, same_type, is_reference, are_comparable, is_testable}
+use Rattle.cpc_num.specs.declared.kinds.Op.TheVariants.{Sub}
+use Rattle.cpc_tree.specs.Syntax.{Ty, TyInt, TyPointer, Program}
+use Rattle.cpc_tree.specs.Typing.{size, movable}
 use Rattle.cpc_store.specs.declared.values.Class.{Class}
-use Rattle.cpc_store.specs.Store.{Value, Unset, Whole, Null, At, Code, Cond, Store, cells_of, same_class}
-use Rattle.cpc_meaning.specs.Answer.{Answer, Gives, Faults, NoAnswer, ◌>>=◌, of_result, needed}
-use Rattle.cpc_meaning.specs.Eval.{number, work_kind, result_kind, moved_within, moved, offsets_in, offsets, moved_by, distance, ordered, operate, holds, assigned, at_type}
+use Rattle.cpc_store.specs.Store.{Value, Unset, Whole, Null, At, Code, Cond, Store, cells_of}
+use Rattle.cpc_meaning.specs.Answer.{Answer, Gives, ◌>>=◌, needed}
+use Rattle.cpc_meaning.specs.Eval.{number, result_kind, moved_within, moved, offsets_in, offsets, moved_by, distance, ordered, operate}
 use Rattle.cpc_sound.specs.Suits.{Comes, Suits}
-use Rattle.cpc_sound.proofs.Answers.{some_is, no_some, not_true, comes_then, comes_needed, comes_if, if_some}
+use Rattle.cpc_sound.proofs.Answers.{some_is, no_some, not_true, comes_then, comes_if}
 
 -- ---- integers
 

@@ -1,14 +1,13 @@
 -- What a body promises holds at each of its paths: what stands there is typed, its names have their variables, and its addresses are taken.
-use Rattle.std.proofs.Common.{◌≡◌, ℕ, zero, suc, ◌+◌, Bool, true, false, List, [], ◌∷◌, ◌++◌, map, length, slice_get, Option, Some, None, refl, sym, ◌∙◌, ap, subst, arith}
-use Rattle.cpc_base.specs.Bytes.{Text}
+use Rattle.std.proofs.Common.{◌≡◌, ℕ, zero, suc, ◌+◌, List, [], ◌∷◌, ◌++◌, map, length, slice_get, Option, Some, refl, subst, arith}
 use Rattle.cpc_base.specs.declared.stop.Dialect.{Dialect}
-use Rattle.cpc_tree.specs.Syntax.{Ty, Expr, Exprs, Stmt, Block, Empty, Declare, Assign, Call, Detach, Spawn, If, While, DoWhile, For, Goto, Label, Break, Continue, Return, Stmts, NoStmt, AndStmt, MaybeStmt, Absent, Present, Variable, Parameter, Function, Program}
-use Rattle.cpc_tree.specs.Typing.{Scope, Local}
-use Rattle.cpc_tree.specs.Points.{Part, Nth, TheTest, TheYes, TheNo, TheStep, TheBody, Path, Found, Simple, Test, Nothing, found, found_in, found_arm, locals, locals_in, locals_arm, declared, extended, extended_all, scope_at, scope_in, scope_arm}
+use Rattle.cpc_tree.specs.Syntax.{Ty, Expr, Stmt, Block, Empty, Declare, Assign, Call, Detach, Spawn, If, While, DoWhile, For, Goto, Label, Break, Continue, Return, Stmts, NoStmt, AndStmt, MaybeStmt, Absent, Present, Variable, Parameter, Function, Program}
+use Rattle.cpc_tree.specs.Typing.{Scope}
+use Rattle.cpc_tree.specs.Points.{Nth, TheTest, TheYes, TheNo, TheStep, TheBody, Path, Found, Simple, Test, Nothing, found, found_in, found_arm, locals, locals_in, locals_arm, declared, extended, extended_all, scope_at, scope_in, scope_arm}
 use Rattle.cpc_tree.specs.Registers.{addresses, addresses_all, addresses_if, addresses_by, addresses_in, addresses_arm, as_variable, or_empty, variables, parameter_scope, outer_scope, scope_in_function, addressed}
 use Rattle.cpc_meaning.specs.Eval.{Slot}
 use Rattle.cpc_sound.specs.Suits.{ScopeOf, AllBoxed}
-use Rattle.cpc_sound.specs.Typed.{IsTyped, FoundTyped, BodyTyped, AllTyped, ArmTyped, StepTyped}
+use Rattle.cpc_sound.specs.Typed.{FoundTyped, BodyTyped, AllTyped, ArmTyped, StepTyped}
 use Rattle.cpc_sound.proofs.Lookups.{boxed_left, boxed_right}
 
 -- ---- types

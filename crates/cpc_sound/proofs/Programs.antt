@@ -1,30 +1,26 @@
 -- A program of the grammar's shape that breaks no rule is well typed.
-use Rattle.std.proofs.Common.{◌≡◌, ◌⊎◌, inl, inr, ◌&&◌, ◌||◌, ◌==◌, not, nat_lt, nat_le, ℕ, zero, suc, ◌+◌, Bool, true, false, cond, List, [], ◌∷◌, ◌++◌, map, reverse, length, Option, Some, None, bytes_eq, codes, refl, sym, ◌∙◌, ap, subst, append_assoc}
-use Rattle.std.specs.Prelude.{option_map, is_some}
+use Rattle.std.proofs.Common.{◌≡◌, ◌&&◌, not, ℕ, suc, Bool, true, false, cond, List, [], ◌∷◌, ◌++◌, map, reverse, length, Option, Some, None, bytes_eq, codes, refl, sym, ◌∙◌, ap, subst, append_assoc}
+use Rattle.std.specs.Prelude.{is_some}
 use Rattle.std.proofs.lemmas.List.{append-nil}
 use Rattle.cpc_base.specs.Bytes.{Text}
 use Rattle.cpc_base.specs.declared.stop.Place.{Place}
 use Rattle.cpc_base.specs.declared.stop.Dialect.{Dialect}
 use Rattle.cpc_base.specs.declared.stop.Dialect.TheVariants as D
-use Rattle.cpc_num.specs.declared.kinds.Kind.TheVariants.{Int, Long}
 use Rattle.cpc_tree.specs.declared.program.Mode.{Mode}
 use Rattle.cpc_tree.specs.declared.program.Mode.TheVariants.{Extern, Native, Cps, Detached}
-use Rattle.cpc_tree.specs.Syntax.{Ty, Variable, Parameter, Function, Item, StructItem, GlobalItem, PrototypeItem, FunctionItem, Program}
-use Rattle.cpc_tree.specs.Located.{Ident, LExpr, LStmt, Block, LStmts, LVariable, LParameter, LFunction, LItem, LStruct, LGlobal, LPrototype, LFunctionItem, LProgram, bare_stmt, bare_stmts, bare_parameter, bare_function, bare_item, bare}
-use Rattle.cpc_tree.specs.Located as L
+use Rattle.cpc_tree.specs.Syntax.{Ty, Function, Item, FunctionItem, Program}
+use Rattle.cpc_tree.specs.Located.{Ident, LStmt, Block, LParameter, LFunction, LItem, LStruct, LGlobal, LPrototype, LFunctionItem, LProgram, bare_stmt, bare_parameter, bare_function, bare_item, bare}
 use Rattle.cpc_tree.specs.ItemGrammar.{all_named}
-use Rattle.cpc_tree.specs.Typing.{Scope, size, Meant, ALocal, AGlobal, AFunction, NotMeant, item_named, named, function_named, parameter_type, parameter_types}
-use Rattle.cpc_tree.specs.Primitives.{Primitive, primitive_named}
-use Rattle.cpc_tree.specs.Registers.{as_variable, or_empty, variables, parameter_scope, outer_scope}
+use Rattle.cpc_tree.specs.Typing.{Scope, size, Meant, ALocal, AGlobal, AFunction, NotMeant, item_named, function_named, parameter_type, parameter_types}
+use Rattle.cpc_tree.specs.Registers.{as_variable, parameter_scope, outer_scope}
 use Rattle.cpc_tree.specs.Points.{locals}
-use Rattle.cpc_rules.specs.declared.rule.Rule.TheVariants.{Reserved, Twice, Disagree, Undeclared, Incomplete, CpsForm, NoMain}
-use Rattle.cpc_rules.specs.Rule.{Broken, at_if}
+use Rattle.cpc_rules.specs.declared.rule.Rule.TheVariants.{Reserved, Twice, Disagree, Undeclared, Incomplete, NoMain}
+use Rattle.cpc_rules.specs.Rule.{at_if}
 use Rattle.cpc_rules.specs.Scopes as R
 use Rattle.cpc_rules.specs.Scopes.{in_items, meant, is_sized, with_name}
 use Rattle.cpc_rules.specs.Operators.{Where}
 use Rattle.cpc_rules.specs.FunctionRules.{is_kept, is_reserved, reserved_breaks, labels, locals as names_of_locals, label_breaks, stray_breaks}
-use Rattle.cpc_rules.specs.StmtRules.{in_scope, stmts_breaks}
-use Rattle.cpc_rules.specs.ItemRules.{outside, is_struct, struct_breaks, is_extern, Signature, is_clash, is_disagreeing, is_item, is_function, declared_breaks, global_breaks, is_host_like, types, cps_breaks, parameters_breaks, prototype_breaks, sized_breaks, parameter_block, in_body, body_breaks, function_breaks, item_breaks, items_breaks}
+use Rattle.cpc_rules.specs.ItemRules.{outside, is_struct, is_extern, Signature, is_clash, is_disagreeing, is_item, is_function, declared_breaks, is_host_like, types, cps_breaks, parameters_breaks, prototype_breaks, sized_breaks, parameter_block, in_body, body_breaks, function_breaks, item_breaks, items_breaks}
 use Rattle.cpc_rules.specs.Rules.{has_main, is_main, breaks}
 use Rattle.cpc_meaning.specs.Start.{main_name}
 use Rattle.cpc_sound.specs.Typed.{AllSized, BodyTyped, TypedFunction, TypedProgram, is_own}
@@ -32,7 +28,7 @@ use Rattle.cpc_meaning.proofs.Functions.{text_same}
 use Rattle.cpc_sound.proofs.Answers.{some_is, no_some, not_true}
 use Rattle.cpc_sound.proofs.Scalars.{both_true}
 use Rattle.cpc_sound.proofs.Agendas.{Each}
-use Rattle.cpc_sound.proofs.Unbroken.{split, not_broken, holds_not, holds_then, have_all, negated}
+use Rattle.cpc_sound.proofs.Unbroken.{split, holds_not, holds_then, have_all, negated}
 use Rattle.cpc_sound.proofs.Agreement.{Matches, Grows, sizes_grow, Facts, At}
 use Rattle.cpc_sound.proofs.Shapes.{Written, AllWritten}
 use Rattle.cpc_sound.proofs.Bodies.{either_false, size_of, at_name, stmts_here, all_sized, stmts_sized}
@@ -240,7 +236,8 @@ function_typed dialect p before rest f shape whole h known all grows_before grow
     record {
       sized = all_sized p (map as_variable (map bare_parameter f.parameters)) (locals (bare_stmt f.body)) (parameters_sized p before (outside dialect before).scope f.parameters refl grows_before shape.1 h5.0) (body_sized p w grows f.body shape.2 h6.0);
       body = body_typed dialect p facts g w (outer_scope g) (length g.parameters) at f.body shape.2 h6.0;
-      control = body_controlled f.body (body_written f.body shape.2) h8.0 h9.0 }
+      control = body_controlled f.body (body_written f.body shape.2) h8.0 h9.0;
+    }
 
 abbrev ItemTyped : Dialect → Program → LItem → Type 0
 ItemTyped dialect p (LFunctionItem f) = TypedFunction dialect p (bare_function f)
@@ -260,9 +257,10 @@ items_typed dialect p before (x ∷ xs) s whole h known all =
     let k = split (item_breaks dialect p before x) (items_breaks dialect p (before ++ bare_item x ∷ []) xs) h in
     let e = one_more before (map bare_item xs) (bare_item x) in
     let g1 : Grows before p = subst (Grows before) (sym whole) (grows_all dialect p before (x ∷ xs) h) in
-    let g2 : Grows (before ++ bare_item x ∷ []) p = subst (Grows (before ++ bare_item x ∷ [])) (e ∙ sym whole) (grows_all dialect p (before ++ bare_item x ∷ []) xs k.1) in
-    (item_typed dialect p before x xs s.0 whole k.0 known all g1 g2,
-    items_typed dialect p (before ++ bare_item x ∷ []) xs s.1 (whole ∙ sym e) k.1 (known_item dialect p before (map bare_item xs) known x s.0 whole k.0) all)
+    let g2 : Grows (before ++ bare_item x ∷ []) p = subst (Grows (before ++ bare_item x ∷ [])) (e ∙ sym whole) (grows_all dialect p (before ++ bare_item x ∷ []) xs k.1) in (
+      item_typed dialect p before x xs s.0 whole k.0 known all g1 g2,
+      items_typed dialect p (before ++ bare_item x ∷ []) xs s.1 (whole ∙ sym e) k.1 (known_item dialect p before (map bare_item xs) known x s.0 whole k.0) all,
+    )
 
 -- a function that is found is one of the items
 found_typed : (dialect : Dialect) (p : Program) (xs : List LItem) (x : Text) (g : Function) → Each (ItemTyped dialect p) xs → function_named (map bare_item xs) x ≡ Some g → TypedFunction dialect p g

@@ -1,24 +1,24 @@
 -- Arguments: what typed ones come to, and what is asked of the machine with them.
-use Rattle.std.proofs.Common.{◌≡◌, ◌⊎◌, inl, inr, ℕ, ℤ, Bool, true, false, List, [], ◌∷◌, ◌++◌, map, slice_get, slice_set, Option, Some, None, refl, sym, ◌∙◌, ap, subst}
+use Rattle.std.proofs.Common.{◌≡◌, ◌⊎◌, inl, inr, true, false, List, [], ◌∷◌, Some, refl, sym, ◌∙◌, ap, subst}
 use Rattle.cpc_base.specs.Bytes.{Text}
 use Rattle.cpc_base.specs.declared.stop.Dialect.{Dialect}
 use Rattle.cpc_num.specs.declared.kinds.Kind.{Kind}
 use Rattle.cpc_num.specs.declared.kinds.Kind.TheVariants.{Int, Long}
 use Rattle.cpc_tree.specs.declared.program.Mode.{Mode}
-use Rattle.cpc_tree.specs.declared.program.Mode.TheVariants.{Extern, Native, Cps, Detached}
-use Rattle.cpc_tree.specs.Syntax.{Ty, TyVoid, TyInt, TyCondvar, TyPointer, TyCode, TyStruct, TyArray, Tys, NoTy, AndTy, Expr, ENamed, Exprs, NoExpr, AndExpr, Function, Program}
-use Rattle.cpc_tree.specs.Typing.{Scope, Meant, AFunction, Typed, named, typing, used, is_scalar, function_named, function_type, parameter_types, tys_of, list_of_tys}
+use Rattle.cpc_tree.specs.declared.program.Mode.TheVariants.{Native, Detached}
+use Rattle.cpc_tree.specs.Syntax.{Ty, TyVoid, TyInt, TyCondvar, TyPointer, TyCode, TyStruct, TyArray, Tys, Expr, ENamed, Exprs, NoExpr, AndExpr, Function, Program}
+use Rattle.cpc_tree.specs.Typing.{AFunction, Typed, named, typing, used, is_scalar, function_named, function_type, parameter_types}
 use Rattle.cpc_tree.specs.Registers.{addresses, addresses_all}
-use Rattle.cpc_tree.specs.Primitives.{Primitive, Puts, RtDetach, Taken, AnyInteger, SetOf, FreeOf, takes_first, callback_and_pointer}
+use Rattle.cpc_tree.specs.Primitives.{Primitive, Puts, RtDetach, Taken, AnyInteger, SetOf, FreeOf, takes_first}
 use Rattle.cpc_store.specs.Store.{Value, Unset, Whole, Null, At, Code, Cond}
-use Rattle.cpc_meaning.specs.Answer.{Answer, Gives, Faults, NoAnswer, ◌>>=◌}
-use Rattle.cpc_meaning.specs.Eval.{Slot, Context, value, values, assigned, at_type}
+use Rattle.cpc_meaning.specs.Answer.{Gives}
+use Rattle.cpc_meaning.specs.Eval.{Context, value, values, assigned, at_type}
 use Rattle.cpc_meaning.specs.Requests.{Asked, Builtin, Host, ToSpawn, Section, section_takes, set_integer, taken_as, all_taken, all_long, arguments}
 use Rattle.cpc_rules.specs.Operators.{is_detached}
 use Rattle.cpc_rules.specs.Calls.{gives, is_closed}
 use Rattle.cpc_sound.specs.Suits.{Comes, Suits, converts, SuitSlots, ScopeOf, AllBoxed}
 use Rattle.cpc_sound.specs.Typed.{Gets, AllGet, EachGets, NamesFunction, GetsTaken, AllGetTaken, IsSection, IsOpen, is_for}
-use Rattle.cpc_sound.proofs.Answers.{some_is, no_some, not_true, comes_then, comes_as}
+use Rattle.cpc_sound.proofs.Answers.{not_true, comes_then, comes_as}
 use Rattle.cpc_sound.proofs.Conversions.{assigned_comes, cast_comes}
 use Rattle.cpc_sound.proofs.Expressions.{expressions_answer}
 use Rattle.cpc_sound.proofs.Lookups.{boxed_left, boxed_right}

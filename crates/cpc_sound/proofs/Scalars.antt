@@ -1,12 +1,11 @@
 -- Operands are scalars, and what `?:` and casts make of them can be assigned.
-use Rattle.std.proofs.Common.{◌≡◌, ◌⊎◌, inl, inr, ◌&&◌, ◌||◌, ℤ, ◌==◌, Bool, true, false, cond, Option, Some, None, refl, sym, ◌∙◌, ap, subst}
-use Rattle.std.specs.Prelude.{is_some, unsigned_abs}
+use Rattle.std.proofs.Common.{◌≡◌, ◌⊎◌, inl, inr, ◌&&◌, ◌||◌, Bool, true, false, cond, Some, None, refl, sym, ◌∙◌, ap, subst}
 use Rattle.cpc_num.specs.declared.kinds.Kind.{Kind}
-use Rattle.cpc_num.specs.declared.kinds.Kind.TheVariants.{Char, UChar, Int, UInt, Long, ULong}
+use Rattle.cpc_num.specs.declared.kinds.Kind.TheVariants.{Int}
 use Rattle.cpc_num.specs.declared.kinds.Op.{Op}
-use Rattle.cpc_num.specs.declared.kinds.Op.TheVariants.{Mul, Div, Rem, Add, Sub, Shl, Shr, Lt, Le, Gt, Ge, Eq, Ne, BitAnd, BitXor, BitOr}
+use Rattle.cpc_num.specs.declared.kinds.Op.TheVariants.{Add, Sub, Shl, Shr, Lt, Le, Gt, Ge, Eq, Ne}
 use Rattle.cpc_tree.specs.Syntax.{Ty, TyVoid, TyInt, TyCondvar, TyPointer, TyCode, TyStruct, TyArray, Expr, EInteger, Program}
-use Rattle.cpc_tree.specs.Typing.{Scope, Typed, AValue, APlace, typing, used, integer, target, is_scalar, is_testable, is_null, binary_type, common_type, sum_type, difference_type, shift_type, order_type, equality_type, choice_type, cast_type, movable, same_type, is_reference, are_comparable}
+use Rattle.cpc_tree.specs.Typing.{Scope, Typed, typing, used, integer, target, is_scalar, is_testable, is_null, binary_type, common_type, sum_type, difference_type, shift_type, order_type, equality_type, choice_type, cast_type, same_type, is_reference, are_comparable}
 use Rattle.cpc_meaning.specs.Eval.{and_then}
 use Rattle.cpc_sound.specs.Suits.{converts}
 use Rattle.cpc_sound.proofs.Answers.{some_is, no_some, not_true, if_some}

@@ -1,28 +1,26 @@
 -- Sections of a typed program come to an int or to a fault.
-use Rattle.std.proofs.Common.{◌≡◌, ◌==◌, not, ℕ, zero, suc, ℤ, pos, Bool, true, false, cond, List, [], ◌∷◌, ◌++◌, map, Option, Some, None, Result, Ok, Err, refl, sym, ◌∙◌, ap, subst, arith}
+use Rattle.std.proofs.Common.{◌≡◌, ◌==◌, ℕ, zero, suc, pos, Bool, true, false, cond, List, [], ◌∷◌, ◌++◌, map, Option, Some, None, refl, sym, ◌∙◌, subst, arith}
 use Rattle.std.specs.Prelude.{int_lt, unsigned_abs, replicate}
 use Rattle.cpc_base.specs.Bytes.{Text}
 use Rattle.cpc_base.specs.declared.stop.Dialect.{Dialect}
-use Rattle.cpc_num.specs.declared.kinds.Fault.{Fault}
 use Rattle.cpc_num.specs.declared.kinds.Fault.TheVariants as F
-use Rattle.cpc_num.specs.declared.kinds.Kind.TheVariants.{Int, Long}
+use Rattle.cpc_num.specs.declared.kinds.Kind.TheVariants.{Int}
 use Rattle.cpc_tree.specs.declared.program.Mode.{Mode}
 use Rattle.cpc_tree.specs.Syntax.{Ty, TyVoid, TyInt, TyPointer, Function, Program}
-use Rattle.cpc_tree.specs.Lists.{is_empty, first_or, rest_of}
+use Rattle.cpc_tree.specs.Lists.{is_empty, rest_of}
 use Rattle.cpc_tree.specs.Typing.{function_named, parameter_types}
 use Rattle.cpc_tree.specs.Points.{Point}
-use Rattle.cpc_tree.specs.Primitives.{Primitive, Malloc, Free, Taken, SetOf, FreeOf}
-use Rattle.cpc_tree.specs.Registers.{variables}
+use Rattle.cpc_tree.specs.Primitives.{Primitive, Malloc, Free, FreeOf}
 use Rattle.cpc_store.specs.declared.values.Class.{Class}
 use Rattle.cpc_store.specs.declared.values.Class.TheVariants.{Static, Heap}
 use Rattle.cpc_store.specs.declared.values.Scalar.{Scalar}
 use Rattle.cpc_store.specs.Store.{Value, Unset, Whole, Null, At, Code, Cond, Store, alloc, free, next_block, cells_of, same_class, load, save}
-use Rattle.cpc_meaning.specs.Answer.{Answer, Gives, Faults, NoAnswer, ◌>>=◌, of_result, needed}
+use Rattle.cpc_meaning.specs.Answer.{Answer, Gives, Faults, NoAnswer, ◌>>=◌}
 use Rattle.cpc_meaning.specs.Layout.{layout}
-use Rattle.cpc_meaning.specs.Requests.{Asked, Builtin, Host, ToSpawn, Section, section_takes}
-use Rattle.cpc_meaning.specs.Plain.{Form, Frame, Stack, Done, Went, Returned, Asks, stack_of, plain, answered, running_function, make_frame}
+use Rattle.cpc_meaning.specs.Requests.{Asked, Builtin, section_takes}
+use Rattle.cpc_meaning.specs.Plain.{Frame, Stack, Done, Went, Returned, Asks, stack_of, plain, answered, running_function}
 use Rattle.cpc_meaning.specs.Trees.{trees}
-use Rattle.cpc_meaning.specs.Section.{Job, SectionEnd, Gave, Broke, NoEnd, allocated, freed, section_act, section_asks, section_done, all_integers, section_gave, copy_left, section_next, section_run, copy_store, copy_pointer, section_from, section_frame, section_end}
+use Rattle.cpc_meaning.specs.Section.{Job, SectionEnd, Gave, Broke, NoEnd, allocated, freed, section_asks, section_done, all_integers, section_gave, copy_left, section_next, section_run, copy_store, copy_pointer, section_from, section_frame, section_end}
 use Rattle.cpc_meaning.specs.Copies.{copied, pointed_layout, copy_of, job_numbered, write_back, write_to, Collected, AllGave, OneFailed, NotClear, and_value, written, collected, collect_one, collect}
 use Rattle.cpc_rules.specs.Operators.{is_detached}
 use Rattle.cpc_rules.specs.Calls.{is_closed, gives}
@@ -31,8 +29,8 @@ use Rattle.cpc_sound.specs.Typed.{IsSection, TypedProgram}
 use Rattle.cpc_meaning.proofs.Functions.{found_again}
 use Rattle.cpc_sound.proofs.Answers.{some_is, no_some, not_true, comes_then, comes_as, comes_needed, comes_result}
 use Rattle.cpc_sound.proofs.Copies.{IsLive, CopyStays, free_stays, alloc_stays}
-use Rattle.cpc_sound.proofs.Requests.{AllSuit, IsWhole, AllTaken, SectionGiven, PrimitiveGiven, IsRequest, AsksPrimitive, AsksHost, AsksSpawn, AsksSection}
-use Rattle.cpc_sound.proofs.Frames.{Given, given, Running, Asking, DoneOk, WentOk, entered, frame_comes, plain_comes, answer_comes}
+use Rattle.cpc_sound.proofs.Requests.{AllSuit, IsWhole, AllTaken, PrimitiveGiven, IsRequest, AsksPrimitive, AsksHost, AsksSpawn, AsksSection}
+use Rattle.cpc_sound.proofs.Frames.{given, Running, Asking, DoneOk, WentOk, entered, frame_comes, plain_comes, answer_comes}
 use Rattle.cpc_sound.proofs.Agendas.{Each, each_append}
 
 -- ---- acts on the store
@@ -158,8 +156,8 @@ module _ (d : Dialect) (p : Program) (typed : TypedProgram d p) where
   end_ok job bound ok =
       go (section_frame (trees p) job (function_named p job.function))
       (subst (λ o. Comes (entered d p typed true ok.function (copy_store job.cells)) (section_frame (trees p) job o)) (sym ok.section.is_function)
-        (frame_comes d p typed true ok.function (copy_pointer job.cells ∷ job.arguments) (copy_store job.cells) (named_again job ok) (λ e. ok.section.detached)
-          (given ok.function (copy_pointer job.cells ∷ job.arguments) (subst (λ us. AllSuit us (copy_pointer job.cells ∷ job.arguments)) (sym ok.section.parameters) (pointer_suits ok.section.cells job.cells, ok.arguments)))))
+      (frame_comes d p typed true ok.function (copy_pointer job.cells ∷ job.arguments) (copy_store job.cells) (named_again job ok) (λ e. ok.section.detached)
+      (given ok.function (copy_pointer job.cells ∷ job.arguments) (subst (λ us. AllSuit us (copy_pointer job.cells ∷ job.arguments)) (sym ok.section.parameters) (pointer_suits ok.section.cells job.cells, ok.arguments)))))
     where
       go : (a : Answer (Frame Point × Store)) → Comes (entered d p typed true ok.function (copy_store job.cells)) a → EndOk (section_from (trees p) job bound a)
       go (Gives (frame, s)) h = run_ok job.function (is_empty job.cells) bound s (stack_of frame) (ok.function, h.1, h.2, ok.section.result) (live_stays (is_empty job.cells) (copy_store job.cells) s h.3 (copy_live job.cells))

@@ -1,5 +1,5 @@
 -- The shapes of statements that the grammar has: the first part and the step of a `for` are simple statements.
-use Rattle.cpc_tree.specs.Located.{LStmt, Block, Empty, Declare, Assign, Call, Detach, Spawn, If, While, DoWhile, For, Goto, Label, Break, Continue, Return, LStmts, NoLStmt, AndLStmt, MaybeLStmt, NoneLStmt, SomeLStmt}
+use Rattle.cpc_tree.specs.Located.{LStmt, Block, Declare, Assign, Call, Detach, If, While, DoWhile, For, Label, LStmts, NoLStmt, AndLStmt, MaybeLStmt, NoneLStmt, SomeLStmt}
 
 -- an assignment, a call or a section
 abbrev pub IsStep : LStmt → Type 0

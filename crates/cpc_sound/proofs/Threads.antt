@@ -1,31 +1,29 @@
 -- The threads of a typed program are never stuck.
-use Rattle.std.proofs.Common.{◌≡◌, not, ℕ, ℤ, Bool, true, false, List, [], ◌∷◌, map, Option, Some, None, Result, Ok, Err, refl, sym, ◌∙◌, ap, subst}
+use Rattle.std.proofs.Common.{◌≡◌, true, false, List, [], ◌∷◌, Option, Some, None, Result, Ok, sym}
 use Rattle.cpc_base.specs.Bytes.{Text}
 use Rattle.cpc_base.specs.declared.stop.Dialect.TheVariants as D
 use Rattle.cpc_num.specs.declared.kinds.Fault.{Fault}
 use Rattle.cpc_num.specs.declared.kinds.Kind.TheVariants.{Int}
 use Rattle.cpc_tree.specs.Syntax.{Ty, TyVoid, TyInt, TyCondvar, TyPointer, TyCode, TyStruct, TyArray, Expr, Function, Program}
-use Rattle.cpc_tree.specs.Typing.{Scope, function_named, parameter_types}
+use Rattle.cpc_tree.specs.Typing.{Scope, function_named}
 use Rattle.cpc_tree.specs.Points.{Point}
 use Rattle.cpc_tree.specs.Primitives.{Primitive, Print, Putc, Puts, Now, CondNew, CondFree, Signal, SignalAll, Exit, Malloc, Free, Yield, Sleep, IoWait, Wait}
 use Rattle.cpc_tree.specs.Registers.{variables}
 use Rattle.cpc_tree.specs.Trace.{Sleeping, Waiting as WaitingMark, Awaiting}
-use Rattle.cpc_store.specs.Store.{Value, Unset, Whole, Cond}
-use Rattle.cpc_meaning.specs.Answer.{Answer, Gives, Faults, NoAnswer, ◌>>=◌, of_result}
+use Rattle.cpc_store.specs.Store.{Value, Unset, Whole}
 use Rattle.cpc_meaning.specs.Plain.{Frame, Stack, waiting}
 use Rattle.cpc_meaning.specs.Trees.{trees}
 use Rattle.cpc_meaning.specs.Agenda.{Agenda, ready_one, wait, sleep, io}
-use Rattle.cpc_meaning.specs.Machine.{State, marks, with_agenda, reply, submits, direction_of}
+use Rattle.cpc_meaning.specs.Machine.{State, marks, with_agenda, submits, direction_of}
 use Rattle.cpc_meaning.specs.Threads.{Thread, Pending, Suspended, starts_thread, suspends, thread_primitive, spawns_thread, detaches_thread, shown_in, threads}
-use Rattle.cpc_meaning.specs.Matching.{RunsNeverStuck}
 use Rattle.cpc_meaning.specs.Start.{main_name}
 use Rattle.cpc_rules.specs.Calls.{gives}
 use Rattle.cpc_sound.specs.Suits.{Comes, Suits, converts}
 use Rattle.cpc_sound.specs.Typed.{Delivers, TypedProgram, is_for}
 use Rattle.cpc_sound.specs.Promises.{TypedThreadsNeverStuck}
 use Rattle.cpc_sound.proofs.Answers.{not_true, comes_then, comes_as}
-use Rattle.cpc_sound.proofs.Requests.{AllSuit, SectionGiven, PrimitiveGiven}
-use Rattle.cpc_sound.proofs.Frames.{Given, given, given_none, Below, Asking, Waiting, waiting_comes, resumes}
+use Rattle.cpc_sound.proofs.Requests.{SectionGiven, PrimitiveGiven}
+use Rattle.cpc_sound.proofs.Frames.{Given, given, given_none, Asking, Waiting, waiting_comes, resumes}
 use Rattle.cpc_sound.proofs.Agendas.{OkThen, AgendaOk, ready_one_ok, wait_ok, sleep_ok, io_ok}
 use Rattle.cpc_sound.proofs.Sections.{HasJob}
 use Rattle.cpc_sound.proofs.Machines.{whole_is, cond_is, ok_comes, RestOk, StateOk, with_agenda_ok, reply_comes, runs_come, submits_come, is_shared, OwnOk, runs_on_and_on}
@@ -123,11 +121,14 @@ module _ (p : Program) (typed : TypedProgram D.Cpc p) where
     starts = starts_come;
     owns = owns_come;
     spawns = λ R x vs k s g e is_g w h rest.
-      reply_comes D.Cpc p typed ThreadOk R TyVoid k Unset (with_agenda s (ready_one (Pending x vs) s.agenda))
-      (with_agenda_ok D.Cpc p typed ThreadOk s.agenda (ready_one (Pending x vs) s.agenda) s.jobs rest (ready_one_ok ThreadOk (HasJob D.Cpc p typed s.jobs) (Pending x vs) s.agenda (g, is_g, given g vs w) rest.agenda)) h tt;
-    detaches = λ R x vs k s e g h rest. detaches_come R x vs k s g h rest }
+        reply_comes D.Cpc p typed ThreadOk R TyVoid k Unset (with_agenda s (ready_one (Pending x vs) s.agenda))
+        (with_agenda_ok D.Cpc p typed ThreadOk s.agenda (ready_one (Pending x vs) s.agenda) s.jobs rest (ready_one_ok ThreadOk (HasJob D.Cpc p typed s.jobs) (Pending x vs) s.agenda (g, is_g, given g vs w) rest.agenda)) h tt;
+    detaches = λ R x vs k s e g h rest. detaches_come R x vs k s g h rest;
+  }
 
 pub threads_never_stuck : TypedThreadsNeverStuck
-threads_never_stuck p typed = record { on = λ h.
-    runs_on_and_on D.Cpc p typed (ThreadOk p typed) (starts_thread (trees p)) (thread_primitive (trees p)) (spawns_thread (trees p)) (detaches_thread (trees p)) (shown_in p) (own_ok p typed)
-    (Pending main_name []) (typed.main, typed.is_main, given_none (variables typed.main)) h }
+threads_never_stuck p typed = record {
+  on = λ h.
+      runs_on_and_on D.Cpc p typed (ThreadOk p typed) (starts_thread (trees p)) (thread_primitive (trees p)) (spawns_thread (trees p)) (detaches_thread (trees p)) (shown_in p) (own_ok p typed)
+      (Pending main_name []) (typed.main, typed.is_main, given_none (variables typed.main)) h;
+}

@@ -1,5 +1,5 @@
 -- Types that are told to be one are one.
-use Rattle.std.proofs.Common.{◌≡◌, ℕ, ◌&&◌, ◌==◌, Bool, true, false, List, [], ◌∷◌, Option, Some, None, bytes_eq, refl, sym, ◌∙◌, ap, arith}
+use Rattle.std.proofs.Common.{◌≡◌, ℕ, ◌==◌, true, List, [], ◌∷◌, refl, ◌∙◌, ap, arith}
 use Rattle.cpc_tree.specs.Syntax.{Ty, TyVoid, TyInt, TyCondvar, TyPointer, TyCode, TyStruct, TyArray, Tys, NoTy, AndTy}
 use Rattle.cpc_tree.specs.Typing.{same_type, same_types, tys_of, list_of_tys}
 use Rattle.cpc_meaning.proofs.Functions.{same_text}

@@ -1,27 +1,27 @@
 -- An expression that breaks no rule has a type.
-use Rattle.std.proofs.Common.{◌≡◌, ◌&&◌, not, ℕ, Bool, true, false, cond, List, [], ◌∷◌, ◌++◌, Option, Some, None, refl, sym, ◌∙◌, ap, subst}
+use Rattle.std.proofs.Common.{◌≡◌, ◌&&◌, not, ℕ, Bool, true, false, cond, [], ◌∷◌, ◌++◌, Option, Some, None, refl, sym, ◌∙◌, ap}
 use Rattle.std.specs.Prelude.{is_some}
 use Rattle.std.specs.Option.{is_none}
 use Rattle.cpc_base.specs.Bytes.{Text}
 use Rattle.cpc_base.specs.declared.stop.Place.{Place}
 use Rattle.cpc_num.specs.declared.kinds.Op.{Op}
 use Rattle.cpc_num.specs.declared.kinds.Op.TheVariants.{Add}
-use Rattle.cpc_num.specs.declared.kinds.Kind.TheVariants.{Int, ULong}
+use Rattle.cpc_num.specs.declared.kinds.Kind.TheVariants.{ULong}
 use Rattle.cpc_tree.specs.declared.program.Mode.{Mode}
 use Rattle.cpc_tree.specs.declared.program.Mode.TheVariants.{Extern, Native, Cps, Detached}
 use Rattle.cpc_tree.specs.declared.program.UnaryOp.{UnaryOp}
 use Rattle.cpc_tree.specs.declared.program.UnaryOp.TheVariants.{Minus, Plus, Not, Complement, Dereference, AddressOf}
 use Rattle.cpc_tree.specs.Syntax.{Ty, TyVoid, TyInt, TyCondvar, TyPointer, TyCode, TyStruct, TyArray}
-use Rattle.cpc_tree.specs.Located.{Ident, LExpr, LNamed, LInteger, LCharacter, LText, LUnary, LBinary, LAnd, LOr, LChoose, LCast, LSizeOf, LIndex, LMember, LArrow, LCall, bare_expr}
+use Rattle.cpc_tree.specs.Located.{Ident, LExpr, LNamed, LInteger, LCharacter, LText, LUnary, LBinary, LAnd, LOr, LChoose, LCast, LSizeOf, LIndex, LMember, LArrow, LCall}
 use Rattle.cpc_tree.specs.Typing.{Meant, ALocal, AGlobal, AFunction, NotMeant, Typed, AValue, APlace, type_named, used, typed_place, size, fields}
 use Rattle.cpc_rules.specs.declared.rule.Rule.{Rule}
 use Rattle.cpc_rules.specs.declared.rule.Rule.TheVariants.{Incomplete, NoField}
 use Rattle.cpc_rules.specs.Rule.{Broken, at_if}
-use Rattle.cpc_rules.specs.Scopes.{Scope, meant, typed, measured}
+use Rattle.cpc_rules.specs.Scopes.{Scope, meant, measured}
 use Rattle.cpc_rules.specs.Operators.{Where, typed_at, first, name_breaks, no_rule, binary_breaks, is_incomplete_sum, address_breaks, field_breaks, member_breaks, arrow_breaks, pointed}
 use Rattle.cpc_rules.specs.ExprRules.{expr_breaks}
-use Rattle.cpc_sound.proofs.Answers.{some_is, no_some, not_true}
-use Rattle.cpc_sound.proofs.Options.{then_some, then_of}
+use Rattle.cpc_sound.proofs.Answers.{no_some, not_true}
+use Rattle.cpc_sound.proofs.Options.{then_of}
 
 -- ---- rows of broken rules
 

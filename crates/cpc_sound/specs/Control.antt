@@ -2,7 +2,7 @@
 use Rattle.std.specs.Prelude.{◌≡◌, Bool, true, false, Some}
 use Rattle.cpc_base.specs.Bytes.{Text}
 use Rattle.cpc_tree.specs.Syntax.{Stmt, Block, If, While, DoWhile, For, Goto, Label, Break, Continue, Return, Stmts, NoStmt, AndStmt, MaybeStmt, Absent, Present}
-use Rattle.cpc_tree.specs.Points.{Path, Point, Here, Arrival, End, Found, Simple, Test, Nothing, found, labelled, begin, next_point}
+use Rattle.cpc_tree.specs.Points.{Path, Point, Here, Arrival, End, Found, Simple, Nothing, found, labelled}
 use Rattle.std.specs.Prelude.{Option}
 
 abbrev mutual

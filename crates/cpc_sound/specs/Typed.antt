@@ -5,9 +5,9 @@ use Rattle.cpc_base.specs.declared.stop.Dialect.{Dialect}
 use Rattle.cpc_base.specs.declared.stop.Dialect.TheVariants as D
 use Rattle.cpc_num.specs.declared.kinds.Kind.TheVariants.{Int, Long}
 use Rattle.cpc_tree.specs.declared.program.Mode.{Mode}
-use Rattle.cpc_tree.specs.declared.program.Mode.TheVariants.{Extern, Native, Cps, Detached}
+use Rattle.cpc_tree.specs.declared.program.Mode.TheVariants.{Extern, Native, Detached}
 use Rattle.cpc_tree.specs.Syntax.{Ty, TyVoid, TyInt, TyPointer, TyCode, Expr, ENamed, EText, Exprs, NoExpr, AndExpr, Stmt, Block, Declare, Assign, Call, Detach, Spawn, If, While, DoWhile, For, Label, Return, Stmts, NoStmt, AndStmt, MaybeStmt, Absent, Present, Variable, Function, Program}
-use Rattle.cpc_tree.specs.Primitives.{Primitive, Puts, RtDetach, primitive_named, Taken, AnyInteger, SetOf, FreeOf, takes_first, callback_and_pointer}
+use Rattle.cpc_tree.specs.Primitives.{Primitive, Puts, RtDetach, primitive_named, Taken, AnyInteger, SetOf, FreeOf, takes_first}
 use Rattle.cpc_tree.specs.Typing.{Scope, Meant, AFunction, NotMeant, ALocal, AGlobal, Typed, APlace, named, typing, used, is_testable, size, function_named, function_type, parameter_types, list_of_tys}
 use Rattle.cpc_tree.specs.Points.{Found, Simple, Test, Nothing, extended, extended_all, declared, locals_in}
 use Rattle.cpc_tree.specs.Registers.{variables, outer_scope}
