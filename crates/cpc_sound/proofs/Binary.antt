@@ -1,5 +1,5 @@
 -- What binary operators and `?:` come to, by the rules of their types.
-use Rattle.std.proofs.Common.{◌≡◌, ◌&&◌, ◌||◌, pos, ◌-ℤ◌, Bool, true, false, cond, Option, Some, None, refl, ◌∙◌, ap, subst}
+use Rattle.std.proofs.Common.{◌≡◌, ◌&&◌, ◌||◌, pos, ◌-ℤ◌, Bool, cond, Option, Some, None, refl, ◌∙◌, ap, subst}
 use Rattle.std.specs.Prelude.{is_some, int_lt, int_le}
 use Rattle.cpc_num.specs.declared.kinds.Kind.{Kind}
 use Rattle.cpc_num.specs.declared.kinds.Kind.TheVariants.{Int, Long}
@@ -11,12 +11,9 @@ use Rattle.cpc_tree.specs.Typing.{size, binary_type, common_type, sum_type, diff
 use Rattle.cpc_store.specs.Store.{Value, Unset, Whole, Null, At, Code, Cond, Store}
 use Rattle.cpc_meaning.specs.Eval.{result_kind, operate}
 use Rattle.cpc_sound.specs.Suits.{Comes, Suits}
-use Rattle.cpc_sound.proofs.Answers.{some_is, no_some, not_true, if_some}
+use Rattle.cpc_sound.proofs.Scalars.{both_true}
+use Rattle.cpc_sound.proofs.Answers.{some_is, no_some, if_some}
 use Rattle.cpc_sound.proofs.Operators.{ints_come, moves_come, distance_comes, two_come, is_distance, is_ordered, order_comes, on_two}
-
-both_true : (a b : Bool) → (a && b) ≡ true → (a ≡ true) × (b ≡ true)
-both_true true b e = (refl, e)
-both_true false b e = not_true e
 
 -- ---- results
 

@@ -198,9 +198,6 @@ module _ (d : Dialect) (p : Program) (facts : Facts p) (f : Function) (w : Where
       let gets = args_here d p facts f w scope at (list_of_tys t.1) es (number_here (code_callee (used_of (typed_at w g))) (map (λ t. Of t) (list_of_tys t.1)) t.0 es (first g) is_callee n) (subst (λ c. args_breaks w (wanted c) es ≡ []) is_callee a) in
       (t.0, ap result is_callee, CallsPointer (bare_expr g) c.0 t.0 t.1 (bare_exprs es) (sym around ∙ holds_not (is_detached w.mode) (first g) NotClosed h2.0) is_pointer (typed_here d p facts f w scope at (bare_expr g) c.0 c.1) t.2 gets)
 
-  local_pointer : (x : Text) (k : ℕ) (t : Ty) → named p scope x ≡ ALocal k t → is_variable (named p scope x) ≡ true
-  local_pointer x k t e = ap is_variable e
-
   named_call : (x : Ident) (es : LExprs) (m : Meant) (o : Option Primitive) → meant w.scope x.text ≡ m → primitive_named x.text ≡ o → named_breaks w (LNamed x) x.place (expr_breaks w (LNamed x)) m o ≡ []
       → number_breaks (named_callee w (LNamed x) es m o) es x.place ≡ [] → args_breaks w (wanted (named_callee w (LNamed x) es m o)) es ≡ [] → CallOk (named_callee w (LNamed x) es m o) (ENamed x.text) es
   named_call x es (AFunction mode r ps) o e i h n a =

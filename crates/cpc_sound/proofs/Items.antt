@@ -34,9 +34,6 @@ named_more n (GlobalItem g t start ∷ before) items x m i h = more_either (byte
 named_more n (PrototypeItem mode f r ps ∷ before) items x m i h = more_either (bytes_eq f x) _ _ _ m i (named_more n before items x m i) h
 named_more n (FunctionItem f ∷ before) items x m i h = more_either (bytes_eq f.called x) _ _ _ m i (named_more n before items x m i) h
 
-abbrev From : Program → Text → Meant → Type 0
-From items x m = (k : ℕ) → (m ≡ item_named k items x)
-
 -- where nothing before declares a name, what follows does
 abbrev Rest : ℕ → Program → Program → Text → Type 0
 Rest n before items x = (k : ℕ) × (item_named n (before ++ items) x ≡ item_named k items x)

@@ -42,10 +42,6 @@ nothing_known program = record {
   promised = λ x mode r ps e o. absurd (cc);
 }
 
-find : {A : Type 0} (o : Option A) (P : Option A → Type 0) → (o ≡ None → P None) → ((g : A) → o ≡ Some g → P (Some g)) → P o
-find None P f g = f refl
-find (Some x) P f g = g x refl
-
 bool_cases : {A : Type 0} (b : Bool) → (b ≡ true → A) → (b ≡ false → A) → A
 bool_cases true f g = f refl
 bool_cases false f g = g refl

@@ -31,3 +31,4 @@ pub mod Growing
 pub mod Programs
 pub mod Grammar
 pub mod Accepted
+pub mod Worked

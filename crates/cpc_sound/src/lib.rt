@@ -3,6 +3,7 @@
 //! Nothing here runs. The functions below carry, as their contracts, what is known of the meaning of programs that are well typed.
 #![tactic(auto)]
 
+ghost use Rattle.cpc_sound.specs.Examples.{ExamplesAreAccepted, UnacceptedAreStuck};
 ghost use Rattle.cpc_sound.specs.Promises.{AcceptedCallbacksNeverStuck, AcceptedIsTyped, AcceptedThreadsNeverStuck, ControlStays, ExpressionsAnswer, TypedCallbacksNeverStuck, TypedThreadsNeverStuck};
 
 /// An expression that has a type has a value that suits it, or a fault.
@@ -38,4 +39,14 @@ pub fn accepted_threads_never_stuck()
 /// The callbacks of a program that is read from tokens and breaks no rule of the dialect Event are never stuck, whatever the history.
 pub fn accepted_callbacks_never_stuck()
     ensures { AcceptedCallbacksNeverStuck }
+{}
+
+/// Programs of both dialects with sections, pointers to functions and loops are accepted, so that the laws above speak of them.
+pub fn examples_are_accepted()
+    ensures { ExamplesAreAccepted }
+{}
+
+/// Programs that break a rule can be stuck, and so can trees that no text is read as.
+pub fn unaccepted_are_stuck()
+    ensures { UnacceptedAreStuck }
 {}
