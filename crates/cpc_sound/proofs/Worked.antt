@@ -32,4 +32,9 @@ unaccepted_are_stuck = (
   record { breaks = refl; stuck = (refl, refl) },
   record { breaks = refl; stuck = (refl, refl) },
   record { breaks = refl; stuck = (refl, refl) },
+  record { breaks = refl; stuck = (refl, refl) },
+  record { breaks = refl; stuck = (refl, refl) },
+  record { breaks = refl; stuck = (refl, refl) },
+  record { breaks = refl; stuck = (refl, refl) },
+  record { breaks = refl; stuck = (refl, refl) },
 )

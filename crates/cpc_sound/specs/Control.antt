@@ -1,9 +1,8 @@
 -- What it is for control to stay in a body: labels are there, and `break` and `continue` stand in loops.
-use Rattle.std.specs.Prelude.{◌≡◌, Bool, true, false, Some}
+use Rattle.std.specs.Prelude.{◌≡◌, Bool, true, false, Option, Some}
 use Rattle.cpc_base.specs.Bytes.{Text}
 use Rattle.cpc_tree.specs.Syntax.{Stmt, Block, If, While, DoWhile, For, Goto, Label, Break, Continue, Return, Stmts, NoStmt, AndStmt, MaybeStmt, Absent, Present}
 use Rattle.cpc_tree.specs.Points.{Path, Point, Here, Arrival, End, Found, Simple, Nothing, found, labelled}
-use Rattle.std.specs.Prelude.{Option}
 
 abbrev mutual
   -- each label that control goes to is one of these, and breaks stand in a loop, or one is around
@@ -19,10 +18,12 @@ abbrev mutual
   Controlled labels in_loop Continue = in_loop ≡ true
   Controlled labels in_loop s = Unit {0}
 
+  -- statements in a row
   pub AllControlled : (Text → Type 0) → (in_loop : Bool) → Stmts → Type 0
   AllControlled labels in_loop NoStmt = Unit {0}
   AllControlled labels in_loop (AndStmt s ss) = Controlled labels in_loop s × AllControlled labels in_loop ss
 
+  -- an arm or a step that may be absent
   pub ArmControlled : (Text → Type 0) → (in_loop : Bool) → MaybeStmt → Type 0
   ArmControlled labels in_loop Absent = Unit {0}
   ArmControlled labels in_loop (Present s) = Controlled labels in_loop s

@@ -2,6 +2,7 @@
 use Rattle.std.specs.Prelude.{◌≡◌, ℕ, pos, map, List, [], ◌∷◌, Option, Some, None, codes}
 use Rattle.cpc_base.specs.Bytes.{Text}
 use Rattle.cpc_base.specs.declared.stop.Place.{Place}
+use Rattle.cpc_base.specs.declared.poll.Event.TheVariants.{Done}
 use Rattle.cpc_base.specs.declared.stop.Dialect.{Dialect}
 use Rattle.cpc_base.specs.declared.stop.Dialect.TheVariants as D
 use Rattle.cpc_num.specs.declared.kinds.Kind.TheVariants.{Int, Long}
@@ -18,6 +19,7 @@ use Rattle.cpc_rules.specs.Rules.{breaks}
 use Rattle.cpc_meaning.specs.History.{History}
 use Rattle.cpc_meaning.specs.Machine.{IsStuck}
 use Rattle.cpc_meaning.specs.Threads.{threads, threaded}
+use Rattle.cpc_meaning.specs.Events.{callbacks, event}
 use Rattle.cpc_sound.specs.Typed.{TypedProgram}
 
 -- ---- trees, all of whose parts stand at one place
@@ -126,13 +128,15 @@ pub record IsAccepted (dialect : Dialect) (p : LProgram) : Type 0 where
   pub breaks : breaks dialect p ≡ []
   pub typed : TypedProgram dialect (bare p)
 
+-- the laws of accepted programs speak of something
 abbrev pub ExamplesAreAccepted : Type 0
 ExamplesAreAccepted = IsAccepted D.Cpc example × IsAccepted D.Event event_example
 
 -- ---- programs that are stuck
 
-abbrev none : History
-none = record { polls = []; answers = []; section_bound = 1000 }
+-- one poll, which names the first section
+abbrev one_poll : History
+one_poll = record { polls = record { clock = 0; events = Done 0 ∷ [] } ∷ []; answers = []; section_bound = 1000 }
 
 -- a program with a `main` of these statements
 abbrev main_of : List LStmt → LProgram
@@ -141,8 +145,14 @@ main_of ss = program (function Native (codes "main") int [] ss ∷ [])
 -- it breaks these rules, and its threads are stuck after so many steps
 pub record StuckBy (p : LProgram) (rules : List Rule) (n : ℕ) : Type 0 where
   pub breaks : breaks D.Cpc p ≡ map (λ rule. (here, rule)) rules
-  pub stuck : IsStuck (threads (bare p)) (threaded (bare p) none n)
+  pub stuck : IsStuck (threads (bare p)) (threaded (bare p) one_poll n)
 
+-- it breaks these rules of the dialect Event, and its callbacks are stuck after so many steps
+pub record EventStuckBy (p : LProgram) (rules : List Rule) (n : ℕ) : Type 0 where
+  pub breaks : breaks D.Event p ≡ map (λ rule. (here, rule)) rules
+  pub stuck : IsStuck (callbacks (bare p)) (event (bare p) one_poll n)
+
+-- each of these premises is needed: without it, a program can be stuck
 abbrev pub UnacceptedAreStuck : Type 0
 UnacceptedAreStuck =
     -- no `main`
@@ -163,5 +173,19 @@ UnacceptedAreStuck =
     × StuckBy (main_of (local (codes "x") int ∷ Return here (Some (LUnary here AddressOf (name (codes "x")))) ∷ [])) (R.BadReturn ∷ []) 3
     -- 5 = 3;
     × StuckBy (main_of (set (number 5) (number 3) ∷ [])) (R.NoPlace ∷ []) 2
+    -- struct s { int a; }; struct s x; x.b = 3;
+    × StuckBy (program (LStruct (called (codes "s")) (record { called = called (codes "a"); type = int } ∷ []) ∷ function Native (codes "main") int [] (
+    local (codes "x") (TyStruct (codes "s")) ∷ set (LMember here (name (codes "x")) (called (codes "b"))) (number 3) ∷ []) ∷ [])) (R.NoField ∷ []) 3
+    -- cps void f(void){} and cpc_print(f);
+    × StuckBy (program (function Cps (codes "f") TyVoid [] [] ∷ function Native (codes "main") int [] (call None (codes "cpc_print") (name (codes "f") ∷ []) ∷ []) ∷ [])) (R.CpsAsValue ∷ []) 2
+    -- detached int d(int *p){ cpc_print(1); return 0; } and cps void f(void){ cpc_detached d(0); }, where main spawns f: at the poll that names the section
+    × StuckBy (program (
+    function Detached (codes "d") int (parameter (codes "p") (TyPointer int) ∷ []) (call None (codes "cpc_print") (number 1 ∷ []) ∷ Return here (Some (number 0)) ∷ [])
+    ∷ function Cps (codes "f") TyVoid [] (Detach here here here None (called (codes "d")) (row (number 0 ∷ [])) ∷ [])
+    ∷ function Native (codes "main") int [] (Spawn here (called (codes "f")) NoLExpr ∷ Return here (Some (number 0)) ∷ []) ∷ [])) (R.NotClosed ∷ []) 7
+    -- rt_ready(0, 0);
+    × EventStuckBy (main_of (call None (codes "rt_ready") (number 0 ∷ number 0 ∷ []) ∷ [])) (R.Disagree ∷ []) 2
+    -- cps void f(void){} and cpc_spawn f();
+    × EventStuckBy (program (function Cps (codes "f") TyVoid [] [] ∷ function Native (codes "main") int [] (Spawn here (called (codes "f")) NoLExpr ∷ []) ∷ [])) (R.CpsForm ∷ R.CpsForm ∷ []) 2
     -- for (;; goto l) {} , which no text is read as, breaks no rule
     × StuckBy (main_of (For here NoLStmt None (SomeLStmt (Goto here (called (codes "l")))) (block []) ∷ [])) [] 4

@@ -6,13 +6,14 @@ use Rattle.cpc_base.specs.declared.stop.Dialect.TheVariants as D
 use Rattle.cpc_num.specs.declared.kinds.Kind.TheVariants.{Int, Long}
 use Rattle.cpc_tree.specs.declared.program.Mode.{Mode}
 use Rattle.cpc_tree.specs.declared.program.Mode.TheVariants.{Extern, Native, Detached}
-use Rattle.cpc_tree.specs.Syntax.{Ty, TyVoid, TyInt, TyPointer, TyCode, Expr, ENamed, EText, Exprs, NoExpr, AndExpr, Stmt, Block, Declare, Assign, Call, Detach, Spawn, If, While, DoWhile, For, Label, Return, Stmts, NoStmt, AndStmt, MaybeStmt, Absent, Present, Variable, Function, Program}
+use Rattle.cpc_tree.specs.Syntax.{Ty, TyVoid, TyInt, TyPointer, TyCode, Tys, Expr, ENamed, EText, Exprs, NoExpr, AndExpr, Stmt, Block, Declare, Assign, Call, Detach, Spawn, If, While, DoWhile, For, Label, Return, Stmts, NoStmt, AndStmt, MaybeStmt, Absent, Present, Variable, Function, Program}
 use Rattle.cpc_tree.specs.Primitives.{Primitive, Puts, RtDetach, primitive_named, Taken, AnyInteger, SetOf, FreeOf, takes_first}
 use Rattle.cpc_tree.specs.Typing.{Scope, Meant, AFunction, NotMeant, ALocal, AGlobal, Typed, APlace, named, typing, used, is_testable, size, function_named, function_type, parameter_types, list_of_tys}
 use Rattle.cpc_tree.specs.Points.{Found, Simple, Test, Nothing, extended, extended_all, declared, locals_in}
 use Rattle.cpc_tree.specs.Registers.{variables, outer_scope}
 use Rattle.cpc_meaning.specs.Act.{right_side}
 use Rattle.cpc_meaning.specs.Start.{main_name}
+use Rattle.cpc_store.specs.declared.values.Scalar.{Scalar}
 use Rattle.cpc_meaning.specs.Layout.{layout}
 use Rattle.cpc_meaning.specs.Requests.{section_takes}
 use Rattle.cpc_rules.specs.Operators.{is_detached}
@@ -73,7 +74,7 @@ pub record NamesFunction (p : Program) (scope : Scope) (t : Ty) (x : Text) : Typ
   pub is_function : function_named p x ≡ Some function
   pub is_type : t ≡ function_type function.result (parameter_types function)
 
--- an argument of a primitive
+-- an argument of a primitive; any integer can be assigned to long, and a callback is the name of a function of its type
 abbrev pub GetsTaken : Program → Scope → Taken → Expr → Type 0
 GetsTaken p scope AnyInteger e = Gets p scope (TyInt Long) e
 GetsTaken p scope (SetOf (TyCode r ps)) (ENamed x) = NamesFunction p scope (TyCode r ps) x
@@ -81,12 +82,13 @@ GetsTaken p scope (SetOf (TyCode r ps)) e = ⊥
 GetsTaken p scope (SetOf t) e = Gets p scope t e
 GetsTaken p scope (FreeOf t) e = Gets p scope t e
 
+-- the arguments of a primitive, one for each that it takes
 abbrev pub AllGetTaken : Program → Scope → List Taken → Exprs → Type 0
 AllGetTaken p scope [] NoExpr = Unit {0}
 AllGetTaken p scope (t ∷ ts) (AndExpr e es) = GetsTaken p scope t e × AllGetTaken p scope ts es
 AllGetTaken p scope _ _ = ⊥
 
--- a function of a section: it is closed, gives an int, and takes a pointer to cells and then what is no function
+-- a function of a section: it is detached, gives an int, and takes a pointer to cells whose layout is known, and more
 pub record IsSection (p : Program) (x : Text) (f : Function) : Type 0 where
   pub is_function : function_named p x ≡ Some f
   pub detached : is_detached f.mode ≡ true
@@ -94,7 +96,7 @@ pub record IsSection (p : Program) (x : Text) (f : Function) : Type 0 where
   pub cells : Ty
   pub others : List Ty
   pub parameters : parameter_types f ≡ TyPointer cells ∷ others
-  pub complete : (scalars : List _) × (layout p cells ≡ Some scalars)
+  pub complete : (scalars : List Scalar) × (layout p cells ≡ Some scalars)
 
 -- a section with its arguments
 pub record Detaches (p : Program) (scope : Scope) (x : Text) (es : Exprs) : Type 0 where
@@ -130,6 +132,7 @@ is_variable (ALocal k t) = true
 is_variable (AGlobal n t) = true
 is_variable _ = false
 
+-- a call of a value: what is called is no name of a function or a primitive
 abbrev pub is_pointer_call : Program → Scope → Expr → Bool
 is_pointer_call p scope (ENamed x) = is_variable (named p scope x)
 is_pointer_call p scope f = true
@@ -142,7 +145,7 @@ pub data Calls (d : Dialect) (p : Program) (around : Mode) (scope : Scope) : Exp
       → (is_detached around ≡ true → is_detached f.mode ≡ true) → AllGet p scope (parameter_types f) es → Calls d p around scope (ENamed x) es f.result
   CallsPrimitive : (x : Text) (prim : Primitive) (es : Exprs) → named p scope x ≡ NotMeant → primitive_named x ≡ Some prim → is_for d prim ≡ true
       → (is_detached around ≡ true → is_closed prim ≡ true) → TakesArguments p scope prim es → Calls d p around scope (ENamed x) es (gives prim)
-  CallsPointer : (f : Expr) (typed : Typed) (r : Ty) (ps : _) (es : Exprs) → is_detached around ≡ false → is_pointer_call p scope f ≡ true → typing p scope f ≡ Some typed → used typed ≡ Some (TyCode r ps)
+  CallsPointer : (f : Expr) (typed : Typed) (r : Ty) (ps : Tys) (es : Exprs) → is_detached around ≡ false → is_pointer_call p scope f ≡ true → typing p scope f ≡ Some typed → used typed ≡ Some (TyCode r ps)
       → AllGet p scope (list_of_tys ps) es → Calls d p around scope f es r
 
 -- ---- statements
@@ -195,10 +198,12 @@ abbrev mutual
   BodyTyped d p f scope n (Label l s) = BodyTyped d p f scope n s
   BodyTyped d p f scope n s = IsTyped d p f scope s
 
+  -- statements in a row
   pub AllTyped : Dialect → Program → Function → Scope → ℕ → Stmts → Type 0
   AllTyped d p f scope n NoStmt = Unit {0}
   AllTyped d p f scope n (AndStmt s ss) = BodyTyped d p f scope n s × AllTyped d p f (extended scope n s) (n + declared s) ss
 
+  -- an arm that may be absent
   pub ArmTyped : Dialect → Program → Function → Scope → ℕ → MaybeStmt → Type 0
   ArmTyped d p f scope n Absent = Unit {0}
   ArmTyped d p f scope n (Present s) = BodyTyped d p f scope n s
