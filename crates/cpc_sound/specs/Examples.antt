@@ -128,7 +128,7 @@ pub record IsAccepted (dialect : Dialect) (p : LProgram) : Type 0 where
   pub breaks : breaks dialect p ≡ []
   pub typed : TypedProgram dialect (bare p)
 
--- the laws of accepted programs speak of something
+-- the laws of well typed programs speak of something
 abbrev pub ExamplesAreAccepted : Type 0
 ExamplesAreAccepted = IsAccepted D.Cpc example × IsAccepted D.Event event_example
 
@@ -152,7 +152,7 @@ pub record EventStuckBy (p : LProgram) (rules : List Rule) (n : ℕ) : Type 0 wh
   pub breaks : breaks D.Event p ≡ map (λ rule. (here, rule)) rules
   pub stuck : IsStuck (callbacks (bare p)) (event (bare p) one_poll n)
 
--- each of these premises is needed: without it, a program can be stuck
+-- a program that breaks one of these rules can be stuck, and so can a tree that no text is read as
 abbrev pub UnacceptedAreStuck : Type 0
 UnacceptedAreStuck =
     -- no `main`

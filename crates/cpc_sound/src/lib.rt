@@ -41,7 +41,7 @@ pub fn accepted_callbacks_never_stuck()
     ensures { AcceptedCallbacksNeverStuck }
 {}
 
-/// Programs of both dialects with sections, pointers to functions and loops are accepted, so that the laws above speak of them.
+/// Programs of both dialects with sections, pointers to functions and loops break no rule and are well typed, so that the laws of well typed programs speak of something.
 pub fn examples_are_accepted()
     ensures { ExamplesAreAccepted }
 {}
