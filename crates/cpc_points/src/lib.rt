@@ -8,3 +8,6 @@ mod parts;
 
 pub use control::{Found, after, begin, standing};
 pub use parts::{Part, Phase, Point};
+
+#[cfg(test)]
+mod tests;
