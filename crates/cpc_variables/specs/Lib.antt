@@ -1,0 +1,5 @@
+pub mod Addressed
+pub mod Kept
+pub mod Scoped
+pub mod Told
+pub mod Typed

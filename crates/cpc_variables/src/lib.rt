@@ -1,0 +1,11 @@
+//! The variables of a function: its parameters and its locals, and which of them are registers.
+#![tactic(auto)]
+
+mod addresses;
+mod registers;
+mod scope;
+#[cfg(test)]
+mod tests;
+mod walk;
+
+pub use registers::{Variable, variables};
