@@ -11,6 +11,8 @@ mod plain;
 mod returned;
 mod statements;
 mod tested;
+#[cfg(test)]
+mod tests;
 
 pub use around::Around;
 pub use locals::start_rules;

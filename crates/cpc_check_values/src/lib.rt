@@ -10,6 +10,8 @@ mod places;
 mod primitives;
 mod started;
 mod suits;
+#[cfg(test)]
+mod tests;
 mod values;
 mod wants;
 mod wheres;

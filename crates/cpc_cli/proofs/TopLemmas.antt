@@ -3,30 +3,33 @@ use Rattle.std.proofs.Common.{◌≡◌, ◌<◌, ◌≤◌, ◌++◌, ℕ, Bool
 use Rattle.std.proofs.lemmas.List.{take-append-drop}
 use Rattle.cpc_base.specs.Bytes.{Text}
 use Rattle.cpc_base.specs.Outside.{Files, Rose}
+use Rattle.cpc_base.specs.declared.stop.Dialect.TheVariants.{Cpc, Event}
 use Rattle.std.specs.Option.{option_map_or}
 use Rattle.std.specs.Prelude.{codes, decimal}
-use Rattle.cpc_command.specs.Commands.{Command, Run, Translate, Check, command_of}
-use Rattle.cpc_cli.specs.Command.{named, limit_of}
-use Rattle.cpc_cli.specs.Answer.{AcceptedAs, TextHas, FileHas, NotAccepted, Does, DoesInPart, EndedIn, did, not_begun, unwritten_in, starved_in, Nothing, IsPrefix, Ran, RanTo, RanWhole, RanInPart, Printed, StandsSo, shown, heading, line_of, name_in}
-use Rattle.cpc_cli.specs.Accepted.{Accepts}
-use Rattle.cpc_cli.proofs.SmallOutput.{small_cells}
-use Rattle.cpc_cli.specs.declared.answer.Outcome.TheVariants.{Ended, Stopped, Accepted, Translated}
 use Rattle.cpc_tree.specs.Syntax.{Program}
+use Rattle.cpc_tree.specs.Located.{LProgram, bare}
+use Rattle.cpc_tree.specs.declared.program.Program as GProgram
+use Rattle.cpc_tree.specs.Erase.{program_of}
+use Rattle.cpc_tree.specs.Locate.{located}
+use Rattle.cpc_tree.proofs.Places.{bare_program}
 use Rattle.cpc_meaning.specs.Runs.{SameRuns}
-use Rattle.cpc_small.specs.Small.{IsSmall, RefusedAt}
+use Rattle.cpc_command.specs.Commands.{Command, Run, command_of}
+use Rattle.cpc_check.specs.Accepted.{Accepts}
+use Rattle.cpc_translate.specs.Refusals.{IsTextFault}
+use Rattle.cpc_built.specs.Built.{unbuilt}
+use Rattle.cpc_cli.specs.Command.{Builds, named, limit_of}
+use Rattle.cpc_cli.specs.Answer.{AcceptedAs, TextHas, FileHas, IsTranslated, NotAccepted, DoesInPart, EndedIn, did, not_begun, unwritten_in, starved_in, Nothing, MayHaveCells, RanTo, Printed, shown, heading, line_of, name_in}
+use Rattle.cpc_run.specs.Reports.{IsPrefix}
 use Rattle.cpc_cli.specs.declared.answer.Role.{Role}
 use Rattle.cpc_cli.specs.declared.answer.Role.TheVariants as R
 use Rattle.cpc_cli.specs.declared.answer.Report.{Report}
 use Rattle.cpc_cli.specs.declared.answer.End.{End}
-use Rattle.cpc_cli.specs.declared.answer.End.TheVariants.{Done, Usage, Refused, Unread, Unwritten, Memory, TooLong}
+use Rattle.cpc_cli.specs.declared.answer.End.TheVariants.{Done, Usage, Refused, Unbuilt, Unread, Unwritten, Memory, TooLong}
 
--- a command reads one file
-one_file : (command : Command) (file : Text) → named command R.Text ≡ file → (role : Role) → named command role ≡ file
-one_file command file e R.Text = e
-
-module _ (told : Option Files) (command : Command) (file : Text) (is : named command R.Text ≡ file) (unread : Text → Type 0) where
-  not_accepted : (end : End) → NotAccepted told (λ _. file) unread end → NotAccepted told (named command) unread end
-  not_accepted (Refused at) h = subst (λ name. TextHas told name (λ text. RefusedAt text at)) (sym is) h
+module _ (told : Option Files) (command : Command) (file : Text) (is : named command R.Text ≡ file) (unread : Text → Type 0) (builds : Type 0) (as_built : builds → Builds command) where
+  not_accepted : (end : End) → NotAccepted told (λ _. file) unread builds end → NotAccepted told (named command) unread (Builds command) end
+  not_accepted (Refused fault) h = subst (λ name. TextHas told name (λ text. IsTextFault Cpc text fault)) (sym is) h
+  not_accepted (Unbuilt at) h = (as_built h.0, subst (λ name. AcceptedAs told name (λ p. unbuilt p ≡ Some at)) (sym is) h.1)
   not_accepted (Unread R.Text) h = subst unread (sym is) h
   not_accepted (TooLong R.Text) h = subst (λ name. FileHas told name (λ bytes. limit_of R.Text < length bytes)) (sym is) h
   not_accepted Memory h = h
@@ -34,9 +37,20 @@ module _ (told : Option Files) (command : Command) (file : Text) (is : named com
   not_accepted Usage h = h
   not_accepted Unwritten h = h
 
-  pub begun_not : {unwritten : Type 0} {report : Report} (end : End) → NotAccepted told (λ _. file) unread end → Nothing report []
+  pub begun_not : {unwritten : Type 0} {report : Report} (end : End) → NotAccepted told (λ _. file) unread builds end → Nothing report []
       → EndedIn told command unread unwritten report [] end
   begun_not end h none = not_begun end (not_accepted end h) none
+
+-- what is not accepted for a command that does not ask for built forms is not accepted for any
+pub not_for_any : (told : Option Files) (name : Role → Text) (unread : Text → Type 0) (builds : Type 0) (end : End) → NotAccepted told name unread ⊥ end → NotAccepted told name unread builds end
+not_for_any told name unread builds (Refused fault) h = h
+not_for_any told name unread builds (Unbuilt at) h = absurd h.0
+not_for_any told name unread builds (Unread role) h = h
+not_for_any told name unread builds (TooLong role) h = h
+not_for_any told name unread builds Memory h = h
+not_for_any told name unread builds (Done outcome) h = h
+not_for_any told name unread builds Usage h = h
+not_for_any told name unread builds Unwritten h = h
 
 -- the file of the words' command
 pub line_named : (words : List Text) (command : Command) (file : Text) → command_of words ≡ Some command → file ≡ named command R.Text → (end : End)
@@ -47,12 +61,10 @@ line_named words command file asks is end = go end
     same = is ∙ ap (λ o. option_map_or (λ c. named c R.Text) o []) (sym asks)
 
     go : (end : End) → line_of (λ _. file) end ≡ line_of (name_in words) end
-    go (Done Ended) = refl
-    go (Done (Stopped n)) = refl
-    go (Done Accepted) = refl
-    go (Done Translated) = refl
+    go (Done outcome) = refl
     go Usage = refl
-    go (Refused at) = refl
+    go (Refused fault) = refl
+    go (Unbuilt at) = refl
     go (Unread R.Text) = ap (λ name. codes "read fault: " ++ (name ++ codes "\n")) same
     go Unwritten = refl
     go Memory = refl
@@ -67,31 +79,22 @@ last_line words file end last (inr e) line = subst (λ x. line_of (λ _. file) x
 pub is_front : (n : _) (text : Text) → IsPrefix (take n text) text
 is_front n text = record { rest = drop n text; whole = sym (take-append-drop n text) }
 
-module _ (told : Option Files) (file : Text) where
-  accepted_map : {P Q : Program → Type 0} → ((p : Program) → P p → Q p) → AcceptedAs told file P → AcceptedAs told file Q
-  accepted_map f h = λ files is. let text = h files is in (text.0, text.1, (text.2.0, (text.2.1.0, text.2.1.1, f text.2.1.0 text.2.1.2)))
+module _ (told : Option Files) (file : Text) (bound cap : ℕ) (text : Bool) (q : LProgram) (accepted : AcceptedAs told file (λ p. IsTranslated p q))
+    (unread : Text → Type 0) (unwritten : Type 0) (old new : Report) (printed : Printed q old) (same : new.printed ≡ old.printed) (out : Text) where
+  still : Accepts Event new.printed.items q
+  still = subst (λ t. Accepts Event t q) (sym (ap (λ v. v.items) same)) printed.printed
 
-  pub accepted_some : {P : Program → Type 0} → AcceptedAs told file P → AcceptedAs told file (λ p. Unit {0})
-  accepted_some h = accepted_map (λ p x. tt) h
-
-module _ (told : Option Files) (file : Text) (bound : ℕ) (text : Bool) (q : Program) (accepted : AcceptedAs told file (λ p. SameRuns p q)) (small : IsSmall q)
-    (unread : Text → Type 0) (unwritten : Type 0) (old new : Report) (printed : Printed q old) (same : new.printed ≡ old.printed) (cells : new.cells ≡ old.cells) (out : Text) where
-  same_print : new.printed.items ≡ old.printed.items
-  same_print = ap (λ v. v.items) same
-
-  has_run : Ran q new
-  has_run = record { printed = subst (λ t. Accepts t q) (sym same_print) printed.printed; cells = cells ∙ (printed.cells ∙ sym (small_cells q small new.steps)) }
-
-  in_part : IsPrefix out (shown text old.printed.items q new.steps) → DoesInPart told (Run file bound text) new out
-  in_part h = (q, record { ran = has_run; part = subst (λ t. IsPrefix out (shown text t q new.steps)) (sym same_print) h }, accepted)
+  in_part : MayHaveCells (bare q) new → IsPrefix out (shown text new.printed.items (bare q) new.steps) → DoesInPart told (Run file bound cap text) new out
+  in_part cells h = (q, record { printed = still; cells = cells; part = h }, accepted)
 
   -- a run that ended so did what `run` does, or a part of it
-  pub run_ended : (end : End) → RanTo q bound text old.printed.items new.steps unwritten out end → EndedIn told (Run file bound text) unread unwritten new out end
-  run_ended (Done outcome) (stands, whole) = did outcome (q, record { ran = has_run; stands = stands; whole = whole ∙ ap (λ t. shown text t q new.steps) (sym same_print) }, accepted)
-  run_ended Unwritten (cause, part) = unwritten_in cause (in_part part)
-  run_ended Memory part = starved_in (in_part part)
+  pub run_ended : (end : End) → RanTo (bare q) bound cap text new unwritten out end → EndedIn told (Run file bound cap text) unread unwritten new out end
+  run_ended (Done outcome) (stands, cells, whole) = did outcome (q, record { printed = still; cells = cells; stands = stands; whole = whole }, accepted)
+  run_ended Unwritten (cause, cells, part) = unwritten_in cause (in_part cells part)
+  run_ended Memory (cells, part) = starved_in (in_part cells part)
   run_ended Usage h = absurd h
-  run_ended (Refused at) h = absurd h
+  run_ended (Refused fault) h = absurd h
+  run_ended (Unbuilt at) h = absurd h
   run_ended (Unread role) h = absurd h
   run_ended (TooLong role) h = absurd h
 
@@ -107,6 +110,24 @@ front_heading a h b p = record { rest = p.rest ++ b; whole = ap (λ t. t ++ b) p
 pub rose_earlier : (a b c : ℕ) → a ≤ b → Rose b c → Rose a c
 rose_earlier a b c le rose = omega (arith, le, rose)
 
+-- a run behind what goes before its output
+pub behind : (q : Program) (bound cap : ℕ) (text : Bool) (report : Report) (early late : Type 0) (front out : Text) → (early → late) → front ≡ heading text report.printed.items
+    → (end : End) → RanTo q bound cap false report early out end → RanTo q bound cap text report late (front ++ out) end
+behind q bound cap text report early late front out cause is end = go end
+  where
+    moved : IsPrefix out (shown false report.printed.items q report.steps) → IsPrefix (front ++ out) (shown text report.printed.items q report.steps)
+    moved p = subst (λ t. IsPrefix (t ++ out) (shown text report.printed.items q report.steps)) (sym is) (behind_heading (heading text report.printed.items) out _ p)
+
+    go : (end : End) → RanTo q bound cap false report early out end → RanTo q bound cap text report late (front ++ out) end
+    go (Done outcome) (stands, cells, whole) = (stands, cells, ap (λ t. front ++ t) whole ∙ ap (λ t. t ++ shown false report.printed.items q report.steps) is)
+    go Unwritten (u, cells, part) = (cause u, cells, moved part)
+    go Memory (cells, part) = (cells, moved part)
+    go Usage h = h
+    go (Refused fault) h = h
+    go (Unbuilt at) h = h
+    go (Unread role) h = h
+    go (TooLong role) h = h
+
 -- a part of the printed text, or of the line behind it, where they are wanted
 pub in_printed : (text : Bool) (printed : Text) (n : ℕ) → text ≡ true → IsPrefix (take n printed) (heading text printed)
 in_printed true printed n e = front_heading (take n printed) printed (codes "/* run */\n") (is_front n printed)
@@ -115,3 +136,7 @@ in_printed false printed n e = absurd cc
 pub in_line : (text : Bool) (printed : Text) (n : ℕ) → text ≡ true → IsPrefix (printed ++ take n (codes "/* run */\n")) (heading text printed)
 in_line true printed n e = behind_heading printed (take n (codes "/* run */\n")) (codes "/* run */\n") (is_front n (codes "/* run */\n"))
 in_line false printed n e = absurd cc
+
+-- programs with the same runs, by their trees with places
+pub bare_same : (p q : GProgram.Program) → SameRuns (program_of p) (program_of q) → SameRuns (bare (located p)) (bare (located q))
+bare_same p q h = subst (λ x. SameRuns x (bare (located q))) (sym (bare_program p)) (subst (SameRuns (program_of p)) (sym (bare_program q)) h)

@@ -1,11 +1,17 @@
 //! How a call ends, and what it says of that.
-ghost use Rattle.std.specs.Prelude.{◌≡◌, ◌⊎◌, IfOk, string_bytes};
+ghost use Rattle.std.specs.Prelude.{◌≡◌, ◌⊎◌, IfOk, OnOk, ◌++◌, codes};
 ghost use Rattle.std.specs.Io.KnownBytes.{append_known};
 ghost use Rattle.cpc_base.specs.Outside.{Rose};
-ghost use Rattle.cpc_cli.specs.Answer.{status_of, line_of, Wrote, Said};
+ghost use Rattle.cpc_tree.specs.Texts as T;
+ghost use Rattle.cpc_cli.specs.Answer.{status_of, line_of, outcome_line as line_of_outcome, Said};
+ghost use Rattle.cpc_run.specs.Reports.{Wrote};
 ghost use Rattle.cpc_cli.specs.declared.answer.End.{End};
+ghost use Rattle.cpc_cli.specs.declared.answer.End.TheVariants as V;
+ghost use Rattle.cpc_cli.specs.declared.answer.Outcome.TheVariants as O;
 
 use cpc_base::{Failed, Place, Sink, write_all};
+use cpc_num::Fault;
+use cpc_translate::TextFault;
 use std::alloc::{AllocError, Global};
 
 /// A file that a command reads, by what it is for.
@@ -16,12 +22,18 @@ pub enum Role {
 }
 
 /// How a command's work stands at its end.
-#[derive(Clone, Copy, Debug, PartialEq, Eq)]
+#[derive(Debug, PartialEq, Eq, Drop)]
 pub enum Outcome {
-    /// The run is over, and nobody waits.
-    Ended,
+    /// The run is over, and so many wait.
+    Ended(u64),
+    /// The run is over: the program called `cpc_exit` with this number.
+    Exited(i128),
+    /// The run is over: the program has a fault, in the function of this name.
+    Failed(Fault, Vec<u8>),
     /// The run made so many steps, as many as it may, and is not over.
     Stopped(u64),
+    /// The run may have so many live cells, and asked for so many.
+    Full(u64, u64),
     /// The text was checked and accepted.
     Accepted,
     /// The text was translated.
@@ -29,14 +41,16 @@ pub enum Outcome {
 }
 
 /// Why a call ended.
-#[derive(Clone, Copy, Debug, PartialEq, Eq)]
+#[derive(Debug, PartialEq, Eq, Drop)]
 pub enum End {
     /// The command did its work.
     Done(Outcome),
     /// The words are no command line.
     Usage,
-    /// The text is refused at a place.
-    Refused(Place),
+    /// The text has a fault.
+    Refused(TextFault),
+    /// The text has a form at a place that is not built yet.
+    Unbuilt(Place),
     /// The shelf failed at a file.
     Unread(Role),
     /// `out` failed.
@@ -60,14 +74,25 @@ pub struct Report {
     pub cells: u64,
 }
 
-fn status(end: End) -> u8
-    ensures { result ≡ status_of end }
+fn outcome_status(outcome: &Outcome) -> u8
+    ensures { result ≡ status_of (V.Done outcome.now) }
+{
+    match outcome {
+        Outcome::Ended(waiting) => { if *waiting == 0 { 0 } else { 14 } }
+        Outcome::Exited(_) | Outcome::Accepted | Outcome::Translated => 0,
+        Outcome::Failed(_, _) => 1,
+        Outcome::Stopped(_) => 6,
+        Outcome::Full(_, _) => 7,
+    }
+}
+
+fn status(end: &End) -> u8
+    ensures { result ≡ status_of end.now }
 {
     match end {
-        End::Done(Outcome::Stopped(_)) => 6,
-        End::Done(Outcome::Ended | Outcome::Accepted | Outcome::Translated) => 0,
+        End::Done(outcome) => outcome_status(outcome),
         End::Usage => 2,
-        End::Refused(_) => 3,
+        End::Refused(_) | End::Unbuilt(_) => 3,
         End::Unread(_) => 8,
         End::Unwritten => 9,
         End::Memory => 11,
@@ -75,28 +100,104 @@ fn status(end: End) -> u8
     }
 }
 
-fn line(alloc: Global, file: &str, end: End) -> Result<String, AllocError>
-    ensures { IfOk result (λ line. string_bytes line ≡ line_of (λ _. file.now) end) }
+fn fault_name(fault: Fault) -> &'static [u8]
+    ensures { result.now ≡ T.fault_text fault }
+{
+    match fault {
+        Fault::Overflow => b"overflow",
+        Fault::Divide => b"divide",
+        Fault::Shift => b"shift",
+        Fault::Unset => b"unset",
+        Fault::Kind => b"kind",
+        Fault::Null => b"null",
+        Fault::Bounds => b"bounds",
+        Fault::Freed => b"freed",
+        Fault::Compare => b"compare",
+        Fault::Code => b"code",
+        Fault::SectionSteps => b"section steps",
+        Fault::Sections => b"sections",
+        Fault::BadFree => b"badfree",
+        Fault::CondVar => b"condvar",
+        Fault::Length => b"length",
+    }
+}
+
+fn fault_line(alloc: Global, fault: Fault, function: &[u8]) -> Result<Vec<u8>, AllocError>
+    ensures { IfOk result (λ line. line.items ≡ codes "fault " ++ T.fault_text fault ++ codes " in " ++ function.now ++ codes "\n") }
+{
+    let mut line = b"fault ".to_vec(alloc)?;
+    line.extend_from_slice(fault_name(fault))?;
+    line.extend_from_slice(b" in ")?;
+    line.extend_from_slice(function)?;
+    line.push(b'\n')?;
+    Ok(line)
+}
+
+fn ended_line(alloc: Global, waiting: u64) -> Result<Vec<u8>, AllocError>
+    ensures { IfOk result (λ line. line.items ≡ line_of_outcome (O.Ended waiting)) }
+{
+    if waiting == 0 {
+        Ok(Vec::new(alloc))
+    } else {
+        Ok(format!(in alloc; "ended with {waiting} waiting\n")?.into_bytes())
+    }
+}
+
+fn outcome_line(alloc: Global, outcome: &Outcome) -> Result<Vec<u8>, AllocError>
+    ensures { IfOk result (λ line. line.items ≡ line_of_outcome outcome.now) }
+{
+    match outcome {
+        Outcome::Ended(waiting) => ended_line(alloc, *waiting),
+        Outcome::Exited(number) => Ok(format!(in alloc; "exit {number}\n")?.into_bytes()),
+        Outcome::Failed(fault, function) => fault_line(alloc, *fault, function.as_slice()),
+        Outcome::Stopped(steps) => {
+            Ok(format!(in alloc; "stopped after {steps} steps\n")?.into_bytes())
+        }
+        Outcome::Full(cap, asked) => {
+            Ok(format!(in alloc; "full: cap {cap}, asked {asked}\n")?.into_bytes())
+        }
+        Outcome::Accepted | Outcome::Translated => Ok(Vec::new(alloc)),
+    }
+}
+
+fn refused_line(alloc: Global, fault: &TextFault) -> Result<Vec<u8>, AllocError>
+    ensures { IfOk result (λ line. line.items ≡ line_of (λ _. codes "") (V.Refused fault.now)) }
+{
+    let at = fault.place();
+    let row = at.line;
+    let column = at.column;
+    let stage = fault.stage();
+    let number = fault.number();
+    let name = fault.name();
+    Ok(format!(in alloc; "refused {row}:{column} {stage} {number} {name}\n")?.into_bytes())
+}
+
+fn unbuilt_line(alloc: Global, at: Place) -> Result<Vec<u8>, AllocError>
+    ensures { IfOk result (λ line. line.items ≡ line_of (λ _. codes "") (V.Unbuilt at)) }
+{
+    let row = at.line;
+    let column = at.column;
+    Ok(format!(in alloc; "refused {row}:{column} form 1 not yet\n")?.into_bytes())
+}
+
+fn line(alloc: Global, file: &str, end: &End) -> Result<Vec<u8>, AllocError>
+    ensures { IfOk result (λ line. line.items ≡ line_of (λ _. file.now) end.now) }
 {
     match end {
-        End::Done(Outcome::Stopped(steps)) => format!(in alloc; "stopped after {steps} steps\n"),
-        End::Done(Outcome::Ended | Outcome::Accepted | Outcome::Translated) => {
-            Ok(String::new(alloc))
+        End::Done(outcome) => outcome_line(alloc, outcome),
+        End::Usage => {
+            b"usage: cpc check, translate, run or exec FILE with options, or cpc sample N\n".to_vec(
+                alloc,
+            )
         }
-        End::Usage => format!(in alloc;
-            "usage: cpc check, translate, run or exec FILE with options, or cpc sample N\n"
-        ),
-        End::Refused(at) => {
-            let row = at.line;
-            let column = at.column;
-            format!(in alloc; "refused {row}:{column} form 1 not yet\n")
-        }
-        End::Unread(Role::Text) => format!(in alloc; "read fault: {file}\n"),
-        End::Unwritten => format!(in alloc; "write fault\n"),
-        End::Memory => format!(in alloc; "no memory\n"),
+        End::Refused(fault) => refused_line(alloc, fault),
+        End::Unbuilt(at) => unbuilt_line(alloc, *at),
+        End::Unread(Role::Text) => Ok(format!(in alloc; "read fault: {file}\n")?.into_bytes()),
+        End::Unwritten => b"write fault\n".to_vec(alloc),
+        End::Memory => b"no memory\n".to_vec(alloc),
         End::TooLong(Role::Text) => {
             let limit = 262_144u64;
-            format!(in alloc; "too long: {file} limit {limit}\n")
+            Ok(format!(in alloc; "too long: {file} limit {limit}\n")?.into_bytes())
         }
     }
 }
@@ -113,12 +214,12 @@ fn say<E: Sink>(line: &[u8], due: u8, err: &mut E) -> u8
 
 /// Writes the line of an end, or that of want of memory where there is none for the line, and gives the status. `file`
 /// is the name of the file that the words name.
-pub fn conclude<E: Sink>(alloc: Global, file: &str, end: End, err: &mut E) -> u8
-    ensures said { Wrote (E.taken err.old) (E.taken err.new) (λ e. (last : End) × (last ≡ end ⊎ last ≡ End.Memory)
+pub fn conclude<E: Sink>(alloc: Global, file: &str, end: &End, err: &mut E) -> u8
+    ensures said { Wrote (E.taken err.old) (E.taken err.new) (λ e. (last : End) × (last ≡ end.now ⊎ last ≡ End.Memory)
         × Said (line_of (λ _. file.now) last) (status_of last) (Rose (E.faults err.old) (E.faults err.new)) result e) }
 {
     match line(alloc, file, end) {
-        Ok(line) => say(line.as_bytes(), status(end), err),
+        Ok(line) => say(line.as_slice(), status(end), err),
         Err(_) => say(b"no memory\n", 11, err),
     }
 }

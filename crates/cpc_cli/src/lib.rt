@@ -2,12 +2,14 @@
 #![tactic(auto)]
 
 mod answer;
-mod run;
 mod top;
 
 pub use answer::{End, Outcome, Report, Role};
-pub use run::run_program;
 pub use top::{TEXT_LIMIT, cpc_main};
 
+#[cfg(test)]
+mod refusals;
+#[cfg(test)]
+mod rows;
 #[cfg(test)]
 mod tests;

@@ -6,29 +6,32 @@ use std::test::Fail;
 
 const SEVEN: &[u8] = b"int main(void){ cpc_print(7); return 0; }";
 
+const SEVEN_PRINTED: &[u8] = b"int main(void)\n{\n    cpc_print(7);\n    return 0;\n}\n";
+
 const THREE_LINES: &[u8] = b"int main(void){\n cpc_print(7);\n cpc_print(10);\n return 0;\n}\n";
 
 // How the objects behave: the file `a.c`, the most bytes of a call, and the number of the call that fails, or 0.
 #[derive(Clone, Copy)]
-struct Setting<'a> {
-    text: &'a [u8],
-    most: usize,
-    read: u64,
-    put: u64,
-    said: u64,
+pub(crate) struct Setting<'a> {
+    pub text: &'a [u8],
+    pub most: usize,
+    pub read: u64,
+    pub put: u64,
+    pub said: u64,
 }
 
 // What a call left: its report, and what the two sinks took.
 #[derive(Drop)]
-struct Left {
-    status: u8,
-    printed: Vec<u8>,
-    steps: u64,
-    out: Vec<u8>,
-    err: Vec<u8>,
+pub(crate) struct Left {
+    pub status: u8,
+    pub printed: Vec<u8>,
+    pub steps: u64,
+    pub cells: u64,
+    pub out: Vec<u8>,
+    pub err: Vec<u8>,
 }
 
-fn ample(text: &[u8]) -> Setting<'_> {
+pub(crate) fn ample(text: &[u8]) -> Setting<'_> {
     Setting {
         text,
         most: 4096,
@@ -56,7 +59,7 @@ fn failing(alloc: Global, call: u64) -> Result<Calls, AllocError> {
     Ok(Calls::new(calls))
 }
 
-fn call(alloc: Global, line: &[&str], setting: Setting<'_>) -> Result<Left, AllocError> {
+pub(crate) fn call(alloc: Global, line: &[&str], setting: Setting<'_>) -> Result<Left, AllocError> {
     let mut files = Vec::new(alloc);
     files.push(MemFile {
         name: String::from_str(alloc, "a.c")?,
@@ -74,6 +77,7 @@ fn call(alloc: Global, line: &[&str], setting: Setting<'_>) -> Result<Left, Allo
         status: report.status,
         printed: report.printed,
         steps: report.steps,
+        cells: report.cells,
         out: out.bytes().to_vec(alloc)?,
         err: err.bytes().to_vec(alloc)?,
     })
@@ -82,6 +86,8 @@ fn call(alloc: Global, line: &[&str], setting: Setting<'_>) -> Result<Left, Allo
 const RUN: [&str; 2] = ["run", "a.c"];
 
 const CHECK: [&str; 2] = ["check", "a.c"];
+
+const TRANSLATE: [&str; 2] = ["translate", "a.c"];
 
 #[test]
 fn a_program_is_run_and_checked(rt: HostRuntime) -> Result<(), Fail> {
@@ -94,10 +100,7 @@ fn a_program_is_run_and_checked(rt: HostRuntime) -> Result<(), Fail> {
         assert_eq!(rt; left.status, 0);
         assert_eq!(rt; left.out.as_slice(), b"7\n".as_slice());
         assert_eq!(rt; left.err.as_slice(), b"".as_slice());
-        assert_eq!(rt;
-            left.printed.as_slice(),
-            b"int main(void) {\n    cpc_print(7);\n    return 0;\n}\n".as_slice()
-        );
+        assert_eq!(rt; left.printed.as_slice(), SEVEN_PRINTED);
         assert_eq!(rt; left.steps, 5);
         let checked = call(rt.alloc(), CHECK.as_slice(), setting)?;
         assert_eq!(rt; checked.status, 0);
@@ -108,40 +111,64 @@ fn a_program_is_run_and_checked(rt: HostRuntime) -> Result<(), Fail> {
 }
 
 // Texts that are refused, and the line that says so.
-const REFUSED: [(&[u8], &[u8]); 6] = [
-    (b"", b"refused 1:1 form 1 not yet\n"),
+const REFUSED: [(&[u8], &[u8]); 7] = [
+    (b"", b"refused 1:1 check 16 no main\n"),
     (
         b"int main(void){ x = 1; return 0; }",
-        b"refused 1:17 form 1 not yet\n",
+        b"refused 1:17 check 1 undeclared name\n",
     ),
     (
         b"intmain(void){ return 0; }",
-        b"refused 1:1 form 1 not yet\n",
+        b"refused 1:1 parse 1 syntax\n",
     ),
     (
-        b"int main(void){\n return 01; }",
-        b"refused 2:9 form 1 not yet\n",
+        b"int main(void){\n return 08; }",
+        b"refused 2:9 lex 5 malformed\n",
     ),
     (
         b"int main(void){ return 0; } int",
-        b"refused 1:29 form 1 not yet\n",
+        b"refused 1:32 parse 1 syntax\n",
     ),
     (
         b"int main(void){ return 0;",
-        b"refused 1:26 form 1 not yet\n",
+        b"refused 1:26 parse 1 syntax\n",
+    ),
+    (
+        b"int main(void){ cpc_yield(); q = 1; return 0; }",
+        b"refused 1:17 check 6 cps call in a native function\n",
     ),
 ];
 
 #[test]
 fn a_text_is_refused_at_its_place(rt: HostRuntime) -> Result<(), Fail> {
     for (text, line) in REFUSED {
-        for words in [RUN, CHECK] {
+        for words in [RUN, CHECK, TRANSLATE] {
             let left = call(rt.alloc(), words.as_slice(), ample(text))?;
             assert_eq!(rt; left.status, 3);
             assert_eq!(rt; left.err.as_slice(), line);
             assert_eq!(rt; left.out.as_slice(), b"".as_slice());
+            assert_eq!(rt; left.printed.as_slice(), b"".as_slice());
         }
     }
+    Ok(())
+}
+
+const THREAD: &[u8] = b"cps void f(void){ } int main(void){ cpc_spawn f(); return 0; }";
+
+#[test]
+fn a_form_that_is_not_built_is_refused(rt: HostRuntime) -> Result<(), Fail> {
+    for words in [RUN, TRANSLATE] {
+        let left = call(rt.alloc(), words.as_slice(), ample(THREAD))?;
+        assert_eq!(rt; left.status, 3);
+        assert_eq!(rt;
+            left.err.as_slice(),
+            b"refused 1:10 form 1 not yet\n".as_slice()
+        );
+        assert_eq!(rt; left.out.as_slice(), b"".as_slice());
+    }
+    let checked = call(rt.alloc(), CHECK.as_slice(), ample(THREAD))?;
+    assert_eq!(rt; checked.status, 0);
+    assert_eq!(rt; checked.out.as_slice(), b"accepted\n".as_slice());
     Ok(())
 }
 
@@ -150,7 +177,7 @@ const USAGE: &[u8] =
 
 #[test]
 fn words_that_are_no_command_line(rt: HostRuntime) -> Result<(), Fail> {
-    let lines: [&[&str]; 10] = [
+    let lines: [&[&str]; 13] = [
         &[],
         &["run"],
         &["frobnicate", "a.c"],
@@ -161,6 +188,9 @@ fn words_that_are_no_command_line(rt: HostRuntime) -> Result<(), Fail> {
         &["run", "a.c", "--steps", "7x"],
         &["check", "a.c", "--text"],
         &["translate", "a.c", "--steps", "5"],
+        &["run", "a.c", "--cells", "0"],
+        &["run", "a.c", "--cells", "50000001"],
+        &["exec", "a.c"],
     ];
     for line in lines {
         let left = call(rt.alloc(), line, ample(SEVEN))?;
@@ -170,8 +200,6 @@ fn words_that_are_no_command_line(rt: HostRuntime) -> Result<(), Fail> {
     }
     Ok(())
 }
-
-const SEVEN_PRINTED: &[u8] = b"int main(void) {\n    cpc_print(7);\n    return 0;\n}\n";
 
 #[test]
 fn a_program_is_translated(rt: HostRuntime) -> Result<(), Fail> {
@@ -188,7 +216,7 @@ fn a_program_is_translated(rt: HostRuntime) -> Result<(), Fail> {
     assert_eq!(rt; shown.status, 0);
     assert_eq!(rt;
         shown.out.as_slice(),
-        b"int main(void) {\n    cpc_print(7);\n    return 0;\n}\n/* run */\n7\n".as_slice()
+        b"int main(void)\n{\n    cpc_print(7);\n    return 0;\n}\n/* run */\n7\n".as_slice()
     );
     Ok(())
 }
@@ -285,14 +313,15 @@ fn each_write_fails(rt: HostRuntime) -> Result<(), Fail> {
 
 #[test]
 fn each_write_of_the_line_fails(rt: HostRuntime) -> Result<(), Fail> {
-    let line = b"refused 1:17 form 1 not yet\n";
-    for said in 1..31u64 {
+    let line = b"refused 1:17 check 1 undeclared name\n";
+    let bytes = line.len() as u64;
+    for said in 1..40u64 {
         let setting = Setting {
             said,
             ..byte_by_byte(b"int main(void){ x = 1; return 0; }")
         };
         let left = call(rt.alloc(), RUN.as_slice(), setting)?;
-        if said <= 28 {
+        if said <= bytes {
             let taken = said as usize - 1;
             assert_eq!(rt; left.status, 9);
             assert_eq!(rt; left.err.as_slice(), &line[..taken]);

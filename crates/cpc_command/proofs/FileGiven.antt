@@ -1,5 +1,5 @@
 -- Where clap takes the words, a subcommand was entered that has a value for FILE.
-use Rattle.std.proofs.Common.{◌≡◌, ◌∙◌, ◌&&◌, ◌||◌, ℕ, Bool, cond, codes, true, false, true≢false, List, [], ◌∷◌, Option, Some, None, is_some, refl, sym, ap, subst}
+use Rattle.std.proofs.Common.{◌≡◌, ◌∙◌, ◌&&◌, ◌||◌, ◌⊎◌, inl, inr, ℕ, Bool, cond, codes, true, false, true≢false, List, [], ◌∷◌, Option, Some, None, is_some, refl, sym, ap, subst}
 use Rattle.std.specs.Prelude.{if◌then◌else◌, find, not, option_and_then, option_map, slice_get}
 use Rattle.std.specs.List.{list_any}
 use Rattle.std.specs.Option.{option_map_or}
@@ -12,7 +12,7 @@ use Rattle.clap.specs.Simple.{App, Shape, built, entered, label_of, names_of, ro
 use Rattle.clap.specs.Faults.{check_fault, defaults_fault, entered_fault, fault_of, level_fault, settle_fault, walk_fault}
 use Rattle.clap.proofs.OnLiterals.{clap_on_literals}
 use Rattle.std.proofs.lemmas.Slice.Eq.{bytes_eq-Decides}
-use Rattle.cpc_command.specs.Commands.{Check, Run, Translate, command_in, command_named, command_of, cpc_app, if_taken, steps_in}
+use Rattle.cpc_command.specs.Commands.{Check, Command, Run, Translate, command_in, cells_in, command_named, command_of, cpc_app, if_taken, steps_in}
 use Rattle.cpc_command.specs.Usage.{BreaksNumber, EntersFile, HasFile, is_verb}
 use Rattle.cpc_command.proofs.CommandLemmas.{command_is}
 use Rattle.cpc_command.proofs.FullRows.{Full, HasSome, IsFed, finished_full, no_kind, or_none, walk_full}
@@ -137,18 +137,22 @@ same_test a b = go (bytes_eq a b) (bytes_eq b a) (λ e. (bytes_eq-Decides b a).1
     go false true f g = g refl
     go false false f g = refl
 
-number_wrong : (name file : Text) (rows : List Row) → is_verb name ≡ true → command_named name file rows ≡ None → steps_in rows ≡ None
-number_wrong name file rows v e = go (bytes_eq name (codes "check")) (bytes_eq name (codes "translate")) (bytes_eq name (codes "run")) (steps_in rows)
+number_wrong : (name file : Text) (rows : List Row) → is_verb name ≡ true → command_named name file rows ≡ None → steps_in rows ≡ None ⊎ cells_in rows ≡ None
+number_wrong name file rows v e = go (bytes_eq name (codes "check")) (bytes_eq name (codes "translate")) (bytes_eq name (codes "run")) (steps_in rows) (cells_in rows)
     (rw (same_test name (codes "check"), same_test name (codes "translate"), same_test name (codes "run")) v) e
   where
-    go : (c t r : Bool) (o : Option ℕ) → (c || (t || (r || false))) ≡ true
-        → (if c then Some (Check file) else (if t then Some (Translate file) else (if r then option_map (λ steps. Run file steps (Rattle.cpc_command.specs.Commands.is_given (codes "text") rows)) o else None))) ≡ None
-        → o ≡ None
-    go true t r o v e = cc
-    go false true r o v e = cc
-    go false false true (Some n) v e = cc
-    go false false true None v e = refl
-    go false false false o v e = absurd (true≢false (sym v))
+    asks : Option ℕ → Option ℕ → Option Command
+    asks o p = option_and_then (λ steps. option_map (λ cells. Run file steps cells (Rattle.cpc_command.specs.Commands.is_given (codes "text") rows)) p) o
+
+    go : (c t r : Bool) (o p : Option ℕ) → (c || (t || (r || false))) ≡ true
+        → (if c then Some (Check file) else (if t then Some (Translate file) else (if r then asks o p else None))) ≡ None
+        → o ≡ None ⊎ p ≡ None
+    go true t r o p v e = cc
+    go false true r o p v e = cc
+    go false false true (Some n) (Some m) v e = cc
+    go false false true (Some n) None v e = inr refl
+    go false false true None p v e = inl refl
+    go false false false o p v e = absurd (true≢false (sym v))
 
 pub breaks_number : (words : List Text) → fault_of cpc_app words ≡ [] → command_of words ≡ None → BreaksNumber words
 breaks_number words e none =

@@ -3,3 +3,4 @@ pub mod CommandLemmas
 pub mod UsageLemmas
 pub mod FullRows
 pub mod FileGiven
+pub mod BoundLemmas

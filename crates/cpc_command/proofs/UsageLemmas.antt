@@ -5,8 +5,8 @@ use Rattle.clap.specs.Lexer.{long_of, short_of}
 use Rattle.clap.proofs.OnLiterals.{clap_on_literals}
 use Rattle.cpc_base.specs.Bytes.{Text}
 use Rattle.cpc_command.specs.Commands.{Check, Run, Translate, cpc_app}
-use Rattle.cpc_command.specs.Number.{default_steps}
-use Rattle.cpc_command.specs.Usage.{IsPlain, Means, is_verb, run_for}
+use Rattle.cpc_command.specs.Number.{default_cells, default_steps}
+use Rattle.cpc_command.specs.Usage.{IsPlain, Means, is_verb, run_for, run_within}
 
 -- clap takes the word for no option
 pub record IsValue (word : Text) : Type 0 where
@@ -32,11 +32,11 @@ pub translate_is : (file : Text) → IsValue file → Means (codes "translate" �
 unfolding cpc_app clap_on_literals
 translate_is file f = rw (f.no_long, f.no_short, f.no_end) refl
 
-pub run_is : (file : Text) → IsValue file → Means (codes "run" ∷ file ∷ []) (Some (Run file default_steps false))
+pub run_is : (file : Text) → IsValue file → Means (codes "run" ∷ file ∷ []) (Some (Run file default_steps default_cells false))
 unfolding cpc_app clap_on_literals
 run_is file f = rw (f.no_long, f.no_short, f.no_end) refl
 
-pub text_is : (file : Text) → IsValue file → Means (codes "run" ∷ file ∷ codes "--text" ∷ []) (Some (Run file default_steps true))
+pub text_is : (file : Text) → IsValue file → Means (codes "run" ∷ file ∷ codes "--text" ∷ []) (Some (Run file default_steps default_cells true))
 unfolding cpc_app clap_on_literals
 text_is file f = rw (f.no_long, f.no_short, f.no_end) refl
 
@@ -51,6 +51,14 @@ joined_is file number f = rw (f.no_long, f.no_short, f.no_end) refl
 pub before_is : (file number : Text) → IsValue file → IsValue number → Means (codes "run" ∷ codes "--steps" ∷ number ∷ file ∷ []) (run_for file number)
 unfolding cpc_app clap_on_literals
 before_is file number f n = rw (n.no_long, n.no_short, n.no_end, f.no_long, f.no_short, f.no_end) refl
+
+pub cells_is : (file number : Text) → IsValue file → IsValue number → Means (codes "run" ∷ file ∷ codes "--cells" ∷ number ∷ []) (run_within file number)
+unfolding cpc_app clap_on_literals
+cells_is file number f n = rw (f.no_long, f.no_short, f.no_end, n.no_long, n.no_short, n.no_end) refl
+
+pub cells_joined_is : (file number : Text) → IsValue file → Means (codes "run" ∷ file ∷ (codes "--cells=" ++ number) ∷ []) (run_within file number)
+unfolding cpc_app clap_on_literals
+cells_joined_is file number f = rw (f.no_long, f.no_short, f.no_end) refl
 
 pub any_file_is : (file : Text) → Means (codes "check" ∷ codes "--" ∷ file ∷ []) (Some (Check file))
 unfolding cpc_app clap_on_literals
@@ -84,6 +92,10 @@ two_files_is one two a b = rw (a.no_long, a.no_short, a.no_end, b.no_long, b.no_
 pub twice_is : (one two file : Text) → Means (codes "run" ∷ (codes "--steps=" ++ one) ∷ (codes "--steps=" ++ two) ∷ file ∷ []) None
 unfolding cpc_app clap_on_literals
 twice_is one two file = refl
+
+pub cells_twice_is : (one two file : Text) → Means (codes "run" ∷ (codes "--cells=" ++ one) ∷ (codes "--cells=" ++ two) ∷ file ∷ []) None
+unfolding cpc_app clap_on_literals
+cells_twice_is one two file = refl
 
 -- the word is none of the three names
 pub unnamed : (verb : Text) → is_verb verb ≡ false → (bytes_eq (codes "check") verb ≡ false) × (bytes_eq (codes "translate") verb ≡ false) × (bytes_eq (codes "run") verb ≡ false)

@@ -10,7 +10,7 @@ use Rattle.clap.specs.declared.builder.command.Command.TheViews.{out-Command}
 use Rattle.clap.specs.declared.builder.command.Command.{Command as Built}
 use Rattle.clap.specs.declared.builder.action.ArgAction.TheVariants.{Set, SetTrue}
 use Rattle.cpc_base.specs.Bytes.{Text}
-use Rattle.cpc_command.specs.Number.{default_steps, steps_of}
+use Rattle.cpc_command.specs.Number.{cells_of, default_cells, default_steps, steps_of}
 use Rattle.cpc_command.specs.declared.words.Command.{Command as Parsed}
 use Rattle.cpc_command.specs.declared.words.Command.TheVariants as P
 
@@ -33,7 +33,7 @@ abbrev pub on_file : Text → App
 on_file name = with_rule (new_app name) file_rule
 
 abbrev pub run_app : App
-run_app = with_rule (with_rule (on_file (codes "run")) (option_rule (codes "steps"))) (flag_rule (codes "text"))
+run_app = with_rule (with_rule (with_rule (on_file (codes "run")) (option_rule (codes "steps"))) (option_rule (codes "cells"))) (flag_rule (codes "text"))
 
 -- no help, no version, and no name of the program among the words
 abbrev pub bare_app : App
@@ -61,7 +61,7 @@ IsLocal c = (out-Command c).has_globals ≡ false
 pub data Command : Type 0 where
   Check : (file : Text) → Command
   Translate : (file : Text) → Command
-  Run : (file : Text) (steps : ℕ) (text : Bool) → Command
+  Run : (file : Text) (steps cells : ℕ) (text : Bool) → Command
 
 -- clap's value of a flag is "true" where it was given, and else "false"
 abbrev pub is_given : (name : Text) → List Row → Bool
@@ -70,13 +70,18 @@ is_given name rows = option_map_or (λ value. bytes_eq value (codes "true")) (fi
 abbrev pub steps_in : List Row → Option ℕ
 steps_in rows = option_map_or steps_of (first_of (codes "steps") rows) (Some default_steps)
 
+abbrev pub cells_in : List Row → Option ℕ
+cells_in rows = option_map_or cells_of (first_of (codes "cells") rows) (Some default_cells)
+
+-- the run that the matches ask for, unless a number breaks its rule
+abbrev pub run_in : (file : Text) → List Row → Option Command
+run_in file rows = option_and_then (λ steps. option_map (λ cells. Run file steps cells (is_given (codes "text") rows)) (cells_in rows)) (steps_in rows)
+
 -- the command of a subcommand's name, its file and its matches
 abbrev pub command_named : (name file : Text) → List Row → Option Command
 command_named name file rows = if bytes_eq name (codes "check") then Some (Check file)
     else (if bytes_eq name (codes "translate") then Some (Translate file)
-    else (if bytes_eq name (codes "run")
-    then option_map (λ steps. Run file steps (is_given (codes "text") rows)) (steps_in rows)
-    else None))
+    else (if bytes_eq name (codes "run") then run_in file rows else None))
 
 -- the command of a subcommand's name and its matches
 abbrev pub command_in : Text × List Row → Option Command
@@ -95,4 +100,4 @@ command_of words = if_taken (fault_of cpc_app words) (option_and_then command_in
 abbrev pub asked : Parsed → Command
 asked (P.Check file) = Check file.now
 asked (P.Translate file) = Translate file.now
-asked (P.Run file steps text) = Run file.now steps text
+asked (P.Run file steps cells text) = Run file.now steps cells text

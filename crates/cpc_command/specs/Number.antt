@@ -1,4 +1,4 @@
--- How many steps a run may take.
+-- How many steps a run may take, and how many cells.
 use Rattle.std.specs.Prelude.{ℕ, Bool, ◌&&◌, Option, Some, None, length, if◌then◌else◌, nat_le}
 use Rattle.std.specs.Char.{is_ascii_digit}
 use Rattle.std.specs.List.{list_all}
@@ -12,14 +12,29 @@ default_steps = 100000000
 abbrev pub most_steps : ℕ
 most_steps = 1000000000000
 
+-- where the words give no number
+abbrev pub default_cells : ℕ
+default_cells = 4000000
+
+abbrev pub most_cells : ℕ
+most_cells = 50000000
+
 -- 1 to 18 decimal digits
 abbrev pub is_numeral : Text → Bool
 is_numeral text = nat_le 1 (length text) && (nat_le (length text) 18 && list_all is_ascii_digit text)
 
--- a number of steps that a run may take
-abbrev pub is_steps : ℕ → Bool
-is_steps n = nat_le 1 n && nat_le n most_steps
+-- a number from 1 to the most
+abbrev pub is_within : (most n : ℕ) → Bool
+is_within most n = nat_le 1 n && nat_le n most
+
+-- the number from 1 to the most that a text writes
+abbrev pub number_of : (most : ℕ) → Text → Option ℕ
+number_of most text = if is_numeral text && is_within most (digits_value 10 text) then Some (digits_value 10 text) else None
 
 -- the number of steps that a text writes
 abbrev pub steps_of : Text → Option ℕ
-steps_of text = if is_numeral text && is_steps (digits_value 10 text) then Some (digits_value 10 text) else None
+steps_of text = number_of most_steps text
+
+-- the number of cells that a text writes
+abbrev pub cells_of : Text → Option ℕ
+cells_of text = number_of most_cells text

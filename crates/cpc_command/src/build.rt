@@ -39,13 +39,14 @@ fn on_file<'a>(alloc: Global, name: &'a str) -> Result<Command<'a>, AllocError>
     Command::new(alloc, name).arg(file_argument(alloc))
 }
 
-/// `run FILE [--steps N] [--text]`.
+/// `run FILE [--steps N] [--cells N] [--text]`.
 fn run<'a>(alloc: Global) -> Result<Command<'a>, AllocError>
     ensures app { IfOk result (λ c. app_of c ≡ run_app) }
     ensures local { IfOk result IsLocal }
 {
     on_file(alloc, "run")?
         .arg(option(alloc, "steps"))?
+        .arg(option(alloc, "cells"))?
         .arg(flag(alloc, "text"))
 }
 

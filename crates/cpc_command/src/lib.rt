@@ -8,6 +8,6 @@ mod number;
 mod tests;
 mod words;
 
-pub use laws::{asking_words, other_words, taken_words};
-pub use number::{DEFAULT_STEPS, MOST_STEPS};
+pub use laws::{asking_words, bounded_words, other_words, taken_words};
+pub use number::{DEFAULT_CELLS, DEFAULT_STEPS, MOST_CELLS, MOST_STEPS};
 pub use words::{Command, Usage, read_words};

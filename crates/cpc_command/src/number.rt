@@ -1,8 +1,8 @@
-//! How many steps a run may take.
+//! How many steps a run may take, and how many cells.
 ghost use Rattle.std.specs.Prelude.{◌≡◌};
 ghost use Rattle.std.specs.Char.{is_ascii_digit};
 ghost use Rattle.std.specs.List.{list_all};
-ghost use Rattle.cpc_command.specs.Number.{is_numeral as is_numeral_text, steps_of};
+ghost use Rattle.cpc_command.specs.Number.{is_numeral as is_numeral_text, number_of};
 
 /// The steps of a run where the words give no number.
 pub const DEFAULT_STEPS: u64 = 100_000_000;
@@ -10,19 +10,25 @@ pub const DEFAULT_STEPS: u64 = 100_000_000;
 /// The most steps that the words may ask for.
 pub const MOST_STEPS: u64 = 1_000_000_000_000;
 
-/// The most digits of a number of steps, with any zeros before it.
+/// The live cells of a run where the words give no number.
+pub const DEFAULT_CELLS: u64 = 4_000_000;
+
+/// The most live cells that the words may ask for.
+pub const MOST_CELLS: u64 = 50_000_000;
+
+/// The most digits of a number, with any zeros before it.
 const MOST_DIGITS: usize = 18;
 
-/// The number of steps that `text` writes: 1 to 18 decimal digits and nothing else, of a value within 1 to
-/// `MOST_STEPS`. None where it is no such number.
-pub(crate) fn read_steps(text: &str) -> Option<u64>
-    ensures { result ≡ steps_of text.now }
+/// The number that `text` writes: 1 to 18 decimal digits and nothing else, of a value within 1 to `most`. None where
+/// it is no such number.
+pub(crate) fn read_number(text: &str, most: u64) -> Option<u64>
+    ensures { result ≡ number_of most text.now }
 {
     if !is_numeral(text) {
         return None;
     }
     let number: u64 = text.parse().ok()?;
-    if number == 0 || number > MOST_STEPS {
+    if number == 0 || number > most {
         return None;
     }
     Some(number)

@@ -14,16 +14,22 @@ fn owned(alloc: Global, words: &[&str]) -> Result<Vec<String>, AllocError> {
 
 // A run of "a.c".
 fn run(steps: u64, text: bool) -> Command<'static> {
+    within(steps, 4_000_000, text)
+}
+
+// The same with a cap on its cells.
+fn within(steps: u64, cells: u64, text: bool) -> Command<'static> {
     Command::Run {
         file: "a.c",
         steps,
+        cells,
         text,
     }
 }
 
 #[test]
 fn reads_commands(rt: HostRuntime) -> Result<(), Fail> {
-    let cases: [(&[&str], Command<'_>); 17] = [
+    let cases: [(&[&str], Command<'_>); 22] = [
         (&["check", "a.c"], Command::Check { file: "a.c" }),
         (&["translate", "a.c"], Command::Translate { file: "a.c" }),
         (&["run", "a.c"], run(100_000_000, false)),
@@ -42,6 +48,26 @@ fn reads_commands(rt: HostRuntime) -> Result<(), Fail> {
             &["run", "a.c", "--steps", "000000000000000007"],
             run(7, false),
         ),
+        (
+            &["run", "a.c", "--cells", "1"],
+            within(100_000_000, 1, false),
+        ),
+        (
+            &["run", "a.c", "--cells=50000000"],
+            within(100_000_000, 50_000_000, false),
+        ),
+        (
+            &["run", "--cells", "007", "a.c", "--steps", "5"],
+            within(5, 7, false),
+        ),
+        (
+            &["run", "--steps=5", "--cells=7", "--text", "a.c"],
+            within(5, 7, true),
+        ),
+        (
+            &["run", "--cells=100", "a.c"],
+            within(100_000_000, 100, false),
+        ),
         (&["run", "--", "a.c"], run(100_000_000, false)),
         (&["run", "--text", "--", "a.c"], run(100_000_000, true)),
         (&["check", "--", "-a.c"], Command::Check { file: "-a.c" }),
@@ -57,7 +83,7 @@ fn reads_commands(rt: HostRuntime) -> Result<(), Fail> {
 
 #[test]
 fn refuses_other_words(rt: HostRuntime) -> Result<(), Fail> {
-    let cases: [&[&str]; 33] = [
+    let cases: [&[&str]; 41] = [
         &[],
         &[""],
         &["check"],
@@ -82,6 +108,14 @@ fn refuses_other_words(rt: HostRuntime) -> Result<(), Fail> {
         &["run", "a.c", "--steps", "-5"],
         &["run", "a.c", "--step", "5"],
         &["run", "--steps", "5", "--steps", "5", "a.c"],
+        &["run", "a.c", "--cells", "0"],
+        &["run", "a.c", "--cells", "50000001"],
+        &["run", "a.c", "--cells"],
+        &["run", "a.c", "--cells="],
+        &["run", "a.c", "--cells", "5x"],
+        &["run", "--cells", "5", "--cells", "5", "a.c"],
+        &["run", "--steps", "5", "--cells", "0", "a.c"],
+        &["check", "a.c", "--cells", "5"],
         &["run", "a.c", "--text", "--text"],
         &["run", "a.c", "--text=true"],
         &["check", "a.c", "--text"],

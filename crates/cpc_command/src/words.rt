@@ -2,11 +2,12 @@
 ghost use Rattle.std.specs.Prelude.{◌≡◌, ◌≢◌, IfOk, map, option_and_then, option_map, string_bytes};
 ghost use Rattle.clap.specs.Words.{found_of, kind_of, rows_of, subcommand_rows_of};
 ghost use Rattle.cpc_command.specs.Commands.{asked, command_in, command_named as named_command, command_of};
-ghost use Rattle.cpc_command.specs.Commands.{is_given as was_given, steps_in as steps_given};
+ghost use Rattle.cpc_command.specs.Commands.{cells_in as cells_given, is_given as was_given};
+ghost use Rattle.cpc_command.specs.Commands.{run_in as run_given, steps_in as steps_given};
 ghost use Rattle.cpc_base.specs.declared.stop.Stop.TheVariants.{Fault};
 
 use crate::build;
-use crate::number::{DEFAULT_STEPS, read_steps};
+use crate::number::{DEFAULT_CELLS, DEFAULT_STEPS, MOST_CELLS, MOST_STEPS, read_number};
 use clap::ArgMatches;
 use clap::error::{Error, ErrorKind};
 use cpc_base::Stop;
@@ -31,6 +32,8 @@ pub enum Command<'a> {
         file: &'a str,
         /// The most steps that the run takes, within 1 to `MOST_STEPS`.
         steps: u64,
+        /// The most live cells of the run, within 1 to `MOST_CELLS`.
+        cells: u64,
         /// Whether `--text` was given.
         text: bool,
     },
@@ -80,13 +83,23 @@ fn command_named<'a>(name: &str, file: &'a str, values: &ArgMatches<'a>) -> Opti
     match name {
         "check" => Some(Command::Check { file }),
         "translate" => Some(Command::Translate { file }),
-        "run" => Some(Command::Run {
-            file,
-            steps: steps_in(values)?,
-            text: is_given("text", values),
-        }),
+        "run" => run_in(file, values),
         _ => None,
     }
+}
+
+/// The run that the options ask for.
+fn run_in<'a>(file: &'a str, values: &ArgMatches<'a>) -> Option<Command<'a>>
+    ensures { option_map asked result ≡ run_given file.entry.now (rows_of (found_of values.now)) }
+{
+    let steps = steps_in(values)?;
+    let cells = cells_in(values)?;
+    Some(Command::Run {
+        file,
+        steps,
+        cells,
+        text: is_given("text", values),
+    })
 }
 
 /// The number of `--steps`, or the default where it was not given.
@@ -94,8 +107,18 @@ fn steps_in(values: &ArgMatches<'_>) -> Option<u64>
     ensures { result ≡ steps_given (rows_of (found_of values.now)) }
 {
     match values.get_str("steps") {
-        Some(text) => read_steps(text),
+        Some(text) => read_number(text, MOST_STEPS),
         None => Some(DEFAULT_STEPS),
+    }
+}
+
+/// The number of `--cells`, or the default where it was not given.
+fn cells_in(values: &ArgMatches<'_>) -> Option<u64>
+    ensures { result ≡ cells_given (rows_of (found_of values.now)) }
+{
+    match values.get_str("cells") {
+        Some(text) => read_number(text, MOST_CELLS),
+        None => Some(DEFAULT_CELLS),
     }
 }
 

@@ -1,6 +1,5 @@
-use Rattle.std.proofs.Common.{refl, inr, take, drop, length, sym}
+use Rattle.std.proofs.Common.{refl, inr, take, drop, sym}
 use Rattle.std.proofs.lemmas.List.{take-append-drop}
-use Rattle.cpc_cli.specs.Answer.{IsPrefix}
 use Rattle.cpc_cli.proofs.answer.say.Goals as goal
 
 pub returns-in-Err : goal.returns-in-Err

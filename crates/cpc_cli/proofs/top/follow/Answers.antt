@@ -1,7 +1,7 @@
-use Rattle.std.proofs.Common.{◌≡◌, ◌∙◌, [], ap, sym, refl, Err, map, string_bytes}
+use Rattle.std.proofs.Common.{[], ap, sym, Err, map, string_bytes}
 use Rattle.cpc_base.proofs.Pieces.{append_known-nil}
-use Rattle.cpc_base.specs.declared.stop.Stop.TheVariants.{Fault}
 use Rattle.cpc_command.specs.Commands.{asked}
+use Rattle.cpc_command.proofs.BoundLemmas.{bounded_is}
 use Rattle.cpc_cli.specs.Answer.{misused, starved, performed}
 use Rattle.cpc_cli.proofs.TopLemmas.{line_named}
 use Rattle.cpc_cli.proofs.top.follow.Goals as goal
@@ -20,3 +20,6 @@ returns-in-Err-Memory-clause-ended g c = ([], sym (append_known-nil (g.O.Sink.ta
 pub returns-in-Err-Fault-clause-ended : goal.returns-in-Err-Fault-clause-ended
 returns-in-Err-Fault-clause-ended g c =
     ([], sym (append_known-nil (g.O.Sink.taken c.args.out.now)), misused (c.in-Err-Fault.ensures.usage c.in-Err-Fault.field-0-0 (ap Err c.in-Err-Fault.field-0-is)) c.requires)
+
+pub perform-requires-clause-bounded : goal.perform-requires-clause-bounded
+perform-requires-clause-bounded g c = bounded_is (map string_bytes c.args.words.now) (asked c.in-Ok.command) c.in-Ok.ensures.command

@@ -1,23 +1,23 @@
-use Rattle.std.proofs.Common.{◌≡◌, ◌∙◌, ap, sym, subst, refl, take, []}
-use Rattle.std.specs.Io.KnownBytes.{append_known}
+use Rattle.std.proofs.Common.{sym, subst, refl, take, []}
 use Rattle.cpc_base.proofs.Pieces.{append_known-nil}
-use Rattle.cpc_tree.specs.Erase.{program_of}
+use Rattle.cpc_tree.specs.Locate.{located}
 use Rattle.cpc_command.specs.Commands.{Translate}
-use Rattle.cpc_cli.specs.Answer.{did, unwritten_in, IsPrefix}
+use Rattle.cpc_cli.specs.Answer.{did, unwritten_in}
+use Rattle.cpc_run.specs.Reports.{IsPrefix}
 use Rattle.cpc_cli.specs.declared.answer.Outcome.TheVariants.{Translated}
 use Rattle.cpc_cli.proofs.TopLemmas.{begun_not, is_front}
 use Rattle.cpc_cli.proofs.top.translate_file.Goals as goal
 
 pub returns-in-Err-clause-ended : goal.returns-in-Err-clause-ended
 returns-in-Err-clause-ended g c =
-    ([], sym (append_known-nil (g.O.Sink.taken c.args.out.now)), begun_not _ (Translate c.args.file.now) c.args.file.now refl _ c.in-Err.end (c.in-Err.ensures.refused c.in-Err.end refl) (c.in-Err.ensures.none c.in-Err.end refl))
+    ([], sym (append_known-nil (g.O.Sink.taken c.args.out.now)), begun_not _ (Translate c.args.file.now) c.args.file.now refl _ (Unit {0}) (λ h. h) c.in-Err.end (c.in-Err.ensures.refused c.in-Err.end refl) (c.in-Err.ensures.none c.in-Err.end refl))
 
 pub returns-in-Ok-clause-ended : goal.returns-in-Ok-clause-ended
 returns-in-Ok-clause-ended g c =
-    (c.as_slice.result.now, c.in-Ok.ensures.all, did Translated (program_of c.in_default.field-0, c.in_default.ensures.printed, c.as_slice.ensures.value, c.in_default.ensures.same))
+    (c.as_slice.result.now, c.in-Ok.ensures.all, did Translated (located c.in_default.field-0.program, c.in_default.ensures.printed, c.as_slice.ensures.value, c.in_default.ensures.same))
 
 pub returns-in-Err-write_all-clause-ended : goal.returns-in-Err-write_all-clause-ended
 returns-in-Err-write_all-clause-ended g c =
     let wrote = c.in-Err-write_all.ensures.prefix in
     let part : IsPrefix (take wrote.0 c.as_slice.result.now) c.translated.new.report.printed.items = subst (IsPrefix (take wrote.0 c.as_slice.result.now)) c.as_slice.ensures.value (is_front wrote.0 c.as_slice.result.now) in
-    (take wrote.0 c.as_slice.result.now, wrote.2, unwritten_in c.in-Err-write_all.ensures.cause (program_of c.in_default.field-0, c.in_default.ensures.printed, part, c.in_default.ensures.same))
+    (take wrote.0 c.as_slice.result.now, wrote.2, unwritten_in c.in-Err-write_all.ensures.cause (located c.in_default.field-0.program, c.in_default.ensures.printed, part, c.in_default.ensures.same))

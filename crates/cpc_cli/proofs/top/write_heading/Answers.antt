@@ -1,7 +1,6 @@
-use Rattle.std.proofs.Common.{◌≡◌, ◌∙◌, ap, sym, subst, refl, codes, take, true, false, Bool, ◌++◌}
+use Rattle.std.proofs.Common.{◌∙◌, ap, codes, take, ◌++◌}
 use Rattle.cpc_base.proofs.Pieces.{append_known-append}
 use Rattle.std.specs.Io.KnownBytes.{append_known}
-use Rattle.cpc_cli.specs.Answer.{IsPrefix, heading}
 use Rattle.cpc_cli.proofs.TopLemmas.{in_printed, in_line}
 use Rattle.cpc_cli.proofs.top.write_heading.Goals as goal
 

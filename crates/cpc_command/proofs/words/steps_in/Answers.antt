@@ -8,7 +8,7 @@ use Rattle.cpc_command.proofs.words.steps_in.Goals as goal
 pub returns-in-Some : goal.returns-in-Some
 returns-in-Some c =
     let first = first_is (found_of c.args.values.now) (codes "steps") (Some c.in-Some.text.now) c.in-Some.ensures in
-    c.read_steps.ensures ∙ sym (ap (λ o. option_map_or steps_of o (Some default_steps)) first)
+    c.read_number.ensures ∙ sym (ap (λ o. option_map_or steps_of o (Some default_steps)) first)
 
 pub returns-in-None : goal.returns-in-None
 returns-in-None c =

@@ -1,0 +1,55 @@
+#!/usr/bin/env bash
+# Steps per second of the built program: loops of 10^5, 10^6 and 10^7 steps, calls nested 10^4 deep, and loops beside 10 and
+# 10^5 live blocks. Each row is the quickest of three runs, less the time of an empty program; the last column is its rate
+# over that of the first row of its group, which says what a step pays for the length of a run, or for the store.
+set -eu
+top=$(cd "$(dirname "${BASH_SOURCE[0]}")/.." && pwd)
+"$top/cpc" check "$top/examples/seven.c" >/dev/null
+program=$top/crates/cpc/out/cpc
+room=$(mktemp -d)
+trap 'rm -rf "$room"' EXIT
+
+quickest() {
+  local best= from took
+  for _ in 1 2 3; do
+    from=$(date +%s%N)
+    "$program" run "$1" --steps 1000000000 --cells 50000000 >/dev/null
+    took=$(($(date +%s%N) - from))
+    if [ -z "$best" ] || [ "$took" -lt "$best" ]; then best=$took; fi
+  done
+  echo "$best"
+}
+
+printf 'int main(void){ return 0; }' >"$room/empty.c"
+empty=$(quickest "$room/empty.c")
+first=
+
+# row NAME STEPS FILE: the steps per second of a file's run, of which so many count
+row() {
+  local took=$(($(quickest "$3") - empty)) rate
+  [ "$took" -gt 0 ] || took=1
+  rate=$(awk -v n="$2" -v t="$took" 'BEGIN { printf "%.0f", n * 1e9 / t }')
+  [ -n "$first" ] || first=$rate
+  printf '%-24s %10s steps %12s steps/s %6s\n' "$1" "$2" "$rate" "$(awk -v a="$rate" -v b="$first" 'BEGIN { printf "%.2f", a / b }')"
+}
+
+# a turn of the loop takes its test, the addition and the step of the `for`
+for turns in 33333 333333 3333333; do
+  printf 'int main(void){ int i; int s; s = 0; for (i = 0; i < %s; i++) s = (s + i) %% 1000; cpc_print(s); return 0; }' "$turns" >"$room/loop.c"
+  row "loop" $((3 * turns)) "$room/loop.c"
+done
+
+# a call that goes deeper takes its test, itself, the arrival of its value and the return
+first=
+for deep in 100 10000; do
+  again=$((1000000 / (4 * deep)))
+  printf 'int f(int n){ int r; if (n == 0) return 0; r = f(n - 1); return r; } int main(void){ int i; int r; for (i = 0; i < %s; i++) r = f(%s); cpc_print(r); return 0; }' "$again" "$deep" >"$room/calls.c"
+  row "calls, $deep deep" $((again * (4 * deep + 6))) "$room/calls.c"
+done
+
+# a list of so many blocks, and then a loop that reads one of them
+first=
+for live in 10 100000; do
+  printf 'struct node { int a; struct node *next; }; int main(void){ struct node *p; struct node *q; int i; q = 0; for (i = 0; i < %s; i++) { p = malloc(sizeof(struct node)); p->next = q; p->a = i; q = p; } for (i = 0; i < 333333; i++) p->a = (p->a + i) %% 1000; cpc_print(p->a); return 0; }' "$live" >"$room/blocks.c"
+  row "loop, $live blocks" $((999999 + 6 * live)) "$room/blocks.c"
+done

@@ -1,0 +1,11 @@
+pub mod Stopping
+pub mod Rowing
+pub mod Writing
+pub mod Calling
+pub mod Doing
+pub mod Performing
+pub mod Alike
+pub mod Planning
+pub mod Signing
+pub mod Evaluated
+pub mod Aiming

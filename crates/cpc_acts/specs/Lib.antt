@@ -1,0 +1,5 @@
+pub mod Stops
+pub mod Rows
+pub mod Calls
+pub mod Deeds
+pub mod Acts

@@ -1,0 +1,102 @@
+//! Whether a program breaks a rule, and the first that it breaks.
+ghost use Rattle.std.specs.Prelude.{◌≡◌, [], IfOk, IfErr, OnOk, Err, None, map};
+ghost use Rattle.cpc_base.specs.Texts.{AreDistinct};
+ghost use Rattle.cpc_base.specs.declared.stop.Stop.TheVariants.{Fault};
+ghost use Rattle.cpc_tree.specs.Erase.{Names as Spelling, item_of};
+ghost use Rattle.cpc_tree.specs.Locate.{located, located_item};
+ghost use Rattle.cpc_rules.specs.Apart.{Spells};
+ghost use Rattle.cpc_rules.specs.Noted.{noted, first_of};
+ghost use Rattle.cpc_rules.specs.Rule.{IsFirst};
+ghost use Rattle.cpc_rules.specs.ItemRules as R;
+ghost use Rattle.cpc_rules.specs.Rules.{breaks};
+ghost use Rattle.cpc_check_items.specs.Parts.{AreBodies};
+ghost use Rattle.cpc_check.specs.Accepted.{IsRead, IsWithin};
+
+use crate::checked::Checked;
+use crate::ground::Ground;
+use crate::items::item_rules;
+use cpc_base::{Dialect, Name, Names, NoMemory, Stop};
+use cpc_check_items::{Bodies, Earlier};
+use cpc_check_names::{breadth_rules, main_rules};
+use cpc_rules::{Breach, First};
+use cpc_tree::program::Program;
+use cpc_types::Scope;
+use std::alloc::Global;
+
+// Notes what the items of a program break, of which these have bodies. `NoMemory` is want of memory.
+fn note_items(
+    alloc: Global,
+    first: &mut First,
+    program: &Program,
+    dialect: Dialect,
+    bodies: &Bodies,
+) -> Result<(), NoMemory>
+    ensures { OnOk result ((names : Spelling) → Spells program.now.names names → AreBodies names (map (item_of names) program.now.items.items) bodies.now
+        → first_of first.new ≡ noted (first_of first.old) (R.items_breaks dialect (map (item_of names) program.now.items.items) [] (map (located_item names) program.now.items.items))) }
+{
+    let mut scope = Scope::of(alloc, program)?;
+    let mut earlier = Earlier::new(alloc);
+    for (i, item) in program.items.iter().enumerate() {
+        let ground = Ground {
+            dialect,
+            names: &program.names,
+            bodies,
+        };
+        let count = i as u64;
+        scope.enter_items(count);
+        item_rules(alloc, first, item, count, &mut scope, &earlier, &ground)?;
+        earlier.add(item)?;
+    }
+    Ok(())
+}
+
+/// The first of the rules that a program breaks. `NoMemory` is want of memory.
+pub(crate) fn first_broken(
+    alloc: Global,
+    program: &Program,
+    dialect: Dialect,
+) -> Result<First, NoMemory>
+    ensures { IfOk result (λ first. (names : Spelling) → Spells program.now.names names → first_of first ≡ noted None (breaks dialect (record { items = map (located_item names) program.now.items.items; end = program.now.end }))) }
+{
+    let mut first = First::new();
+    let bodies = Bodies::of(alloc, &program.items)?;
+    note_items(alloc, &mut first, program, dialect, &bodies)?;
+    main_rules(&mut first, &program.names, &program.items, program.end);
+    breadth_rules(alloc, &mut first, dialect, &program.items)?;
+    Ok(first)
+}
+
+// The texts of a table differ, as each look-up tells.
+fn are_distinct(names: &Names)
+    ensures { AreDistinct names.now }
+{
+    let _ = names.text(Name(0));
+}
+
+/// A program that breaks no rule of its dialect, unchanged.
+///
+/// # Errors
+///
+/// The program is handed back, with `Stop::Fault` for the first rule that it breaks, by place and at one place by the
+/// rules' numbers, or with `Stop::Memory` for want of memory.
+pub fn check(
+    alloc: Global,
+    program: Program,
+    dialect: Dialect,
+) -> Result<Checked, (Program, Stop<Breach>)>
+    requires read { IsRead dialect (located program) }
+    requires within { IsWithin program }
+    ensures accepted { IfOk result (λ c. (c.program ≡ program) × (c.dialect ≡ dialect) × (breaks dialect (located program) ≡ [])) }
+    ensures back { IfErr result (λ e. e.0 ≡ program) }
+    ensures refused { (p : _) (breach : _) → result ≡ Err (p, Fault breach) → IsFirst (breaks dialect (located program)) breach.place breach.rule }
+{
+    are_distinct(&program.names);
+    let first = match first_broken(alloc, &program, dialect) {
+        Ok(first) => first,
+        Err(NoMemory) => return Err((program, Stop::Memory)),
+    };
+    match first.breach {
+        Some(breach) => Err((program, Stop::Fault(breach))),
+        None => Ok(Checked { program, dialect }),
+    }
+}

@@ -1,0 +1,13 @@
+//! Checks programs: the first of the rules that one breaks, or that it breaks none.
+#![tactic(auto)]
+
+mod checked;
+mod checking;
+mod ground;
+mod items;
+mod starts;
+#[cfg(test)]
+mod tests;
+
+pub use checked::Checked;
+pub use checking::check;

@@ -1,0 +1,31 @@
+use Rattle.std.proofs.Common.{◌≡◌, ◌∙◌, Err, ap, subst}
+use Rattle.cpc_base.specs.declared.stop.Dialect.TheVariants.{Cpc}
+use Rattle.cpc_tree.specs.Locate.{located}
+use Rattle.cpc_check.specs.Accepted.{Accepts}
+use Rattle.cpc_base.specs.Bytes.{Text}
+use Rattle.cpc_base.specs.Outside.{Rose}
+use Rattle.cpc_cli.proofs.TopLemmas.{not_for_any, bare_same}
+use Rattle.cpc_cli.proofs.top.translated.Goals as goal
+
+pub returns-in-Err-clause-refused : goal.returns-in-Err-clause-refused
+returns-in-Err-clause-refused g c = λ end is.
+    let unread = λ (name : Text). Rose (g.F.Shelf.faults c.args.shelf.now name) (g.F.Shelf.faults c.read_text.new.shelf name) in
+    let same : c.in-Err.end ≡ end = cc in
+    not_for_any (g.F.Shelf.files c.args.shelf.now) (λ _. c.args.file.now) unread (Unit {0}) end (c.in-Err.ensures.refused end (ap Err same))
+
+pub returns-in-Ok-translate-clause-same : goal.returns-in-Ok-translate-clause-same
+returns-in-Ok-translate-clause-same g c = λ files told.
+    let text = c.in-Ok.ensures.text files told in
+    let is = c.as_slice.ensures.value ∙ text.2.1 in
+    let p = located c.in-Ok-translate.translated.source.program in (
+      text.0,
+      text.1,
+      (
+        text.2.0,
+        (
+          p,
+          subst (λ t. Accepts Cpc t p) is c.in-Ok-translate.ensures.source,
+          record { built = c.in-Ok-translate.ensures.built; same = bare_same c.in-Ok-translate.translated.source.program c.in-Ok-translate.translated.read_back.program c.in-Ok-translate.ensures.same },
+        ),
+      ),
+    )

@@ -1,0 +1,14 @@
+pub mod Counting
+pub mod Holding
+pub mod Nodes
+pub mod Scoping
+pub mod Types
+pub mod TypedParts
+pub mod Spotting
+pub mod Sizing
+pub mod Evaluating
+pub mod EvalParts
+pub mod PlaceParts
+pub mod Forms
+pub mod OtherForms
+pub mod Literals

@@ -1,0 +1,12 @@
+//! The variables of a call: made when its function is entered, and freed when it is left.
+#![tactic(auto)]
+
+mod frame;
+mod freeing;
+mod making;
+#[cfg(test)]
+mod tests;
+
+pub use frame::{Frame, enter};
+pub use freeing::leave;
+pub use making::make_slots;

@@ -1,0 +1,5 @@
+pub mod Blocks
+pub mod Held
+pub mod Rows
+pub mod Stopping
+pub mod Texts

@@ -1,0 +1,5 @@
+pub mod Standing
+pub mod Asked
+pub mod Stepping
+pub mod Frames
+pub mod Machines

@@ -1,0 +1,4 @@
+pub mod Counts
+pub mod Stacks
+pub mod Runs
+pub mod Well

@@ -1,0 +1,88 @@
+-- What holds of a machine between its steps, and what a step changes.
+use Rattle.std.specs.Prelude.{◌≡◌, true, List, [], ◌∷◌, ◌++◌}
+use Rattle.std.specs.List.{All}
+use Rattle.cpc_tree.specs.Erase.{Names}
+use Rattle.cpc_store.specs.Seen.{seen, IsLawful}
+use Rattle.cpc_index.specs.declared.index.Index.{Index}
+use Rattle.cpc_builtins.specs.Builtins.{primitive_of}
+use Rattle.cpc_builtins.specs.Served.{is_served}
+use Rattle.cpc_frames.specs.declared.frame.Frame.{Frame}
+use Rattle.cpc_frames.specs.Frames.{IsWellFrame}
+use Rattle.cpc_acts.specs.Acts.{IsLawfulIf}
+use Rattle.cpc_acts.specs.declared.act.Act.{Act}
+use Rattle.cpc_acts.specs.declared.act.Act.TheVariants as A
+use Rattle.cpc_native.specs.declared.machine.Machine.{Machine}
+use Rattle.cpc_native.specs.declared.machine.Stepped.{Stepped}
+use Rattle.cpc_native.specs.declared.machine.Stepped.TheVariants as S
+use Rattle.cpc_native.specs.Stacks.{stack_of}
+
+abbrev pub AreWell : Index → List Frame → Type 0
+AreWell index frames = All (IsWellFrame index) frames
+
+-- its frames are calls of functions of the program, and what arrives is lawful
+pub record IsWell (m : Machine) : Type 0 where
+  pub calls : AreWell m.index m.calls.frames.items
+  pub arriving : IsLawfulIf m.arriving
+
+-- another state of the same machine whose store alone may differ
+pub record IsSameBut (old new : Machine) : Type 0 where
+  pub index : new.index ≡ old.index
+  pub texts : new.texts ≡ old.texts
+  pub calls : new.calls.frames.items ≡ old.calls.frames.items
+  pub arriving : new.arriving ≡ old.arriving
+
+-- the frame was put back upon the others, and nothing else changed
+pub record IsBack (top : Frame) (old new : Machine) : Type 0 where
+  pub calls : new.calls.frames.items ≡ old.calls.frames.items ++ top ∷ []
+  pub store : new.store ≡ old.store
+  pub arriving : new.arriving ≡ old.arriving
+
+-- after a request and a fault
+abbrev pub BackAfter : Stepped → Frame → (old new : Machine) → Type 0
+BackAfter (S.Asked r) frame old new = IsBack frame old new
+BackAfter (S.Faulted fault x) frame old new = IsBack frame old new
+BackAfter _ frame old new = Unit {0}
+
+-- the function that a request or a fault tells is that of the frame
+abbrev pub TellsFunction : Stepped → Frame → Type 0
+TellsFunction (S.Asked r) frame = r.function ≡ frame.function.now.word.name
+TellsFunction (S.Faulted fault x) frame = x ≡ frame.function.now.word.name
+TellsFunction _ frame = Unit {0}
+
+-- another state of the same machine in which nothing changed
+pub record IsSame (old new : Machine) : Type 0 where
+  pub stack : (names : Names) → stack_of names new ≡ stack_of names old
+  pub store : new.store ≡ old.store
+
+-- a request and a fault change nothing
+abbrev pub Unchanged : Stepped → (old new : Machine) → Type 0
+Unchanged (S.Asked r) old new = IsSame old new
+Unchanged (S.Faulted fault x) old new = IsSame old new
+Unchanged _ old new = Unit {0}
+
+-- a primitive that is asked for is one that the loop answers
+abbrev pub AsksServed : Stepped → Type 0
+AsksServed (S.Asked r) = is_served (primitive_of r.call) ≡ true
+AsksServed _ = Unit {0}
+
+-- code goes on, or its outermost call was left
+abbrev pub IsOver : Stepped → Type 0
+IsOver S.Went = Unit {0}
+IsOver (S.Returned v) = Unit {0}
+IsOver _ = ⊥
+
+-- an act that does not ask comes to no request
+abbrev pub AskedBy : Act → Stepped → Type 0
+AskedBy (A.Asks b vs) stepped = Unit {0}
+AskedBy act stepped = IsOver stepped
+
+-- nothing runs once the outermost call was left
+abbrev pub EndsEmpty : Stepped → Machine → Type 0
+EndsEmpty (S.Returned v) new = new.calls.frames.items ≡ []
+EndsEmpty _ new = Unit {0}
+
+-- its values are lawful
+abbrev pub IsLawfulStep : Stepped → Type 0
+IsLawfulStep (S.Returned v) = IsLawful (seen v)
+IsLawfulStep (S.Asked r) = All (λ v. IsLawful (seen v)) r.args.items
+IsLawfulStep _ = Unit {0}

@@ -1,0 +1,93 @@
+//! The calls upon each other, and how many registers they have.
+ghost use Rattle.std.specs.Prelude.{◌≡◌, ◌↔◌, [], ◌∷◌, ◌++◌, IsTrue, OnOk, OnErr};
+ghost use Rattle.std.specs.Option.{IfNone, option_to_list};
+ghost use Rattle.std.proofs.Props.{props};
+ghost use Rattle.cpc_native.specs.Counts.{is_register, registers_in, frames_count};
+
+use cpc_base::NoMemory;
+use cpc_eval::Slot;
+use cpc_frames::Frame;
+use std::alloc::Global;
+
+/// The frames of calls, of which the innermost is the last, with the number of their registers.
+#[derive(Drop)]
+pub(crate) struct Calls<'p> {
+    frames: Vec<Frame<'p>>,
+    registers: u64,
+    ghost counted: { registers ≡ frames_count frames.items } by { Prim.hlevel props },
+}
+
+// Whether a slot is a register.
+fn is_register(slot: Slot) -> bool
+    ensures { result ≡ is_register slot }
+{
+    match slot {
+        Slot::Register(_) => true,
+        Slot::Boxed(_) => false,
+    }
+}
+
+// The number of registers among slots.
+fn registers_in(slots: &[Slot]) -> u64
+    ensures { result ≡ registers_in slots.now }
+{
+    slots.iter().filter(|slot| is_register(**slot)).count() as u64
+}
+
+impl<'p> Calls<'p> {
+    /// No call.
+    pub(crate) fn new(alloc: Global) -> Self
+        ensures { result.frames.items ≡ [] }
+    {
+        Calls {
+            frames: Vec::new(alloc),
+            registers: 0,
+        }
+    }
+
+    /// Puts a frame upon the others. `NoMemory` is want of memory, or of numbers for so many registers.
+    pub(crate) fn put(&mut self, frame: Frame<'p>) -> Result<(), NoMemory>
+        ensures ok { OnOk result (self.new.frames.items ≡ self.old.frames.items ++ frame.entry ∷ []) }
+        ensures err { OnErr result (self.new.frames.items ≡ self.old.frames.items) }
+    {
+        let count = registers_in(&frame.slots);
+        let Some(registers) = self.registers.checked_add(count) else {
+            return Err(NoMemory);
+        };
+        self.frames.push(frame)?;
+        self.registers = registers;
+        Ok(())
+    }
+
+    /// Takes the innermost frame.
+    pub(crate) fn take(&mut self) -> Option<Frame<'p>>
+        ensures rest { self.old.frames.items ≡ self.new.frames.items ++ option_to_list result }
+        ensures none { IfNone result (self.old.frames.items ≡ []) }
+    {
+        let frame = self.frames.pop()?;
+        self.registers -= registers_in(&frame.slots);
+        Some(frame)
+    }
+
+    /// Drops all frames.
+    pub(crate) fn clear(&mut self)
+        ensures { self.new.frames.items ≡ [] }
+    {
+        self.frames.clear();
+        self.registers = 0;
+    }
+
+    /// Whether there is no call.
+    pub(crate) fn is_empty(&self) -> bool
+        ensures { IsTrue result ↔ self.now.frames.items ≡ [] }
+    {
+        self.frames.is_empty()
+    }
+
+    /// How many registers the calls have.
+    pub(crate) fn registers(&self) -> u64
+        ensures { result ≡ frames_count self.now.frames.items }
+    {
+        self.registers
+    }
+}

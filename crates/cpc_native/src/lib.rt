@@ -1,0 +1,9 @@
+//! The machine of code: a stack of calls over a store, which goes step by step.
+#![tactic(auto)]
+
+mod calls;
+mod machine;
+#[cfg(test)]
+mod tests;
+
+pub use machine::{Machine, Request, Stepped};

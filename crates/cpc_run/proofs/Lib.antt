@@ -1,0 +1,9 @@
+pub mod Asks
+pub mod Turns
+pub mod Steps
+pub mod Coded
+pub mod Weighed
+pub mod Runs
+pub mod Pieces
+pub mod Ends
+pub mod Bars

@@ -1,0 +1,37 @@
+-- What waits is written.
+use Rattle.std.proofs.Common.{◌≡◌, ℕ, ◌≤◌, ◌+◌, ◌-◌, ◌^◌, min, List, [], ◌++◌, length, take, drop, Option, refl, sym, ap, subst, ◌∙◌, arith, append_assoc, inl, inr}
+use Rattle.std.proofs.lemmas.List.{append-nil, take-append-drop}
+use Rattle.std.specs.Io.KnownBytes.{append_known}
+use Rattle.cpc_base.specs.Bytes.{Text}
+use Rattle.cpc_base.specs.Outside.{Rose}
+use Rattle.cpc_base.proofs.Pieces.{append_known-append}
+use Rattle.cpc_run.specs.declared.outcome.Ended.{Ended}
+use Rattle.cpc_run.specs.Reports.{IsPrefix, Wrote, Drained, EndsSo}
+
+module _ (told old now : Option Text) (sent text : Text) (so_far : old ≡ append_known told sent) where
+  -- all of it
+  pub all_written : now ≡ append_known old text → now ≡ append_known told (sent ++ text)
+  all_written e = e ∙ ap (λ k. append_known k text) so_far ∙ append_known-append told sent text
+
+  pub drained : (pending left : Text) → text ≡ pending → left ≡ [] → now ≡ append_known old text → Drained told now sent pending left
+  drained pending left is none e = (sent ++ text, all_written e, ap (λ t. (sent ++ text) ++ t) none ∙ append-nil (sent ++ text) ∙ ap (λ t. sent ++ t) is)
+
+  -- only the first bytes of it
+  pub part_written : (pending : Text) (n : ℕ) → text ≡ pending → now ≡ append_known old (take n text) → Wrote told now (λ o. IsPrefix o (sent ++ pending))
+  part_written pending n is e = (
+    sent ++ take n text,
+    e ∙ ap (λ k. append_known k (take n text)) so_far ∙ append_known-append told sent (take n text),
+    record { rest = drop n text; whole = ap (λ t. sent ++ t) (sym is ∙ sym (take-append-drop n text)) ∙ sym (append_assoc sent (take n text) (drop n text)) },
+  )
+
+-- nothing was written yet
+pub none_written : (told now : Option Text) (sent pending : Text) → now ≡ append_known told sent → Drained told now sent pending pending
+none_written told now sent pending e = (sent, e, refl)
+
+-- all that waited is written, and the end is the one that was due
+pub all_told : (told now : Option Text) (sent pending left : Text) (due : Ended) → left ≡ [] → Drained told now sent pending left → Wrote told now (λ o. EndsSo due due o (sent ++ pending))
+all_told told now sent pending left due none (front, e, is) = (front, e, inl (refl, sym (append-nil front) ∙ ap (λ t. front ++ t) (sym none) ∙ is))
+
+-- a count that rose later rose
+pub rose_later : (old mid new : ℕ) → old ≤ mid → Rose mid new → Rose old new
+rose_later old mid new le rose = let h : min (mid + 1) (2 ^ 64 - 1) ≤ new = rose in omega arith

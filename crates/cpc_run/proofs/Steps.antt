@@ -1,0 +1,139 @@
+-- A step is what runs, or what is taken.
+use Rattle.std.proofs.Common.{◌≡◌, Bool, true, false, List, [], ◌∷◌, map, Option, Some, None, Result, Ok, Err, IfOk, refl, sym, ap, subst, ◌∙◌}
+use Rattle.cpc_base.specs.Bytes.{Text}
+use Rattle.cpc_base.specs.declared.names.Name.{Name}
+use Rattle.cpc_base.specs.declared.stop.NoMemory.{NoMemory}
+use Rattle.cpc_num.specs.declared.kinds.Fault.{Fault}
+use Rattle.cpc_num.specs.declared.kinds.Kind.TheVariants.{Int}
+use Rattle.cpc_tree.specs.Erase.{Names}
+use Rattle.cpc_tree.specs.Points.{Point}
+use Rattle.cpc_tree.specs.Syntax.{TyInt}
+use Rattle.cpc_tree.specs.Trace as T
+use Rattle.cpc_store.specs.declared.values.Value.{Value}
+use Rattle.cpc_store.specs.Store as S
+use Rattle.cpc_meaning.specs.Agenda as A
+use Rattle.cpc_meaning.specs.Answer.{Answer, Gives, Faults, NoAnswer, ◌>>=◌}
+use Rattle.cpc_meaning.specs.Eval.{assigned}
+use Rattle.cpc_meaning.specs.Events.{Callback, CallWith, callbacks, starts_callback}
+use Rattle.cpc_meaning.specs.Machine.{ends, fault_function, settled, schedules, step_running, try_step, code_step, runs_on, asked_by, runs, with_agenda}
+use Rattle.cpc_meaning.specs.Plain.{Done, Asks, plain, running_function}
+use Rattle.cpc_meaning.specs.Start.{before_bars}
+use Rattle.cpc_meaning.specs.Requests.{Request}
+use Rattle.cpc_meaning.specs.Trees.{trees}
+use Rattle.cpc_agenda.specs.declared.agenda.Agenda.{Agenda}
+use Rattle.cpc_agenda.specs.Lists.{lists_of, due_of}
+use Rattle.cpc_values.specs.Shown.{value_of}
+use Rattle.cpc_run.specs.declared.items.Item.{Item}
+use Rattle.cpc_run.specs.declared.looped.Loop.{Loop}
+use Rattle.cpc_run.specs.declared.outcome.Outcome.{Outcome}
+use Rattle.cpc_run.specs.declared.outcome.Outcome.TheVariants as O
+use Rattle.cpc_run.specs.Code.{items_in, store_in, stack_in, Same}
+use Rattle.cpc_run.specs.States.{States, Stands, Came, Did, agenda_of, callback_of, due_callback, settles, where_running, program_in}
+
+-- where no rule fits nothing is said
+pub nothing : (names : Names) (r : Result (Option Outcome) NoMemory) (new : Loop) (printed : Text) (s : States) → Did names r new printed s None
+nothing names (Ok r) new printed s = tt
+nothing names (Err e) new printed s = tt
+
+-- ---- a callback
+
+pub calls_with : (names : Names) (r : Result (Option Outcome) NoMemory) (l new : Loop) (printed : Text) (s : States) (f : Text) (pointer v w : S.Value)
+    → ((x : S.Value) → assigned (TyInt Int) v ≡ Gives x → w ≡ x)
+    → Did names r new printed s (settles names l s (runs (trees (program_in names l)) f (pointer ∷ w ∷ []) s))
+    → Did names r new printed s (settles names l s (starts_callback (trees (program_in names l)) (CallWith f pointer) v s))
+calls_with names r l new printed s f pointer S.Unset w e h =
+    subst (λ x. Did names r new printed s (settles names l s (runs (trees (program_in names l)) f (pointer ∷ x ∷ []) s))) (e S.Unset refl) h
+calls_with names r l new printed s f pointer (S.Whole kind z) w e h =
+    subst (λ x. Did names r new printed s (settles names l s (runs (trees (program_in names l)) f (pointer ∷ x ∷ []) s))) (e _ refl) h
+calls_with names r l new printed s f pointer S.Null w e h = nothing names r new printed s
+calls_with names r l new printed s f pointer (S.At c n k) w e h = nothing names r new printed s
+calls_with names r l new printed s f pointer (S.Code g) w e h = nothing names r new printed s
+calls_with names r l new printed s f pointer (S.Cond n) w e h = nothing names r new printed s
+
+-- ---- what the code asks for
+
+done_so : (names : Names) (r : Result (Option Outcome) NoMemory) (l new : Loop) (printed : Text) (s : States) (request : Request) (a : Answer (Done Point)) → Same (Ok (Asks request)) a
+    → Did names r new printed s (settles names l s (asked_by (callbacks (program_in names l)) (stack_in names l.machine) s request.asked request.arguments))
+    → Did names r new printed s (settles names l s (a >>= runs_on (callbacks (program_in names l)) s (stack_in names l.machine)))
+done_so names r l new printed s request NoAnswer e h = nothing names r new printed s
+done_so names r l new printed s request (Faults fault) e h = absurd (cc e)
+done_so names r l new printed s request (Gives d) e h =
+    let same : Asks request ≡ d = cc e in
+    subst (λ d. Did names r new printed s (settles names l s (runs_on (callbacks (program_in names l)) s (stack_in names l.machine) d))) same h
+
+pub asked_so : (names : Names) (r : Result (Option Outcome) NoMemory) (l mid new : Loop) (before printed : Text) (s : States) (request : Request) → Stands names l before s
+    → program_in names mid ≡ program_in names l → stack_in names mid.machine ≡ stack_in names l.machine
+    → Same (Ok (Asks request)) (plain (trees (program_in names l)) (store_in names l.machine) (stack_in names l.machine))
+    → Did names r new printed s (settles names mid s (asked_by (callbacks (program_in names mid)) (stack_in names mid.machine) s request.asked request.arguments))
+    → Did names r new printed s (settles names l s (code_step (callbacks (program_in names l)) s (stack_in names l.machine)))
+asked_so names r l mid new before printed s request stands program stack e h =
+    let k = stack_in names l.machine in
+    done_so names r l new printed s request (plain (trees (program_in names l)) s.store k) (subst (λ t. Same (Ok (Asks request)) (plain (trees (program_in names l)) t k)) (sym stands.store) e)
+    (subst (λ p. Did names r new printed s (settled (callbacks p) s (asked_by (callbacks p) k s request.asked request.arguments))) program
+    (subst (λ j. Did names r new printed s (settled (callbacks (program_in names mid)) s (asked_by (callbacks (program_in names mid)) j s request.asked request.arguments))) stack h))
+
+-- ---- a fault of the code
+
+failed_so : (names : Names) (l new : Loop) (printed : Text) (s : States) (fault : Fault) (f : Name) (a : Answer (Done Point)) → Same (Err fault) a → names f ≡ running_function (stack_in names l.machine) → s.running ≡ Some (stack_in names l.machine)
+    → Came names (Some (O.Failed fault f)) new printed s (settles names l s (a >>= runs_on (callbacks (program_in names l)) s (stack_in names l.machine)))
+failed_so names l new printed s fault f NoAnswer e name running = tt
+failed_so names l new printed s fault f (Gives d) e name running = absurd (cc e)
+failed_so names l new printed s fault f (Faults other) e name running =
+    let same : other ≡ fault = cc e in
+    ap (λ x. ends (T.Failed x (before_bars (fault_function s.running))) s) same ∙ ap (λ x. ends (T.Failed fault (before_bars x)) s) (ap fault_function running ∙ sym name)
+
+pub faulted_so : (names : Names) (l new : Loop) (before printed : Text) (s : States) (fault : Fault) (f : Name) → Stands names l before s → l.running ≡ true
+    → names f ≡ running_function (stack_in names l.machine) → Same (Err fault) (plain (trees (program_in names l)) (store_in names l.machine) (stack_in names l.machine))
+    → Came names (Some (O.Failed fault f)) new printed s (settles names l s (code_step (callbacks (program_in names l)) s (stack_in names l.machine)))
+faulted_so names l new before printed s fault f stands running name e =
+    let k = stack_in names l.machine in
+    failed_so names l new printed s fault f (plain (trees (program_in names l)) s.store k) (subst (λ t. Same (Err fault) (plain (trees (program_in names l)) t k)) (sym stands.store) e) name
+    (stands.running ∙ ap (λ b. where_running b k) running)
+
+-- ---- what is taken
+
+-- a step that goes on does so from either state
+from_either : (names : Names) (r : Result (Option Outcome) NoMemory) (l new : Loop) (printed : Text) (s t : States) (a : Answer States) → IfOk r (λ o. o ≡ None)
+    → Did names r new printed t (settles names l t a) → Did names r new printed s (settles names l s a)
+from_either names (Err e) l new printed s t a on h = tt
+from_either names (Ok (Some o)) l new printed s t a on h = absurd (cc on)
+from_either names (Ok None) l new printed s t NoAnswer on h = tt
+from_either names (Ok None) l new printed s t (Gives u) on h = h
+from_either names (Ok None) l new printed s t (Faults fault) on h = absurd (let going = h.going in cc)
+
+module _ (names : Names) (r : Result (Option Outcome) NoMemory) (l mid new : Loop) (before printed : Text) (s : States) (item : Item) (v : Value) where
+  abbrev after_it : A.Agenda Callback
+  after_it = agenda_of names mid.agenda
+
+  abbrev it : A.Due Callback
+  it = record { item = callback_of names item; result = value_of names v }
+
+  next_is : lists_of names l.agenda ≡ record (lists_of names mid.agenda) { round = due_of names (item, v) ∷ (lists_of names mid.agenda).round }
+      → agenda_of names l.agenda ≡ record after_it { round = it ∷ after_it.round }
+  next_is e = ap (λ x. record A.new_agenda { ready = map (due_callback names) x.ready; round = map (due_callback names) x.round }) e
+
+  scheduled : s.agenda ≡ record after_it { round = it ∷ after_it.round }
+      → schedules (callbacks (program_in names l)) s s.agenda.round ≡ starts_callback (trees (program_in names l)) (callback_of names item) (value_of names v) (with_agenda s after_it)
+  scheduled e =
+      ap (λ a. schedules (callbacks (program_in names l)) s a.round) e
+      ∙ ap (λ a. starts_callback (trees (program_in names l)) (callback_of names item) (value_of names v) (with_agenda s (record a { round = after_it.round }))) e
+
+  pub taken : Stands names l before s → l.running ≡ false → mid.machine ≡ l.machine → mid.running ≡ false
+      → lists_of names l.agenda ≡ record (lists_of names mid.agenda) { round = due_of names (item, v) ∷ (lists_of names mid.agenda).round }
+      → IfOk r (λ o. o ≡ None)
+      → ((t : States) → Stands names mid before t → Did names r new printed t (settles names mid t (starts_callback (trees (program_in names mid)) (callback_of names item) (value_of names v) t)))
+      → Did names r new printed s (try_step (callbacks (program_in names l)) s)
+  taken h idle same still e on start =
+      let t = with_agenda s after_it in
+      let m = callbacks (program_in names l) in
+      let stands : Stands names mid before t = record {
+        store = h.store ∙ ap (store_in names) (sym same);
+        running = h.running ∙ ap (λ b. where_running b (stack_in names l.machine)) (idle ∙ sym still) ∙ ap (λ x. where_running mid.running (stack_in names x)) (sym same);
+        agenda = refl;
+        printed_so = h.printed_so;
+        going = h.going;
+      } in
+      let begun = subst (λ x. Did names r new printed t (settled (callbacks (items_in names x)) t (starts_callback (trees (items_in names x)) (callback_of names item) (value_of names v) t))) same (start t stands) in
+      let here = from_either names r l new printed s t (starts_callback (trees (program_in names l)) (callback_of names item) (value_of names v) t) on begun in
+      subst (λ a. Did names r new printed s (settled m s a))
+      (sym (ap (step_running m s) (h.running ∙ ap (λ b. where_running b (stack_in names l.machine)) idle) ∙ scheduled (h.agenda ∙ next_is e))) here

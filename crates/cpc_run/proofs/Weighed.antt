@@ -1,0 +1,58 @@
+-- A step within the cap.
+use Rattle.std.proofs.Common.{◌≡◌, ◌≢◌, ℕ, ◌+◌, ◌<◌, ◌≤◌, ◌^◌, ◌-◌, min, Bool, true, false, List, [], ◌++◌, Option, Some, None, Result, Ok, Err, refl, sym, ap, subst, ◌∙◌, arith, append_assoc}
+use Rattle.std.proofs.lemmas.List.{append-nil}
+use Rattle.cpc_base.specs.Bytes.{Text}
+use Rattle.cpc_base.specs.declared.stop.NoMemory.{NoMemory}
+use Rattle.cpc_tree.specs.Erase.{Names}
+use Rattle.cpc_store.specs.Store.{store_cells}
+use Rattle.cpc_meaning.specs.Machine.{ends}
+use Rattle.cpc_meaning.specs.Plain.{Stack}
+use Rattle.cpc_meaning.specs.Runs.{live_cells, registers, frames_registers}
+use Rattle.cpc_tree.specs.Points.{Point}
+use Rattle.cpc_run.specs.declared.looped.Loop.{Loop}
+use Rattle.cpc_run.specs.declared.made.Made.{Made}
+use Rattle.cpc_run.specs.declared.made.Made.TheVariants as M
+use Rattle.cpc_run.specs.declared.outcome.Outcome.{Outcome}
+use Rattle.cpc_run.specs.Code.{store_in, stack_in, IsIdle}
+use Rattle.cpc_run.specs.States.{States, Stands, Came, Did, IsSteady, where_running, outcome_of}
+use Rattle.cpc_run.specs.Reports.{MadeSo}
+use Rattle.cpc_run.proofs.Coded.{idle_frames}
+
+-- a number below the greatest is not capped
+pub uncapped : (cells live greatest : ℕ) → cells ≡ min live greatest → cells ≢ greatest → cells ≡ live
+uncapped cells live greatest e ne = omega arith
+
+-- the registers of what runs
+registers_of : (b : Bool) (k : Stack Point) → (b ≡ false → frames_registers k.frames ≡ 0) → frames_registers k.frames ≡ registers (where_running b k)
+registers_of true k h = refl
+registers_of false k h = h refl
+
+idle_registers : (names : Names) (l : Loop) → IsIdle l.machine → frames_registers (stack_in names l.machine).frames ≡ 0
+idle_registers names l h = ap frames_registers (idle_frames names l.machine h)
+
+-- the cells of the loop are those of the state
+pub cells_so : (names : Names) (l : Loop) (printed : Text) (s : States) → IsSteady l → Stands names l printed s → store_cells (store_in names l.machine) + frames_registers (stack_in names l.machine).frames ≡ live_cells s
+cells_so names l printed s steady h =
+    let stored : store_cells s.store ≡ store_cells (store_in names l.machine) = ap store_cells h.store in
+    let running : registers s.running ≡ registers (where_running l.running (stack_in names l.machine)) = ap registers h.running in
+    let kept : frames_registers (stack_in names l.machine).frames ≡ registers (where_running l.running (stack_in names l.machine)) = registers_of l.running (stack_in names l.machine) (λ e. idle_registers names l (steady.idle e)) in
+    omega arith
+
+-- bytes behind the others, in whatever order they are put together
+pub behind_all : (sent old more new : Text) → new ≡ old ++ more → (sent ++ old) ++ more ≡ sent ++ new
+behind_all sent old more new e = append_assoc sent old more ∙ ap (λ t. sent ++ t) (sym e)
+
+module _ (names : Names) (cap : ℕ) (l : Loop) (s : States) where
+  pub made_on : (old printed new : Text) (cells greatest : ℕ) (o : Option States) → printed ≡ new → Came names None l printed s o
+      → ((t : States) → Stands names l printed t → cells ≡ min (live_cells t) greatest) → cells ≢ greatest → cells ≤ cap → MadeSo names cap (Ok (M.On cells)) l old new s o
+  made_on old printed new cells greatest None e h counted ne le = tt
+  made_on old printed new cells greatest (Some t) e h counted ne le = (subst (λ p. Stands names l p t) e h, uncapped cells (live_cells t) greatest (counted t h) ne, le)
+
+  pub made_full : (old printed new : Text) (cells greatest : ℕ) (o : Option States) → Came names None l printed s o
+      → ((t : States) → Stands names l printed t → cells ≡ min (live_cells t) greatest) → cells ≢ greatest → cap < cells → new ≡ old → MadeSo names cap (Ok (M.Full cells)) l old new s o
+  made_full old printed new cells greatest None h counted ne lt same = tt
+  made_full old printed new cells greatest (Some t) h counted ne lt same = (same, uncapped cells (live_cells t) greatest (counted t h) ne, lt)
+
+  pub made_over : (old printed new : Text) (outcome : Outcome) (o : Option States) → Came names (Some outcome) l printed s o → new ≡ old → MadeSo names cap (Ok (M.Over outcome)) l old new s o
+  made_over old printed new outcome None h same = tt
+  made_over old printed new outcome (Some t) h same = (same, h)

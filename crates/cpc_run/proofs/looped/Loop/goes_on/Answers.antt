@@ -1,0 +1,44 @@
+use Rattle.std.proofs.Common.{◌≡◌, ◌++◌, false, Some, Ok, Err, ap, refl, sym, subst, ◌∙◌}
+use Rattle.cpc_meaning.specs.Plain.{plain, running_function, Asks}
+use Rattle.cpc_meaning.specs.Trees.{trees}
+use Rattle.cpc_run.specs.Code.{AskedIn, EndsIdle, Same, done_of, store_in, stack_in}
+use Rattle.cpc_native.specs.Stacks.{request_of}
+use Rattle.cpc_run.specs.States.{where_running, program_in}
+use Rattle.cpc_native.specs.declared.machine.Stepped.TheVariants.{Asked, Faulted}
+use Rattle.cpc_run.proofs.Steps.{asked_so, faulted_so}
+use Rattle.cpc_run.proofs.looped.Loop.goes_on.Goals as goal
+
+pub returns-in-Returned-clause-steady : goal.returns-in-Returned-clause-steady
+returns-in-Returned-clause-steady c = record {
+  well = c.in_ok-step.ensures.well;
+  idle = λ e. subst (λ x. EndsIdle x c.step.new.self) c.in-Returned.is c.in_ok-step.ensures.idle;
+  waiting = c.requires.steady.waiting;
+}
+
+pub returns-in-Asked-clause-did : goal.returns-in-Asked-clause-did
+returns-in-Asked-clause-did c = λ names fits sent s stands.
+    let l = c.args.self.now in
+    let k = stack_in names l.machine in
+    let r = c.in-Asked.request in
+    let told = subst (λ x. AskedIn names l.machine c.step.new.self x) c.in-Asked.is (c.in_ok-step.ensures.asked names) in
+    let did : Same (Ok (Asks (request_of names r))) (plain (trees (program_in names l)) (store_in names l.machine) k) =
+    subst (λ x. Same (done_of names c.step.new.self x) (plain (trees (program_in names l)) (store_in names l.machine) k)) c.in-Asked.is (c.in_ok-step.ensures.did names fits.runs) in
+    asked_so names c.asked.result l (record l { machine = c.step.new.self }) c.asked.new.self (sent ++ c.args.pending.now.items) (sent ++ c.asked.new.pending.items) s (request_of names r) stands (c.in_ok-step.ensures.items names) told.0 did
+    (c.asked.ensures.did names (record { runs = c.in_ok-step.ensures.runs names fits.runs; main = fits.main }) sent s (record {
+      store = stands.store ∙ sym told.1;
+      asks = stands.running ∙ ap (λ b. where_running b k) c.requires.running ∙ ap Some (sym told.0);
+      name = told.2 ∙ sym (ap (λ j. running_function j) told.0);
+      agenda = stands.agenda;
+      printed_so = stands.printed_so;
+      going = stands.going;
+    }))
+
+pub returns-in-Faulted-clause-did : goal.returns-in-Faulted-clause-did
+returns-in-Faulted-clause-did c = λ names fits sent s stands.
+    let l = c.args.self.now in
+    let k = stack_in names l.machine in
+    let printed = sent ++ c.args.pending.now.items in
+    let told = subst (λ x. AskedIn names l.machine c.step.new.self x) c.in-Faulted.is (c.in_ok-step.ensures.asked names) in
+    let did : Same (Err c.in-Faulted.fault) (plain (trees (program_in names l)) (store_in names l.machine) k) =
+    subst (λ x. Same (done_of names c.step.new.self x) (plain (trees (program_in names l)) (store_in names l.machine) k)) c.in-Faulted.is (c.in_ok-step.ensures.did names fits.runs) in
+    faulted_so names l (record l { machine = c.step.new.self }) printed printed s c.in-Faulted.fault c.in-Faulted.function stands c.requires.running told did

@@ -1,0 +1,7 @@
+use Rattle.cpc_run.proofs.Ends.{checked_never_stuck}
+use Rattle.cpc_run.proofs.run.run_event.Goals as goal
+
+pub run_program-requires-clause-never_stuck : goal.run_program-requires-clause-never_stuck
+run_program-requires-clause-never_stuck g c =
+    let p = c.args.program.now in
+    checked_never_stuck c.accepted_callbacks_never_stuck.ensures p.program p.dialect c.requires.dialect p.read p.unbroken

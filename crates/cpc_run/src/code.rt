@@ -1,0 +1,149 @@
+//! The machine of code by the texts of names: what it runs, its store and its stack.
+ghost use Rattle.std.specs.Prelude.{◌≡◌, map, ◌+◌, ◌<◌, ◌^◌, ◌-◌, IfOk, OnOk, min, Some};
+ghost use Rattle.std.specs.List.{All};
+ghost use Rattle.cpc_tree.specs.Erase.{Names as Spelling, item_of};
+ghost use Rattle.cpc_tree.specs.Typing.{function_named};
+ghost use Rattle.cpc_tree.specs.Syntax as T;
+ghost use Rattle.cpc_tree.specs.Points.{Point};
+ghost use Rattle.cpc_meaning.specs.Answer.{Gives};
+ghost use Rattle.cpc_meaning.specs.Plain as P;
+ghost use Rattle.cpc_meaning.specs.Runs.{frames_registers};
+ghost use Rattle.cpc_meaning.specs.Trees.{trees};
+ghost use Rattle.cpc_store.specs.Seen.{seen, result_with, IsLawful};
+ghost use Rattle.cpc_store.specs.Store as S;
+ghost use Rattle.cpc_values.specs.Shown.{value_of, values_of, store_of};
+ghost use Rattle.cpc_native.specs.Well.{IsLawfulStep};
+ghost use Rattle.cpc_index.specs.Indexed.{program_items};
+ghost use Rattle.cpc_run.specs.Code.{items_in, store_in, stack_in, IsIdle, IsWell, Runs, StepIs, AnswerIs, AskedIn, EndsIdle, Given};
+
+use cpc_base::{Name, Names, NoMemory, Stop};
+use cpc_index::Index;
+use cpc_native::{Machine, Stepped};
+use cpc_num::Fault;
+use cpc_store::{Block, Class, Store, Value};
+use cpc_tree::program::Program;
+use std::alloc::Global;
+
+/// The running code.
+#[derive(Drop)]
+pub(crate) struct Code<'p> {
+    machine: Machine<'p>,
+}
+
+impl<'p> Code<'p> {
+    /// Nothing runs.
+    pub(crate) fn new(
+        alloc: Global,
+        program: &'p Program,
+        store: Store,
+    ) -> Result<Code<'p>, NoMemory>
+        ensures store { IfOk result (λ m. (names : Spelling) → store_in names m ≡ store_of names store) }
+        ensures items { IfOk result (λ m. (names : Spelling) → items_in names m ≡ map (item_of names) program.now.items.items) }
+        ensures runs { IfOk result (λ m. (names : Spelling) → Given names program.now → Runs names m) }
+        ensures idle { IfOk result (λ m. IsIdle m) }
+        ensures well { IfOk result (λ m. IsWell m) }
+    {
+        let index = Index::of(alloc, program)?;
+        let machine = Machine::new(alloc, index, &program.names, store);
+        Ok(Code { machine })
+    }
+
+    /// A function is called, at the bottom of the stack.
+    pub(crate) fn call(
+        &mut self,
+        alloc: Global,
+        function: Name,
+        args: &[Value],
+    ) -> Result<(), NoMemory>
+        requires lawful { All (λ v. IsLawful (seen v)) args.now }
+        ensures items { (names : Spelling) → items_in names self.new ≡ items_in names self.old }
+        ensures runs { (names : Spelling) → Runs names self.old → Runs names self.new }
+        ensures well { OnOk result (IsWell self.new) }
+        ensures entered { OnOk result ((names : Spelling) → Runs names self.old → (g : T.Function) (frame : P.Frame Point) (t : S.Store)
+            → function_named (items_in names self.old) (names function) ≡ Some g
+            → P.make_frame (trees (items_in names self.old)) g (values_of names args.now) (store_in names self.old) ≡ Gives (frame, t)
+            → (stack_in names self.new ≡ P.stack_of frame) × (store_in names self.new ≡ t)) }
+    {
+        self.machine.call(alloc, function, args)
+    }
+
+    /// A step of the running code.
+    pub(crate) fn step(&mut self, alloc: Global) -> Result<Stepped, NoMemory>
+        requires well { IsWell self.old }
+        ensures items { (names : Spelling) → items_in names self.new ≡ items_in names self.old }
+        ensures runs { (names : Spelling) → Runs names self.old → Runs names self.new }
+        ensures well { OnOk result (IsWell self.new) }
+        ensures lawful { IfOk result (λ stepped. IsLawfulStep stepped) }
+        ensures idle { IfOk result (λ stepped. EndsIdle stepped self.new) }
+        ensures asked { IfOk result (λ stepped. (names : Spelling) → AskedIn names self.old self.new stepped) }
+        ensures did { (names : Spelling) → Runs names self.old → StepIs names self.new result (P.plain (trees (items_in names self.old)) (store_in names self.old) (stack_in names self.old)) }
+    {
+        self.machine.step(alloc)
+    }
+
+    /// The value of a request arrives, in the step that asked.
+    pub(crate) fn answer(&mut self, alloc: Global, value: Value) -> Result<(), Stop<Fault>>
+        requires well { IsWell self.old }
+        requires lawful { IsLawful (seen value) }
+        ensures items { (names : Spelling) → items_in names self.new ≡ items_in names self.old }
+        ensures runs { (names : Spelling) → Runs names self.old → Runs names self.new }
+        ensures well { OnOk result (IsWell self.new) }
+        ensures answered { (names : Spelling) → Runs names self.old → AnswerIs names self.new result (P.answered (trees (items_in names self.old)) (store_in names self.old) (stack_in names self.old) (value_of names value)) }
+    {
+        self.machine.answer(alloc, value)
+    }
+
+    /// The cells of live blocks, and the registers of the running code; `u64::MAX` stands for every greater number.
+    pub(crate) fn live_cells(&self) -> u64
+        ensures { (names : Spelling) → result ≡ min (S.store_cells (store_in names self.now) + frames_registers (stack_in names self.now).frames) (2 ^ 64 - 1) }
+    {
+        self.machine.live_cells()
+    }
+
+    /// How many blocks of a class were made.
+    pub(crate) fn made(&self, class: Class) -> u64
+        ensures { (names : Spelling) → result ≡ S.next_block class (store_in names self.now) }
+    {
+        self.machine.store().made(class)
+    }
+
+    /// The cells of live blocks.
+    pub(crate) fn store_cells(&self) -> u64
+        ensures { (names : Spelling) → result ≡ S.store_cells (store_in names self.now) }
+    {
+        self.machine.store().live_cells()
+    }
+
+    /// Makes the next block of a class, its cells unset.
+    pub(crate) fn alloc(
+        &mut self,
+        alloc: Global,
+        class: Class,
+        cells: u64,
+    ) -> Result<Block, NoMemory>
+        requires well { IsWell self.old }
+        requires live { (names : Spelling) → S.store_cells (store_in names self.old) + cells < 2 ^ 63 }
+        requires made { (names : Spelling) → S.next_block class (store_in names self.old) + 1 < 2 ^ 63 }
+        ensures items { (names : Spelling) → items_in names self.new ≡ items_in names self.old }
+        ensures runs { (names : Spelling) → Runs names self.old → Runs names self.new }
+        ensures stack { (names : Spelling) → stack_in names self.new ≡ stack_in names self.old }
+        ensures well { IsWell self.new }
+        ensures block { IfOk result (λ b. (names : Spelling) → b ≡ record { class = class; number = S.next_block class (store_in names self.old) }) }
+        ensures ok { OnOk result ((names : Spelling) → store_in names self.new ≡ S.alloc class (S.unset_cells cells) (store_in names self.old)) }
+    {
+        self.machine.alloc(alloc, class, cells)
+    }
+
+    /// Drops a block of the class.
+    pub(crate) fn free(&mut self, class: Class, what: Value) -> Result<(), Fault>
+        requires well { IsWell self.old }
+        requires lawful { IsLawful (seen what) }
+        ensures items { (names : Spelling) → items_in names self.new ≡ items_in names self.old }
+        ensures runs { (names : Spelling) → Runs names self.old → Runs names self.new }
+        ensures stack { (names : Spelling) → stack_in names self.new ≡ stack_in names self.old }
+        ensures well { IsWell self.new }
+        ensures value { (names : Spelling) → result_with (store_in names self.new) result ≡ S.free class (value_of names what) (store_in names self.old) }
+    {
+        self.machine.free(class, what)
+    }
+}

@@ -1,0 +1,34 @@
+//! What the loop takes up: the call of `main`, and callbacks.
+ghost use Rattle.std.specs.Prelude.{◌≡◌};
+ghost use Rattle.cpc_tree.specs.Erase.{Names};
+ghost use Rattle.cpc_num.specs.declared.kinds.Kind.TheVariants.{Int};
+ghost use Rattle.cpc_tree.specs.Syntax.{TyInt};
+ghost use Rattle.cpc_store.specs.Seen.{seen, IsLawful};
+ghost use Rattle.cpc_store.specs.Store as S;
+ghost use Rattle.cpc_meaning.specs.Answer.{Gives};
+ghost use Rattle.cpc_meaning.specs.Eval.{assigned};
+ghost use Rattle.cpc_values.specs.Shown.{value_of};
+
+use cpc_base::Name;
+use cpc_num::{Kind, convert};
+use cpc_store::Value;
+
+/// What the loop takes up.
+#[derive(Clone, Copy, Debug)]
+pub(crate) enum Item {
+    /// The call of `main` at the start.
+    Main,
+    /// A function with its pointer.
+    With(Name, Value),
+}
+
+/// The result of a wait as a callback gets it, an int.
+pub(crate) fn waited_for(value: Value) -> Value
+    ensures value { (names : Names) (w : S.Value) → assigned (TyInt Int) (value_of names value) ≡ Gives w → value_of names result ≡ w }
+    ensures lawful { IsLawful (seen result) }
+{
+    match value {
+        Value::Int(_, number) => Value::Int(Kind::Int, convert(Kind::Int, number)),
+        _ => Value::Unset,
+    }
+}

@@ -1,0 +1,69 @@
+//! One step of a run, within the cap on live cells.
+ghost use Rattle.std.specs.Prelude.{◌≡◌, ◌++◌, ◌-◌, ◌<◌, ◌^◌, min};
+ghost use Rattle.cpc_base.specs.Bytes.{Text};
+ghost use Rattle.cpc_tree.specs.Erase.{Names};
+ghost use Rattle.cpc_meaning.specs.Events.{callbacks};
+ghost use Rattle.cpc_meaning.specs.Machine.{try_step};
+ghost use Rattle.cpc_meaning.specs.Runs.{live_cells};
+ghost use Rattle.cpc_run.specs.States.{States, Stands, Fits, IsSteady, Keeps, program_in};
+ghost use Rattle.cpc_run.specs.Reports.{MadeSo, MadeSteady};
+
+use crate::looped::Loop;
+use crate::outcome::Outcome;
+use cpc_base::NoMemory;
+use std::alloc::Global;
+
+// How many cells more than the cap a block may take, so that the step that makes it can be told.
+const SPARE_CELLS: u64 = 1 << 20;
+
+/// What a step within a cap came to.
+#[derive(Clone, Copy, Debug)]
+pub(crate) enum Made {
+    /// The run goes on, with so many live cells.
+    On(u64),
+    /// The run is over.
+    Over(Outcome),
+    /// The step would leave so many live cells, more than the cap.
+    Full(u64),
+}
+
+impl<'p> Loop<'p> {
+    /// The live cells. `u64::MAX` stands for every greater number.
+    pub(crate) fn cells(&self) -> u64
+        requires steady { IsSteady self.now }
+        ensures { (names : Names) (printed : Text) (s : States) → Stands names self.now printed s → result ≡ min (live_cells s) (2 ^ 64 - 1) }
+    {
+        self.machine.live_cells()
+    }
+
+    /// A step of the run. What it puts out is put behind `pending`, but for a step that leaves too many cells.
+    pub(crate) fn make(
+        &mut self,
+        alloc: Global,
+        pending: &mut Vec<u8>,
+        cap: u64,
+    ) -> Result<Made, NoMemory>
+        requires steady { IsSteady self.old }
+        requires cap { cap < 2 ^ 62 }
+        ensures keeps { Keeps self.old self.new }
+        ensures steady { MadeSteady result self.new }
+        ensures made { (names : Names) → Fits names self.old → (sent : Text) (s : States) → Stands names self.old (sent ++ pending.old.items) s
+            → MadeSo names cap result self.new (sent ++ pending.old.items) (sent ++ pending.new.items) s (try_step (callbacks (program_in names self.old)) s) }
+    {
+        let mut text = Vec::new(alloc);
+        match self.step(alloc, &mut text, cap + SPARE_CELLS)? {
+            Some(outcome) => Ok(Made::Over(outcome)),
+            None => {
+                let cells = self.cells();
+                if cells == u64::MAX {
+                    return Err(NoMemory);
+                }
+                if cells > cap {
+                    return Ok(Made::Full(cells));
+                }
+                pending.extend_from_slice(text.as_slice())?;
+                Ok(Made::On(cells))
+            }
+        }
+    }
+}

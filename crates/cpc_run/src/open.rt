@@ -1,0 +1,67 @@
+//! The first state of a run.
+ghost use Rattle.std.specs.Prelude.{◌≡◌, [], Some, IsTrue, IfOk, IfSome, map, slice_get};
+ghost use Rattle.cpc_tree.specs.Erase.{Names as Spelling};
+ghost use Rattle.cpc_meaning.specs.Start.{main_name};
+ghost use Rattle.cpc_run.specs.Code.{Given};
+ghost use Rattle.cpc_run.specs.States.{IsSteady};
+ghost use Rattle.cpc_run.specs.Reports.{Opened};
+
+use crate::code::Code;
+use crate::items::Item;
+use crate::looped::Loop;
+use cpc_agenda::Agenda;
+use cpc_base::{Name, Names, NoMemory};
+use cpc_globals::globals;
+use cpc_tree::program::{Item as Declared, Program};
+use std::alloc::Global;
+
+// Whether a name is that of `main`.
+fn is_main(names: &Names, name: Name) -> bool
+    ensures { IsTrue result → slice_get names.now name.0 ≡ Some main_name }
+{
+    match names.text(name) {
+        Some(text) => text == b"main".as_slice(),
+        None => false,
+    }
+}
+
+// The name of `main`, where a function has it.
+fn main_of(program: &Program) -> Option<Name>
+    ensures { IfSome result (λ name. slice_get program.now.names name.0 ≡ Some main_name) }
+{
+    for item in &program.items {
+        if let Declared::Function(function) = item {
+            let name = function.word.name;
+            if is_main(&program.names, name) {
+                return Some(name);
+            }
+        }
+    }
+    None
+}
+
+impl<'p> Loop<'p> {
+    /// A run of a program in its first state: nothing runs, and the call of `main` is ready. `NoMemory` is want of memory;
+    /// nothing is said of a program without `main`.
+    pub(crate) fn open(alloc: Global, program: &'p Program) -> Result<Loop<'p>, NoMemory>
+        ensures steady { IfOk result (λ l. IsSteady l) }
+        ensures opened { IfOk result (λ l. (names : Spelling) → Given names program.now → Opened names program.now l) }
+    {
+        let Some(main) = main_of(program) else {
+            return Err(NoMemory);
+        };
+        let store = globals(alloc, program)?;
+        let machine = Code::new(alloc, program, store)?;
+        let mut agenda = Agenda::new(alloc);
+        match agenda.ready(Item::Main) {
+            Ok(()) => Ok(Loop {
+                machine,
+                running: false,
+                agenda,
+                waits: true,
+                main,
+            }),
+            Err(_) => Err(NoMemory),
+        }
+    }
+}

@@ -1,0 +1,73 @@
+//! How a run ends, and within which bounds it runs.
+ghost use Rattle.std.specs.Prelude.{◌≡◌};
+ghost use Rattle.cpc_meaning.specs.Start as S;
+
+use cpc_base::Name;
+use cpc_num::Fault;
+
+/// How far a run may go.
+#[derive(Clone, Copy, PartialEq, Eq, Debug)]
+pub struct Limits {
+    /// The most steps.
+    pub steps: u64,
+    /// The most live cells: of blocks, and of the variables of the running code that are registers.
+    pub cells: u64,
+}
+
+/// How a run is over.
+#[derive(Clone, Copy, PartialEq, Eq, Debug)]
+pub enum Outcome {
+    /// Nothing runs and nothing is ready; so many items wait.
+    Ended(u64),
+    /// The program left with this number.
+    Exited(i128),
+    /// A step failed, in the code of a function. A fault is told in the part of its name before the first two bars.
+    Failed(Fault, Name),
+}
+
+/// Why a run was left.
+#[derive(Clone, Copy, PartialEq, Eq, Debug)]
+pub enum Ended {
+    /// It is over.
+    Over(Outcome),
+    /// It made as many steps as it may.
+    Steps,
+    /// The next step would leave so many live cells, which are more than it may have; or the first state has them.
+    Full(u64),
+    /// The sink failed.
+    WriteFault,
+    /// Memory was wanting.
+    Memory,
+}
+
+/// How a run ended, the steps that it made, and the live cells after them.
+#[derive(Clone, Copy, PartialEq, Eq, Debug)]
+pub struct RunReport {
+    /// Why it was left.
+    pub ended: Ended,
+    /// The steps.
+    pub steps: u64,
+    /// The live cells.
+    pub cells: u64,
+}
+
+fn begins_with_bars(text: &[u8]) -> bool
+    ensures { result ≡ S.begins_with_bars text.now }
+{
+    match text {
+        [first, second, ..] => *first == b'_' && *second == b'_',
+        _ => false,
+    }
+}
+
+/// What stands before the first two bars of a text, and the whole text where there are none.
+pub fn before_bars(text: &[u8]) -> &[u8]
+    ensures { result.now ≡ S.before_bars text.now }
+{
+    for i in 0..text.len() {
+        if begins_with_bars(&text[i..]) {
+            return &text[..i];
+        }
+    }
+    text
+}

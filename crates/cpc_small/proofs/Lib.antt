@@ -1,8 +1,0 @@
-pub mod Exact
-mod Laid
-pub mod Laws
-mod Lines
-mod Missing
-mod Numbers
-mod Runs
-mod Statements

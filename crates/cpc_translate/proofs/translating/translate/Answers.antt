@@ -1,0 +1,34 @@
+use Rattle.std.proofs.Common.{subst, sym, ◌∙◌}
+use Rattle.cpc_tree.specs.Erase.{program_of}
+use Rattle.cpc_printer.specs.Style.{ReadsBack}
+use Rattle.cpc_translate.proofs.Native.{print_accepted, runs_same, runs_within, is_served}
+use Rattle.cpc_translate.proofs.translating.translate.Goals as goal
+
+pub read_again-requires : goal.read_again-requires
+read_again-requires c =
+    let s = c.in_ok-source.ensures in
+    let q = print_accepted c.args.text.now c.in_ok-source.source.program s.accepted s.built s.bytes c.as_slice.result.now
+    (λ dialect t bytes parses. subst (λ u. ReadsBack dialect u (program_of c.in_ok-source.source.program)) (sym c.as_slice.ensures.value) (c.in-Ok.ensures.back dialect t bytes parses)) in
+    (q.0, q.1)
+
+pub returns-in-Ok-read_again-clause-equal : goal.returns-in-Ok-read_again-clause-equal
+returns-in-Ok-read_again-clause-equal c =
+    let s = c.in_ok-source.ensures in
+    let q = print_accepted c.args.text.now c.in_ok-source.source.program s.accepted s.built s.bytes c.as_slice.result.now
+    (λ dialect t bytes parses. subst (λ u. ReadsBack dialect u (program_of c.in_ok-source.source.program)) (sym c.as_slice.ensures.value) (c.in-Ok.ensures.back dialect t bytes parses)) in
+    c.in-Ok-read_again.ensures.equal q.0 q.1 ∙ q.2
+
+pub returns-in-Ok-read_again-clause-same : goal.returns-in-Ok-read_again-clause-same
+returns-in-Ok-read_again-clause-same c =
+    let s = c.in_ok-source.ensures in
+    runs_same c.args.text.now c.in_ok-source.source.program s.accepted s.built (program_of c.in-Ok-read_again.read_back.program) (returns-in-Ok-read_again-clause-equal c)
+
+pub returns-in-Ok-read_again-clause-within : goal.returns-in-Ok-read_again-clause-within
+returns-in-Ok-read_again-clause-within c =
+    let s = c.in_ok-source.ensures in
+    runs_within c.args.text.now c.in_ok-source.source.program s.accepted s.built (program_of c.in-Ok-read_again.read_back.program) (returns-in-Ok-read_again-clause-equal c)
+
+pub returns-in-Ok-read_again-clause-served : goal.returns-in-Ok-read_again-clause-served
+returns-in-Ok-read_again-clause-served c =
+    let s = c.in_ok-source.ensures in
+    is_served c.args.text.now c.in_ok-source.source.program s.accepted s.built (program_of c.in-Ok-read_again.read_back.program) (returns-in-Ok-read_again-clause-equal c)

@@ -1,0 +1,15 @@
+//! Texts to programs that break no rule, or to the one fault of a text; and to the event programs that have the same runs.
+#![tactic(auto)]
+
+mod fault;
+mod reading;
+mod translating;
+
+pub use fault::TextFault;
+pub use reading::read;
+pub use translating::{Refusal, Translated, translate};
+
+#[cfg(test)]
+mod tests;
+#[cfg(test)]
+mod translated_tests;

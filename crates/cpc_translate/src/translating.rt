@@ -1,0 +1,118 @@
+//! A text as a program of native code, and as the event program that is printed of it.
+ghost use Rattle.std.specs.Prelude.{◌≡◌, ◌<◌, All, IfOk, Err, Some, None, true};
+ghost use Rattle.cpc_base.specs.declared.stop.Dialect.TheVariants as D;
+ghost use Rattle.cpc_base.specs.declared.stop.Place.{Place};
+ghost use Rattle.cpc_base.specs.declared.stop.Stop.TheVariants.{Fault};
+ghost use Rattle.cpc_tree.specs.Erase.{program_of};
+ghost use Rattle.cpc_tree.specs.Locate.{located};
+ghost use Rattle.cpc_tree.specs.Located.{LProgram, bare};
+ghost use Rattle.cpc_meaning.specs.Runs.{SameRuns, Within};
+ghost use Rattle.cpc_check.specs.Accepted.{Accepts};
+ghost use Rattle.cpc_builtins.specs.Served.{is_served_program};
+ghost use Rattle.cpc_built.specs.Built.{unbuilt};
+ghost use Rattle.cpc_translate.specs.Refusals.{IsTextFault, refusal_of};
+ghost use Rattle.cpc_translate.specs.declared.fault.TextFault.{TextFault};
+ghost use Rattle.cpc_translate.specs.declared.translating.Refusal.TheVariants.{Text, Form};
+
+use crate::fault::TextFault;
+use crate::reading::read;
+use cpc_base::{Dialect, NoMemory, Place, Stop};
+use cpc_built::built;
+use cpc_check::Checked;
+use cpc_printer::print;
+use std::alloc::Global;
+
+/// Why a text is not translated.
+#[derive(Clone, Copy, Debug, PartialEq, Eq)]
+pub enum Refusal {
+    /// It is not accepted.
+    Text(TextFault),
+    /// It is accepted, and leaves the forms that run so far here.
+    Form(Place),
+}
+
+/// A program, the text that is printed of it, and the event program that this is read as.
+#[derive(Drop)]
+pub struct Translated {
+    /// The program of the text.
+    pub source: Checked,
+    /// What is printed of it.
+    pub printed: Vec<u8>,
+    /// The event program that this is read as.
+    pub read_back: Checked,
+}
+
+// The refusal of a text that is not accepted.
+fn refused(stop: Stop<TextFault>) -> Stop<Refusal>
+    ensures { result ≡ refusal_of stop }
+{
+    match stop {
+        Stop::Memory => Stop::Memory,
+        Stop::Fault(fault) => Stop::Fault(Refusal::Text(fault)),
+    }
+}
+
+// The program of a text of the dialect Cpc, which is of the forms that run so far.
+fn source_of(alloc: Global, text: &[u8]) -> Result<Checked, Stop<Refusal>>
+    ensures accepted { IfOk result (λ c. Accepts D.Cpc text.now (located c.program)) }
+    ensures dialect { IfOk result (λ c. c.dialect ≡ D.Cpc) }
+    ensures built { IfOk result (λ c. unbuilt (located c.program) ≡ None) }
+    ensures refused { (fault : TextFault) → result ≡ Err (Fault (Text fault)) → IsTextFault D.Cpc text.now fault }
+    ensures form { (at : Place) → result ≡ Err (Fault (Form at)) → (p : LProgram) × Accepts D.Cpc text.now p × (unbuilt p ≡ Some at) }
+    ensures bytes { All (λ b. b < 256) text.now }
+{
+    match read(alloc, text, Dialect::Cpc) {
+        Ok(source) => match built(&source) {
+            Ok(()) => Ok(source),
+            Err(at) => Err(Stop::Fault(Refusal::Form(at))),
+        },
+        Err(stop) => Err(refused(stop)),
+    }
+}
+
+// The event program that a text is read as, of which it is known that it is accepted. `NoMemory` is want of memory.
+fn read_again(alloc: Global, text: &[u8]) -> Result<Checked, NoMemory>
+    requires { (q : LProgram) × Accepts D.Event text.now q }
+    ensures accepted { IfOk result (λ c. Accepts D.Event text.now (located c.program)) }
+    ensures dialect { IfOk result (λ c. c.dialect ≡ D.Event) }
+    ensures equal { (q : LProgram) → Accepts D.Event text.now q → IfOk result (λ c. program_of c.program ≡ bare q) }
+{
+    match read(alloc, text, Dialect::Event) {
+        Ok(checked) => Ok(checked),
+        Err(Stop::Memory) => Err(NoMemory),
+        Err(Stop::Fault(_)) => unreachable!(),
+    }
+}
+
+/// The translation of a text of the dialect Cpc: an event program that has the same runs.
+///
+/// # Errors
+///
+/// `Stop::Fault` with `Refusal::Text` for the fault of a text that is not accepted, or with `Refusal::Form` for the first item,
+/// declaration or statement that is not of the forms that run so far. `Stop::Memory` for want of memory.
+pub fn translate(alloc: Global, text: &[u8]) -> Result<Translated, Stop<Refusal>>
+    ensures source { IfOk result (λ t. Accepts D.Cpc text.now (located t.source.program)) }
+    ensures printed { IfOk result (λ t. Accepts D.Event t.printed.items (located t.read_back.program)) }
+    ensures dialects { IfOk result (λ t. (t.source.dialect ≡ D.Cpc) × (t.read_back.dialect ≡ D.Event)) }
+    ensures built { IfOk result (λ t. unbuilt (located t.source.program) ≡ None) }
+    ensures equal { IfOk result (λ t. program_of t.read_back.program ≡ program_of t.source.program) }
+    ensures same { IfOk result (λ t. SameRuns (program_of t.source.program) (program_of t.read_back.program)) }
+    ensures within { IfOk result (λ t. Within (program_of t.source.program) (program_of t.read_back.program)) }
+    ensures served { IfOk result (λ t. is_served_program (program_of t.read_back.program) ≡ true) }
+    ensures refused { (fault : TextFault) → result ≡ Err (Fault (Text fault)) → IsTextFault D.Cpc text.now fault }
+    ensures form { (at : Place) → result ≡ Err (Fault (Form at)) → (p : LProgram) × Accepts D.Cpc text.now p × (unbuilt p ≡ Some at) }
+{
+    let source = source_of(alloc, text)?;
+    let printed = match print(alloc, &source.program) {
+        Ok(printed) => printed,
+        Err(NoMemory) => return Err(Stop::Memory),
+    };
+    match read_again(alloc, printed.as_slice()) {
+        Ok(read_back) => Ok(Translated {
+            source,
+            printed,
+            read_back,
+        }),
+        Err(NoMemory) => Err(Stop::Memory),
+    }
+}
