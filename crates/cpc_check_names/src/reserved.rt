@@ -29,12 +29,13 @@ fn holds_bars(text: &[u8]) -> bool
     false
 }
 
-/// Whether a name is kept in both dialects.
+/// Whether a name is kept in both dialects. A translation makes names that begin with `cpc__` and `rt__`, for functions that are
+/// called `cpc` and `rt`.
 fn is_kept(text: &[u8]) -> bool
     ensures { result ≡ is_kept text.now }
 {
-    begins_with(b"cpc_", text)
-        || begins_with(b"rt_", text)
+    (begins_with(b"cpc_", text) && !begins_with(b"cpc__", text))
+        || (begins_with(b"rt_", text) && !begins_with(b"rt__", text))
         || text == b"malloc".as_slice()
         || text == b"free".as_slice()
 }

@@ -99,9 +99,11 @@ abbrev pub holds_bars : Text → Bool
 holds_bars [] = false
 holds_bars (b ∷ x) = begins_with (codes "__") (b ∷ x) || holds_bars x
 
--- the names that the language keeps for itself
+-- The names that the language keeps for itself. A name that begins with `cpc__` or `rt__` is none of them: a translation makes such
+-- names for functions that are called `cpc` and `rt`.
 abbrev pub is_kept : Text → Bool
-is_kept x = begins_with (codes "cpc_") x || (begins_with (codes "rt_") x || (bytes_eq x (codes "malloc") || bytes_eq x (codes "free")))
+is_kept x = (begins_with (codes "cpc_") x && not (begins_with (codes "cpc__") x)) || ((begins_with (codes "rt_") x && not (begins_with (codes "rt__") x))
+    || (bytes_eq x (codes "malloc") || bytes_eq x (codes "free")))
 
 -- in the dialect Cpc also those that a translation makes
 abbrev pub is_reserved : Dialect → Text → Bool

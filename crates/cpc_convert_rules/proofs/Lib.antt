@@ -1,0 +1,15 @@
+pub mod Items
+pub mod Names
+pub mod Apart
+pub mod Rows
+pub mod Declared
+pub mod Functions
+pub mod Values
+pub mod Calls
+pub mod Pieces
+pub mod Respawned
+pub mod Main
+pub mod Source
+pub mod Target
+pub mod Unbroken
+pub mod Refusals
