@@ -1,5 +1,6 @@
--- Programs that leave the built forms nowhere are of native code, and ask only for what the loop answers.
-use Rattle.std.proofs.Common.{◌≡◌, Bool, true, false, ◌&&◌, not, List, [], ◌∷◌, map, Option, Some, None, refl}
+-- Native programs that leave the built forms nowhere are of native code, and ask only for what the loop answers; programs of threads
+-- are of the first form.
+use Rattle.std.proofs.Common.{◌≡◌, Bool, true, false, ◌&&◌, not, if◌then◌else◌, List, [], ◌∷◌, map, Option, Some, None, refl}
 use Rattle.cpc_base.specs.declared.stop.Place.{Place}
 use Rattle.cpc_tree.specs.declared.program.Mode.{Mode}
 use Rattle.cpc_tree.specs.declared.program.Mode.TheVariants.{Extern, Native, Cps, Detached}
@@ -8,8 +9,10 @@ use Rattle.cpc_tree.specs.Located.{LExpr, LNamed, LStmt, Block, Call, Detach, Sp
 use Rattle.cpc_rules.specs.Operators.{is_cps}
 use Rattle.cpc_rule_laws.specs.Native.{spawns_none, all_spawn_none, maybe_spawns_none, is_native_item, are_native}
 use Rattle.cpc_builtins.specs.Served.{calls_served, is_served_stmt, are_served, is_served_arm, is_extern, is_served_item, is_served_program}
-use Rattle.cpc_built.specs.Built.{is_built_type, is_built, are_built, is_built_if, are_built_parameters, is_native, is_built_head, unless, or_then, unbuilt_stmt, unbuilt_stmts, unbuilt_arm, unbuilt_item, unbuilt_items}
-use Rattle.cpc_built.specs.Laws.{BuiltAreNative, BuiltAreServed}
+use Rattle.cpc_first_form.specs.Threads.{unless, or_then, has_threads, unbuilt_threads}
+use Rattle.cpc_first_form.proofs.Theorem.{form_is_first}
+use Rattle.cpc_built.specs.Built.{is_built_type, is_built, are_built, is_built_if, are_built_parameters, is_native, is_built_head, unbuilt_stmt, unbuilt_stmts, unbuilt_arm, unbuilt_item, unbuilt_items, unbuilt_native}
+use Rattle.cpc_built.specs.Laws.{BuiltAreNative, BuiltAreServed, ThreadsAreFirst}
 
 both : (a b : Bool) → a ≡ true → b ≡ true → (a && b) ≡ true
 both true b h k = k
@@ -35,6 +38,15 @@ no_second (Some q) b e = absurd cc
 holds : (b : Bool) (q : Place) → unless b q ≡ None → b ≡ true
 holds true q e = refl
 holds false q e = absurd cc
+
+-- what is chosen is none
+so : (b : Bool) (o l : Option Place) → b ≡ true → (if b then o else l) ≡ None → o ≡ None
+so true o l h e = e
+so false o l h e = absurd cc
+
+not_so : (b : Bool) (o l : Option Place) → b ≡ false → (if b then o else l) ≡ None → l ≡ None
+not_so true o l h e = absurd cc
+not_so false o l h e = e
 
 -- ---- native code
 
@@ -84,7 +96,7 @@ items_native [] h = refl
 items_native (x ∷ xs) h = both _ _ (item_native x (no_first (unbuilt_item x) _ h)) (items_native xs (no_second (unbuilt_item x) _ h))
 
 pub built_are_native : BuiltAreNative
-built_are_native p h = items_native p.items h
+built_are_native p h k = items_native p.items (not_so (has_threads p.items) (unbuilt_threads p.items) _ k h)
 
 -- ---- what the loop answers
 
@@ -139,4 +151,9 @@ items_served [] h = refl
 items_served (x ∷ xs) h = both _ _ (item_served x (no_first (unbuilt_item x) _ h)) (items_served xs (no_second (unbuilt_item x) _ h))
 
 pub built_are_served : BuiltAreServed
-built_are_served p h = items_served p.items h
+built_are_served p h k = items_served p.items (not_so (has_threads p.items) (unbuilt_threads p.items) _ k h)
+
+-- ---- threads
+
+pub threads_are_first : ThreadsAreFirst
+threads_are_first p h k e = form_is_first p (so (has_threads p.items) _ (unbuilt_native p) k h) e

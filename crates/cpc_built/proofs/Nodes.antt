@@ -14,7 +14,8 @@ use Rattle.cpc_types.specs.Listed.{listed_of}
 use Rattle.cpc_types.proofs.CodeParts.{code_at}
 use Rattle.cpc_check_names.proofs.Nodes.{block_seen, for_seen}
 use Rattle.cpc_built.specs.Told.{told}
-use Rattle.cpc_built.specs.Built.{is_built_type, are_built_types, is_built, are_built, is_built_if, unless, or_then, unbuilt_stmt, unbuilt_stmts, unbuilt_arm}
+use Rattle.cpc_first_form.specs.Threads.{unless, or_then}
+use Rattle.cpc_built.specs.Built.{is_built_type, are_built_types, is_built, are_built, is_built_if, unbuilt_stmt, unbuilt_stmts, unbuilt_arm}
 
 pub code_built : (names : Names) (t : CType) (b : Box CType Global) (ts : Vec CType Global) → t ≡ C.Code b ts
     → is_built_type (type_of names t) ≡ (is_built_type (type_of names b.value) && are_built_types (listed_of names ts.items))

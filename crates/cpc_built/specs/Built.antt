@@ -1,12 +1,13 @@
--- Which forms run so far, and where a program first leaves them: native functions and globals, without conditions, and with no
--- primitive but those that the loop answers.
-use Rattle.std.specs.Prelude.{Bool, true, false, ◌&&◌, List, [], ◌∷◌, Option, Some, None}
+-- Which forms run so far, and where a program first leaves them: the first form of threads, or else native functions and globals,
+-- without conditions, and with no primitive but those that the loop answers.
+use Rattle.std.specs.Prelude.{Bool, true, false, ◌&&◌, if◌then◌else◌, List, [], ◌∷◌, Option, Some, None}
 use Rattle.cpc_base.specs.declared.stop.Place.{Place}
 use Rattle.cpc_tree.specs.declared.program.Mode.{Mode}
 use Rattle.cpc_tree.specs.declared.program.Mode.TheVariants.{Native}
 use Rattle.cpc_tree.specs.Syntax.{Ty, TyCondvar, TyPointer, TyCode, TyArray, Tys, NoTy, AndTy}
 use Rattle.cpc_tree.specs.Located.{LExpr, LNamed, LUnary, LBinary, LAnd, LOr, LChoose, LCast, LSizeOf, LIndex, LMember, LArrow, LCall, LExprs, NoLExpr, AndLExpr, LStmt, Block, Declare, Assign, Call, Detach, Spawn, If, While, DoWhile, For, Label, Return, LStmts, NoLStmt, AndLStmt, MaybeLStmt, NoneLStmt, SomeLStmt, LVariable, LParameter, LItem, LStruct, LGlobal, LPrototype, LFunctionItem, LProgram}
 use Rattle.cpc_tree.specs.Primitives.{primitive_named}
+use Rattle.cpc_first_form.specs.Threads.{unless, or_then, has_threads, unbuilt_threads}
 use Rattle.cpc_builtins.specs.Served.{serves}
 
 -- ---- what is of the built forms
@@ -68,16 +69,6 @@ is_built_head mode r ps = is_native mode && (is_built_type r && are_built_parame
 
 -- ---- where a program leaves the built forms
 
--- the place of what is not built
-abbrev pub unless : Bool → Place → Option Place
-unless true q = None
-unless false q = Some q
-
--- the first of two places, in the order of the text
-abbrev pub or_then : Option Place → Option Place → Option Place
-or_then None o = o
-or_then (Some q) o = Some q
-
 abbrev mutual
   -- A statement stands at its first token, a declaration at its name, for what is its own; then come the statements inside it.
   pub unbuilt_stmt : LStmt → Option Place
@@ -114,6 +105,10 @@ abbrev pub unbuilt_items : List LItem → Option Place
 unbuilt_items [] = None
 unbuilt_items (x ∷ xs) = or_then (unbuilt_item x) (unbuilt_items xs)
 
--- the first item, declaration or statement, in the order of the text, that is not of the built forms
+-- of a native program the first item, declaration or statement, in the order of the text, that is not of the built forms
+abbrev pub unbuilt_native : LProgram → Option Place
+unbuilt_native p = unbuilt_items p.items
+
+-- of a program of threads the first item or statement that is not of the first form
 abbrev pub unbuilt : LProgram → Option Place
-unbuilt p = unbuilt_items p.items
+unbuilt p = if has_threads p.items then unbuilt_threads p.items else unbuilt_native p

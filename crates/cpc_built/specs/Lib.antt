@@ -1,3 +1,4 @@
 pub mod Built
 pub mod Laws
+pub mod Parts
 pub mod Told

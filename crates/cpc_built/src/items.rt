@@ -7,6 +7,7 @@ ghost use Rattle.cpc_built.specs.Told.{told};
 
 use crate::expressions::is_built_if;
 use crate::statements::{built_stmt, only_if};
+use crate::threads::{built_threads, has_threads};
 use crate::types::{are_built_fields, is_built_head, is_built_type};
 use cpc_base::{Names, Place};
 use cpc_check::Checked;
@@ -49,7 +50,8 @@ fn built_items(items: &[Item], names: &Names) -> Result<(), Place>
     Ok(())
 }
 
-/// Nothing, where a program is of the forms that run so far.
+/// Nothing, where a program is of the forms that run so far: where it has a cps function the first form of threads, or else
+/// native code.
 ///
 /// # Errors
 ///
@@ -58,5 +60,11 @@ fn built_items(items: &[Item], names: &Names) -> Result<(), Place>
 pub fn built(program: &Checked) -> Result<(), Place>
     ensures { told result ≡ unbuilt (located program.now.program) }
 {
-    built_items(&program.program.items, &program.program.names)
+    let items = &program.program.items;
+    let names = &program.program.names;
+    if has_threads(items) {
+        built_threads(items, names)
+    } else {
+        built_items(items, names)
+    }
 }

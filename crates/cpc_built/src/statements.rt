@@ -1,8 +1,10 @@
 //! Where a statement first leaves the built forms.
 ghost use Rattle.std.specs.Prelude.{◌≡◌};
 ghost use Rattle.cpc_tree.specs.Erase.{in_table};
-ghost use Rattle.cpc_tree.specs.Locate.{located_stmt, located_list};
-ghost use Rattle.cpc_built.specs.Built.{unless, unbuilt_stmt, unbuilt_stmts};
+ghost use Rattle.cpc_tree.specs.Locate.{located_stmt, located_list, located_at};
+ghost use Rattle.cpc_first_form.specs.Threads.{unless};
+ghost use Rattle.cpc_built.specs.Built.{unbuilt_stmt, unbuilt_stmts, unbuilt_arm};
+ghost use Rattle.cpc_built.specs.Parts.{unbuilt_plain};
 ghost use Rattle.cpc_built.specs.Told.{told};
 
 use crate::expressions::{are_built, is_built, is_built_if};
@@ -21,17 +23,11 @@ pub(crate) fn only_if(is_built: bool, place: Place) -> Result<(), Place>
     if is_built { Ok(()) } else { Err(place) }
 }
 
-/// Nothing, where a statement and all inside it are of the built forms.
-///
-/// # Errors
-///
-/// The place of the first statement or declaration that is not.
-#[cycle(statements)]
-pub(crate) fn built_stmt(s: &Statement, names: &Names) -> Result<(), Place>
-    ensures { told result ≡ unbuilt_stmt (located_stmt (in_table names.now) s.now) }
+// Nothing, where a statement without others inside it is of the built forms.
+fn built_plain(s: &Statement, names: &Names) -> Result<(), Place>
+    ensures { told result ≡ unbuilt_plain (located_stmt (in_table names.now) s.now) }
 {
     match s {
-        Statement::Block { inner, .. } => built_row(inner, names),
         Statement::Declare {
             word,
             of,
@@ -55,6 +51,22 @@ pub(crate) fn built_stmt(s: &Statement, names: &Names) -> Result<(), Place>
             *place,
         ),
         Statement::Detach { place, .. } | Statement::Spawn { place, .. } => Err(*place),
+        Statement::Return { place, value } => only_if(is_built_if(value, names), *place),
+        _ => Ok(()),
+    }
+}
+
+/// Nothing, where a statement and all inside it are of the built forms.
+///
+/// # Errors
+///
+/// The place of the first statement or declaration that is not.
+#[cycle(statements)]
+pub(crate) fn built_stmt(s: &Statement, names: &Names) -> Result<(), Place>
+    ensures { told result ≡ unbuilt_stmt (located_stmt (in_table names.now) s.now) }
+{
+    match s {
+        Statement::Block { inner, .. } => built_row(inner, names),
         Statement::If {
             place,
             test,
@@ -63,10 +75,7 @@ pub(crate) fn built_stmt(s: &Statement, names: &Names) -> Result<(), Place>
         } => {
             only_if(is_built(test, names), *place)?;
             built_stmt(yes, names)?;
-            match no {
-                Some(no) => built_stmt(no, names),
-                None => Ok(()),
-            }
+            built_arm(no, names)
         }
         Statement::While { place, test, body } | Statement::DoWhile { place, body, test } => {
             only_if(is_built(test, names), *place)?;
@@ -81,17 +90,22 @@ pub(crate) fn built_stmt(s: &Statement, names: &Names) -> Result<(), Place>
         } => {
             only_if(is_built_if(test, names), *place)?;
             built_row(first, names)?;
-            match step {
-                Some(step) => {
-                    built_stmt(step, names)?;
-                    built_stmt(body, names)
-                }
-                None => built_stmt(body, names),
-            }
+            built_arm(step, names)?;
+            built_stmt(body, names)
         }
         Statement::Label { inner, .. } => built_stmt(inner, names),
-        Statement::Return { place, value } => only_if(is_built_if(value, names), *place),
-        _ => Ok(()),
+        _ => built_plain(s, names),
+    }
+}
+
+// Nothing, where a statement that may be absent is so, or else the place of the first part of it that is not.
+#[cycle(statements)]
+fn built_arm(arm: &Option<Box<Statement>>, names: &Names) -> Result<(), Place>
+    ensures { told result ≡ unbuilt_arm (located_at (in_table names.now) arm.now) }
+{
+    match arm {
+        Some(s) => built_stmt(s, names),
+        None => Ok(()),
     }
 }
 

@@ -1,5 +1,5 @@
 -- How a command ended.
-use Rattle.std.proofs.Common.{◌≡◌, ◌<◌, ◌≤◌, ◌++◌, ℕ, Bool, true, false, arith, List, [], length, take, drop, Option, Some, refl, ap, sym, ◌∙◌, subst, append_assoc, inl, inr, ◌⊎◌}
+use Rattle.std.proofs.Common.{◌≡◌, ◌<◌, ◌≤◌, ◌++◌, ℕ, Bool, true, false, arith, List, [], length, take, drop, Option, Some, None, refl, ap, sym, ◌∙◌, subst, append_assoc, inl, inr, ◌⊎◌}
 use Rattle.std.proofs.lemmas.List.{take-append-drop}
 use Rattle.cpc_base.specs.Bytes.{Text}
 use Rattle.cpc_base.specs.Outside.{Files, Rose}
@@ -12,10 +12,11 @@ use Rattle.cpc_tree.specs.declared.program.Program as GProgram
 use Rattle.cpc_tree.specs.Erase.{program_of}
 use Rattle.cpc_tree.specs.Locate.{located}
 use Rattle.cpc_tree.proofs.Places.{bare_program}
-use Rattle.cpc_meaning.specs.Runs.{SameRuns}
+use Rattle.cpc_meaning.specs.Runs.{SameRuns, Within}
 use Rattle.cpc_command.specs.Commands.{Command, Run, command_of}
 use Rattle.cpc_check.specs.Accepted.{Accepts}
 use Rattle.cpc_translate.specs.Refusals.{IsTextFault}
+use Rattle.cpc_translate.specs.Events.{event_of}
 use Rattle.cpc_built.specs.Built.{unbuilt}
 use Rattle.cpc_cli.specs.Command.{Builds, named, limit_of}
 use Rattle.cpc_cli.specs.Answer.{AcceptedAs, TextHas, FileHas, IsTranslated, NotAccepted, DoesInPart, EndedIn, did, not_begun, unwritten_in, starved_in, Nothing, MayHaveCells, RanTo, Printed, shown, heading, line_of, name_in}
@@ -137,6 +138,12 @@ pub in_line : (text : Bool) (printed : Text) (n : ℕ) → text ≡ true → IsP
 in_line true printed n e = behind_heading printed (take n (codes "/* run */\n")) (codes "/* run */\n") (is_front n (codes "/* run */\n"))
 in_line false printed n e = absurd cc
 
--- programs with the same runs, by their trees with places
-pub bare_same : (p q : GProgram.Program) → SameRuns (program_of p) (program_of q) → SameRuns (bare (located p)) (bare (located q))
-bare_same p q h = subst (λ x. SameRuns x (bare (located q))) (sym (bare_program p)) (subst (SameRuns (program_of p)) (sym (bare_program q)) h)
+-- a program that is translated, by the trees with places
+pub translated_so : (p q : GProgram.Program) → unbuilt (located p) ≡ None → program_of q ≡ event_of (program_of p) → SameRuns (program_of p) (program_of q)
+    → Within (program_of p) (program_of q) → IsTranslated (located p) (located q)
+translated_so p q built event same within = record {
+  built = built;
+  event = bare_program q ∙ event ∙ ap event_of (sym (bare_program p));
+  same = subst (λ x. SameRuns x (bare (located q))) (sym (bare_program p)) (subst (SameRuns (program_of p)) (sym (bare_program q)) same);
+  within = subst (λ x. Within x (bare (located q))) (sym (bare_program p)) (subst (Within (program_of p)) (sym (bare_program q)) within);
+}

@@ -185,7 +185,7 @@ fn each_fault_is_told(rt: HostRuntime) -> Result<(), Fail> {
 }
 
 static UNBUILT: [(&str, &str); 1] = [(
-    "cps void f(void){ } int main(void){ return 0; }",
+    "cps void f(int a){ } int main(void){ return 0; }",
     "refused 1:10 form 1 not yet\n",
 )];
 

@@ -153,7 +153,7 @@ fn a_text_is_refused_at_its_place(rt: HostRuntime) -> Result<(), Fail> {
     Ok(())
 }
 
-const THREAD: &[u8] = b"cps void f(void){ } int main(void){ cpc_spawn f(); return 0; }";
+const THREAD: &[u8] = b"cps void f(int a){ } int main(void){ cpc_spawn f(1); return 0; }";
 
 #[test]
 fn a_form_that_is_not_built_is_refused(rt: HostRuntime) -> Result<(), Fail> {

@@ -58,7 +58,7 @@ repeated_next (suc n) row = append_assoc row (repeated n row) row ∙ ap (λ xs.
 -- ---- cells are scalars
 
 -- each of these cells holds something
-abbrev Whole : Cells → Type 0
+abbrev pub Whole : Cells → Type 0
 Whole None = Unit {0}
 Whole (Some ts) = (xs : List Scalar) × (scalars ts ≡ Some xs)
 
@@ -95,7 +95,7 @@ struct_whole (GlobalItem y t start ∷ items) x = struct_whole items x
 struct_whole (PrototypeItem mode f r ps ∷ items) x = struct_whole items x
 struct_whole (FunctionItem f ∷ items) x = struct_whole items x
 
-type_whole : (items : List Item) (t : Ty) → Whole (cells_in (struct_cells items) t)
+pub type_whole : (items : List Item) (t : Ty) → Whole (cells_in (struct_cells items) t)
 type_whole items t = cells_whole (struct_cells items) (λ x. struct_whole items x) t
 
 -- ---- arrays

@@ -1,10 +1,12 @@
 //! The store at the start: a block for each global.
 #![tactic(auto)]
 
+mod counts;
 mod layouts;
 mod making;
 mod starts;
 #[cfg(test)]
 mod tests;
 
+pub use counts::global_cells;
 pub use making::globals;

@@ -1,5 +1,5 @@
-//! What no clause says: that the store is made with memory at hand, of a few globals.
-use crate::globals;
+//! What no clause says: that the store is made, and its cells are counted, with memory at hand, of a few globals.
+use crate::{global_cells, globals};
 use cpc_base::{Name, Names, NoMemory, Place};
 use cpc_num::Kind;
 use cpc_store::{Block, Class, Scalar, Store, Value};
@@ -145,5 +145,33 @@ fn an_incomplete_global_leaves_nothing(rt: HostRuntime) -> Result<(), NoMemory> 
     program.items.push(global(7, CType::Struct(Name(9)), None))?;
     let store = globals(alloc, &program)?;
     assert!(rt; store.made(Class::Static) == 0);
+    Ok(())
+}
+
+// The globals: an array of four, a struct of five and one number; and none where one of them is incomplete.
+#[test]
+fn cells_are_counted(rt: HostRuntime) -> Result<(), NoMemory> {
+    let alloc = rt.alloc();
+    let mut program = program(alloc)?;
+    assert!(rt; global_cells(alloc, &program)? == 10);
+    // Two rows of 2 ^ 40 rows of 2 ^ 40 numbers, which no memory could hold.
+    let row = array(alloc, CType::Int(Kind::Char), 1 << 40)?;
+    let rows = array(alloc, row, 1 << 40)?;
+    program.items.push(global(7, array(alloc, rows, 2)?, None))?;
+    assert!(rt; global_cells(alloc, &program)? == u64::MAX);
+    program.items.push(global(8, CType::Struct(Name(9)), None))?;
+    assert!(rt; global_cells(alloc, &program)? == 0);
+    Ok(())
+}
+
+#[test]
+fn structs_alone_have_no_cells(rt: HostRuntime) -> Result<(), NoMemory> {
+    let alloc = rt.alloc();
+    let program = Program {
+        names: Names::new(alloc),
+        items: structs(alloc)?,
+        end: HERE,
+    };
+    assert!(rt; global_cells(alloc, &program)? == 0);
     Ok(())
 }

@@ -1,26 +1,22 @@
 -- What a request does, and its answer, are one step.
-use Rattle.std.proofs.Common.{◌≡◌, ℕ, Bool, true, false, ℤ, pos, List, [], ◌∷◌, ◌++◌, Option, Some, None, Result, Ok, Err, refl, sym, ap, subst, ◌∙◌, append_assoc}
+use Rattle.std.proofs.Common.{◌≡◌, ℕ, false, ℤ, pos, List, [], ◌∷◌, ◌++◌, Option, Some, Result, Ok, refl, sym, ap, subst, ◌∙◌, append_assoc}
 use Rattle.std.proofs.Common.{map}
 use Rattle.std.proofs.lemmas.List.{append-nil, map-append}
 use Rattle.std.specs.Prelude.{int_lt, unsigned_abs}
 use Rattle.cpc_base.specs.Bytes.{Text}
 use Rattle.cpc_base.specs.declared.names.Name.{Name}
 use Rattle.cpc_base.specs.declared.stop.NoMemory.{NoMemory}
-use Rattle.cpc_num.specs.declared.kinds.Fault.{Fault}
-use Rattle.cpc_num.specs.declared.kinds.Fault.TheVariants as F
 use Rattle.cpc_num.specs.declared.kinds.Kind.{Kind}
 use Rattle.cpc_tree.specs.Erase.{Names}
-use Rattle.cpc_tree.specs.Points.{Point}
-use Rattle.cpc_tree.specs.Syntax.{Program}
 use Rattle.cpc_tree.specs.Texts.{output, output_of}
 use Rattle.cpc_tree.specs.Trace.{Mark, Output}
 use Rattle.cpc_store.specs.declared.values.Block.{Block}
 use Rattle.cpc_store.specs.declared.values.Class.{Class}
 use Rattle.cpc_store.specs.Store.{Store, Value, Unset, Whole, At, alloc, free, next_block, unset_cells}
-use Rattle.cpc_meaning.specs.Answer.{Answer, Gives, Faults, of_result}
+use Rattle.cpc_meaning.specs.Answer.{Gives}
 use Rattle.cpc_meaning.specs.Agenda as A
 use Rattle.cpc_meaning.specs.Events.{callbacks}
-use Rattle.cpc_meaning.specs.Machine.{marks, prints, reply, replies, with_store, with_agenda, settled}
+use Rattle.cpc_meaning.specs.Machine.{marks, reply, replies, with_store, with_agenda, settled}
 use Rattle.cpc_meaning.specs.Plain.{running_function}
 use Rattle.cpc_meaning.specs.Section.{allocated, freed}
 use Rattle.cpc_meaning.specs.Trees.{trees}

@@ -1,5 +1,5 @@
 -- The machine of code, and its store by the texts of names.
-use Rattle.std.proofs.Common.{◌≡◌, ℕ, [], map, reverse, Result, Ok, Err, IfOk, OnOk, refl, sym, ap, subst, ◌∙◌}
+use Rattle.std.proofs.Common.{◌≡◌, [], map, reverse, Result, Ok, Err, IfOk, OnOk, sym, ap, subst, ◌∙◌}
 use Rattle.std.specs.Result.{result_map_both}
 use Rattle.cpc_base.specs.declared.names.Name.{Name}
 use Rattle.cpc_num.specs.declared.kinds.Fault.{Fault}

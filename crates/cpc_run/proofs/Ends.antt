@@ -1,10 +1,9 @@
 -- The ends of a run, and its beginning.
-use Rattle.std.proofs.Common.{◌≡◌, ◌≢◌, min, ◌⊎◌, inl, inr, ℕ, zero, suc, ◌<◌, ◌≤◌, Bool, true, false, not, List, [], ◌∷◌, ◌++◌, length, get_or, map, Option, Some, None, refl, sym, ap, subst, ◌∙◌, arith}
+use Rattle.std.proofs.Common.{◌≡◌, ◌≢◌, min, inl, inr, ℕ, ◌<◌, true, false, not, List, [], ◌∷◌, ◌++◌, map, Option, Some, None, refl, sym, ap, subst, ◌∙◌, arith}
 use Rattle.std.proofs.Math.Logic.{∥∥₁_elim}
 use Rattle.std.proofs.lemmas.List.{append-nil}
 use Rattle.std.proofs.lemmas.Option.{get_or_from_slice_get, slice_get_within}
 use Rattle.std.specs.Prelude.{slice_get}
-use Rattle.std.specs.Io.KnownBytes.{append_known}
 use Rattle.cpc_base.specs.Bytes.{Text}
 use Rattle.cpc_base.specs.declared.names.Name.{Name}
 use Rattle.cpc_base.specs.declared.stop.Dialect.{Dialect}
@@ -12,7 +11,6 @@ use Rattle.cpc_base.specs.declared.stop.Dialect.TheVariants as D
 use Rattle.cpc_base.proofs.Pieces.{append_known-nil}
 use Rattle.cpc_tree.specs.Erase.{Names, Table, in_table, item_of, program_of}
 use Rattle.cpc_tree.specs.Locate.{located}
-use Rattle.cpc_tree.specs.Located.{bare}
 use Rattle.cpc_tree.specs.Syntax.{Program}
 use Rattle.cpc_tree.specs.Lists.{is_empty}
 use Rattle.cpc_tree.specs.Trace as T
@@ -25,13 +23,14 @@ use Rattle.cpc_meaning.specs.Events.{CallMain, callbacks}
 use Rattle.cpc_meaning.specs.Machine.{IsStuck, try_step, unless_over}
 use Rattle.cpc_meaning.specs.Matching.{event_system}
 use Rattle.cpc_meaning.specs.Runs.{live_cells}
-use Rattle.cpc_meaning.specs.Start.{before_bars, main_name, opening}
+use Rattle.cpc_meaning.specs.Start.{before_bars, main_name, opening, globals, make_globals}
+use Rattle.cpc_store.specs.Store.{empty_store, store_cells}
+use Rattle.std.proofs.Math.Nat.{add-zero}
 use Rattle.cpc_meaning.specs.Trees.{trees}
 use Rattle.cpc_check.specs.Accepted.{IsRead}
 use Rattle.cpc_run.specs.declared.outcome.Ended.{Ended}
 use Rattle.cpc_run.specs.declared.outcome.Ended.TheVariants as E
 use Rattle.cpc_run.specs.declared.outcome.Limits.{Limits}
-use Rattle.cpc_run.specs.declared.outcome.Outcome.{Outcome}
 use Rattle.cpc_run.specs.declared.outcome.Outcome.TheVariants as O
 use Rattle.cpc_run.specs.declared.outcome.RunReport.{RunReport}
 use Rattle.cpc_sound.specs.Promises.{AcceptedCallbacksNeverStuck}
@@ -40,7 +39,7 @@ use Rattle.cpc_agenda.specs.declared.agenda.Agenda.{Agenda}
 use Rattle.cpc_agenda.specs.Lists.{lists_of}
 use Rattle.cpc_run.specs.declared.items.Item.{Item}
 use Rattle.cpc_run.specs.declared.looped.Loop.{Loop}
-use Rattle.cpc_run.specs.States.{Stands, agenda_of, due_callback, outcome_of}
+use Rattle.cpc_run.specs.States.{Stands, agenda_of, due_callback}
 use Rattle.cpc_run.proofs.Weighed.{uncapped}
 use Rattle.cpc_run.specs.Reports.{NeverStuck, Begins, Opened, IsLeft, IsInTable, IsPrefix, WentOut, Tells, Wrote, untold, run_of, written}
 
@@ -130,18 +129,30 @@ checked_never_stuck law p dialect e read unbroken n stuck =
 pub opening_lists : (names : Names) (a : Agenda Item) → lists_of names a ≡ A.new_agenda → agenda_of names a ≡ A.new_agenda
 opening_lists names a e = ap (λ x. record A.new_agenda { ready = map (due_callback names) x.ready; round = map (due_callback names) x.round }) e
 
-pub first_stands : (names : Names) (p : GProgram.Program) (l : Loop) → Opened names p l → map (item_of names) p.items.items ≡ program_of p → Stands names l [] (run_of (program_of p) 0)
+first_stands : (names : Names) (p : GProgram.Program) (l : Loop) → Opened names p l → map (item_of names) p.items.items ≡ program_of p → Stands names l [] (run_of (program_of p) 0)
 first_stands names p l opened same = subst (λ q. Stands names l [] (opening q CallMain untold)) same opened.stands
 
+-- the live cells of the first state are those of the globals
+opened_cells : (q : Program) → live_cells (run_of q 0) ≡ store_cells (globals (make_globals q q empty_store))
+opened_cells q = add-zero (store_cells (globals (make_globals q q empty_store)))
+
+-- they are counted where there are fewer than the greatest number
+pub first_counted : (names : Names) (p : GProgram.Program) (first greatest : ℕ) → map (item_of names) p.items.items ≡ program_of p
+    → first ≡ min (store_cells (globals (make_globals (map (item_of names) p.items.items) (map (item_of names) p.items.items) empty_store))) greatest → first ≢ greatest → first ≡ live_cells (run_of (program_of p) 0)
+first_counted names p first greatest same e ne =
+    let counted : first ≡ min (live_cells (run_of (program_of p) 0)) greatest =
+    e ∙ ap (λ (q : Program). min (store_cells (globals (make_globals q q empty_store))) greatest) same ∙ ap (λ n. min n greatest) (sym (opened_cells (program_of p))) in
+    uncapped first (live_cells (run_of (program_of p) 0)) greatest counted ne
+
 -- the first state of a run
-pub begins : (names : Names) (p : GProgram.Program) (l : Loop) (first greatest : ℕ) → Opened names p l → map (item_of names) p.items.items ≡ program_of p → NeverStuck (program_of p)
-    → first ≡ min (live_cells (run_of (program_of p) 0)) greatest → first ≢ greatest → Begins names (program_of p) l first
-begins names p l first greatest opened same stuck counted ne = record {
+pub begins : (names : Names) (p : GProgram.Program) (l : Loop) (first : ℕ) → Opened names p l → map (item_of names) p.items.items ≡ program_of p → NeverStuck (program_of p)
+    → first ≡ live_cells (run_of (program_of p) 0) → Begins names (program_of p) l first
+begins names p l first opened same stuck counted = record {
   fits = opened.fits;
   program = opened.items ∙ same;
   never_stuck = stuck;
   stands = first_stands names p l opened same;
-  cells_are = uncapped first (live_cells (run_of (program_of p) 0)) greatest counted ne;
+  cells_are = counted;
 }
 
 not_empty : {X : Type 0} (xs : List X) (x : X) → true ≡ not (is_empty (xs ++ x ∷ []))

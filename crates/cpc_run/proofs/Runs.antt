@@ -1,10 +1,8 @@
 -- A run, step by step.
-use Rattle.std.proofs.Common.{◌≡◌, ◌⊎◌, inl, inr, ℕ, zero, suc, ◌+◌, ◌<◌, ◌≤◌, ◌^◌, ◌-◌, min, Bool, true, false, List, [], ◌++◌, Option, Some, None, Result, Ok, Err, refl, sym, ap, subst, ◌∙◌, arith, add-one}
+use Rattle.std.proofs.Common.{◌≡◌, ◌⊎◌, inl, inr, ℕ, suc, ◌+◌, ◌<◌, ◌≤◌, [], Option, Some, None, Result, Ok, refl, sym, ap, subst, ◌∙◌, arith, add-one}
 use Rattle.std.proofs.lemmas.List.{append-nil}
 use Rattle.std.proofs.lemmas.Bool.{cases_lt}
-use Rattle.std.specs.Io.KnownBytes.{append_known}
 use Rattle.cpc_base.specs.Bytes.{Text}
-use Rattle.cpc_base.specs.Outside.{Rose}
 use Rattle.cpc_base.specs.declared.stop.NoMemory.{NoMemory}
 use Rattle.cpc_tree.specs.Erase.{Names}
 use Rattle.cpc_tree.specs.Syntax.{Program}
@@ -13,7 +11,7 @@ use Rattle.cpc_tree.specs.Trace as T
 use Rattle.cpc_matching.specs.Steps.{or_stay}
 use Rattle.cpc_meaning.specs.Events.{callbacks}
 use Rattle.cpc_meaning.specs.Machine.{ends, try_step, unless_over, step}
-use Rattle.cpc_meaning.specs.Runs.{live_cells, Full}
+use Rattle.cpc_meaning.specs.Runs.{live_cells}
 use Rattle.cpc_run.specs.declared.looped.Loop.{Loop}
 use Rattle.cpc_run.specs.declared.made.Made.{Made}
 use Rattle.cpc_run.specs.declared.made.Made.TheVariants as M
@@ -22,8 +20,8 @@ use Rattle.cpc_run.specs.declared.outcome.Ended.TheVariants as E
 use Rattle.cpc_run.specs.declared.outcome.Limits.{Limits}
 use Rattle.cpc_run.specs.declared.outcome.Outcome.{Outcome}
 use Rattle.cpc_run.specs.declared.outcome.RunReport.{RunReport}
-use Rattle.cpc_run.specs.States.{States, Stands, Keeps, outcome_of, program_in}
-use Rattle.cpc_run.specs.Reports.{MadeSo, Reached, Begins, NeverStuck, IsLeft, IsOver, IsFull, IsStopped, IsPrefix, WentOut, EndsSo, Tells, Wrote, run_of, written}
+use Rattle.cpc_run.specs.States.{States, Keeps, outcome_of, program_in}
+use Rattle.cpc_run.specs.Reports.{MadeSo, Reached, NeverStuck, IsLeft, IsPrefix, WentOut, EndsSo, Tells, Wrote, run_of, written}
 
 -- ---- the next state
 

@@ -1,5 +1,5 @@
 -- A step is what runs, or what is taken.
-use Rattle.std.proofs.Common.{◌≡◌, Bool, true, false, List, [], ◌∷◌, map, Option, Some, None, Result, Ok, Err, IfOk, refl, sym, ap, subst, ◌∙◌}
+use Rattle.std.proofs.Common.{◌≡◌, true, false, [], ◌∷◌, map, Option, Some, None, Result, Ok, Err, IfOk, refl, sym, ap, subst, ◌∙◌}
 use Rattle.cpc_base.specs.Bytes.{Text}
 use Rattle.cpc_base.specs.declared.names.Name.{Name}
 use Rattle.cpc_base.specs.declared.stop.NoMemory.{NoMemory}
@@ -20,7 +20,6 @@ use Rattle.cpc_meaning.specs.Plain.{Done, Asks, plain, running_function}
 use Rattle.cpc_meaning.specs.Start.{before_bars}
 use Rattle.cpc_meaning.specs.Requests.{Request}
 use Rattle.cpc_meaning.specs.Trees.{trees}
-use Rattle.cpc_agenda.specs.declared.agenda.Agenda.{Agenda}
 use Rattle.cpc_agenda.specs.Lists.{lists_of, due_of}
 use Rattle.cpc_values.specs.Shown.{value_of}
 use Rattle.cpc_run.specs.declared.items.Item.{Item}

@@ -1,8 +1,6 @@
 -- Where nothing runs: a turn of the round, and what is taken.
-use Rattle.std.proofs.Common.{◌≡◌, ℕ, suc, length, Bool, true, false, not, List, [], ◌∷◌, ◌++◌, map, Option, Some, None, Result, Ok, Err, refl, sym, ap, subst, ◌∙◌}
-use Rattle.std.proofs.lemmas.List.{map-append}
+use Rattle.std.proofs.Common.{◌≡◌, ℕ, suc, length, Bool, true, false, not, List, [], ◌∷◌, map, Option, Some, None, Ok, refl, sym, ap, subst, ◌∙◌}
 use Rattle.cpc_base.specs.Bytes.{Text}
-use Rattle.cpc_base.specs.declared.stop.NoMemory.{NoMemory}
 use Rattle.cpc_num.specs.declared.kinds.Fault.{Fault}
 use Rattle.cpc_tree.specs.Erase.{Names}
 use Rattle.cpc_tree.specs.Lists.{is_empty}
@@ -17,18 +15,17 @@ use Rattle.cpc_meaning.specs.Agenda as A
 use Rattle.cpc_meaning.specs.Answer.{Answer, Gives, Faults, NoAnswer, ◌>>=◌, needed}
 use Rattle.cpc_meaning.specs.Eval.{Slot}
 use Rattle.cpc_meaning.specs.Events.{Callback, callbacks}
-use Rattle.cpc_meaning.specs.Machine.{State, ends, runs, turns, turns_where, next_round}
-use Rattle.cpc_meaning.specs.Plain.{Form, Frame, Stack, stack_of, make_frame}
+use Rattle.cpc_meaning.specs.Machine.{ends, runs, turns, turns_where, next_round}
+use Rattle.cpc_meaning.specs.Plain.{Frame, stack_of, make_frame}
 use Rattle.cpc_meaning.specs.Slots.{make_slot, make_slots}
 use Rattle.cpc_meaning.specs.Trees.{trees}
 use Rattle.cpc_agenda.specs.declared.agenda.Agenda.{Agenda}
 use Rattle.cpc_agenda.specs.Lists.{lists_of}
 use Rattle.cpc_run.specs.declared.items.Item.{Item}
 use Rattle.cpc_run.specs.declared.looped.Loop.{Loop}
-use Rattle.cpc_run.specs.declared.outcome.Outcome.{Outcome}
 use Rattle.cpc_run.specs.declared.outcome.Outcome.TheVariants as O
-use Rattle.cpc_run.specs.Code.{store_in, stack_in, items_in, Runs}
-use Rattle.cpc_run.specs.States.{States, Stands, Did, Came, agenda_of, callback_of, due_callback, settles, where_running, outcome_of, program_in}
+use Rattle.cpc_run.specs.Code.{store_in, stack_in}
+use Rattle.cpc_run.specs.States.{States, Stands, Did, Came, agenda_of, due_callback, settles, where_running, program_in}
 
 -- ---- a call of a function
 

@@ -1,20 +1,16 @@
 -- A step within the cap.
-use Rattle.std.proofs.Common.{◌≡◌, ◌≢◌, ℕ, ◌+◌, ◌<◌, ◌≤◌, ◌^◌, ◌-◌, min, Bool, true, false, List, [], ◌++◌, Option, Some, None, Result, Ok, Err, refl, sym, ap, subst, ◌∙◌, arith, append_assoc}
-use Rattle.std.proofs.lemmas.List.{append-nil}
+use Rattle.std.proofs.Common.{◌≡◌, ◌≢◌, ℕ, ◌+◌, ◌<◌, ◌≤◌, min, Bool, true, false, ◌++◌, Option, Some, None, Ok, refl, sym, ap, subst, ◌∙◌, arith, append_assoc}
 use Rattle.cpc_base.specs.Bytes.{Text}
-use Rattle.cpc_base.specs.declared.stop.NoMemory.{NoMemory}
 use Rattle.cpc_tree.specs.Erase.{Names}
 use Rattle.cpc_store.specs.Store.{store_cells}
-use Rattle.cpc_meaning.specs.Machine.{ends}
 use Rattle.cpc_meaning.specs.Plain.{Stack}
 use Rattle.cpc_meaning.specs.Runs.{live_cells, registers, frames_registers}
 use Rattle.cpc_tree.specs.Points.{Point}
 use Rattle.cpc_run.specs.declared.looped.Loop.{Loop}
-use Rattle.cpc_run.specs.declared.made.Made.{Made}
 use Rattle.cpc_run.specs.declared.made.Made.TheVariants as M
 use Rattle.cpc_run.specs.declared.outcome.Outcome.{Outcome}
 use Rattle.cpc_run.specs.Code.{store_in, stack_in, IsIdle}
-use Rattle.cpc_run.specs.States.{States, Stands, Came, Did, IsSteady, where_running, outcome_of}
+use Rattle.cpc_run.specs.States.{States, Stands, Came, IsSteady, where_running}
 use Rattle.cpc_run.specs.Reports.{MadeSo}
 use Rattle.cpc_run.proofs.Coded.{idle_frames}
 

@@ -1,28 +1,16 @@
 -- The machine of code, as the definitions have it.
-use Rattle.std.specs.Prelude.{◌≡◌, map, Result, Ok, Err, Some, List, [], true}
+use Rattle.std.specs.Prelude.{◌≡◌, Result, Ok, Err, [], true}
 use Rattle.cpc_base.specs.declared.stop.NoMemory.{NoMemory}
 use Rattle.cpc_base.specs.declared.stop.Stop.{Stop}
 use Rattle.cpc_base.specs.declared.stop.Stop.TheVariants as W
-use Rattle.cpc_base.specs.declared.stop.Place.{Place}
-use Rattle.cpc_base.specs.declared.stop.Dialect.TheVariants as D
 use Rattle.cpc_num.specs.declared.kinds.Fault.{Fault}
-use Rattle.cpc_tree.specs.Erase.{Names, item_of, program_of}
+use Rattle.cpc_tree.specs.Erase.{Names, program_of}
 use Rattle.cpc_tree.specs.Syntax.{Program}
 use Rattle.cpc_tree.specs.Points.{Point}
-use Rattle.cpc_tree.specs.Tokens.{Placed}
-use Rattle.cpc_tree.specs.Located.{LProgram, bare}
-use Rattle.cpc_tree.specs.Grammar.{IsProgram}
-use Rattle.cpc_tree.specs.Trace.{is_over}
 use Rattle.cpc_tree.specs.declared.program.Program as GProgram
-use Rattle.cpc_rules.specs.Rules.{breaks}
-use Rattle.cpc_rules.specs.Apart.{Spells}
-use Rattle.cpc_matching.specs.Systems.{NeverStuck}
 use Rattle.cpc_store.specs.Store.{Store}
 use Rattle.cpc_meaning.specs.Answer.{Answer}
 use Rattle.cpc_meaning.specs.Plain as P
-use Rattle.cpc_meaning.specs.Trees.{trees}
-use Rattle.cpc_meaning.specs.History.{History}
-use Rattle.cpc_meaning.specs.Matching.{event_system}
 use Rattle.cpc_builtins.specs.Served.{is_served_program}
 use Rattle.cpc_values.specs.Meets.{Meets}
 use Rattle.cpc_values.specs.Shown.{value_of, store_of}
@@ -30,14 +18,11 @@ use Rattle.cpc_index.specs.Indexed.{items_of}
 use Rattle.cpc_eval.specs.Numbers.{ProgramNumbers}
 use Rattle.cpc_native.specs.declared.machine.Stepped.{Stepped}
 use Rattle.cpc_native.specs.declared.machine.Stepped.TheVariants as X
-use Rattle.cpc_native.specs.Runs.{ToldFromUnnamed, Runs as RunsOf}
+use Rattle.cpc_native.specs.Runs.{Runs as RunsOf}
 use Rattle.cpc_native.specs.Stacks.{stack_of, request_of}
 use Rattle.cpc_native.specs.Well.{IsWell as IsWellMachine}
 use Rattle.cpc_numbers.specs.Laws.{IsSpelling}
 use Rattle.cpc_run.specs.declared.code.Code.{Code}
-use Rattle.cpc_tree.specs.Typing.{function_named}
-use Rattle.cpc_tree.specs.Syntax as T
-use Rattle.cpc_base.specs.Bytes.{Text}
 
 -- the program whose code runs
 unfoldable pub items_in : Names → Code → Program

@@ -1,5 +1,5 @@
 -- What is told of a run: how it was left, after how many steps, and what it wrote.
-use Rattle.std.specs.Prelude.{◌≡◌, ◌⊎◌, ℕ, suc, ◌<◌, ◌≤◌, List, [], ◌++◌, length, map, Option, Some, None, Result, Ok, Err}
+use Rattle.std.specs.Prelude.{◌≡◌, ◌⊎◌, ℕ, suc, ◌<◌, ◌≤◌, [], ◌++◌, length, map, Option, Some, None, Result, Ok, Err}
 use Rattle.std.specs.Io.KnownBytes.{append_known}
 use Rattle.cpc_base.specs.Bytes.{Text}
 use Rattle.cpc_base.specs.declared.stop.NoMemory.{NoMemory}
@@ -10,7 +10,7 @@ use Rattle.cpc_tree.specs.Texts.{output}
 use Rattle.cpc_tree.specs.Trace as T
 use Rattle.cpc_meaning.specs.Events.{CallMain, callbacks, event}
 use Rattle.cpc_meaning.specs.History.{History}
-use Rattle.cpc_meaning.specs.Machine.{State, ends, IsStuck}
+use Rattle.cpc_meaning.specs.Machine.{ends, IsStuck}
 use Rattle.cpc_meaning.specs.Runs.{live_cells, Full}
 use Rattle.cpc_meaning.specs.Start.{opening}
 use Rattle.cpc_run.specs.declared.looped.Loop.{Loop}

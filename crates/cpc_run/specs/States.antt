@@ -1,5 +1,5 @@
 -- The loop of the code, as a state of the event machine.
-use Rattle.std.specs.Prelude.{◌≡◌, Bool, true, false, not, map, Option, Some, None, Result, Ok, Err, pos}
+use Rattle.std.specs.Prelude.{◌≡◌, Bool, true, false, not, map, Option, Some, None, Result, Ok, Err}
 use Rattle.cpc_base.specs.Bytes.{Text}
 use Rattle.cpc_base.specs.declared.names.Name.{Name}
 use Rattle.cpc_base.specs.declared.stop.NoMemory.{NoMemory}
@@ -13,9 +13,8 @@ use Rattle.cpc_meaning.specs.Agenda as A
 use Rattle.cpc_meaning.specs.Answer.{Answer}
 use Rattle.cpc_meaning.specs.Events.{Callback, CallMain, CallWith, callbacks}
 use Rattle.cpc_meaning.specs.Machine.{State, ends, settled}
-use Rattle.cpc_meaning.specs.Plain.{Stack, Form, running_function}
+use Rattle.cpc_meaning.specs.Plain.{running_function}
 use Rattle.cpc_meaning.specs.Start.{before_bars, main_name}
-use Rattle.cpc_meaning.specs.Trees.{trees}
 use Rattle.cpc_values.specs.Shown.{value_of}
 use Rattle.cpc_agenda.specs.declared.agenda.Agenda.{Agenda}
 use Rattle.cpc_agenda.specs.Lists.{lists_of}

@@ -1,5 +1,5 @@
 //! A run from its first state to its end, or to one of its bounds.
-ghost use Rattle.std.specs.Prelude.{◌≡◌, ◌++◌, ◌<◌, ◌≤◌, ◌^◌, [], OnOk, OnErr, Option, IsTrue, true};
+ghost use Rattle.std.specs.Prelude.{◌≡◌, ◌++◌, ◌<◌, ◌≤◌, ◌^◌, [], IfOk, OnOk, OnErr, Option, IsTrue, true};
 ghost use Rattle.std.specs.Io.KnownBytes.{append_known};
 ghost use Rattle.cpc_base.specs.Bytes.{Text};
 ghost use Rattle.cpc_base.specs.Outside.{Rose};
@@ -7,9 +7,10 @@ ghost use Rattle.cpc_base.specs.declared.stop.Dialect.TheVariants.{Event};
 ghost use Rattle.cpc_tree.specs.Erase.{Names as Spelling, in_table, program_of};
 ghost use Rattle.cpc_rules.specs.Apart.{Spells};
 ghost use Rattle.cpc_builtins.specs.Served.{is_served_program};
+ghost use Rattle.cpc_meaning.specs.Runs.{live_cells};
 ghost use Rattle.cpc_tree.specs.Syntax.{Program as Bare};
 ghost use Rattle.cpc_run.specs.States.{IsSteady};
-ghost use Rattle.cpc_run.specs.Reports.{Wrote, IsPrefix, Tells, Reached, Drained, EndsSo, Begins, IsInTable, NeverStuck};
+ghost use Rattle.cpc_run.specs.Reports.{Wrote, IsPrefix, Tells, Reached, Drained, EndsSo, Begins, IsInTable, NeverStuck, run_of};
 ghost use Rattle.cpc_run.specs.Code.{Given};
 ghost use Rattle.cpc_run.specs.declared.outcome.Ended.TheVariants.{WriteFault as IsWriteFault};
 
@@ -18,6 +19,7 @@ use crate::made::Made;
 use crate::outcome::{Ended, Limits, Outcome, RunReport};
 use cpc_base::{Failed, Names, NoMemory, Sink, write_all};
 use cpc_check::Checked;
+use cpc_globals::global_cells;
 use cpc_numbers::{checked_has_numbers, is_spelled};
 use cpc_sound::accepted_callbacks_never_stuck;
 use cpc_tree::program::Program;
@@ -174,6 +176,41 @@ fn named(names: &Names, report: RunReport) -> RunReport
     }
 }
 
+// The live cells of the first state, counted before a cell is made. `NoMemory` is want of memory, or of numbers for so many.
+fn first_cells(alloc: Global, program: &Program) -> Result<u64, NoMemory>
+    ensures { IfOk result (λ n. (names : Spelling) → Given names program.now → n ≡ live_cells (run_of (program_of program.now) 0)) }
+{
+    let first = global_cells(alloc, program)?;
+    if first == u64::MAX {
+        return Err(NoMemory);
+    }
+    Ok(first)
+}
+
+// Runs a program that is never stuck from its first state, which has so many live cells, by whatever texts tell its names.
+fn run_from<O: Sink>(
+    alloc: Global,
+    program: &Program,
+    limits: Limits,
+    first: u64,
+    out: &mut O,
+) -> RunReport
+    requires given { (names : Spelling) × Given names program.now }
+    requires never_stuck { NeverStuck (program_of program.now) }
+    requires cap { limits.cells < 2 ^ 62 }
+    requires first { first ≡ live_cells (run_of (program_of program.now) 0) }
+    requires within { first ≤ limits.cells }
+    ensures told { Wrote (O.taken out.old) (O.taken out.new) (Tells (in_table program.now.names) (program_of program.now) limits result) }
+    ensures cause { result.ended ≡ IsWriteFault → Rose (O.faults out.old) (O.faults out.new) }
+{
+    let mut run = match Loop::open(alloc, program) {
+        Ok(run) => run,
+        Err(NoMemory) => return STARVED,
+    };
+    let report = run_on(alloc, &mut run, limits, first, out);
+    named(&program.names, report)
+}
+
 // Runs a program that is never stuck, by whatever texts tell its names.
 fn run_program<O: Sink>(alloc: Global, program: &Program, limits: Limits, out: &mut O) -> RunReport
     requires given { (names : Spelling) × Given names program.now }
@@ -182,14 +219,10 @@ fn run_program<O: Sink>(alloc: Global, program: &Program, limits: Limits, out: &
     ensures told { Wrote (O.taken out.old) (O.taken out.new) (Tells (in_table program.now.names) (program_of program.now) limits result) }
     ensures cause { result.ended ≡ IsWriteFault → Rose (O.faults out.old) (O.faults out.new) }
 {
-    let mut run = match Loop::open(alloc, program) {
-        Ok(run) => run,
+    let first = match first_cells(alloc, program) {
+        Ok(first) => first,
         Err(NoMemory) => return STARVED,
     };
-    let first = run.cells();
-    if first == u64::MAX {
-        return STARVED;
-    }
     if first > limits.cells {
         return RunReport {
             ended: Ended::Full(first),
@@ -197,13 +230,12 @@ fn run_program<O: Sink>(alloc: Global, program: &Program, limits: Limits, out: &
             cells: first,
         };
     }
-    let report = run_on(alloc, &mut run, limits, first, out);
-    named(&program.names, report)
+    run_from(alloc, program, limits, first, out)
 }
 
 /// Runs an event program that asks only for what the loop answers, with nothing told from outside, and writes what it puts
 /// out. The bound on steps is looked at before each step, the cap on live cells at what it leaves: a step that leaves
-/// more is not counted, and nothing of it goes out.
+/// more is not counted, and nothing of it goes out. The cells of the first state are counted before it is made.
 ///
 /// `Ended::WriteFault` is a failure of the sink, `Ended::Memory` want of memory; then what went out is the first part of
 /// what the run put out. A block of more cells than the cap has room for is want of memory too, but for a few.

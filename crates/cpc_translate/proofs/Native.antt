@@ -1,22 +1,22 @@
--- What is printed of a program of the built forms is accepted as an event program that has the same runs.
-use Rattle.std.proofs.Common.{◌≡◌, ◌<◌, true, All, None, sym, ap, subst, ◌∙◌}
+-- What is printed of a native program of the built forms is accepted as an event program that has the same runs.
+use Rattle.std.proofs.Common.{◌≡◌, ◌<◌, true, false, All, None, sym, ap, subst, ◌∙◌}
 use Rattle.cpc_base.specs.Bytes.{Text}
-use Rattle.cpc_base.specs.declared.stop.Dialect.{Dialect}
 use Rattle.cpc_base.specs.declared.stop.Dialect.TheVariants as D
 use Rattle.cpc_tree.specs.declared.program.Program as GProgram
 use Rattle.cpc_tree.specs.Syntax.{Program}
 use Rattle.cpc_tree.specs.Located.{LProgram, bare}
 use Rattle.cpc_tree.specs.Erase.{program_of}
 use Rattle.cpc_tree.specs.Locate.{located}
-use Rattle.cpc_tree.specs.Grammar.{Parses}
 use Rattle.cpc_tree.proofs.Places.{bare_program}
-use Rattle.cpc_printer.specs.Style.{ReadsBack}
+use Rattle.cpc_printer.specs.Style.{IsPrint}
+use Rattle.cpc_printer.proofs.Back.{tree_back}
 use Rattle.cpc_meaning.specs.Runs.{SameRuns, Within}
 use Rattle.cpc_meaning.specs.Matching.{RunsNeverStuck}
 use Rattle.cpc_rule_laws.specs.Native.{are_native}
 use Rattle.cpc_rule_laws.proofs.Widened.{parses_same}
 use Rattle.cpc_rule_laws.proofs.NativeItems.{native_unbroken}
 use Rattle.cpc_rule_laws.proofs.PlacesItems.{unbroken_at_any_places}
+use Rattle.cpc_first_form.specs.Threads.{has_threads}
 use Rattle.cpc_builtins.specs.Served.{is_served_program}
 use Rattle.cpc_native_runs.specs.Plain.{is_plain}
 use Rattle.cpc_native_runs.proofs.Alike.{plain_runs_same, plain_runs_within}
@@ -26,15 +26,14 @@ use Rattle.cpc_check.specs.Accepted.{Accepts}
 use Rattle.cpc_built.specs.Built.{unbuilt}
 use Rattle.cpc_built.proofs.Forms as F
 
-module _ (text : Text) (program : GProgram.Program) (accepted : Accepts D.Cpc text (located program)) (built : unbuilt (located program) ≡ None) where
+module _ (text : Text) (program : GProgram.Program) (accepted : Accepts D.Cpc text (located program)) (built : unbuilt (located program) ≡ None) (native_code : has_threads (located program).items ≡ false) where
   native : are_native (located program).items ≡ true
-  native = F.built_are_native (located program) built
+  native = F.built_are_native (located program) built native_code
 
   -- what is printed is read as a program that breaks no rule of the dialect Event
-  pub print_accepted : All (λ b. b < 256) text → (printed : Text) → ((dialect : Dialect) (t : Text) → All (λ b. b < 256) t → Parses dialect t (located program) → ReadsBack dialect printed (program_of program))
-      → (q : LProgram) × Accepts D.Event printed q × (bare q ≡ program_of program)
-  print_accepted bytes printed back =
-      let r = back D.Event text bytes (parses_same text (located program) accepted.parses) in (
+  pub print_accepted : All (λ b. b < 256) text → (printed : Text) → IsPrint printed (program_of program) → (q : LProgram) × Accepts D.Event printed q × (bare q ≡ program_of program)
+  print_accepted bytes printed print =
+      let r = tree_back program printed print D.Event text bytes (parses_same text (located program) accepted.parses) in (
         r.0,
         record {
           parses = r.1;
@@ -59,4 +58,4 @@ module _ (text : Text) (program : GProgram.Program) (accepted : Accepts D.Cpc te
 
   -- and asks only for what the loop answers
   pub is_served : (q : Program) → q ≡ program_of program → is_served_program q ≡ true
-  is_served q e = ap is_served_program (e ∙ sym (bare_program program)) ∙ F.built_are_served (located program) built
+  is_served q e = ap is_served_program (e ∙ sym (bare_program program)) ∙ F.built_are_served (located program) built native_code

@@ -1,6 +1,7 @@
 //! Texts to programs that break no rule, or to the one fault of a text; and to the event programs that have the same runs.
 #![tactic(auto)]
 
+mod events;
 mod fault;
 mod reading;
 mod translating;
@@ -11,5 +12,7 @@ pub use translating::{Refusal, Translated, translate};
 
 #[cfg(test)]
 mod tests;
+#[cfg(test)]
+mod thread_tests;
 #[cfg(test)]
 mod translated_tests;

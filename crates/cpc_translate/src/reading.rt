@@ -1,14 +1,16 @@
 //! A text as a program that breaks no rule.
 ghost use Rattle.std.specs.Prelude.{◌≡◌, ◌<◌, All, IfOk, Err};
 ghost use Rattle.cpc_base.specs.declared.stop.Stop.TheVariants.{Fault};
+ghost use Rattle.cpc_tree.specs.Erase.{program_of};
 ghost use Rattle.cpc_tree.specs.Grammar.{Parses};
 ghost use Rattle.cpc_tree.specs.Locate.{located};
+ghost use Rattle.cpc_tree.specs.Located.{LProgram, bare};
 ghost use Rattle.cpc_check.specs.Accepted.{Accepts, IsWithin};
 ghost use Rattle.cpc_translate.specs.Refusals.{IsTextFault, uncut_as, unread_as};
 ghost use Rattle.cpc_translate.specs.declared.fault.TextFault.{TextFault};
 
 use crate::fault::TextFault;
-use cpc_base::{Dialect, Names, Stop};
+use cpc_base::{Dialect, Names, NoMemory, Stop};
 use cpc_check::{Checked, check};
 use cpc_lexer::{LexFault, end_of_text, tokens};
 use cpc_parse_types::ParseFault;
@@ -71,6 +73,7 @@ fn are_bytes(text: &[u8])
 pub fn read(alloc: Global, text: &[u8], dialect: Dialect) -> Result<Checked, Stop<TextFault>>
     ensures accepted { IfOk result (λ c. Accepts dialect text.now (located c.program)) }
     ensures dialect { IfOk result (λ c. c.dialect ≡ dialect) }
+    ensures within { IfOk result (λ c. IsWithin c.program) }
     ensures refused { (fault : TextFault) → result ≡ Err (Fault fault) → IsTextFault dialect text.now fault }
     ensures bytes { All (λ b. b < 256) text.now }
 {
@@ -80,5 +83,20 @@ pub fn read(alloc: Global, text: &[u8], dialect: Dialect) -> Result<Checked, Sto
         Ok(checked) => Ok(checked),
         Err((_, Stop::Memory)) => Err(Stop::Memory),
         Err((_, Stop::Fault(breach))) => Err(Stop::Fault(TextFault::Check(breach))),
+    }
+}
+
+/// The program of a text, of which it is known that it is accepted. `NoMemory` is want of memory.
+pub(crate) fn read_again(alloc: Global, text: &[u8], dialect: Dialect) -> Result<Checked, NoMemory>
+    requires { (p : LProgram) × Accepts dialect text.now p }
+    ensures accepted { IfOk result (λ c. Accepts dialect text.now (located c.program)) }
+    ensures dialect { IfOk result (λ c. c.dialect ≡ dialect) }
+    ensures within { IfOk result (λ c. IsWithin c.program) }
+    ensures equal { (p : LProgram) → Accepts dialect text.now p → IfOk result (λ c. program_of c.program ≡ bare p) }
+{
+    match read(alloc, text, dialect) {
+        Ok(checked) => Ok(checked),
+        Err(Stop::Memory) => Err(NoMemory),
+        Err(Stop::Fault(_)) => unreachable!(),
     }
 }

@@ -1,25 +1,26 @@
-//! A text as a program of native code, and as the event program that is printed of it.
+//! A text as a program, and as the event program that is printed of it.
 ghost use Rattle.std.specs.Prelude.{◌≡◌, ◌<◌, All, IfOk, Err, Some, None, true};
 ghost use Rattle.cpc_base.specs.declared.stop.Dialect.TheVariants as D;
 ghost use Rattle.cpc_base.specs.declared.stop.Place.{Place};
 ghost use Rattle.cpc_base.specs.declared.stop.Stop.TheVariants.{Fault};
 ghost use Rattle.cpc_tree.specs.Erase.{program_of};
 ghost use Rattle.cpc_tree.specs.Locate.{located};
-ghost use Rattle.cpc_tree.specs.Located.{LProgram, bare};
+ghost use Rattle.cpc_tree.specs.Located.{LProgram};
 ghost use Rattle.cpc_meaning.specs.Runs.{SameRuns, Within};
 ghost use Rattle.cpc_check.specs.Accepted.{Accepts};
 ghost use Rattle.cpc_builtins.specs.Served.{is_served_program};
 ghost use Rattle.cpc_built.specs.Built.{unbuilt};
+ghost use Rattle.cpc_translate.specs.Events.{event_of};
 ghost use Rattle.cpc_translate.specs.Refusals.{IsTextFault, refusal_of};
 ghost use Rattle.cpc_translate.specs.declared.fault.TextFault.{TextFault};
 ghost use Rattle.cpc_translate.specs.declared.translating.Refusal.TheVariants.{Text, Form};
 
+use crate::events::event_text;
 use crate::fault::TextFault;
-use crate::reading::read;
+use crate::reading::{read, read_again};
 use cpc_base::{Dialect, NoMemory, Place, Stop};
 use cpc_built::built;
 use cpc_check::Checked;
-use cpc_printer::print;
 use std::alloc::Global;
 
 /// Why a text is not translated.
@@ -31,12 +32,12 @@ pub enum Refusal {
     Form(Place),
 }
 
-/// A program, the text that is printed of it, and the event program that this is read as.
+/// A program, the text that is printed of its event program, and the program that this is read as.
 #[derive(Drop)]
 pub struct Translated {
     /// The program of the text.
     pub source: Checked,
-    /// What is printed of it.
+    /// What is printed of its event program.
     pub printed: Vec<u8>,
     /// The event program that this is read as.
     pub read_back: Checked,
@@ -70,20 +71,6 @@ fn source_of(alloc: Global, text: &[u8]) -> Result<Checked, Stop<Refusal>>
     }
 }
 
-// The event program that a text is read as, of which it is known that it is accepted. `NoMemory` is want of memory.
-fn read_again(alloc: Global, text: &[u8]) -> Result<Checked, NoMemory>
-    requires { (q : LProgram) × Accepts D.Event text.now q }
-    ensures accepted { IfOk result (λ c. Accepts D.Event text.now (located c.program)) }
-    ensures dialect { IfOk result (λ c. c.dialect ≡ D.Event) }
-    ensures equal { (q : LProgram) → Accepts D.Event text.now q → IfOk result (λ c. program_of c.program ≡ bare q) }
-{
-    match read(alloc, text, Dialect::Event) {
-        Ok(checked) => Ok(checked),
-        Err(Stop::Memory) => Err(NoMemory),
-        Err(Stop::Fault(_)) => unreachable!(),
-    }
-}
-
 /// The translation of a text of the dialect Cpc: an event program that has the same runs.
 ///
 /// # Errors
@@ -95,7 +82,7 @@ pub fn translate(alloc: Global, text: &[u8]) -> Result<Translated, Stop<Refusal>
     ensures printed { IfOk result (λ t. Accepts D.Event t.printed.items (located t.read_back.program)) }
     ensures dialects { IfOk result (λ t. (t.source.dialect ≡ D.Cpc) × (t.read_back.dialect ≡ D.Event)) }
     ensures built { IfOk result (λ t. unbuilt (located t.source.program) ≡ None) }
-    ensures equal { IfOk result (λ t. program_of t.read_back.program ≡ program_of t.source.program) }
+    ensures equal { IfOk result (λ t. program_of t.read_back.program ≡ event_of (program_of t.source.program)) }
     ensures same { IfOk result (λ t. SameRuns (program_of t.source.program) (program_of t.read_back.program)) }
     ensures within { IfOk result (λ t. Within (program_of t.source.program) (program_of t.read_back.program)) }
     ensures served { IfOk result (λ t. is_served_program (program_of t.read_back.program) ≡ true) }
@@ -103,11 +90,11 @@ pub fn translate(alloc: Global, text: &[u8]) -> Result<Translated, Stop<Refusal>
     ensures form { (at : Place) → result ≡ Err (Fault (Form at)) → (p : LProgram) × Accepts D.Cpc text.now p × (unbuilt p ≡ Some at) }
 {
     let source = source_of(alloc, text)?;
-    let printed = match print(alloc, &source.program) {
+    let printed = match event_text(alloc, text, &source.program) {
         Ok(printed) => printed,
         Err(NoMemory) => return Err(Stop::Memory),
     };
-    match read_again(alloc, printed.as_slice()) {
+    match read_again(alloc, printed.as_slice(), Dialect::Event) {
         Ok(read_back) => Ok(Translated {
             source,
             printed,

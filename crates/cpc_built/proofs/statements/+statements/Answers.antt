@@ -14,7 +14,7 @@ built_stmt-returns-in-Block t c =
 pub built_stmt-returns-in_err-built_row-in-For : goal.built_stmt-returns-in_err-built_row-in-For
 built_stmt-returns-in_err-built_row-in-For t c =
     let e = for_built (in_table c.args.names.now) c.args.s.now _ _ _ _ _ c.in-For.is in
-    let a = c.is_built_if-in-For.ensures in
+    let a = c.is_built_if.ensures in
     let b = c.only_if-in-For.ensures in
     let d = c.built_row-in-For.ensures in
     let v = c.deref-in-For.ensures.value in
@@ -23,49 +23,31 @@ built_stmt-returns-in_err-built_row-in-For t c =
     let f7 = c.from_residual-in_err-built_row-in-For.ensures in
     grind (arith, common_steps, e, a, b, d, v, f3, f6, f7)
 
-pub built_stmt-returns-in_err-built_stmt-in-Some-step : goal.built_stmt-returns-in_err-built_stmt-in-Some-step
-built_stmt-returns-in_err-built_stmt-in-Some-step t c =
+pub built_stmt-returns-in_err-built_arm-in-For : goal.built_stmt-returns-in_err-built_arm-in-For
+built_stmt-returns-in_err-built_arm-in-For t c =
     let e = for_built (in_table c.args.names.now) c.args.s.now _ _ _ _ _ c.in-For.is in
-    let a = c.is_built_if-in-For.ensures in
+    let a = c.is_built_if.ensures in
     let b = c.only_if-in-For.ensures in
     let d = c.built_row-in-For.ensures in
     let v = c.deref-in-For.ensures.value in
     let f3 = c.in_ok-only_if-in-For.was in
     let f4 = c.in_ok-built_row-in-For.was in
-    let s = c.in-Some-step.is in
-    let u = c.deref-in-Some-step.ensures in
-    let w = c.built_stmt-in-Some-step.ensures in
-    let f6 = c.in_err-built_stmt-in-Some-step.was in
-    let f7 = c.from_residual-in_err-built_stmt-in-Some-step.ensures in
-    grind (arith, common_steps, e, a, b, d, v, f3, f4, s, u, w, f6, f7)
+    let w = c.built_arm-in-For.ensures in
+    let f6 = c.in_err-built_arm-in-For.was in
+    let f7 = c.from_residual-in_err-built_arm-in-For.ensures in
+    grind (arith, common_steps, e, a, b, d, v, f3, f4, w, f6, f7)
 
-pub built_stmt-returns-in_ok-built_stmt-in-Some-step : goal.built_stmt-returns-in_ok-built_stmt-in-Some-step
-built_stmt-returns-in_ok-built_stmt-in-Some-step t c =
+pub built_stmt-returns-in_ok-built_arm-in-For : goal.built_stmt-returns-in_ok-built_arm-in-For
+built_stmt-returns-in_ok-built_arm-in-For t c =
     let e = for_built (in_table c.args.names.now) c.args.s.now _ _ _ _ _ c.in-For.is in
-    let a = c.is_built_if-in-For.ensures in
+    let a = c.is_built_if.ensures in
     let b = c.only_if-in-For.ensures in
     let d = c.built_row-in-For.ensures in
     let v = c.deref-in-For.ensures.value in
     let f3 = c.in_ok-only_if-in-For.was in
     let f4 = c.in_ok-built_row-in-For.was in
-    let s = c.in-Some-step.is in
-    let u = c.deref-in-Some-step.ensures in
-    let w = c.built_stmt-in-Some-step.ensures in
-    let f6 = c.in_ok-built_stmt-in-Some-step.was in
-    let x = c.deref-in-Some-step-2.ensures in
-    let y = c.built_stmt-in-Some-step-2.ensures in
-    grind (arith, common_steps, e, a, b, d, v, f3, f4, s, u, w, f6, x, y)
-
-pub built_stmt-returns-in-None-step : goal.built_stmt-returns-in-None-step
-built_stmt-returns-in-None-step t c =
-    let e = for_built (in_table c.args.names.now) c.args.s.now _ _ _ _ _ c.in-For.is in
-    let a = c.is_built_if-in-For.ensures in
-    let b = c.only_if-in-For.ensures in
-    let d = c.built_row-in-For.ensures in
-    let v = c.deref-in-For.ensures.value in
-    let f3 = c.in_ok-only_if-in-For.was in
-    let f4 = c.in_ok-built_row-in-For.was in
-    let s = c.in-None-step.is in
-    let x = c.deref-in-None-step.ensures in
-    let y = c.built_stmt-in-None-step.ensures in
-    grind (arith, common_steps, e, a, b, d, v, f3, f4, s, x, y)
+    let w = c.built_arm-in-For.ensures in
+    let f6 = c.in_ok-built_arm-in-For.was in
+    let x = c.deref-in-For-2.ensures in
+    let y = c.built_stmt-in-For.ensures in
+    grind (arith, common_steps, e, a, b, d, v, f3, f4, w, f6, x, y)

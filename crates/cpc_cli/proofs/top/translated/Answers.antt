@@ -4,7 +4,7 @@ use Rattle.cpc_tree.specs.Locate.{located}
 use Rattle.cpc_check.specs.Accepted.{Accepts}
 use Rattle.cpc_base.specs.Bytes.{Text}
 use Rattle.cpc_base.specs.Outside.{Rose}
-use Rattle.cpc_cli.proofs.TopLemmas.{not_for_any, bare_same}
+use Rattle.cpc_cli.proofs.TopLemmas.{not_for_any, translated_so}
 use Rattle.cpc_cli.proofs.top.translated.Goals as goal
 
 pub returns-in-Err-clause-refused : goal.returns-in-Err-clause-refused
@@ -17,6 +17,7 @@ pub returns-in-Ok-translate-clause-same : goal.returns-in-Ok-translate-clause-sa
 returns-in-Ok-translate-clause-same g c = λ files told.
     let text = c.in-Ok.ensures.text files told in
     let is = c.as_slice.ensures.value ∙ text.2.1 in
+    let t = c.in-Ok-translate.ensures in
     let p = located c.in-Ok-translate.translated.source.program in (
       text.0,
       text.1,
@@ -25,7 +26,7 @@ returns-in-Ok-translate-clause-same g c = λ files told.
         (
           p,
           subst (λ t. Accepts Cpc t p) is c.in-Ok-translate.ensures.source,
-          record { built = c.in-Ok-translate.ensures.built; same = bare_same c.in-Ok-translate.translated.source.program c.in-Ok-translate.translated.read_back.program c.in-Ok-translate.ensures.same },
+          translated_so c.in-Ok-translate.translated.source.program c.in-Ok-translate.translated.read_back.program t.built t.equal t.same t.within,
         ),
       ),
     )

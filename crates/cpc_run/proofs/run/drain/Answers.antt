@@ -1,4 +1,3 @@
-use Rattle.std.proofs.Common.{sym}
 use Rattle.cpc_run.proofs.Pieces.{drained, part_written}
 use Rattle.cpc_run.proofs.run.drain.Goals as goal
 

@@ -1,21 +1,22 @@
 use Rattle.std.proofs.Common.{subst, sym, ◌∙◌}
 use Rattle.cpc_tree.specs.Erase.{program_of}
-use Rattle.cpc_printer.specs.Style.{ReadsBack}
-use Rattle.cpc_translate.proofs.Native.{print_accepted, runs_same, runs_within, is_served}
+use Rattle.cpc_printer.specs.Style.{IsPrint}
+use Rattle.cpc_translate.specs.Events.{event_of}
+use Rattle.cpc_translate.proofs.Whole.{print_accepted, runs_same, runs_within, is_served}
 use Rattle.cpc_translate.proofs.translating.translate.Goals as goal
 
 pub read_again-requires : goal.read_again-requires
 read_again-requires c =
     let s = c.in_ok-source.ensures in
-    let q = print_accepted c.args.text.now c.in_ok-source.source.program s.accepted s.built s.bytes c.as_slice.result.now
-    (λ dialect t bytes parses. subst (λ u. ReadsBack dialect u (program_of c.in_ok-source.source.program)) (sym c.as_slice.ensures.value) (c.in-Ok.ensures.back dialect t bytes parses)) in
+    let p = c.in_ok-source.source.program in
+    let q = print_accepted c.args.text.now p s.accepted s.built s.bytes c.as_slice.result.now (subst (λ t. IsPrint t (event_of (program_of p))) (sym c.as_slice.ensures.value) c.in-Ok.ensures) in
     (q.0, q.1)
 
 pub returns-in-Ok-read_again-clause-equal : goal.returns-in-Ok-read_again-clause-equal
 returns-in-Ok-read_again-clause-equal c =
     let s = c.in_ok-source.ensures in
-    let q = print_accepted c.args.text.now c.in_ok-source.source.program s.accepted s.built s.bytes c.as_slice.result.now
-    (λ dialect t bytes parses. subst (λ u. ReadsBack dialect u (program_of c.in_ok-source.source.program)) (sym c.as_slice.ensures.value) (c.in-Ok.ensures.back dialect t bytes parses)) in
+    let p = c.in_ok-source.source.program in
+    let q = print_accepted c.args.text.now p s.accepted s.built s.bytes c.as_slice.result.now (subst (λ t. IsPrint t (event_of (program_of p))) (sym c.as_slice.ensures.value) c.in-Ok.ensures) in
     c.in-Ok-read_again.ensures.equal q.0 q.1 ∙ q.2
 
 pub returns-in-Ok-read_again-clause-same : goal.returns-in-Ok-read_again-clause-same

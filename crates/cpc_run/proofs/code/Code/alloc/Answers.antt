@@ -1,4 +1,4 @@
-use Rattle.std.proofs.Common.{◌≡◌, [], refl, sym, ap, ◌∙◌, arith}
+use Rattle.std.proofs.Common.{[], sym, ap, ◌∙◌, arith}
 use Rattle.cpc_tree.specs.Erase.{Names}
 use Rattle.cpc_index.specs.Indexed.{items_of}
 use Rattle.cpc_store.specs.Codes.{map_store}

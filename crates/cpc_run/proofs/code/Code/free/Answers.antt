@@ -1,4 +1,4 @@
-use Rattle.std.proofs.Common.{refl, sym, ap, ◌∙◌}
+use Rattle.std.proofs.Common.{sym, ap, ◌∙◌}
 use Rattle.cpc_index.specs.Indexed.{items_of}
 use Rattle.cpc_store.specs.Seen.{seen}
 use Rattle.cpc_store.proofs.CodeLemmas.{free-map}

@@ -1,4 +1,4 @@
-use Rattle.std.proofs.Common.{◌≡◌, ◌^◌, ◌-◌, min, ap, ◌∙◌}
+use Rattle.std.proofs.Common.{◌^◌, ◌-◌, min, ap, ◌∙◌}
 use Rattle.cpc_run.proofs.Weighed.{cells_so}
 use Rattle.cpc_run.proofs.looped.Loop.cells.Goals as goal
 

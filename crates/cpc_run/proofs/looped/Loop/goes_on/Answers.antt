@@ -1,10 +1,9 @@
-use Rattle.std.proofs.Common.{◌≡◌, ◌++◌, false, Some, Ok, Err, ap, refl, sym, subst, ◌∙◌}
+use Rattle.std.proofs.Common.{◌++◌, Some, Ok, Err, ap, sym, subst, ◌∙◌}
 use Rattle.cpc_meaning.specs.Plain.{plain, running_function, Asks}
 use Rattle.cpc_meaning.specs.Trees.{trees}
 use Rattle.cpc_run.specs.Code.{AskedIn, EndsIdle, Same, done_of, store_in, stack_in}
 use Rattle.cpc_native.specs.Stacks.{request_of}
 use Rattle.cpc_run.specs.States.{where_running, program_in}
-use Rattle.cpc_native.specs.declared.machine.Stepped.TheVariants.{Asked, Faulted}
 use Rattle.cpc_run.proofs.Steps.{asked_so, faulted_so}
 use Rattle.cpc_run.proofs.looped.Loop.goes_on.Goals as goal
 

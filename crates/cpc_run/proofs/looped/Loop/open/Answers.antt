@@ -1,6 +1,4 @@
-use Rattle.std.proofs.Common.{◌≡◌, [], map, refl, sym, ap, ◌∙◌}
-use Rattle.cpc_tree.specs.Erase.{item_of}
-use Rattle.cpc_run.specs.States.{agenda_of}
+use Rattle.std.proofs.Common.{refl, sym, ap, ◌∙◌}
 use Rattle.cpc_run.specs.declared.items.Item.TheVariants as I
 use Rattle.cpc_agenda.specs.Lists.{lists_of}
 use Rattle.cpc_meaning.specs.Agenda as A
