@@ -1,7 +1,7 @@
 -- The pieces that are made statement by statement are those of the lines.
 use Rattle.std.proofs.Common.{◌≡◌, ℕ, zero, suc, List, [], ◌∷◌, ◌++◌, map, refl, sym, ◌∙◌, ap}
 use Rattle.cpc_base.specs.Bytes.{Text}
-use Rattle.cpc_tree.specs.Syntax.{Stmt, Block, Stmts, NoStmt, AndStmt, FunctionItem}
+use Rattle.cpc_tree.specs.Syntax.{Stmt, Empty, Stmts, NoStmt, AndStmt, FunctionItem}
 use Rattle.cpc_convert.specs.First.{Line, Prints, Yields, Spawns, Routine, statements, line_statement, routine_item, main_function, source}
 use Rattle.cpc_convert.specs.Converted.{cut, after_yields, yields, piece_statements, piece_function, piece_name, pieces, made_from_all, respawned, readies, function_item, prototype}
 use Rattle.cpc_convert.specs.Programs.{and_last, piece_of, pieces_from, made_of, kept_of, FirstConverted}
@@ -31,9 +31,9 @@ module _ (f : Text) (lines : List Line) where
   same_pieces i so_far (Prints x ∷ rest) e a = same_pieces i (and_last so_far (line_statement (Prints x))) rest (joined_last so_far _ _ ∙ e) a
   same_pieces i so_far (Spawns g ∷ rest) e a = same_pieces i (and_last so_far (respawned (line_statement (Spawns g)))) rest (joined_last so_far _ _ ∙ e) a
   same_pieces i so_far (Yields ∷ rest) e a =
-      ap (λ ss. piece_of f i ss ∷ pieces_from f (suc i) (AndStmt (Block NoStmt) NoStmt) (statements rest)) (last_joined so_far (readies (piece_name f (suc i))) ∙ e)
+      ap (λ ss. piece_of f i ss ∷ pieces_from f (suc i) (AndStmt Empty NoStmt) (statements rest)) (last_joined so_far (readies (piece_name f (suc i))) ∙ e)
       ∙ ap (λ fs. piece_function f lines i ∷ fs)
-      (same_pieces (suc i) (AndStmt (Block NoStmt) NoStmt) rest (ap (λ ls. AndStmt (Block NoStmt) (cut f (suc i) ls)) (sym a)) (yield_by_yield (suc i) lines ∙ ap (after_yields 1) a))
+      (same_pieces (suc i) (AndStmt Empty NoStmt) rest (ap (λ ls. AndStmt Empty (cut f (suc i) ls)) (sym a)) (yield_by_yield (suc i) lines ∙ ap (after_yields 1) a))
 
   pub pieces_are : pieces_from f zero NoStmt (statements lines) ≡ pieces f lines zero (yields lines)
   pieces_are = same_pieces zero NoStmt lines refl refl

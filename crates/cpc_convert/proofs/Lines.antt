@@ -1,7 +1,7 @@
 -- The row of each line of a cps function, of its arrivals and of its end.
 use Rattle.std.proofs.Common.{◌≡◌, ℕ, suc, inl, true, List, [], ◌∷◌, ◌++◌, Some, None, refl, sym, ◌∙◌, ap, subst, arith}
 use Rattle.cpc_base.specs.Bytes.{Text}
-use Rattle.cpc_tree.specs.Syntax.{Expr, ENamed, Block, NoStmt, AndStmt, TyVoid}
+use Rattle.cpc_tree.specs.Syntax.{Expr, ENamed, Block, Empty, AndStmt, TyVoid}
 use Rattle.cpc_tree.specs.declared.program.Mode.TheVariants.{Native}
 use Rattle.cpc_matching.specs.Simulation.{Last, More}
 use Rattle.cpc_store.specs.Store.{Value, Null, Store}
@@ -162,8 +162,8 @@ module _ (p : First) (facts : Facts p) (s : Store) (jobs : List Job) (h : Histor
       let fs = found_at (statements r.lines) j _ _ [] (in_source r.lines j i k _ st) in
       let ns = next_at (statements r.lines) j _ _ [] true (in_source r.lines j i k _ st) refl in
       let st' = PastYield j i k rest st in
-      let nt = next_at (piece_statements r.called (suc i) r.lines) 0 (Block NoStmt) (cut r.called (suc i) rest) [] true
-      (ap (λ ls. AndStmt (Block NoStmt) (cut r.called (suc i) ls)) (after_next r.lines j i k _ st)) refl in
+      let nt = next_at (piece_statements r.called (suc i) r.lines) 0 Empty (cut r.called (suc i) rest) [] true
+      (ap (λ ls. AndStmt Empty (cut r.called (suc i) ls)) (after_next r.lines j i k _ st)) refl in
       let es : next (threads (source p)) (going s (Some (one_frame r.called (Arrival (Nth j ∷ [])) [] (Some v))) (agenda ready round) jobs h tr)
       ≡ Some (going s (Some (one_frame r.called (point_at (suc j) (statements rest)) [] None)) (agenda ready round) jobs h tr) =
       simp (facts.routine r has, fs, ns) refl in

@@ -3,7 +3,7 @@ use Rattle.std.specs.Prelude.{ℕ, zero, suc, List, [], ◌∷◌, ◌++◌, map
 use Rattle.cpc_base.specs.Bytes.{Text}
 use Rattle.cpc_num.specs.declared.kinds.Kind.TheVariants.{Int}
 use Rattle.cpc_tree.specs.declared.program.Mode.TheVariants.{Native}
-use Rattle.cpc_tree.specs.Syntax.{TyVoid, TyInt, TyPointer, ENamed, EInteger, NoExpr, AndExpr, Stmt, Block, Call, Spawn, If, While, DoWhile, For, Label, Stmts, NoStmt, AndStmt, MaybeStmt, Absent, Present, Parameter, Function, Item, PrototypeItem, FunctionItem, Program}
+use Rattle.cpc_tree.specs.Syntax.{TyVoid, TyInt, TyPointer, ENamed, EInteger, NoExpr, AndExpr, Stmt, Block, Empty, Call, Spawn, If, While, DoWhile, For, Label, Stmts, NoStmt, AndStmt, MaybeStmt, Absent, Present, Parameter, Function, Item, PrototypeItem, FunctionItem, Program}
 use Rattle.cpc_convert.specs.First.{Line, Prints, Yields, Spawns, Routine, First, call_of, line_statement, main_function}
 
 -- ---- names
@@ -72,10 +72,10 @@ yields (Prints e ∷ ls) = yields ls
 yields (Yields ∷ ls) = suc (yields ls)
 yields (Spawns g ∷ ls) = yields ls
 
--- the statements of the i-th piece; after a yield it begins with a block without statements, which takes the step in which a thread's wait ends
+-- the statements of the i-th piece; after a yield it begins with an empty statement, which takes the step in which a thread's wait ends
 abbrev pub piece_statements : Text → ℕ → List Line → Stmts
 piece_statements f zero ls = cut f zero ls
-piece_statements f (suc i) ls = AndStmt (Block NoStmt) (cut f (suc i) (after_yields (suc i) ls))
+piece_statements f (suc i) ls = AndStmt Empty (cut f (suc i) (after_yields (suc i) ls))
 
 -- the parameters of a callback: its pointer, and the result of its wait
 abbrev pub callback_parameters : List Parameter

@@ -3,7 +3,7 @@ use Rattle.std.specs.Prelude.{◌≡◌, ℕ, zero, suc, Bool, false, List, [], 
 use Rattle.cpc_base.specs.Bytes.{Text}
 use Rattle.cpc_tree.specs.declared.program.Mode.{Mode}
 use Rattle.cpc_tree.specs.declared.program.Mode.TheVariants.{Native, Cps}
-use Rattle.cpc_tree.specs.Syntax.{TyVoid, ENamed, Stmt, Block, Call, Stmts, NoStmt, AndStmt, Function, FunctionItem, Program}
+use Rattle.cpc_tree.specs.Syntax.{TyVoid, ENamed, Stmt, Block, Empty, Call, Stmts, NoStmt, AndStmt, Function, FunctionItem, Program}
 use Rattle.cpc_convert.specs.First.{First, source}
 use Rattle.cpc_convert.specs.Converted.{piece_name, respawned, readies, callback_parameters, spawner_function, function_item, prototype, target}
 
@@ -26,7 +26,7 @@ abbrev pub pieces_from : Text → ℕ → (so_far : Stmts) → Stmts → List Fu
 pieces_from f i so_far NoStmt = piece_of f i so_far ∷ []
 pieces_from f i so_far (AndStmt s ss) =
     if is_yield s
-    then piece_of f i (and_last so_far (readies (piece_name f (suc i)))) ∷ pieces_from f (suc i) (AndStmt (Block NoStmt) NoStmt) ss
+    then piece_of f i (and_last so_far (readies (piece_name f (suc i)))) ∷ pieces_from f (suc i) (AndStmt Empty NoStmt) ss
     else pieces_from f i (and_last so_far (respawned s)) ss
 
 -- the statements of a body

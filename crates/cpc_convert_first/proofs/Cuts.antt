@@ -3,7 +3,7 @@ use Rattle.std.proofs.Common.{◌≡◌, ℕ, suc, ◌+◌, true, false, cond, r
 use Rattle.cpc_base.specs.Bytes.{Text}
 use Rattle.cpc_base.specs.declared.names.Name.{Name}
 use Rattle.cpc_tree.specs.declared.program.Statement.{Statement}
-use Rattle.cpc_tree.specs.Syntax.{Stmt, Block, Stmts, NoStmt, AndStmt, Function}
+use Rattle.cpc_tree.specs.Syntax.{Stmt, Empty, Stmts, NoStmt, AndStmt, Function}
 use Rattle.cpc_tree.specs.Erase.{Names, stmt_of, list_of}
 use Rattle.cpc_convert.specs.Converted.{piece_name, readies, respawned, callback_parameters}
 use Rattle.cpc_convert.specs.Programs.{is_yield, and_last, piece_of, pieces_from}
@@ -17,13 +17,13 @@ use Rattle.cpc_convert_first.proofs.Views.{and_all, and_all_none, last_is}
 -- a statement that is no yield goes into the piece, a yield ends it
 goes_on : (f : Text) (n : ℕ) (so : Stmts) (s : Stmt) (rest : Stmts) → is_yield s ≡ false → pieces_from f n so (AndStmt s rest) ≡ pieces_from f n (and_last so (respawned s)) rest
 goes_on f n so s rest not =
-    let a = piece_of f n (and_last so (readies (piece_name f (suc n)))) ∷ pieces_from f (suc n) (AndStmt (Block NoStmt) NoStmt) rest in
+    let a = piece_of f n (and_last so (readies (piece_name f (suc n)))) ∷ pieces_from f (suc n) (AndStmt Empty NoStmt) rest in
     let b = pieces_from f n (and_last so (respawned s)) rest in
     ap (λ p. cond p a b) not
 
-ends : (f : Text) (n : ℕ) (so : Stmts) (s : Stmt) (rest : Stmts) → is_yield s ≡ true → pieces_from f n so (AndStmt s rest) ≡ piece_of f n (and_last so (readies (piece_name f (suc n)))) ∷ pieces_from f (suc n) (AndStmt (Block NoStmt) NoStmt) rest
+ends : (f : Text) (n : ℕ) (so : Stmts) (s : Stmt) (rest : Stmts) → is_yield s ≡ true → pieces_from f n so (AndStmt s rest) ≡ piece_of f n (and_last so (readies (piece_name f (suc n)))) ∷ pieces_from f (suc n) (AndStmt Empty NoStmt) rest
 ends f n so s rest is =
-    let a = piece_of f n (and_last so (readies (piece_name f (suc n)))) ∷ pieces_from f (suc n) (AndStmt (Block NoStmt) NoStmt) rest in
+    let a = piece_of f n (and_last so (readies (piece_name f (suc n)))) ∷ pieces_from f (suc n) (AndStmt Empty NoStmt) rest in
     let b = pieces_from f n (and_last so (respawned s)) rest in
     ap (λ p. cond p a b) is
 
@@ -40,7 +40,7 @@ carried to of made cut longer s rest y not is_named is at_y =
     }
 
 pub cut_made : (to : Names) (of : Name) (before after : Made) (cut : Cut) (next : Name) (longer fresh : Vec Statement Global) (s : Stmt) (rest : Stmts) (call : Statement) → is_yield s ≡ true → IsNamed to of cut
-    → to next ≡ piece_name (to of) (cut.number + 1) → longer.items ≡ cut.so_far.items ++ call ∷ [] → stmt_of to call ≡ readies (to next) → list_of to fresh.items ≡ AndStmt (Block NoStmt) NoStmt
+    → to next ≡ piece_name (to of) (cut.number + 1) → longer.items ≡ cut.so_far.items ++ call ∷ [] → stmt_of to call ≡ readies (to next) → list_of to fresh.items ≡ AndStmt Empty NoStmt
     → ((others : List Function) → Meets to before (made_function (to cut.name) callback_parameters (list_of to longer.items) ∷ others) after others)
     → Cuts to of before cut (AndStmt s rest) after (record { number = cut.number + 1; name = next; so_far = fresh }) rest
 cut_made to of before after cut next longer fresh s rest call is is_named is_next at_longer at_call at_fresh adds =
@@ -50,12 +50,12 @@ cut_made to of before after cut next longer fresh s rest call is is_named is_nex
     let others : List Function = pieces_from f (n + 1) (list_of to fresh.items) rest in
     let inner : list_of to longer.items ≡ and_last so (readies (piece_name f (suc n))) =
     ap (list_of to) at_longer ∙ (last_is to cut.so_far.items call ∙ (ap (and_last so) at_call ∙ (ap (λ u. and_last so (readies u)) is_next ∙ ap (λ u. and_last so (readies (piece_name f u))) (add-one n)))) in
-    let behind : pieces_from f (suc n) (AndStmt (Block NoStmt) NoStmt) rest ≡ others =
+    let behind : pieces_from f (suc n) (AndStmt Empty NoStmt) rest ≡ others =
     sym (ap (λ u. pieces_from f u (list_of to fresh.items) rest) (add-one n) ∙ ap (λ u. pieces_from f (suc n) u rest) at_fresh) in
     let first : made_function (piece_name f n) callback_parameters (and_last so (readies (piece_name f (suc n)))) ≡ made_function (to cut.name) callback_parameters (list_of to longer.items) =
     sym (ap (λ u. made_function u callback_parameters (list_of to longer.items)) is_named ∙ ap (made_function (piece_name f n) callback_parameters) inner) in
     let same : pieces_from f n so (AndStmt s rest) ≡ made_function (to cut.name) callback_parameters (list_of to longer.items) ∷ others =
-    ends f n so s rest is ∙ (ap (λ u. u ∷ pieces_from f (suc n) (AndStmt (Block NoStmt) NoStmt) rest) first ∙ ap (λ u. made_function (to cut.name) callback_parameters (list_of to longer.items) ∷ u) behind) in
+    ends f n so s rest is ∙ (ap (λ u. u ∷ pieces_from f (suc n) (AndStmt Empty NoStmt) rest) first ∙ ap (λ u. made_function (to cut.name) callback_parameters (list_of to longer.items) ∷ u) behind) in
     record {
       named = is_next;
       pieces = meets_from to before after _ _ _ same (adds others);

@@ -51,7 +51,7 @@ fn carry_on(
     })
 }
 
-// Ends the piece at a yield: it makes the next one ready, which begins with a block without statements.
+// Ends the piece at a yield: it makes the next one ready, which begins with an empty statement.
 fn cut_here(
     alloc: Global,
     names: &mut Names,
@@ -76,8 +76,7 @@ fn cut_here(
     so_far.push(call)?;
     add_piece(alloc, names, place, name, so_far, made)?;
     let mut so_far = Vec::new(alloc);
-    let inner = Vec::new(alloc);
-    so_far.push(Statement::Block { place, inner })?;
+    so_far.push(Statement::Empty { place })?;
     Ok(Cut {
         number,
         name: next,

@@ -7,7 +7,7 @@ use Rattle.cpc_num.specs.declared.kinds.Kind.TheVariants.{Int}
 use Rattle.cpc_tree.specs.Tokens.{keyword_of}
 use Rattle.cpc_tree.specs.Pieces.{in_word}
 use Rattle.cpc_tree.specs.Spelling.{IsName}
-use Rattle.cpc_tree.specs.Syntax.{ENamed, Stmt, Block, Empty, Declare, Assign, Return, Stmts, NoStmt, AndStmt, TyInt}
+use Rattle.cpc_tree.specs.Syntax.{ENamed, Stmt, Empty, Declare, Assign, Return, Stmts, NoStmt, AndStmt, TyInt}
 use Rattle.cpc_tree.specs.Typing.{Scope}
 use Rattle.cpc_tree.specs.ExprPrint.{expr_row, expr_depth, args_row, args_depth, PrintableExpr}
 use Rattle.cpc_tree.specs.StmtPrint.{stmt_row, block_row, stmt_depth, block_depth, PrintableStmt, PrintableBlock}
@@ -84,10 +84,10 @@ module _ (tight : Bool) (f : Text) (name : IsName D.Cpc f) (i : ℕ) (short : su
   after_kept (suc n) (Yields ∷ ls) = fewer tight _ _ _ (after_kept n ls)
   after_kept (suc n) (Spawns g ∷ ls) = fewer tight _ _ _ (after_kept (suc n) ls)
 
--- behind a block without statements
-behind_empty : (tight : Bool) (ss ts : Stmts) → AllKept tight ss ts → AllKept tight ss (AndStmt (Block NoStmt) ts)
+-- behind an empty statement
+behind_empty : (tight : Bool) (ss ts : Stmts) → AllKept tight ss ts → AllKept tight ss (AndStmt Empty ts)
 unfolding PrintableStmt PrintableBlock stmt_row block_row stmt_depth block_depth
-behind_empty tight ss ts k = record { printable = λ a. (tt, k.printable a); spelled = λ a. (tt, (tt, k.spelled a)); deep = omega (arith, k.deep) }
+behind_empty tight ss ts k = record { printable = λ a. (tt, k.printable a); spelled = λ a. (tt, k.spelled a); deep = omega (arith, k.deep) }
 
 -- the statements of a piece
 pub piece_kept : (tight : Bool) (f : Text) → IsName D.Cpc f → (i : ℕ) → suc i < 2 ^ 64 → (ls : List Line) → AllKept tight (statements ls) (piece_statements f i ls)

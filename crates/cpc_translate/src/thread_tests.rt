@@ -208,16 +208,14 @@ void a__0(void *p__, int r__)
 
 void a__1(void *p__, int r__)
 {
-    {
-    }
+    ;
     cpc_print(2);
     rt_ready(a__2, 0);
 }
 
 void a__2(void *p__, int r__)
 {
-    {
-    }
+    ;
     cpc_print(3);
 }
 
@@ -235,8 +233,7 @@ void b__0(void *p__, int r__)
 
 void b__1(void *p__, int r__)
 {
-    {
-    }
+    ;
     cpc_print(20);
 }
 
@@ -281,8 +278,7 @@ void rt__0(void *p__, int r__)
 
 void rt__1(void *p__, int r__)
 {
-    {
-    }
+    ;
 }
 
 int main(void)
