@@ -15,6 +15,7 @@ use Rattle.cpc_tree.proofs.Places.{bare_program}
 use Rattle.cpc_meaning.specs.Runs.{SameRuns, Within}
 use Rattle.cpc_command.specs.Commands.{Command, Run, command_of}
 use Rattle.cpc_check.specs.Accepted.{Accepts}
+use Rattle.cpc_shape.specs.Shape.{Shape}
 use Rattle.cpc_translate.specs.Refusals.{IsTextFault}
 use Rattle.cpc_translate.specs.Events.{event_of}
 use Rattle.cpc_built.specs.Built.{unbuilt}
@@ -140,10 +141,11 @@ in_line false printed n e = absurd cc
 
 -- a program that is translated, by the trees with places
 pub translated_so : (p q : GProgram.Program) → unbuilt (located p) ≡ None → program_of q ≡ event_of (program_of p) → SameRuns (program_of p) (program_of q)
-    → Within (program_of p) (program_of q) → IsTranslated (located p) (located q)
-translated_so p q built event same within = record {
+    → Within (program_of p) (program_of q) → Shape (program_of p) (program_of q) → IsTranslated (located p) (located q)
+translated_so p q built event same within shape = record {
   built = built;
   event = bare_program q ∙ event ∙ ap event_of (sym (bare_program p));
   same = subst (λ x. SameRuns x (bare (located q))) (sym (bare_program p)) (subst (SameRuns (program_of p)) (sym (bare_program q)) same);
   within = subst (λ x. Within x (bare (located q))) (sym (bare_program p)) (subst (Within (program_of p)) (sym (bare_program q)) within);
+  shape = subst (λ x. Shape x (bare (located q))) (sym (bare_program p)) (subst (Shape (program_of p)) (sym (bare_program q)) shape);
 }

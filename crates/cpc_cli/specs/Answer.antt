@@ -11,6 +11,7 @@ use Rattle.cpc_tree.specs.Trace as T
 use Rattle.cpc_tree.specs.Texts.{fault_text}
 use Rattle.cpc_meaning.specs.Events.{event}
 use Rattle.cpc_meaning.specs.Runs.{SameRuns, Within, Full as IsAbove, live_cells}
+use Rattle.cpc_shape.specs.Shape.{Shape}
 use Rattle.cpc_base.specs.declared.stop.Stop.{Stop}
 use Rattle.cpc_base.specs.declared.stop.Stop.TheVariants as W
 use Rattle.cpc_translate.specs.declared.fault.TextFault.{TextFault}
@@ -172,12 +173,13 @@ TextHas told name P = FileHas told name (λ text. (length text ≤ limit_of R.Te
 abbrev pub AcceptedAs : (told : Option Files) → (name : Text) → (LProgram → Type 0) → Type 0
 AcceptedAs told name P = TextHas told name (λ text. (p : LProgram) × Accepts Cpc text p × P p)
 
--- p is of the built forms, q is its event program, and the event runs of q are the threaded runs of p, within the cost
+-- p is of the built forms, q is its event program and has the shape of one, and the event runs of q are the threaded runs of p, within the cost
 pub record IsTranslated (p q : LProgram) : Type 0 where
   pub built : unbuilt p ≡ None
   pub event : bare q ≡ event_of (bare p)
   pub same : SameRuns (bare p) (bare q)
   pub within : Within (bare p) (bare q)
+  pub shape : Shape (bare p) (bare q)
 
 -- the command's work, done: `run` runs what the printed text is accepted as, a program with the same runs as the accepted one,
 -- `translate` writes it

@@ -18,6 +18,8 @@ use Rattle.cpc_rule_laws.proofs.NativeItems.{native_unbroken}
 use Rattle.cpc_rule_laws.proofs.PlacesItems.{unbroken_at_any_places}
 use Rattle.cpc_first_form.specs.Threads.{has_threads}
 use Rattle.cpc_builtins.specs.Served.{is_served_program}
+use Rattle.cpc_shape.specs.Shape.{Shape}
+use Rattle.cpc_shape.proofs.Native.{native_shape}
 use Rattle.cpc_native_runs.specs.Plain.{is_plain}
 use Rattle.cpc_native_runs.proofs.Alike.{plain_runs_same, plain_runs_within}
 use Rattle.cpc_native_runs.proofs.Shaped.{native_text_is_plain}
@@ -55,6 +57,10 @@ module _ (text : Text) (program : GProgram.Program) (accepted : Accepts D.Cpc te
   -- within the cost
   pub runs_within : (q : Program) → q ≡ program_of program → Within (program_of program) q
   runs_within q e = subst (λ u. Within (program_of program) u) (sym e) (subst (λ u. Within u u) (bare_program program) (plain_runs_within (bare (located program)) plain never_stuck))
+
+  -- has its shape
+  pub has_shape : (q : Program) → q ≡ program_of program → Shape (program_of program) q
+  has_shape q e = subst (λ u. Shape (program_of program) u) (sym e) (subst (λ u. Shape u u) (bare_program program) (native_shape (located program) native))
 
   -- and asks only for what the loop answers
   pub is_served : (q : Program) → q ≡ program_of program → is_served_program q ≡ true

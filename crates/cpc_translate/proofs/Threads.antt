@@ -20,6 +20,8 @@ use Rattle.cpc_convert.proofs.Joined.{first_converted}
 use Rattle.cpc_convert.proofs.Theorem.{first_runs, first_within}
 use Rattle.cpc_convert_print.proofs.Back.{converted_reads_back}
 use Rattle.cpc_convert_rules.proofs.Unbroken.{converted_unbroken_anywhere}
+use Rattle.cpc_shape.specs.Shape.{Shape}
+use Rattle.cpc_shape.proofs.Converted.{converted_shape}
 use Rattle.cpc_first_form.specs.Threads.{has_threads}
 use Rattle.cpc_check.specs.Accepted.{Accepts}
 use Rattle.cpc_built.specs.Built.{unbuilt}
@@ -71,6 +73,10 @@ module _ (text : Text) (program : GProgram.Program) (accepted : Accepts D.Cpc te
   -- within the cost
   pub runs_within : (q : Program) → q ≡ converted (program_of program) → Within (program_of program) q
   runs_within q e = subst (λ u. Within (program_of program) u) (sym e) (subst (λ u. Within u (converted u)) (bare_program program) (first_costs (bare p) first))
+
+  -- has the shape of an event program
+  pub has_shape : (q : Program) → q ≡ converted (program_of program) → Shape (program_of program) q
+  has_shape q e = subst (λ u. Shape (program_of program) u) (sym e) (subst (λ u. Shape u (converted u)) (bare_program program) (converted_shape (bare p) first))
 
   -- and asks only for what the loop answers
   pub is_served : (q : Program) → q ≡ converted (program_of program) → is_served_program q ≡ true

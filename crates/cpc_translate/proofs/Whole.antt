@@ -12,6 +12,7 @@ use Rattle.cpc_printer.specs.Style.{IsPrint}
 use Rattle.cpc_meaning.specs.Runs.{SameRuns, Within}
 use Rattle.cpc_builtins.specs.Served.{is_served_program}
 use Rattle.cpc_convert.specs.Programs.{converted}
+use Rattle.cpc_shape.specs.Shape.{Shape}
 use Rattle.cpc_first_form.specs.Threads.{has_threads}
 use Rattle.cpc_check.specs.Accepted.{Accepts}
 use Rattle.cpc_built.specs.Built.{unbuilt}
@@ -67,6 +68,14 @@ module _ (text : Text) (program : GProgram.Program) (accepted : Accepts D.Cpc te
       go : (b : Bool) → has_cps own ≡ b → Within own q
       go true e = T.runs_within text program accepted built (threads true e) q (k ∙ event_is own true e)
       go false e = N.runs_within text program accepted built (threads false e) q (k ∙ event_is own false e)
+
+  -- has the shape of an event program
+  pub has_shape : (q : Program) → q ≡ event_of own → Shape own q
+  has_shape q k = go (has_cps own) refl
+    where
+      go : (b : Bool) → has_cps own ≡ b → Shape own q
+      go true e = T.has_shape text program accepted built (threads true e) q (k ∙ event_is own true e)
+      go false e = N.has_shape text program accepted built (threads false e) q (k ∙ event_is own false e)
 
   -- and asks only for what the loop answers
   pub is_served : (q : Program) → q ≡ event_of own → is_served_program q ≡ true

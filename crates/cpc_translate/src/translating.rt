@@ -7,6 +7,7 @@ ghost use Rattle.cpc_tree.specs.Erase.{program_of};
 ghost use Rattle.cpc_tree.specs.Locate.{located};
 ghost use Rattle.cpc_tree.specs.Located.{LProgram};
 ghost use Rattle.cpc_meaning.specs.Runs.{SameRuns, Within};
+ghost use Rattle.cpc_shape.specs.Shape.{Shape};
 ghost use Rattle.cpc_check.specs.Accepted.{Accepts};
 ghost use Rattle.cpc_builtins.specs.Served.{is_served_program};
 ghost use Rattle.cpc_built.specs.Built.{unbuilt};
@@ -71,7 +72,9 @@ fn source_of(alloc: Global, text: &[u8]) -> Result<Checked, Stop<Refusal>>
     }
 }
 
-/// The translation of a text of the dialect Cpc: an event program that has the same runs.
+/// The translation of a text of the dialect Cpc: an event program that has the same runs, within the cost, and the shape: native
+/// functions and globals stay, and each cps function becomes its spawner and one function for each point where a thread of it
+/// may begin to run.
 ///
 /// # Errors
 ///
@@ -85,6 +88,7 @@ pub fn translate(alloc: Global, text: &[u8]) -> Result<Translated, Stop<Refusal>
     ensures equal { IfOk result (λ t. program_of t.read_back.program ≡ event_of (program_of t.source.program)) }
     ensures same { IfOk result (λ t. SameRuns (program_of t.source.program) (program_of t.read_back.program)) }
     ensures within { IfOk result (λ t. Within (program_of t.source.program) (program_of t.read_back.program)) }
+    ensures shape { IfOk result (λ t. Shape (program_of t.source.program) (program_of t.read_back.program)) }
     ensures served { IfOk result (λ t. is_served_program (program_of t.read_back.program) ≡ true) }
     ensures refused { (fault : TextFault) → result ≡ Err (Fault (Text fault)) → IsTextFault D.Cpc text.now fault }
     ensures form { (at : Place) → result ≡ Err (Fault (Form at)) → (p : LProgram) × Accepts D.Cpc text.now p × (unbuilt p ≡ Some at) }

@@ -26,7 +26,7 @@ returns-in-Ok-translate-clause-same g c = λ files told.
         (
           p,
           subst (λ t. Accepts Cpc t p) is c.in-Ok-translate.ensures.source,
-          translated_so c.in-Ok-translate.translated.source.program c.in-Ok-translate.translated.read_back.program t.built t.equal t.same t.within,
+          translated_so c.in-Ok-translate.translated.source.program c.in-Ok-translate.translated.read_back.program t.built t.equal t.same t.within t.shape,
         ),
       ),
     )

@@ -2,7 +2,7 @@ use Rattle.std.proofs.Common.{subst, sym, ◌∙◌}
 use Rattle.cpc_tree.specs.Erase.{program_of}
 use Rattle.cpc_printer.specs.Style.{IsPrint}
 use Rattle.cpc_translate.specs.Events.{event_of}
-use Rattle.cpc_translate.proofs.Whole.{print_accepted, runs_same, runs_within, is_served}
+use Rattle.cpc_translate.proofs.Whole.{print_accepted, runs_same, runs_within, has_shape, is_served}
 use Rattle.cpc_translate.proofs.translating.translate.Goals as goal
 
 pub read_again-requires : goal.read_again-requires
@@ -28,6 +28,11 @@ pub returns-in-Ok-read_again-clause-within : goal.returns-in-Ok-read_again-claus
 returns-in-Ok-read_again-clause-within c =
     let s = c.in_ok-source.ensures in
     runs_within c.args.text.now c.in_ok-source.source.program s.accepted s.built (program_of c.in-Ok-read_again.read_back.program) (returns-in-Ok-read_again-clause-equal c)
+
+pub returns-in-Ok-read_again-clause-shape : goal.returns-in-Ok-read_again-clause-shape
+returns-in-Ok-read_again-clause-shape c =
+    let s = c.in_ok-source.ensures in
+    has_shape c.args.text.now c.in_ok-source.source.program s.accepted s.built (program_of c.in-Ok-read_again.read_back.program) (returns-in-Ok-read_again-clause-equal c)
 
 pub returns-in-Ok-read_again-clause-served : goal.returns-in-Ok-read_again-clause-served
 returns-in-Ok-read_again-clause-served c =
