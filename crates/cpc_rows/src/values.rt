@@ -105,7 +105,7 @@ fn every_byte_goes_out(rt: HostRuntime) -> Result<(), Fail> {
 }
 
 /// A block above the cap, of cells that are not filled, and calls above it.
-static FULL: [Row; 3] = [
+static FULL: [Row; 6] = [
     (
         "int main(void){ int *p; cpc_print(1); p = malloc(9); cpc_print(2); p = malloc(1); return 0; }",
         7,
@@ -123,6 +123,25 @@ static FULL: [Row; 3] = [
         7,
         "1\n2\n",
         "full: cap 10, asked 15\n",
+    ),
+    // blocks of whatever size, which are not made
+    (
+        "int main(void){ int *p; cpc_print(1); p = malloc(100000000); cpc_print(2); return 0; }",
+        7,
+        "1\n",
+        "full: cap 10, asked 100000001\n",
+    ),
+    (
+        "int main(void){ int **q; q = malloc(1); *q = malloc(100000000); return 0; }",
+        7,
+        "",
+        "full: cap 10, asked 100000002\n",
+    ),
+    (
+        "int main(void){ malloc(9223372036854775807); return 0; }",
+        7,
+        "",
+        "full: cap 10, asked 9223372036854775807\n",
     ),
 ];
 

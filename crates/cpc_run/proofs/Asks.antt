@@ -5,7 +5,6 @@ use Rattle.std.proofs.lemmas.List.{append-nil, map-append}
 use Rattle.std.specs.Prelude.{int_lt, unsigned_abs}
 use Rattle.cpc_base.specs.Bytes.{Text}
 use Rattle.cpc_base.specs.declared.names.Name.{Name}
-use Rattle.cpc_base.specs.declared.stop.NoMemory.{NoMemory}
 use Rattle.cpc_num.specs.declared.kinds.Kind.{Kind}
 use Rattle.cpc_tree.specs.Erase.{Names}
 use Rattle.cpc_tree.specs.Texts.{output, output_of}
@@ -25,6 +24,7 @@ use Rattle.cpc_agenda.specs.Lists.{lists_of}
 use Rattle.cpc_run.specs.declared.items.Item.{Item}
 use Rattle.cpc_run.specs.declared.looped.Loop.{Loop}
 use Rattle.cpc_run.specs.declared.outcome.Outcome.{Outcome}
+use Rattle.cpc_run.specs.declared.short.Short.{Short}
 use Rattle.cpc_run.specs.Code.{store_in, stack_in}
 use Rattle.cpc_run.specs.States.{States, Did, Acted, agenda_of, callback_of, due_callback, settles, program_in}
 
@@ -45,7 +45,7 @@ printed_more names l f sent old bytes new s e h = record {
 }
 
 -- the answer of a loop in the middle is that of the loop before it, where program and stack are the same
-pub carried : (names : Names) (r : Result (Option Outcome) NoMemory) (l mid new : Loop) (printed : Text) (s t : States) (v : Value) → program_in names mid ≡ program_in names l → stack_in names mid.machine ≡ stack_in names l.machine
+pub carried : (names : Names) (r : Result (Option Outcome) Short) (l mid new : Loop) (printed : Text) (s t : States) (v : Value) → program_in names mid ≡ program_in names l → stack_in names mid.machine ≡ stack_in names l.machine
     → Did names r new printed s (settles names mid s (reply (trees (program_in names mid)) (stack_in names mid.machine) v t))
     → Did names r new printed s (settles names l s (reply (trees (program_in names l)) (stack_in names l.machine) v t))
 carried names r l mid new printed s t v program stack h =
@@ -71,7 +71,7 @@ pub made_so : (class : Class) (kind : Kind) (count : ℤ) (cells : ℕ) (s : Sto
     → allocated class (Whole kind count) s ≡ Gives (alloc class (unset_cells cells) s, At class (next_block class s) 0)
 made_so class kind count cells s e f = simp (e, f) refl
 
-pub made_answered : (names : Names) (r : Result (Option Outcome) NoMemory) (l mid new : Loop) (f : Name) (printed : Text) (s : States) (class : Class) (kind : Kind) (count : ℤ) (cells : ℕ) (b : Block)
+pub made_answered : (names : Names) (r : Result (Option Outcome) Short) (l mid new : Loop) (f : Name) (printed : Text) (s : States) (class : Class) (kind : Kind) (count : ℤ) (cells : ℕ) (b : Block)
     → int_lt count (pos 0) ≡ false → unsigned_abs count ≡ cells → b ≡ record { class = class; number = next_block class (store_in names l.machine) }
     → program_in names mid ≡ program_in names l → stack_in names mid.machine ≡ stack_in names l.machine → store_in names mid.machine ≡ alloc class (unset_cells cells) (store_in names l.machine) → mid.agenda ≡ l.agenda
     → Acted names l f printed s s
@@ -88,7 +88,7 @@ made_answered names r l mid new f printed s class kind count cells b e g block p
 pub freed_so : (class : Class) (v : Value) (s t : Store) → Ok t ≡ free class v s → freed class v s ≡ Gives (t, Unset)
 freed_so class v s t e = simp (sym e) refl
 
-pub freed_answered : (names : Names) (r : Result (Option Outcome) NoMemory) (l mid new : Loop) (f : Name) (printed : Text) (s : States) (class : Class) (v : Value)
+pub freed_answered : (names : Names) (r : Result (Option Outcome) Short) (l mid new : Loop) (f : Name) (printed : Text) (s : States) (class : Class) (v : Value)
     → Ok (store_in names mid.machine) ≡ free class v (store_in names l.machine)
     → program_in names mid ≡ program_in names l → stack_in names mid.machine ≡ stack_in names l.machine → mid.agenda ≡ l.agenda
     → Acted names l f printed s s

@@ -7,3 +7,5 @@ pub mod Runs
 pub mod Pieces
 pub mod Ends
 pub mod Bars
+pub mod Grown
+pub mod Beyond

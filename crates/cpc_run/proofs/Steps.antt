@@ -2,7 +2,6 @@
 use Rattle.std.proofs.Common.{◌≡◌, true, false, [], ◌∷◌, map, Option, Some, None, Result, Ok, Err, IfOk, refl, sym, ap, subst, ◌∙◌}
 use Rattle.cpc_base.specs.Bytes.{Text}
 use Rattle.cpc_base.specs.declared.names.Name.{Name}
-use Rattle.cpc_base.specs.declared.stop.NoMemory.{NoMemory}
 use Rattle.cpc_num.specs.declared.kinds.Fault.{Fault}
 use Rattle.cpc_num.specs.declared.kinds.Kind.TheVariants.{Int}
 use Rattle.cpc_tree.specs.Erase.{Names}
@@ -17,6 +16,7 @@ use Rattle.cpc_meaning.specs.Eval.{assigned}
 use Rattle.cpc_meaning.specs.Events.{Callback, CallWith, callbacks, starts_callback}
 use Rattle.cpc_meaning.specs.Machine.{ends, fault_function, settled, schedules, step_running, try_step, code_step, runs_on, asked_by, runs, with_agenda}
 use Rattle.cpc_meaning.specs.Plain.{Done, Asks, plain, running_function}
+use Rattle.cpc_meaning.specs.Runs.{live_cells}
 use Rattle.cpc_meaning.specs.Start.{before_bars}
 use Rattle.cpc_meaning.specs.Requests.{Request}
 use Rattle.cpc_meaning.specs.Trees.{trees}
@@ -26,17 +26,20 @@ use Rattle.cpc_run.specs.declared.items.Item.{Item}
 use Rattle.cpc_run.specs.declared.looped.Loop.{Loop}
 use Rattle.cpc_run.specs.declared.outcome.Outcome.{Outcome}
 use Rattle.cpc_run.specs.declared.outcome.Outcome.TheVariants as O
+use Rattle.cpc_run.specs.declared.short.Short.{Short}
+use Rattle.cpc_run.specs.declared.short.Short.TheVariants as W
 use Rattle.cpc_run.specs.Code.{items_in, store_in, stack_in, Same}
 use Rattle.cpc_run.specs.States.{States, Stands, Came, Did, agenda_of, callback_of, due_callback, settles, where_running, program_in}
 
 -- where no rule fits nothing is said
-pub nothing : (names : Names) (r : Result (Option Outcome) NoMemory) (new : Loop) (printed : Text) (s : States) → Did names r new printed s None
+pub nothing : (names : Names) (r : Result (Option Outcome) Short) (new : Loop) (printed : Text) (s : States) → Did names r new printed s None
 nothing names (Ok r) new printed s = tt
-nothing names (Err e) new printed s = tt
+nothing names (Err W.Memory) new printed s = tt
+nothing names (Err (W.Beyond cells)) new printed s = tt
 
 -- ---- a callback
 
-pub calls_with : (names : Names) (r : Result (Option Outcome) NoMemory) (l new : Loop) (printed : Text) (s : States) (f : Text) (pointer v w : S.Value)
+pub calls_with : (names : Names) (r : Result (Option Outcome) Short) (l new : Loop) (printed : Text) (s : States) (f : Text) (pointer v w : S.Value)
     → ((x : S.Value) → assigned (TyInt Int) v ≡ Gives x → w ≡ x)
     → Did names r new printed s (settles names l s (runs (trees (program_in names l)) f (pointer ∷ w ∷ []) s))
     → Did names r new printed s (settles names l s (starts_callback (trees (program_in names l)) (CallWith f pointer) v s))
@@ -51,7 +54,7 @@ calls_with names r l new printed s f pointer (S.Cond n) w e h = nothing names r 
 
 -- ---- what the code asks for
 
-done_so : (names : Names) (r : Result (Option Outcome) NoMemory) (l new : Loop) (printed : Text) (s : States) (request : Request) (a : Answer (Done Point)) → Same (Ok (Asks request)) a
+done_so : (names : Names) (r : Result (Option Outcome) Short) (l new : Loop) (printed : Text) (s : States) (request : Request) (a : Answer (Done Point)) → Same (Ok (Asks request)) a
     → Did names r new printed s (settles names l s (asked_by (callbacks (program_in names l)) (stack_in names l.machine) s request.asked request.arguments))
     → Did names r new printed s (settles names l s (a >>= runs_on (callbacks (program_in names l)) s (stack_in names l.machine)))
 done_so names r l new printed s request NoAnswer e h = nothing names r new printed s
@@ -60,7 +63,7 @@ done_so names r l new printed s request (Gives d) e h =
     let same : Asks request ≡ d = cc e in
     subst (λ d. Did names r new printed s (settles names l s (runs_on (callbacks (program_in names l)) s (stack_in names l.machine) d))) same h
 
-pub asked_so : (names : Names) (r : Result (Option Outcome) NoMemory) (l mid new : Loop) (before printed : Text) (s : States) (request : Request) → Stands names l before s
+pub asked_so : (names : Names) (r : Result (Option Outcome) Short) (l mid new : Loop) (before printed : Text) (s : States) (request : Request) → Stands names l before s
     → program_in names mid ≡ program_in names l → stack_in names mid.machine ≡ stack_in names l.machine
     → Same (Ok (Asks request)) (plain (trees (program_in names l)) (store_in names l.machine) (stack_in names l.machine))
     → Did names r new printed s (settles names mid s (asked_by (callbacks (program_in names mid)) (stack_in names mid.machine) s request.asked request.arguments))
@@ -91,16 +94,19 @@ faulted_so names l new before printed s fault f stands running name e =
 
 -- ---- what is taken
 
--- a step that goes on does so from either state
-from_either : (names : Names) (r : Result (Option Outcome) NoMemory) (l new : Loop) (printed : Text) (s t : States) (a : Answer States) → IfOk r (λ o. o ≡ None)
+-- a step that goes on, or is not made, does so from either state, where as many cells are live
+from_either : (names : Names) (r : Result (Option Outcome) Short) (l new : Loop) (printed : Text) (s t : States) (a : Answer States) → live_cells t ≡ live_cells s → IfOk r (λ o. o ≡ None)
     → Did names r new printed t (settles names l t a) → Did names r new printed s (settles names l s a)
-from_either names (Err e) l new printed s t a on h = tt
-from_either names (Ok (Some o)) l new printed s t a on h = absurd (cc on)
-from_either names (Ok None) l new printed s t NoAnswer on h = tt
-from_either names (Ok None) l new printed s t (Gives u) on h = h
-from_either names (Ok None) l new printed s t (Faults fault) on h = absurd (let going = h.going in cc)
+from_either names (Err W.Memory) l new printed s t a live on h = tt
+from_either names (Err (W.Beyond cells)) l new printed s t NoAnswer live on h = tt
+from_either names (Err (W.Beyond cells)) l new printed s t (Gives u) live on h = h
+from_either names (Err (W.Beyond cells)) l new printed s t (Faults fault) live on h = h ∙ live
+from_either names (Ok (Some o)) l new printed s t a live on h = absurd (cc on)
+from_either names (Ok None) l new printed s t NoAnswer live on h = tt
+from_either names (Ok None) l new printed s t (Gives u) live on h = h
+from_either names (Ok None) l new printed s t (Faults fault) live on h = absurd (let going = h.going in cc)
 
-module _ (names : Names) (r : Result (Option Outcome) NoMemory) (l mid new : Loop) (before printed : Text) (s : States) (item : Item) (v : Value) where
+module _ (names : Names) (r : Result (Option Outcome) Short) (l mid new : Loop) (before printed : Text) (s : States) (item : Item) (v : Value) where
   abbrev after_it : A.Agenda Callback
   after_it = agenda_of names mid.agenda
 
@@ -133,6 +139,6 @@ module _ (names : Names) (r : Result (Option Outcome) NoMemory) (l mid new : Loo
         going = h.going;
       } in
       let begun = subst (λ x. Did names r new printed t (settled (callbacks (items_in names x)) t (starts_callback (trees (items_in names x)) (callback_of names item) (value_of names v) t))) same (start t stands) in
-      let here = from_either names r l new printed s t (starts_callback (trees (program_in names l)) (callback_of names item) (value_of names v) t) on begun in
+      let here = from_either names r l new printed s t (starts_callback (trees (program_in names l)) (callback_of names item) (value_of names v) t) refl on begun in
       subst (λ a. Did names r new printed s (settled m s a))
       (sym (ap (step_running m s) (h.running ∙ ap (λ b. where_running b (stack_in names l.machine)) idle) ∙ scheduled (h.agenda ∙ next_is e))) here

@@ -9,8 +9,9 @@ use Rattle.cpc_tree.specs.Points.{Point}
 use Rattle.cpc_run.specs.declared.looped.Loop.{Loop}
 use Rattle.cpc_run.specs.declared.made.Made.TheVariants as M
 use Rattle.cpc_run.specs.declared.outcome.Outcome.{Outcome}
+use Rattle.cpc_run.specs.declared.short.Short.TheVariants as W
 use Rattle.cpc_run.specs.Code.{store_in, stack_in, IsIdle}
-use Rattle.cpc_run.specs.States.{States, Stands, Came, IsSteady, where_running}
+use Rattle.cpc_run.specs.States.{States, Stands, Came, IsShort, IsSteady, where_running}
 use Rattle.cpc_run.specs.Reports.{MadeSo}
 use Rattle.cpc_run.proofs.Coded.{idle_frames}
 
@@ -52,3 +53,7 @@ module _ (names : Names) (cap : ℕ) (l : Loop) (s : States) where
   pub made_over : (old printed new : Text) (outcome : Outcome) (o : Option States) → Came names (Some outcome) l printed s o → new ≡ old → MadeSo names cap (Ok (M.Over outcome)) l old new s o
   made_over old printed new outcome None h same = tt
   made_over old printed new outcome (Some t) h same = (same, h)
+
+  pub made_beyond : (old new : Text) (cells : ℕ) (o : Option States) → IsShort (W.Beyond cells) o → cap < cells → new ≡ old → MadeSo names cap (Ok (M.Full cells)) l old new s o
+  made_beyond old new cells None h lt same = tt
+  made_beyond old new cells (Some t) h lt same = (same, h, lt)

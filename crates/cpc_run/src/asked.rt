@@ -6,24 +6,27 @@ ghost use Rattle.cpc_tree.specs.Erase.{Names};
 ghost use Rattle.cpc_tree.specs.Primitives as R;
 ghost use Rattle.cpc_builtins.specs.Builtins.{primitive_of};
 ghost use Rattle.cpc_store.specs.Seen.{seen, IsLawful};
+ghost use Rattle.cpc_store.specs.Store.{store_cells};
 ghost use Rattle.cpc_meaning.specs.Events.{callbacks, event_primitive};
 ghost use Rattle.cpc_meaning.specs.Machine.{asked_by, primitive, prints, byte_of, replies};
+ghost use Rattle.cpc_meaning.specs.Runs.{frames_registers};
 ghost use Rattle.cpc_meaning.specs.Section.{allocated, freed};
 ghost use Rattle.cpc_meaning.specs.Trees.{trees};
 ghost use Rattle.cpc_values.specs.Shown.{value_of, values_of};
-ghost use Rattle.cpc_run.specs.Code.{stack_in};
+ghost use Rattle.cpc_run.specs.Code.{store_in, stack_in};
 ghost use Rattle.cpc_native.specs.Stacks.{request_of};
-ghost use Rattle.cpc_run.specs.States.{States, Fits, IsSteady, GoesSteady, Keeps, Did, Acted, settles, program_in};
+ghost use Rattle.cpc_run.specs.States.{States, Fits, IsSteady, GoesSteady, Keeps, Did, IsShort, Acted, settles, program_in, block_made};
 ghost use Rattle.std.specs.Prelude.{[], ◌∷◌};
 
 use crate::items::Item;
 use crate::looped::Loop;
 use crate::outcome::Outcome;
-use cpc_base::{Name, NoMemory};
+use crate::short::Short;
+use cpc_base::Name;
 use cpc_builtins::Builtin;
 use cpc_native::Request;
 use cpc_num::Fault;
-use cpc_store::{Class, Value};
+use cpc_store::{Block, Class, Value};
 use std::alloc::{AllocError, Global};
 
 // The most blocks of a class.
@@ -58,7 +61,7 @@ impl<'p> Loop<'p> {
         function: Name,
         text: &[u8],
         pending: &mut Vec<u8>,
-    ) -> Result<Option<Outcome>, NoMemory>
+    ) -> Result<Option<Outcome>, Short>
         requires steady { IsSteady self.old }
         requires running { self.old.running ≡ true }
         ensures keeps { Keeps self.old self.new }
@@ -76,7 +79,7 @@ impl<'p> Loop<'p> {
         alloc: Global,
         request: &Request,
         pending: &mut Vec<u8>,
-    ) -> Result<Option<Outcome>, NoMemory>
+    ) -> Result<Option<Outcome>, Short>
         requires steady { IsSteady self.old }
         requires running { self.old.running ≡ true }
         ensures keeps { Keeps self.old self.new }
@@ -94,7 +97,7 @@ impl<'p> Loop<'p> {
         alloc: Global,
         request: &Request,
         pending: &mut Vec<u8>,
-    ) -> Result<Option<Outcome>, NoMemory>
+    ) -> Result<Option<Outcome>, Short>
         requires steady { IsSteady self.old }
         requires running { self.old.running ≡ true }
         ensures keeps { Keeps self.old self.new }
@@ -104,7 +107,7 @@ impl<'p> Loop<'p> {
     {
         match request.args.as_slice() {
             [value] => self.puts_byte(alloc, *value, request.function, pending),
-            _ => Err(NoMemory),
+            _ => Err(Short::Memory),
         }
     }
 
@@ -115,7 +118,7 @@ impl<'p> Loop<'p> {
         value: Value,
         function: Name,
         pending: &mut Vec<u8>,
-    ) -> Result<Option<Outcome>, NoMemory>
+    ) -> Result<Option<Outcome>, Short>
         requires steady { IsSteady self.old }
         requires running { self.old.running ≡ true }
         ensures keeps { Keeps self.old self.new }
@@ -132,7 +135,7 @@ impl<'p> Loop<'p> {
         alloc: Global,
         request: &Request,
         pending: &mut Vec<u8>,
-    ) -> Result<Option<Outcome>, NoMemory>
+    ) -> Result<Option<Outcome>, Short>
         requires steady { IsSteady self.old }
         requires running { self.old.running ≡ true }
         ensures keeps { Keeps self.old self.new }
@@ -145,18 +148,18 @@ impl<'p> Loop<'p> {
                 let line = format!(in alloc; "{number}\n")?;
                 self.prints(alloc, request.function, line.as_bytes(), pending)
             }
-            _ => Err(NoMemory),
+            _ => Err(Short::Memory),
         }
     }
 
-    // A block of so many cells. None is made that would leave more cells in blocks than `room`, or where memory is wanting.
+    // A block of so many cells. One that would leave more cells in blocks than `room` is not made: the step is told as short.
     fn allocates(
         &mut self,
         alloc: Global,
         class: Class,
         request: &Request,
         room: u64,
-    ) -> Result<Option<Outcome>, NoMemory>
+    ) -> Result<Option<Outcome>, Short>
         requires steady { IsSteady self.old }
         requires running { self.old.running ≡ true }
         requires room { room < 2 ^ 63 }
@@ -167,7 +170,7 @@ impl<'p> Loop<'p> {
     {
         match request.args.as_slice() {
             [count] => self.allocates_cells(alloc, class, *count, request.function, room),
-            _ => Err(NoMemory),
+            _ => Err(Short::Memory),
         }
     }
 
@@ -179,7 +182,7 @@ impl<'p> Loop<'p> {
         count: Value,
         function: Name,
         room: u64,
-    ) -> Result<Option<Outcome>, NoMemory>
+    ) -> Result<Option<Outcome>, Short>
         requires steady { IsSteady self.old }
         requires running { self.old.running ≡ true }
         requires room { room < 2 ^ 63 }
@@ -189,21 +192,59 @@ impl<'p> Loop<'p> {
             → Did names result self.new printed s (settles names self.old s (replies (trees (program_in names self.old)) (stack_in names self.old.machine) (allocated class (value_of names count) s.store) s)) }
     {
         let Value::Int(_, count) = count else {
-            return Err(NoMemory);
+            return Err(Short::Memory);
         };
         if count < 0 {
             return Ok(Some(Outcome::Failed(Fault::Length, function)));
         }
-        if count > room as i128 {
-            return Err(NoMemory);
+        if count > u64::MAX as i128 {
+            return Err(Short::Memory);
         }
         let cells = count as u64;
         let left = room.saturating_sub(self.machine.store_cells());
-        if cells > left || left == 0 || self.machine.made(class) >= MOST_BLOCKS {
-            return Err(NoMemory);
+        if cells > left || left == 0 {
+            return Err(self.beyond(alloc, class, cells));
+        }
+        if self.machine.made(class) >= MOST_BLOCKS {
+            return Err(Short::Memory);
         }
         let block = self.machine.alloc(alloc, class, cells)?;
         self.reply(alloc, function, Value::At(block, 0))
+    }
+
+    // A step that makes a block of so many cells, for which there is no room, is told without making the block: the pointer
+    // to it is answered, and the cells of the next state are those that are live then and the block's.
+    //
+    // Where that answer fails, the step fails with the block too, since no pointer of a run leads into a block that is yet to
+    // be made. That would take an invariant of all pointers, which the loop does not keep: it counts as want of memory.
+    fn beyond(&mut self, alloc: Global, class: Class, cells: u64) -> Short
+        requires steady { IsSteady self.old }
+        ensures keeps { Keeps self.old self.new }
+        ensures short { (names : Names) → Fits names self.old → (s : States) → s.store ≡ store_in names self.old.machine
+            → IsShort result (settles names self.old s (replies (trees (program_in names self.old)) (stack_in names self.old.machine) (block_made class cells s.store) s)) }
+    {
+        let number = self.machine.made(class);
+        match self
+            .machine
+            .answer(alloc, Value::At(Block { class, number }, 0))
+        {
+            Ok(()) => match self.live_with(cells) {
+                Some(all) => Short::Beyond(all),
+                None => Short::Memory,
+            },
+            Err(_) => Short::Memory,
+        }
+    }
+
+    // How many cells are live with so many more, where the number is known.
+    fn live_with(&self, more: u64) -> Option<u64>
+        ensures { IfSome result (λ n. (names : Names) → n ≡ store_cells (store_in names self.now.machine) + frames_registers (stack_in names self.now.machine).frames + more) }
+    {
+        let live = self.machine.live_cells();
+        if live == u64::MAX {
+            return None;
+        }
+        live.checked_add(more)
     }
 
     // A block is freed.
@@ -212,7 +253,7 @@ impl<'p> Loop<'p> {
         alloc: Global,
         class: Class,
         request: &Request,
-    ) -> Result<Option<Outcome>, NoMemory>
+    ) -> Result<Option<Outcome>, Short>
         requires steady { IsSteady self.old }
         requires running { self.old.running ≡ true }
         requires lawful { All (λ v. IsLawful (seen v)) request.now.args.items }
@@ -223,7 +264,7 @@ impl<'p> Loop<'p> {
     {
         match request.args.as_slice() {
             [what] => self.frees_block(alloc, class, *what, request.function),
-            _ => Err(NoMemory),
+            _ => Err(Short::Memory),
         }
     }
 
@@ -234,7 +275,7 @@ impl<'p> Loop<'p> {
         class: Class,
         what: Value,
         function: Name,
-    ) -> Result<Option<Outcome>, NoMemory>
+    ) -> Result<Option<Outcome>, Short>
         requires steady { IsSteady self.old }
         requires running { self.old.running ≡ true }
         requires lawful { IsLawful (seen what) }
@@ -250,7 +291,7 @@ impl<'p> Loop<'p> {
     }
 
     // A callback becomes ready.
-    fn readies(&mut self, alloc: Global, request: &Request) -> Result<Option<Outcome>, NoMemory>
+    fn readies(&mut self, alloc: Global, request: &Request) -> Result<Option<Outcome>, Short>
         requires steady { IsSteady self.old }
         requires running { self.old.running ≡ true }
         requires lawful { All (λ v. IsLawful (seen v)) request.now.args.items }
@@ -263,7 +304,7 @@ impl<'p> Loop<'p> {
             [callback, pointer] => {
                 self.readies_callback(alloc, *callback, *pointer, request.function)
             }
-            _ => Err(NoMemory),
+            _ => Err(Short::Memory),
         }
     }
 
@@ -274,7 +315,7 @@ impl<'p> Loop<'p> {
         callback: Value,
         pointer: Value,
         function: Name,
-    ) -> Result<Option<Outcome>, NoMemory>
+    ) -> Result<Option<Outcome>, Short>
         requires steady { IsSteady self.old }
         requires running { self.old.running ≡ true }
         ensures keeps { Keeps self.old self.new }
@@ -283,25 +324,25 @@ impl<'p> Loop<'p> {
             → Did names result self.new printed s (settles names self.old s (event_primitive (trees (program_in names self.old)) R.RtReady (value_of names callback ∷ value_of names pointer ∷ []) (stack_in names self.old.machine) s)) }
     {
         let Value::Code(called) = callback else {
-            return Err(NoMemory);
+            return Err(Short::Memory);
         };
         match self.agenda.ready(Item::With(called, pointer)) {
             Ok(()) => {
                 self.waits = true;
                 self.reply(alloc, function, Value::Unset)
             }
-            Err(_) => Err(NoMemory),
+            Err(_) => Err(Short::Memory),
         }
     }
 
     // The run is left with a number.
-    fn exits(&self, request: &Request) -> Result<Option<Outcome>, NoMemory>
+    fn exits(&self, request: &Request) -> Result<Option<Outcome>, Short>
         ensures did { (names : Names) (new : Loop) (printed : Text) (s : States)
             → Did names result new printed s (settles names self.now s (primitive (callbacks (program_in names self.now)) R.Exit (values_of names request.now.args.items) (stack_in names self.now.machine) s)) }
     {
         match request.args.as_slice() {
             [Value::Int(_, number)] => Ok(Some(Outcome::Exited(*number))),
-            _ => Err(NoMemory),
+            _ => Err(Short::Memory),
         }
     }
 
@@ -312,7 +353,7 @@ impl<'p> Loop<'p> {
         request: &Request,
         pending: &mut Vec<u8>,
         room: u64,
-    ) -> Result<Option<Outcome>, NoMemory>
+    ) -> Result<Option<Outcome>, Short>
         requires steady { IsSteady self.old }
         requires running { self.old.running ≡ true }
         requires room { room < 2 ^ 63 }
@@ -334,7 +375,7 @@ impl<'p> Loop<'p> {
             Builtin::RtFrameFree => self.frees(alloc, Class::Frame, request),
             Builtin::RtUnbox => self.frees(alloc, Class::Auto, request),
             Builtin::RtReady => self.readies(alloc, request),
-            _ => Err(NoMemory),
+            _ => Err(Short::Memory),
         }
     }
 }

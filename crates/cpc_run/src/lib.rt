@@ -9,6 +9,7 @@ mod made;
 mod open;
 mod outcome;
 mod run;
+mod short;
 
 pub use outcome::{Ended, Limits, Outcome, RunReport, before_bars};
 pub use run::run_event;

@@ -15,8 +15,9 @@ ghost use Rattle.cpc_run.specs.States.{States, Stands, Fits, IsSteady, GoesStead
 use crate::code::Code;
 use crate::items::{Item, waited_for};
 use crate::outcome::Outcome;
+use crate::short::Short;
 use cpc_agenda::Agenda;
-use cpc_base::{Name, NoMemory, Stop};
+use cpc_base::{Name, Stop};
 use cpc_native::Stepped;
 use cpc_store::Value;
 use std::alloc::Global;
@@ -43,7 +44,7 @@ impl<'p> Loop<'p> {
         alloc: Global,
         function: Name,
         value: Value,
-    ) -> Result<Option<Outcome>, NoMemory>
+    ) -> Result<Option<Outcome>, Short>
         requires steady { IsSteady self.old }
         requires running { self.old.running ≡ true }
         requires lawful { IsLawful (seen value) }
@@ -55,7 +56,7 @@ impl<'p> Loop<'p> {
         match self.machine.answer(alloc, value) {
             Ok(()) => Ok(None),
             Err(Stop::Fault(fault)) => Ok(Some(Outcome::Failed(fault, function))),
-            Err(Stop::Memory) => Err(NoMemory),
+            Err(Stop::Memory) => Err(Short::Memory),
         }
     }
 
@@ -78,12 +79,7 @@ impl<'p> Loop<'p> {
     }
 
     // Nothing runs: an item that was the first of the round is taken.
-    fn take(
-        &mut self,
-        alloc: Global,
-        item: Item,
-        waited: Value,
-    ) -> Result<Option<Outcome>, NoMemory>
+    fn take(&mut self, alloc: Global, item: Item, waited: Value) -> Result<Option<Outcome>, Short>
         requires steady { IsSteady self.old }
         requires idle { self.old.running ≡ false }
         ensures keeps { Keeps self.old self.new }
@@ -100,7 +96,7 @@ impl<'p> Loop<'p> {
             Item::With(function, pointer) => {
                 // What a callback was made ready with is lawful.
                 if !pointer.is_lawful() {
-                    return Err(NoMemory);
+                    return Err(Short::Memory);
                 }
                 self.starts(alloc, function, &[pointer, waited_for(waited)])
             }
@@ -113,7 +109,7 @@ impl<'p> Loop<'p> {
         alloc: Global,
         function: Name,
         arguments: &[Value],
-    ) -> Result<Option<Outcome>, NoMemory>
+    ) -> Result<Option<Outcome>, Short>
         requires steady { IsSteady self.old }
         requires idle { self.old.running ≡ false }
         requires lawful { All (λ v. IsLawful (seen v)) arguments.now }
@@ -134,7 +130,7 @@ impl<'p> Loop<'p> {
         alloc: Global,
         pending: &mut Vec<u8>,
         room: u64,
-    ) -> Result<Option<Outcome>, NoMemory>
+    ) -> Result<Option<Outcome>, Short>
         requires steady { IsSteady self.old }
         requires running { self.old.running ≡ true }
         requires room { room < 2 ^ 63 }
@@ -155,13 +151,13 @@ impl<'p> Loop<'p> {
     }
 
     /// A step of the run, as the event machine makes it: the run goes on, or is over. What goes out is put behind `pending`.
-    /// No block is made that would leave more cells in blocks than `room`: that counts as want of memory.
+    /// No block is made that would leave more cells in blocks than `room`: the step is told as short.
     pub(crate) fn step(
         &mut self,
         alloc: Global,
         pending: &mut Vec<u8>,
         room: u64,
-    ) -> Result<Option<Outcome>, NoMemory>
+    ) -> Result<Option<Outcome>, Short>
         requires steady { IsSteady self.old }
         requires room { room < 2 ^ 63 }
         ensures keeps { Keeps self.old self.new }

@@ -10,10 +10,11 @@ ghost use Rattle.cpc_run.specs.Reports.{MadeSo, MadeSteady};
 
 use crate::looped::Loop;
 use crate::outcome::Outcome;
+use crate::short::Short;
 use cpc_base::NoMemory;
 use std::alloc::Global;
 
-// How many cells more than the cap a block may take, so that the step that makes it can be told.
+// How many cells more than the cap a block may take and be made, so that its step is told as it is, also where it fails.
 const SPARE_CELLS: u64 = 1 << 20;
 
 /// What a step within a cap came to.
@@ -51,9 +52,9 @@ impl<'p> Loop<'p> {
             → MadeSo names cap result self.new (sent ++ pending.old.items) (sent ++ pending.new.items) s (try_step (callbacks (program_in names self.old)) s) }
     {
         let mut text = Vec::new(alloc);
-        match self.step(alloc, &mut text, cap + SPARE_CELLS)? {
-            Some(outcome) => Ok(Made::Over(outcome)),
-            None => {
+        match self.step(alloc, &mut text, cap + SPARE_CELLS) {
+            Ok(Some(outcome)) => Ok(Made::Over(outcome)),
+            Ok(None) => {
                 let cells = self.cells();
                 if cells == u64::MAX {
                     return Err(NoMemory);
@@ -64,6 +65,8 @@ impl<'p> Loop<'p> {
                 pending.extend_from_slice(text.as_slice())?;
                 Ok(Made::On(cells))
             }
+            Err(Short::Beyond(cells)) if cells > cap => Ok(Made::Full(cells)),
+            Err(_) => Err(NoMemory),
         }
     }
 }

@@ -55,20 +55,34 @@ fn drain<O: Sink>(out: &mut O, pending: &mut Vec<u8>, least: usize) -> Result<()
     }
 }
 
-// A report, once all that waits is written; or that this failed.
-fn told<O: Sink>(out: &mut O, pending: &mut Vec<u8>, report: RunReport) -> RunReport
-    ensures steps { result.steps ≡ report.steps }
-    ensures cells { result.cells ≡ report.cells }
-    ensures told { (told : Option Text) (sent : Text) → O.taken out.old ≡ append_known told sent → Wrote told (O.taken out.new) (λ o. EndsSo report.ended result.ended o (sent ++ pending.old.items)) }
-    ensures cause { result.ended ≡ IsWriteFault → ¬ (report.ended ≡ IsWriteFault) → Rose (O.faults out.old) (O.faults out.new) }
+// The report of a run that was left so.
+fn report(ended: Ended, steps: u64, cells: u64) -> RunReport
+    ensures { result ≡ record { ended = ended; steps = steps; cells = cells } }
+{
+    RunReport {
+        ended,
+        steps,
+        cells,
+    }
+}
+
+// The report of a run that was left so, once all that waits is written; or that this failed.
+fn told<O: Sink>(
+    out: &mut O,
+    pending: &mut Vec<u8>,
+    ended: Ended,
+    steps: u64,
+    cells: u64,
+) -> RunReport
+    ensures steps { result.steps ≡ steps }
+    ensures cells { result.cells ≡ cells }
+    ensures told { (told : Option Text) (sent : Text) → O.taken out.old ≡ append_known told sent → Wrote told (O.taken out.new) (λ o. EndsSo ended result.ended o (sent ++ pending.old.items)) }
+    ensures cause { result.ended ≡ IsWriteFault → ¬ (ended ≡ IsWriteFault) → Rose (O.faults out.old) (O.faults out.new) }
     ensures later { O.faults out.old ≤ O.faults out.new }
 {
     match drain(out, pending, 0) {
-        Ok(()) => report,
-        Err(Failed) => RunReport {
-            ended: Ended::WriteFault,
-            ..report
-        },
+        Ok(()) => report(ended, steps, cells),
+        Err(Failed) => report(Ended::WriteFault, steps, cells),
     }
 }
 
@@ -93,63 +107,21 @@ fn run_on<O: Sink>(
         let left = match run.make(alloc, &mut pending, limits.cells) {
             Ok(Made::On(left)) => left,
             Ok(Made::Over(outcome)) => {
-                let ended = Ended::Over(outcome);
-                steps += 1;
-                return told(
-                    out,
-                    &mut pending,
-                    RunReport {
-                        ended,
-                        steps,
-                        cells,
-                    },
-                );
+                return told(out, &mut pending, Ended::Over(outcome), steps + 1, cells);
             }
             Ok(Made::Full(left)) => {
-                let ended = Ended::Full(left);
-                return told(
-                    out,
-                    &mut pending,
-                    RunReport {
-                        ended,
-                        steps,
-                        cells,
-                    },
-                );
+                return told(out, &mut pending, Ended::Full(left), steps, cells);
             }
-            Err(NoMemory) => {
-                let ended = Ended::Memory;
-                return RunReport {
-                    ended,
-                    steps,
-                    cells,
-                };
-            }
+            Err(NoMemory) => return report(Ended::Memory, steps, cells),
         };
         steps += 1;
         cells = left;
         match drain(out, &mut pending, CHUNK) {
             Ok(()) => {}
-            Err(Failed) => {
-                let ended = Ended::WriteFault;
-                return RunReport {
-                    ended,
-                    steps,
-                    cells,
-                };
-            }
+            Err(Failed) => return report(Ended::WriteFault, steps, cells),
         }
     }
-    let ended = Ended::Steps;
-    told(
-        out,
-        &mut pending,
-        RunReport {
-            ended,
-            steps,
-            cells,
-        },
-    )
+    told(out, &mut pending, Ended::Steps, steps, cells)
 }
 
 // Whether the name that an end tells is in the table.
@@ -238,7 +210,8 @@ fn run_program<O: Sink>(alloc: Global, program: &Program, limits: Limits, out: &
 /// more is not counted, and nothing of it goes out. The cells of the first state are counted before it is made.
 ///
 /// `Ended::WriteFault` is a failure of the sink, `Ended::Memory` want of memory; then what went out is the first part of
-/// what the run put out. A block of more cells than the cap has room for is want of memory too, but for a few.
+/// what the run put out. A step that makes a block of whatever size above the cap is `Ended::Full` like any other; only one
+/// that fails at the place for the pointer to the block may be `Ended::Memory` in place of its fault.
 pub fn run_event<O: Sink>(
     alloc: Global,
     program: &Checked,

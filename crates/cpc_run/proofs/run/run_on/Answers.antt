@@ -2,7 +2,7 @@ use Rattle.std.proofs.Common.{◌++◌, ◌+◌, Ok, sym, subst, arith}
 use Rattle.cpc_meaning.specs.Events.{callbacks}
 use Rattle.cpc_meaning.specs.Machine.{try_step}
 use Rattle.cpc_run.specs.States.{program_in}
-use Rattle.cpc_run.specs.Reports.{MadeSo, MadeSteady, Reached, run_of}
+use Rattle.cpc_run.specs.Reports.{MadeSo, MadeSteady, Reached, Tells, run_of}
 use Rattle.cpc_run.specs.declared.outcome.Ended.TheVariants as E
 use Rattle.cpc_run.proofs.Runs.{ends_told, left_over, left_full, reached_more, at_end, tells_part}
 use Rattle.cpc_run.proofs.run.run_on.Goals as goal
@@ -44,7 +44,8 @@ returns-in-Err-drain-clause-told g c = λ names q begins.
     (c.in-Ok-On.ensures.made names reached.fits sent (run_of q n) reached.stands) in
     let next = reached_more names q c.args.limits.cells l old n c.steps.cells begins.never_stuck reached c.make.new.self new c.in-Ok-On.left c.in-Ok-On.ensures.keeps made in
     let part = c.in-Err-drain.ensures.part (g.O.Sink.taken c.args.out.now) sent taken in
-    (part.0, part.1, tells_part names q c.args.limits (n + 1) c.in-Ok-On.left part.0 new (at_end names q c.args.limits c.make.new.self new (n + 1) c.in-Ok-On.left next) part.2)
+    let tells = tells_part names q c.args.limits (n + 1) c.in-Ok-On.left part.0 new (at_end names q c.args.limits c.make.new.self new (n + 1) c.in-Ok-On.left next) part.2 in
+    (part.0, part.1, subst (λ r. Tells names q c.args.limits r part.0) (sym c.report-in-Err-drain.ensures) tells)
 
 pub steps-preserved : goal.steps-preserved
 steps-preserved g c = record {
