@@ -77,9 +77,64 @@ static MEMORY: [Row; 4] = [
     ),
 ];
 
+/// Each operator and each kind of place, and which operand decides.
+static EXPRESSIONS: [Row; 7] = [
+    (
+        "int main(void){ int n; char *z; n = 6; z = 0; cpc_print(-n); cpc_print(~n); cpc_print(!z); cpc_print(n * 7); cpc_print(!n); return 0; }",
+        0,
+        "-6\n-7\n1\n42\n0\n",
+        "",
+    ),
+    (
+        "struct pair { int a; int b[2]; }; int main(void){ cpc_print('A'); cpc_print((char)300); cpc_print(sizeof(struct pair)); cpc_print(0x1F); cpc_print('\\n'); return 0; }",
+        0,
+        "65\n44\n3\n31\n10\n",
+        "",
+    ),
+    // an element from either side, and before a pointer
+    (
+        "int main(void){ int a[3]; int *p; a[0] = 10; a[1] = 20; a[2] = 30; p = &a[1]; cpc_print(*p); cpc_print(a[2]); cpc_print(0[a]); cpc_print(p[-1]); cpc_print(p == a + 1); cpc_print(p - a); cpc_print(sizeof(int *)); return 0; }",
+        0,
+        "20\n30\n10\n10\n1\n1\n1\n",
+        "",
+    ),
+    (
+        "struct pair { int a; int b[2]; }; int main(void){ struct pair s; struct pair *p; p = &s; p->a = 40; p->b[0] = 50; s.b[1] = 60; cpc_print(p->a); cpc_print(p->b[1]); cpc_print((*p).a); cpc_print(*p->b); return 0; }",
+        0,
+        "40\n60\n40\n50\n",
+        "",
+    ),
+    // only what is chosen is evaluated
+    (
+        "int main(void){ int n; int *z; n = 6; z = 0; cpc_print(0 && n / 0); cpc_print(&n || n / 0); cpc_print(z ? *z : n); cpc_print(n ? 4 : *z); return 0; }",
+        0,
+        "0\n1\n6\n4\n",
+        "",
+    ),
+    // a function that calls itself, with a local of each call
+    (
+        "long f(long n){ long r; if (n) { r = f(n - 1); return n * r; } return 1; } int main(void){ long r; r = f(5); cpc_print(r); return 0; }",
+        0,
+        "120\n",
+        "",
+    ),
+    // an inner name hides, to the end of its block
+    (
+        "int main(void){ int n; n = 1; { long n; n = 5000000000; cpc_print(n); } cpc_print(n); return 0; }",
+        0,
+        "5000000000\n1\n",
+        "",
+    ),
+];
+
 #[test]
 fn numbers(rt: HostRuntime) -> Result<(), Fail> {
     check(&rt, rt.alloc(), &["run", "a.c"], &NUMBERS)
+}
+
+#[test]
+fn expressions(rt: HostRuntime) -> Result<(), Fail> {
+    check(&rt, rt.alloc(), &["run", "a.c"], &EXPRESSIONS)
 }
 
 #[test]
