@@ -1,0 +1,2 @@
+//! How many live cells calls take and steps leave. Nothing of this crate runs.
+#![tactic(auto)]

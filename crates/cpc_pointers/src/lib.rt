@@ -1,0 +1,2 @@
+//! Where the pointers of a run lead: into blocks that were made. Nothing of this crate runs.
+#![tactic(auto)]
