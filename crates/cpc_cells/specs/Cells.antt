@@ -5,7 +5,7 @@ use Rattle.cpc_tree.specs.Syntax.{Variable, Function, Program}
 use Rattle.cpc_tree.specs.Typing as T
 use Rattle.cpc_store.specs.declared.values.Class.TheVariants.{Auto, Heap, Frame as FrameClass}
 use Rattle.cpc_store.specs.Store.{Value, Store, size, store_cells}
-use Rattle.cpc_meaning.specs.Answer.{Answer, Gives}
+use Rattle.cpc_meaning.specs.Answer.{Answer, Gives, Faults, NoAnswer}
 use Rattle.cpc_meaning.specs.Eval.{Slot, Register, Boxed}
 use Rattle.cpc_meaning.specs.Plain.{Form, Stack, Done, Went, Returned, Asks, plain, answered}
 use Rattle.cpc_meaning.specs.Requests.{Asked, Builtin, Malloc, Free, RtFrame, RtBox, RtFrameFree, RtUnbox}
@@ -44,32 +44,35 @@ slots_cells s (slot ∷ slots) = slot_cells s slot + slots_cells s slots
 abbrev pub code_cells : {P : Type 0} → Store → Stack P → ℕ
 code_cells s k = store_cells s + frames_registers k.frames
 
--- what a step left; one that faults leaves what there was
-abbrev pub done_cells : {P : Type 0} → (before : ℕ) → Answer (Done P) → ℕ
-done_cells before (Gives (Went t k)) = code_cells t k
-done_cells before (Gives (Returned v t)) = store_cells t
-done_cells before _ = before
+-- what a step left; one that faults leaves what there was, and nothing is said of one that is stuck
+abbrev pub done_cells : {P : Type 0} → (before : ℕ) → Answer (Done P) → Option ℕ
+done_cells before (Gives (Went t k)) = Some (code_cells t k)
+done_cells before (Gives (Returned v t)) = Some (store_cells t)
+done_cells before (Gives (Asks r)) = None
+done_cells before (Faults fault) = Some before
+done_cells before NoAnswer = None
 
 -- what is left once an act on the store is answered
-abbrev pub acted_cells : {P : Type 0} → Form P → Store → Stack P → Answer (Store × Value) → ℕ
+abbrev pub acted_cells : {P : Type 0} → Form P → Store → Stack P → Answer (Store × Value) → Option ℕ
 acted_cells p s k (Gives (t, v)) = done_cells (code_cells s k) (answered p t k v)
-acted_cells p s k _ = code_cells s k
+acted_cells p s k (Faults fault) = Some (code_cells s k)
+acted_cells p s k NoAnswer = None
 
 -- what is left once a request is answered; those that neither make nor free a block leave what there was
-abbrev pub request_cells : {P : Type 0} → Form P → Store → Stack P → Asked → List Value → ℕ
+abbrev pub request_cells : {P : Type 0} → Form P → Store → Stack P → Asked → List Value → Option ℕ
 request_cells p s k (Builtin Malloc) (v ∷ []) = acted_cells p s k (allocated Heap v s)
 request_cells p s k (Builtin Free) (v ∷ []) = acted_cells p s k (freed Heap v s)
 request_cells p s k (Builtin RtFrame) (v ∷ []) = acted_cells p s k (allocated FrameClass v s)
 request_cells p s k (Builtin RtBox) (v ∷ []) = acted_cells p s k (allocated Auto v s)
 request_cells p s k (Builtin RtFrameFree) (v ∷ []) = acted_cells p s k (freed FrameClass v s)
 request_cells p s k (Builtin RtUnbox) (v ∷ []) = acted_cells p s k (freed Auto v s)
-request_cells p s k asked vs = code_cells s k
+request_cells p s k asked vs = Some (code_cells s k)
 
 -- what a step comes to leaves
-abbrev pub after_plain : {P : Type 0} → Form P → Store → Stack P → Answer (Done P) → ℕ
+abbrev pub after_plain : {P : Type 0} → Form P → Store → Stack P → Answer (Done P) → Option ℕ
 after_plain p s k (Gives (Asks r)) = request_cells p s k r.asked r.arguments
 after_plain p s k a = done_cells (code_cells s k) a
 
--- the live cells that a step of the code leaves, with what it asks for
-abbrev pub step_cells : {P : Type 0} → Form P → Store → Stack P → ℕ
+-- the live cells that a step of the code leaves, with what it asks for; nothing where it is stuck
+abbrev pub step_cells : {P : Type 0} → Form P → Store → Stack P → Option ℕ
 step_cells p s k = after_plain p s k (plain p s k)

@@ -30,7 +30,7 @@ GoingOnKeeps = (c : Context) (result : Ty) (o : Option Value) (stood : Stood) (h
 
 -- a step of the event machine in which code runs leaves what is foretold
 abbrev pub StepsLeave : Type 1
-StepsLeave = {P : Type 0} (p : Form P) (s t : State P Callback) (k : Stack P) → s.running ≡ Some k → try_step (callbacks_of p) s ≡ Some t → live_cells t ≡ step_cells p s.store k
+StepsLeave = {P : Type 0} (p : Form P) (s t : State P Callback) (k : Stack P) → s.running ≡ Some k → try_step (callbacks_of p) s ≡ Some t → step_cells p s.store k ≡ Some (live_cells t)
 
 -- a function that the loop takes up adds the cells of its call
 abbrev pub TakingAdds : Type 1
