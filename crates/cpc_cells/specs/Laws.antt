@@ -28,11 +28,11 @@ abbrev pub GoingOnKeeps : Type 0
 GoingOnKeeps = (c : Context) (result : Ty) (o : Option Value) (stood : Stood) (h : Bool) (t : Store) (slots : List Slot) → act c result o stood ≡ Gives (GoesOn h t slots)
     → (store_cells t ≡ store_cells c.store) × (slots_registers slots ≡ slots_registers c.slots)
 
--- a step of the event machine in which code runs leaves what is foretold
-abbrev pub StepsLeave : Type 1
-StepsLeave = {P : Type 0} (p : Form P) (s t : State P Callback) (k : Stack P) → s.running ≡ Some k → try_step (callbacks_of p) s ≡ Some t → step_cells p s.store k ≡ Some (live_cells t)
+-- a step of the event machine in which code runs leaves what is foretold, whatever its positions are
+abbrev pub StepsLeave : (P : Type 0) → Type 0
+StepsLeave P = (p : Form P) (s t : State P Callback) (k : Stack P) → s.running ≡ Some k → try_step (callbacks_of p) s ≡ Some t → step_cells p s.store k ≡ Some (live_cells t)
 
 -- a function that the loop takes up adds the cells of its call
-abbrev pub TakingAdds : Type 1
-TakingAdds = {P T : Type 0} (p : Form P) (f : Text) (g : Function) (vs : List Value) (s t : State P T) → function_named p.program f ≡ Some g → runs p f vs s ≡ Gives t
+abbrev pub TakingAdds : (P T : Type 0) → Type 0
+TakingAdds P T = (p : Form P) (f : Text) (g : Function) (vs : List Value) (s t : State P T) → function_named p.program f ≡ Some g → runs p f vs s ≡ Gives t
     → live_cells t ≡ store_cells s.store + call_cells p.program g

@@ -1,2 +1,6 @@
 //! How many live cells calls take and steps leave. Nothing of this crate runs.
 #![tactic(auto)]
+
+mod laws;
+
+pub use laws::{a_call_takes_its_cells, leaving_gives_back_the_cells};
