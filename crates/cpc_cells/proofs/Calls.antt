@@ -1,5 +1,5 @@
 -- The cells that a call takes, and those that it gives back when it is left.
-use Rattle.std.proofs.Common.{◌≡◌, ℕ, zero, suc, ◌+◌, Bool, true, false, cond, List, [], ◌∷◌, length, replicate, Option, Some, None, refl, sym, ap, ◌∙◌, subst, arith}
+use Rattle.std.proofs.Common.{◌≡◌, ℕ, zero, suc, ◌+◌, Bool, true, false, cond, List, [], ◌∷◌, length, Option, Some, None, refl, sym, ap, subst, arith}
 use Rattle.std.specs.Prelude.{not, ◌&&◌, slice_get, slice_set, is_some, Result, Ok, Err}
 use Rattle.std.specs.Option.{option_map}
 use Rattle.std.proofs.lemmas.List.{length-replicate}
@@ -11,11 +11,11 @@ use Rattle.cpc_tree.specs.Syntax.{Ty, Variable, Function, Program}
 use Rattle.cpc_tree.specs.Typing as T
 use Rattle.cpc_tree.specs.Typing.{is_scalar}
 use Rattle.cpc_store.specs.declared.values.Class.TheVariants.{Auto}
-use Rattle.cpc_store.specs.Store.{Value, Unset, At, Blocks, Store, blocks, with_blocks, live, cells_of, size, alloc, free, store_cells}
+use Rattle.cpc_store.specs.Store.{Value, Unset, At, Blocks, Store, blocks, with_blocks, live, cells_of, size, free, store_cells}
 use Rattle.cpc_store.proofs.CellLemmas.{store_cells-alloc, store_cells-free}
-use Rattle.cpc_meaning.specs.Answer.{Answer, Gives, Faults, NoAnswer, ◌>>=◌, of_result, needed}
+use Rattle.cpc_meaning.specs.Answer.{Gives, of_result, needed}
 use Rattle.cpc_meaning.specs.Eval.{Slot, Register, Boxed}
-use Rattle.cpc_meaning.specs.Slots.{first_cells, make_slot, make_slots, call_slots, free_slots}
+use Rattle.cpc_meaning.specs.Slots.{first_cells, make_slot, make_slots, free_slots}
 use Rattle.cpc_meaning.specs.Runs.{slot_registers, slots_registers}
 use Rattle.cpc_meaning.proofs.Functions.{gives_then, scalar_size}
 use Rattle.cpc_cells.specs.Cells.{or_zero, variables_cells, slots_cells}

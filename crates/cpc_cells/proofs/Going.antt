@@ -1,6 +1,6 @@
 -- A step in which control goes on leaves as many cells in blocks, and as many registers.
 use Rattle.std.proofs.Common.{◌≡◌, ℕ, zero, suc, ◌+◌, List, [], ◌∷◌, Option, Some, None, Result, Ok, Err, refl, sym, ap, subst}
-use Rattle.std.specs.Prelude.{Bool, pos, slice_get, slice_set}
+use Rattle.std.specs.Prelude.{pos, slice_get, slice_set}
 use Rattle.cpc_base.specs.Bytes.{Text}
 use Rattle.cpc_num.specs.declared.kinds.Fault.{Fault}
 use Rattle.cpc_num.specs.declared.kinds.Op.TheVariants.{Add}
@@ -15,7 +15,7 @@ use Rattle.cpc_meaning.specs.Answer.{Answer, Gives, Faults, NoAnswer, ◌>>=◌,
 use Rattle.cpc_meaning.specs.Eval.{Slot, Register, Boxed, Context, Spot, InSlot, InCell, place, place_type, used_type, value, values, holds, assigned, operate, pointed, pointer_to, pointed_type, slot_spot, spot_named, field_spot, moved}
 use Rattle.cpc_meaning.specs.Slots.{free_slots}
 use Rattle.cpc_meaning.specs.Requests.{Primitive, primitive_named, takes, section_takes, all_taken, all_long, arguments}
-use Rattle.cpc_meaning.specs.Act.{Stood, AtStatement, AtArrival, AtEnd, Act, GoesOn, Enters, Leaves, AsksFor, write, assign, deliver, right_side, assigns, calls, callee, calls_value, puts_text, asks_with, calls_named, calls_expr, detaches, spawns, leaves, returns, simple_act, test_act, found_act, target_of, arrives, act}
+use Rattle.cpc_meaning.specs.Act.{Stood, AtStatement, AtArrival, AtEnd, Act, GoesOn, write, assign, deliver, right_side, assigns, calls, callee, calls_value, puts_text, asks_with, calls_named, calls_expr, detaches, spawns, leaves, returns, simple_act, test_act, found_act, target_of, arrives, act}
 use Rattle.cpc_meaning.specs.Runs.{slot_registers, slots_registers}
 use Rattle.cpc_cells.specs.Laws.{GoingOnKeeps}
 

@@ -1,17 +1,15 @@
 -- What a step of the event machine leaves, and what a function adds that the loop takes up.
-use Rattle.std.proofs.Common.{◌≡◌, ℕ, ◌+◌, ℤ, pos, List, [], ◌∷◌, ◌++◌, map, Option, Some, None, Result, Ok, Err, refl, sym, ap, ◌∙◌, subst, arith}
+use Rattle.std.proofs.Common.{◌≡◌, ℕ, ◌+◌, pos, List, [], ◌∷◌, ◌++◌, map, Option, Some, Result, Ok, refl, sym, ap, ◌∙◌, subst, arith}
 use Rattle.std.specs.Fmt.{signed_decimal}
 use Rattle.cpc_base.specs.Bytes.{Text}
 use Rattle.cpc_num.specs.declared.kinds.Fault.{Fault}
 use Rattle.cpc_num.specs.declared.kinds.Kind.TheVariants.{Long}
 use Rattle.cpc_tree.specs.Lists.{first_or, rest_of}
-use Rattle.cpc_tree.specs.Syntax.{Function}
-use Rattle.cpc_tree.specs.Trace.{Mark, Output, HostCall, Sleeping, Waiting, Awaiting, Failed}
+use Rattle.cpc_tree.specs.Trace.{Output, HostCall, Sleeping, Waiting, Awaiting, Failed}
 use Rattle.cpc_tree.specs.Typing.{function_named}
 use Rattle.cpc_store.specs.declared.values.Class.TheVariants.{Auto, Heap, Frame as FrameClass}
 use Rattle.cpc_store.specs.Store.{Value, Unset, Whole, Cond, Code, Store, store_cells}
 use Rattle.cpc_meaning.specs.Answer.{Answer, Gives, Faults, NoAnswer, ◌>>=◌, of_result, needed}
-use Rattle.cpc_meaning.specs.Eval.{Slot}
 use Rattle.cpc_meaning.specs.Requests.{Asked, Builtin, Host, ToSpawn, Section, Primitive, Print, Putc, Puts, Now, CondNew, CondFree, Signal, SignalAll, Exit, Malloc, Free, RtFrame, RtBox, RtFrameFree, RtUnbox, RtReady, RtWait, RtSleep, RtIo, RtDetach}
 use Rattle.cpc_meaning.specs.Act.{Act, GoesOn, Enters, Leaves, AsksFor, arrives}
 use Rattle.cpc_meaning.specs.Plain.{Form, Frame, Stack, stack_of, Done, Went, Returned, Asks, asking, context, perform, plain, frames_answered, answered, make_frame}
@@ -19,7 +17,7 @@ use Rattle.cpc_meaning.specs.Slots.{call_slots}
 use Rattle.cpc_meaning.specs.Agenda.{Agenda, cond_new, cond_free, signal, signal_all, ready_one, wait, sleep, io, section}
 use Rattle.cpc_meaning.specs.Section.{allocated, freed}
 use Rattle.cpc_meaning.specs.Copies.{copy_of}
-use Rattle.cpc_meaning.specs.Machine.{State, Machine, marks, with_agenda, with_store, runs, after_done, int_of, cond_of, byte_of, reply, prints, replies, acts, primitive, ints_of, first_answer, host_call, ends, fault_function, asked_by, direction_of, submits, runs_on, code_step, step_running, settled, try_step}
+use Rattle.cpc_meaning.specs.Machine.{State, marks, with_agenda, with_store, after_done, int_of, cond_of, byte_of, reply, replies, acts, primitive, ints_of, first_answer, ends, fault_function, asked_by, direction_of, submits, runs_on, code_step, step_running, settled}
 use Rattle.cpc_meaning.specs.Events.{Callback, CallWith, event_primitive, callbacks_of}
 use Rattle.cpc_meaning.specs.Start.{before_bars}
 use Rattle.cpc_meaning.specs.Runs.{slots_registers, frames_registers, registers, live_cells}
@@ -27,7 +25,7 @@ use Rattle.cpc_meaning.proofs.Functions.{gives_then}
 use Rattle.cpc_cells.specs.Cells.{call_cells, code_cells, done_cells, acted_cells, request_cells, after_plain, step_cells}
 use Rattle.cpc_cells.specs.Laws.{StepsLeave, TakingAdds}
 use Rattle.cpc_cells.proofs.Calls.{call_takes}
-use Rattle.cpc_cells.proofs.Going.{If, if_then, if_any, Keeps, Arrived, arrives_keeps}
+use Rattle.cpc_cells.proofs.Going.{If, if_then, if_any, Arrived, arrives_keeps}
 
 module _ {P : Type 0} (p : Form P) where
   -- ---- a value that is answered keeps the cells

@@ -73,6 +73,6 @@ abbrev pub after_plain : {P : Type 0} → Form P → Store → Stack P → Answe
 after_plain p s k (Gives (Asks r)) = request_cells p s k r.asked r.arguments
 after_plain p s k a = done_cells (code_cells s k) a
 
--- the live cells that a step of the code leaves, with what it asks for; nothing where it is stuck
+-- the live cells that a step of the code leaves, with what it asks for; nothing where the code or an act on a block is stuck
 abbrev pub step_cells : {P : Type 0} → Form P → Store → Stack P → Option ℕ
 step_cells p s k = after_plain p s k (plain p s k)

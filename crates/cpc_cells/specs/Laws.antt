@@ -1,5 +1,5 @@
 -- How many live cells calls and steps leave.
-use Rattle.std.specs.Prelude.{◌≡◌, ◌+◌, Bool, List, Option, Some, None}
+use Rattle.std.specs.Prelude.{◌≡◌, ◌+◌, Bool, List, Option, Some}
 use Rattle.cpc_base.specs.Bytes.{Text}
 use Rattle.cpc_tree.specs.Syntax.{Ty, Function, Program}
 use Rattle.cpc_tree.specs.Typing.{function_named}
