@@ -6,3 +6,4 @@ pub mod Acts
 pub mod Steps
 pub mod Agendas
 pub mod Machine
+pub mod Runs

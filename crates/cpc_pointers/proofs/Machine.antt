@@ -61,20 +61,20 @@ module _ {P : Type 0} (p : Form P) where
     pub polls : s.history.polls ≡ []
 
   -- another store, and the stack that runs on it
-  with_code : (s : State P Callback) (t : Store) (o : Option (Stack P)) → Good s → Later s.store t → IsMadeStore t → ((k : Stack P) → o ≡ Some k → IsMadeCode t k) → Good (record s { store = t; running = o })
+  pub with_code : (s : State P Callback) (t : Store) (o : Option (Stack P)) → Good s → Later s.store t → IsMadeStore t → ((k : Stack P) → o ≡ Some k → IsMadeCode t k) → Good (record s { store = t; running = o })
   with_code s t o h l made code = record { made = record { store = made; running = code; agenda = later_agenda s.store t l s.agenda h.made.agenda }; polls = h.polls }
 
-  code_is : (t : Store) (k : Stack P) → IsMadeCode t k → (j : Stack P) → Some k ≡ Some j → IsMadeCode t j
+  pub code_is : (t : Store) (k : Stack P) → IsMadeCode t k → (j : Stack P) → Some k ≡ Some j → IsMadeCode t j
   code_is t k h j e = let same : k ≡ j = cc in subst (IsMadeCode t) same h
 
   -- another agenda
-  with_agenda_good : (s : State P Callback) (a : Agenda Callback) → Good s → IsMadeAgenda s.store a → Good (with_agenda s a)
+  pub with_agenda_good : (s : State P Callback) (a : Agenda Callback) → Good s → IsMadeAgenda s.store a → Good (with_agenda s a)
   with_agenda_good s a h k = record { made = record { store = h.made.store; running = h.made.running; agenda = k }; polls = h.polls }
 
   marks_good : (m : Mark) (s : State P Callback) → Good s → Good (marks m s)
   marks_good m s h = record { made = record { store = h.made.store; running = h.made.running; agenda = h.made.agenda }; polls = h.polls }
 
-  ends_good : (outcome : Outcome) (s : State P Callback) → Good s → Good (ends outcome s)
+  pub ends_good : (outcome : Outcome) (s : State P Callback) → Good s → Good (ends outcome s)
   ends_good outcome s h = record { made = record { store = h.made.store; running = h.made.running; agenda = h.made.agenda }; polls = h.polls }
 
   -- a function is run
@@ -86,7 +86,7 @@ module _ {P : Type 0} (p : Form P) where
 
   -- ---- answers
 
-  reply_good : (k : Stack P) (v : Value) (s : State P Callback) → Good s → IsMadeCode s.store k → IsMade s.store v → Only Good (reply p k v s)
+  pub reply_good : (k : Stack P) (v : Value) (s : State P Callback) → Good s → IsMadeCode s.store k → IsMade s.store v → Only Good (reply p k v s)
   reply_good k v s h code i = only_then (DoneMade s.store) Good (answered p s.store k v) (after_done s) (answered_made p s.store k v code i) go
     where
       go : (x : Done P) → DoneMade s.store x → Only Good (after_done s x)
@@ -120,7 +120,7 @@ module _ {P : Type 0} (p : Form P) where
 
   -- ---- the event machine's own primitives
 
-  starts_good : (item : Callback) (v : Value) (s : State P Callback) → Good s → IsMadeCallback s.store item → IsMade s.store v → Only Good (starts_callback p item v s)
+  pub starts_good : (item : Callback) (v : Value) (s : State P Callback) → Good s → IsMadeCallback s.store item → IsMade s.store v → Only Good (starts_callback p item v s)
   starts_good CallMain v s h i j = runs_good main_name [] s h (All-nil (IsMade s.store))
   starts_good (CallWith f pointer) v s h i j =
       only_then (IsMade s.store) Good (assigned (TyInt Int) v) _ (assigned_made s.store (TyInt Int) v j) λ w l.
@@ -163,7 +163,7 @@ module _ {P : Type 0} (p : Form P) where
   prints_good : (k : Stack P) (bytes : Text) (s : State P Callback) → Good s → IsMadeCode s.store k → Only Good (prints p k bytes s)
   prints_good k bytes s h code = reply_good k Unset (marks (Output bytes) s) (marks_good (Output bytes) s h) code tt
 
-  primitive_good : (prim : Primitive) (vs : List Value) (k : Stack P) (s : State P Callback) → Good s → IsMadeCode s.store k → All (IsMade s.store) vs → Only Good (primitive (callbacks_of p) prim vs k s)
+  pub primitive_good : (prim : Primitive) (vs : List Value) (k : Stack P) (s : State P Callback) → Good s → IsMadeCode s.store k → All (IsMade s.store) vs → Only Good (primitive (callbacks_of p) prim vs k s)
   primitive_good Print (v ∷ []) k s h code i = any_then Good (int_of v) _ λ z. prints_good k (signed_decimal z ++ 10 ∷ []) s h code
   primitive_good Putc (v ∷ []) k s h code i = prints_good k _ s h code
   primitive_good Puts vs k s h code i = prints_good k _ s h code

@@ -3,4 +3,4 @@
 
 mod laws;
 
-pub use laws::requests_are_answered_alike;
+pub use laws::{requests_are_answered_alike, runs_are_made};
