@@ -1,30 +1,28 @@
 -- What a step does hands over values that were made.
-use Rattle.std.proofs.Common.{◌≡◌, ℕ, zero, suc, Bool, true, false, List, [], ◌∷◌, replicate, slice_set, Option, Some, None}
+use Rattle.std.proofs.Common.{◌≡◌, ℕ, zero, suc, Bool, true, false, List, [], ◌∷◌, replicate, Option, Some, None}
 use Rattle.std.specs.List.{All}
 use Rattle.std.proofs.lemmas.List.Elements.{All-nil, All-cons, All-head, All-tail, All-set}
 use Rattle.cpc_base.specs.Bytes.{Text}
 use Rattle.cpc_num.specs.declared.kinds.Kind.TheVariants.{Long}
-use Rattle.cpc_num.specs.declared.kinds.Op.{Op}
 use Rattle.cpc_tree.specs.declared.program.Mode.TheVariants.{Extern}
-use Rattle.cpc_tree.specs.Syntax.{Ty, TyInt, Variable, Expr, ENamed, EText, Exprs, NoExpr, AndExpr, Stmt, Declare, Assign, Call, Detach, Spawn, Return, Function, Program}
+use Rattle.cpc_tree.specs.Syntax.{Ty, TyInt, Variable, Expr, ENamed, Exprs, NoExpr, AndExpr, Stmt, Declare, Assign, Call, Detach, Spawn, Return, Function, Program}
 use Rattle.cpc_tree.specs.Lists.{first_or, rest_of}
 use Rattle.cpc_tree.specs.Points.{Found, Simple, Test, Nothing}
-use Rattle.cpc_tree.specs.Primitives.{Primitive, Puts, Taken, AnyInteger, SetOf, FreeOf, primitive_named}
-use Rattle.cpc_tree.specs.Registers.{variables, is_register}
+use Rattle.cpc_tree.specs.Primitives.{Primitive, Taken, AnyInteger, SetOf, FreeOf, primitive_named}
+use Rattle.cpc_tree.specs.Registers.{is_register}
 use Rattle.cpc_tree.specs.Typing.{Scope, Meant, AFunction, NotMeant, named, size, function_named, parameter_types, code_parameters}
-use Rattle.cpc_store.specs.declared.values.Class.{Class}
 use Rattle.cpc_store.specs.declared.values.Class.TheVariants.{Static, Auto}
-use Rattle.cpc_store.specs.Store.{Value, Unset, Whole, Null, At, Code, Cond, Store, alloc, next_block, free, save}
-use Rattle.cpc_meaning.specs.Answer.{Answer, Gives, Faults, NoAnswer, ◌>>=◌, of_result, needed}
+use Rattle.cpc_store.specs.Store.{Value, Unset, Whole, At, Store, alloc, next_block, free, save}
+use Rattle.cpc_meaning.specs.Answer.{Answer, Gives, ◌>>=◌, of_result, needed}
 use Rattle.cpc_meaning.specs.Eval.{Slot, Register, Boxed, Context, Spot, InSlot, InCell, place, place_type, used_type, value, values, holds, assigned, at_type}
-use Rattle.cpc_meaning.specs.Slots.{first_cells, make_slot, make_slots, call_slots, free_slots}
-use Rattle.cpc_meaning.specs.Requests.{Request, Asked, Builtin, Host, ToSpawn, Section, section_takes, takes, set_integer, taken_as, all_taken, all_long, arguments, byte_values}
-use Rattle.cpc_meaning.specs.Act.{Stood, AtStatement, AtArrival, AtEnd, Act, GoesOn, Enters, Leaves, AsksFor, passes, write, assign, deliver, right_side, assigns, calls, callee, calls_value, asks, puts_text, asks_with, calls_named, calls_expr, detaches, spawns, leaves, returns, simple_act, test_act, found_act, target_of, arrives, act}
+use Rattle.cpc_meaning.specs.Slots.{first_cells, make_slot, make_slots, free_slots}
+use Rattle.cpc_meaning.specs.Requests.{section_takes, takes, set_integer, taken_as, all_taken, all_long, arguments, byte_values}
+use Rattle.cpc_meaning.specs.Act.{Stood, AtStatement, AtArrival, AtEnd, Act, GoesOn, Enters, Leaves, AsksFor, passes, write, assign, deliver, right_side, assigns, calls, callee, calls_value, puts_text, asks_with, calls_named, calls_expr, detaches, spawns, leaves, returns, simple_act, found_act, target_of, arrives, act}
 use Rattle.cpc_meaning.proofs.SameValues.{at}
-use Rattle.cpc_pointers.specs.Made.{IsBlock, IsMade, IsMadeIf, IsMadeSlot, IsMadeStore}
-use Rattle.cpc_pointers.proofs.Blocks.{Only, Any, only_any, only_then, any_then, only_as, only_given}
+use Rattle.cpc_pointers.specs.Made.{IsMade, IsMadeIf, IsMadeSlot, IsMadeStore}
+use Rattle.cpc_pointers.proofs.Blocks.{Only, only_then, any_then, only_as, only_given}
 use Rattle.cpc_pointers.proofs.Values.{IsMadeSpot, assigned_made, at_type_made, places, same_values}
-use Rattle.cpc_pointers.proofs.Stores.{Later, later_made, later_values, later_slots, Onward, onward_self, onward_then, IsMadeCells, cells_none, cells_more, cells_unset, next_made, alloc_onward, free_onward, save_onward}
+use Rattle.cpc_pointers.proofs.Stores.{later_made, later_values, later_slots, Onward, onward_self, onward_then, IsMadeCells, cells_none, cells_more, cells_unset, next_made, alloc_onward, free_onward, save_onward}
 
 -- ---- the variables of a call
 

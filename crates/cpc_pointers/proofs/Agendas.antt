@@ -1,15 +1,14 @@
 -- Acts on an agenda keep its pointers.
-use Rattle.std.proofs.Common.{◌≡◌, ◌+◌, ◌==◌, not, nat_lt, ℕ, suc, ℤ, pos, Bool, true, false, cond, List, [], ◌∷◌, ◌++◌, map, length, Result, Ok, Err}
+use Rattle.std.proofs.Common.{◌+◌, ◌==◌, not, nat_lt, ℕ, suc, ℤ, pos, Bool, true, false, cond, List, [], ◌∷◌, ◌++◌, map, length, Ok, Err}
 use Rattle.std.specs.Prelude.{filter, int_lt, unsigned_abs}
 use Rattle.std.specs.List.{All}
 use Rattle.std.proofs.lemmas.List.Elements.{All-nil, All-cons, All-head, All-tail, All-append, All-filter, All-map, All-weaker, All-push}
-use Rattle.cpc_num.specs.declared.kinds.Fault.{Fault}
 use Rattle.cpc_num.specs.declared.kinds.Fault.TheVariants as F
 use Rattle.cpc_base.specs.declared.poll.Direction.{Direction}
 use Rattle.cpc_tree.specs.Lists.{is_empty, holds_number}
-use Rattle.cpc_store.specs.Store.{Value, Store}
+use Rattle.cpc_store.specs.Store.{Store}
 use Rattle.cpc_meaning.specs.Answer.{of_result}
-use Rattle.cpc_meaning.specs.Agenda.{Due, OnCondition, OnDescriptor, Timer, OnSection, Agenda, no_result, due, ready_all, ready_one, begin_round, first_passing, without_first, without, waits_on, cond_new, where_live, cond_free, wait, waiter, signal, signal_all, put_timer, sleep, io, section}
+use Rattle.cpc_meaning.specs.Agenda.{Due, OnCondition, OnDescriptor, Timer, OnSection, Agenda, no_result, due, ready_all, ready_one, begin_round, first_passing, without_first, without, waits_on, where_live, cond_free, wait, waiter, signal, signal_all, put_timer, sleep, io, section}
 use Rattle.cpc_meaning.specs.Events.{Callback, CallMain, CallWith}
 use Rattle.cpc_pointers.specs.Made.{IsMade, IsMadeCallback, IsMadeAgenda}
 use Rattle.cpc_pointers.proofs.Blocks.{Only}

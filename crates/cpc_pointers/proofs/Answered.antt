@@ -1,19 +1,19 @@
 -- A request is answered alike before and after a block is made to which no pointer leads.
-use Rattle.std.proofs.Common.{◌≡◌, Bool, true, false, List, [], ◌∷◌, Option, Some, None}
+use Rattle.std.proofs.Common.{◌≡◌, true, List, [], ◌∷◌, Option, Some, None}
 use Rattle.std.specs.List.{All}
 use Rattle.std.proofs.lemmas.List.Elements.{All-head}
 use Rattle.cpc_tree.specs.Syntax.{Expr}
 use Rattle.cpc_store.specs.declared.values.Class.{Class}
 use Rattle.cpc_store.specs.declared.values.Class.TheVariants.{Static}
 use Rattle.cpc_store.specs.Store.{Value, Store, alloc}
-use Rattle.cpc_meaning.specs.Answer.{Answer, Gives, Faults, NoAnswer, ◌>>=◌, of_result, needed}
+use Rattle.cpc_meaning.specs.Answer.{Answer, Gives, ◌>>=◌, needed}
 use Rattle.cpc_meaning.specs.Eval.{Slot, Spot, InSlot, InCell, place_type, assigned}
 use Rattle.cpc_meaning.specs.Act.{GoesOn, write, assign, deliver, target_of}
-use Rattle.cpc_meaning.specs.Plain.{Form, Frame as Call, Stack, Done, Went, Returned, Asks, perform, context, asking, frames_answered, answered}
+use Rattle.cpc_meaning.specs.Plain.{Form, Frame as Call, Stack, perform, context, asking, frames_answered, answered}
 use Rattle.cpc_pointers.specs.Made.{IsMadeStore, IsMadeSlot, IsMadeFrame, IsMadeCode}
 use Rattle.cpc_pointers.specs.Laws.{done_with, AnsweredAlike}
 use Rattle.cpc_pointers.proofs.Blocks.{Any, Alike, Given, Broken, Neither, then_alike, then_keeps, same_then, given_alike, saves}
-use Rattle.cpc_pointers.proofs.Values.{IsMadeSpot, here, there, places}
+use Rattle.cpc_pointers.proofs.Values.{IsMadeSpot, places}
 
 module _ {P : Type 0} (p : Form P) (class : Class) (more : List Value) (apart : ¬ (class ≡ Static)) (s : Store) (made : IsMadeStore s) where
   -- the same slots, and a store that has the block too

@@ -9,7 +9,7 @@ use Rattle.cpc_store.specs.declared.values.Class.{Class}
 use Rattle.cpc_store.specs.declared.values.Class.TheVariants.{Static, Auto, Heap, Frame}
 use Rattle.cpc_store.specs.Store.{Value, Store, Blocks, blocks, with_blocks, alloc, live, cells_of, next_block, save}
 use Rattle.cpc_store.proofs.StoreLemmas.{cells_of-alloc_other}
-use Rattle.cpc_meaning.specs.Answer.{Answer, Gives, Faults, NoAnswer, ◌>>=◌, of_result, needed}
+use Rattle.cpc_meaning.specs.Answer.{Answer, Gives, Faults, NoAnswer, ◌>>=◌, of_result}
 use Rattle.cpc_meaning.proofs.Stores.{save_there}
 use Rattle.cpc_pointers.specs.Made.{IsBlock}
 

@@ -1,5 +1,5 @@
 -- The event machine keeps the pointers of a state, where no poll is told.
-use Rattle.std.proofs.Common.{◌≡◌, ℕ, suc, ℤ, pos, Bool, true, false, cond, List, [], ◌∷◌, ◌++◌, map, replicate, Option, Some, None, Result, Ok, Err, refl, sym, ◌∙◌, ap, subst}
+use Rattle.std.proofs.Common.{◌≡◌, suc, pos, List, [], ◌∷◌, ◌++◌, replicate, Option, Some, Result, Ok, refl, sym, subst}
 use Rattle.std.specs.Prelude.{int_lt, unsigned_abs}
 use Rattle.std.specs.Fmt.{signed_decimal}
 use Rattle.std.specs.List.{All}
@@ -8,30 +8,29 @@ use Rattle.cpc_base.specs.Bytes.{Text}
 use Rattle.cpc_num.specs.declared.kinds.Fault.{Fault}
 use Rattle.cpc_num.specs.declared.kinds.Fault.TheVariants as F
 use Rattle.cpc_num.specs.declared.kinds.Kind.TheVariants.{Int, Long}
-use Rattle.cpc_tree.specs.Syntax.{TyInt, Function}
-use Rattle.cpc_tree.specs.Lists.{is_empty, first_or, rest_of}
+use Rattle.cpc_tree.specs.Syntax.{TyInt}
+use Rattle.cpc_tree.specs.Lists.{first_or}
 use Rattle.cpc_tree.specs.Typing.{function_named}
 use Rattle.cpc_tree.specs.Primitives.{Primitive, Print, Putc, Puts, Now, CondNew, CondFree, Signal, SignalAll, Exit, Malloc, Free, RtFrame, RtBox, RtFrameFree, RtUnbox, RtReady, RtWait, RtSleep, RtIo, RtDetach}
-use Rattle.cpc_tree.specs.Trace.{Told, Mark, Output, HostCall, Sleeping, Waiting, Awaiting, Outcome, Exited}
+use Rattle.cpc_tree.specs.Trace.{Mark, Output, Sleeping, Waiting, Awaiting, Outcome, Exited}
 use Rattle.cpc_store.specs.declared.values.Class.{Class}
 use Rattle.cpc_store.specs.declared.values.Class.TheVariants.{Auto, Heap, Frame as FrameClass}
 use Rattle.cpc_store.specs.Store.{Value, Unset, Whole, Null, At, Code, Cond, Store, alloc, next_block, free}
-use Rattle.cpc_meaning.specs.Answer.{Answer, Gives, Faults, NoAnswer, ◌>>=◌, of_result, needed}
+use Rattle.cpc_meaning.specs.Answer.{Answer, Gives, Faults, of_result, needed}
 use Rattle.cpc_meaning.specs.Eval.{assigned}
-use Rattle.cpc_meaning.specs.Requests.{Asked, Builtin, Host, ToSpawn, Section}
-use Rattle.cpc_meaning.specs.Plain.{Form, Stack, Done, Went, Returned, Asks, plain, answered, make_frame}
-use Rattle.cpc_meaning.specs.Agenda.{Agenda, Due, begin_round, cond_new, cond_free, signal, signal_all, section, needs_poll, ready_one, wait, sleep, io}
+use Rattle.cpc_meaning.specs.Plain.{Form, Stack, Done, Went, Returned, Asks, answered, make_frame}
+use Rattle.cpc_meaning.specs.Agenda.{Agenda, cond_new, cond_free, signal, signal_all, section, ready_one, wait, sleep, io}
 use Rattle.cpc_meaning.specs.Section.{allocated, freed}
 use Rattle.cpc_meaning.specs.Copies.{copy_of}
-use Rattle.cpc_meaning.specs.Machine.{State, Machine, ends, marks, with_agenda, with_store, runs, after_done, reply, int_of, cond_of, prints, replies, acts, primitive, ints_of, first_answer, host_call, asked_by, direction_of, submits, next_poll, next_round, turns_where, schedules, runs_on, code_step, step_running}
+use Rattle.cpc_meaning.specs.Machine.{State, ends, marks, with_agenda, with_store, runs, after_done, reply, int_of, cond_of, prints, replies, acts, primitive, direction_of, submits}
 use Rattle.cpc_meaning.specs.Events.{Callback, CallMain, CallWith, starts_callback, event_primitive, callbacks_of}
 use Rattle.cpc_meaning.specs.Start.{main_name}
 use Rattle.cpc_pointers.specs.Made.{IsMade, IsMadeCallback, IsMadeStore, IsMadeCode, IsMadeAgenda, IsMadeState}
-use Rattle.cpc_pointers.proofs.Blocks.{Only, Any, only_any, only_then, any_then, only_if}
+use Rattle.cpc_pointers.proofs.Blocks.{Only, only_then, any_then, only_if}
 use Rattle.cpc_pointers.proofs.Values.{assigned_made}
-use Rattle.cpc_pointers.proofs.Stores.{Later, later_made, Onward, onward_self, cells_unset, next_made, alloc_onward, free_onward}
-use Rattle.cpc_pointers.proofs.Steps.{FrameMade, DoneMade, frame_come, stack_made, code_later, plain_made, answered_made}
-use Rattle.cpc_pointers.proofs.Agendas.{DueMade, later_agenda, ready_one_made, begin_round_made, later_round, other_conditions, cond_free_made, wait_made, signal_made, signal_all_made, sleep_made, io_made, section_made}
+use Rattle.cpc_pointers.proofs.Stores.{Later, Onward, cells_unset, next_made, alloc_onward, free_onward}
+use Rattle.cpc_pointers.proofs.Steps.{FrameMade, DoneMade, frame_come, stack_made, code_later, answered_made}
+use Rattle.cpc_pointers.proofs.Agendas.{later_agenda, ready_one_made, other_conditions, cond_free_made, wait_made, signal_made, signal_all_made, sleep_made, io_made, section_made}
 
 -- ---- acts on the store
 

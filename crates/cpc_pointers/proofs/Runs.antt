@@ -1,30 +1,28 @@
 -- In each state of an event run to which no poll is told each pointer leads into a block that was made.
-use Rattle.std.proofs.Common.{◌≡◌, ℕ, zero, suc, Bool, true, false, List, [], ◌∷◌, map, Option, Some, None, refl, sym, subst}
+use Rattle.std.proofs.Common.{◌≡◌, ℕ, zero, suc, Bool, true, false, List, [], ◌∷◌, map, Option, Some, None, refl}
 use Rattle.std.specs.List.{All}
 use Rattle.std.proofs.lemmas.List.Elements.{All-nil, All-head, All-tail}
 use Rattle.cpc_base.specs.Bytes.{Text}
-use Rattle.cpc_num.specs.declared.kinds.Fault.{Fault}
 use Rattle.cpc_tree.specs.declared.program.UnaryOp.TheVariants.{Minus}
 use Rattle.cpc_tree.specs.Syntax.{Expr, EInteger, ECharacter, EText, EUnary, Item, StructItem, GlobalItem, PrototypeItem, FunctionItem, Program}
 use Rattle.cpc_tree.specs.Lists.{is_empty}
-use Rattle.cpc_tree.specs.Points.{Point}
 use Rattle.cpc_tree.specs.Trace.{Told, Outcome, Going, Ended, Exited, Failed, HistoryEnded, BadHistory}
 use Rattle.cpc_num.specs.declared.kinds.Kind.TheVariants.{Long}
 use Rattle.cpc_store.specs.declared.values.Class.{Class}
 use Rattle.cpc_store.specs.declared.values.Class.TheVariants.{Static, Auto, Heap, Frame}
 use Rattle.cpc_store.specs.declared.values.Scalar.{Scalar}
 use Rattle.cpc_store.specs.declared.values.Scalar.TheVariants as S
-use Rattle.cpc_store.specs.Store.{Value, Unset, Whole, Null, Store, empty_store, alloc, cells_of}
-use Rattle.cpc_matching.specs.Steps.{or_stay, after}
-use Rattle.cpc_meaning.specs.Answer.{Answer, Gives, Faults, NoAnswer, ◌>>=◌, needed}
+use Rattle.cpc_store.specs.Store.{Value, Whole, Store, empty_store, alloc, cells_of}
+use Rattle.cpc_matching.specs.Steps.{or_stay}
+use Rattle.cpc_meaning.specs.Answer.{Answer, Gives, Faults, NoAnswer, needed}
 use Rattle.cpc_meaning.specs.Layout.{layout}
 use Rattle.cpc_meaning.specs.Requests.{Asked, Builtin, Host, ToSpawn, Section}
 use Rattle.cpc_meaning.specs.Plain.{Form, Stack, Done, Went, Returned, Asks, plain}
 use Rattle.cpc_meaning.specs.Trees.{trees}
-use Rattle.cpc_meaning.specs.Agenda.{Agenda, Due, new_agenda, ready_one, begin_round, needs_poll}
+use Rattle.cpc_meaning.specs.Agenda.{Due, new_agenda, begin_round, needs_poll}
 use Rattle.cpc_meaning.specs.History.{History}
-use Rattle.cpc_meaning.specs.Machine.{State, ends, marks, with_agenda, ints_of, first_answer, host_call, asked_by, next_poll, next_round, turns_where, schedules, runs_on, code_step, step_running, settled, try_step, unless_over, next, step}
-use Rattle.cpc_meaning.specs.Events.{Callback, CallMain, callbacks_of, callbacks, event}
+use Rattle.cpc_meaning.specs.Machine.{State, with_agenda, ints_of, first_answer, host_call, asked_by, next_poll, next_round, turns_where, schedules, runs_on, code_step, step_running, settled, try_step, unless_over, next, step}
+use Rattle.cpc_meaning.specs.Events.{Callback, CallMain, callbacks_of, event}
 use Rattle.cpc_meaning.specs.Start.{zero_of, text_over, start_cells, make_globals, globals, opening}
 use Rattle.cpc_pointers.specs.Made.{IsMade, IsMadeStore, IsMadeCode, IsMadeAgenda, IsMadeState}
 use Rattle.cpc_pointers.specs.Laws.{RunsAreMade}

@@ -1,19 +1,18 @@
 -- A step of code, and the answer to a request, leave pointers to blocks that were made.
-use Rattle.std.proofs.Common.{◌≡◌, Bool, true, false, List, [], ◌∷◌, Option, Some, None}
+use Rattle.std.proofs.Common.{List, [], ◌∷◌, Option, Some}
 use Rattle.std.specs.List.{All}
 use Rattle.std.proofs.lemmas.List.Elements.{All-nil, All-cons, All-head, All-tail}
 use Rattle.cpc_tree.specs.Syntax.{Function}
 use Rattle.cpc_tree.specs.Typing.{function_named}
 use Rattle.cpc_tree.specs.Registers.{variables}
 use Rattle.cpc_store.specs.Store.{Value, Store}
-use Rattle.cpc_meaning.specs.Answer.{Answer, Gives, ◌>>=◌, needed}
-use Rattle.cpc_meaning.specs.Eval.{Slot}
+use Rattle.cpc_meaning.specs.Answer.{needed}
 use Rattle.cpc_meaning.specs.Slots.{call_slots}
 use Rattle.cpc_meaning.specs.Act.{Act, GoesOn, Enters, Leaves, AsksFor, act, arrives}
 use Rattle.cpc_meaning.specs.Plain.{Form, Frame, Stack, stack_of, Done, Went, Returned, Asks, make_frame, moved_to, returned_to, perform, context, frames_step, plain, asking, frames_answered, answered}
 use Rattle.cpc_pointers.specs.Made.{IsMade, IsMadeIf, IsMadeSlot, IsMadeStore, IsMadeFrame, IsMadeCode}
 use Rattle.cpc_pointers.proofs.Blocks.{Only, only_then, any_then}
-use Rattle.cpc_pointers.proofs.Stores.{Later, later_if, later_frames, Onward, onward_self}
+use Rattle.cpc_pointers.proofs.Stores.{Later, later_if, later_frames, Onward}
 use Rattle.cpc_pointers.proofs.Acts.{SlotsMade, slots_come, ActMade, arrives_made, act_made}
 
 -- a frame in a store that came of s

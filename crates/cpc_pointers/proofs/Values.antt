@@ -1,29 +1,28 @@
 -- What expressions give leads into blocks that were made, and is the same with one more block in the store.
-use Rattle.std.proofs.Common.{◌≡◌, ℕ, ℤ, ◌+ℤ◌, pos, Bool, true, false, ◌&&◌, ◌==◌, not, List, Option, Some, None, Result, Ok, Err, slice_get, length, cond, refl, sym, ap, subst}
+use Rattle.std.proofs.Common.{◌≡◌, ℕ, ℤ, ◌+ℤ◌, pos, Bool, true, false, ◌&&◌, ◌==◌, not, List, Option, Some, None, Result, Ok, Err, slice_get, length, cond, refl, sym, subst}
 use Rattle.std.specs.Prelude.{int_lt, int_le, unsigned_abs}
 use Rattle.std.specs.List.{All}
 use Rattle.cpc_base.specs.Bytes.{Text}
-use Rattle.cpc_num.specs.Number.{truth, is_zero}
 use Rattle.cpc_num.specs.declared.kinds.Kind.{Kind}
 use Rattle.cpc_num.specs.declared.kinds.Fault.{Fault}
 use Rattle.cpc_num.specs.declared.kinds.Fault.TheVariants as F
 use Rattle.cpc_num.specs.declared.kinds.Op.{Op}
 use Rattle.cpc_num.specs.declared.kinds.Op.TheVariants.{Add, Sub, Lt, Le, Gt, Ge}
-use Rattle.cpc_tree.specs.Syntax.{Ty, TyInt, TyCondvar, TyPointer, TyCode, TyArray, Expr, ENamed, EInteger, ECharacter, EText, EUnary, EBinary, EAnd, EOr, EChoose, ECast, ESizeOf, EIndex, EMember, EArrow, ECall, Exprs, NoExpr, AndExpr, Program}
+use Rattle.cpc_tree.specs.Syntax.{Ty, TyInt, TyCondvar, TyPointer, TyCode, TyArray, Expr, ENamed, EInteger, ECharacter, EText, EUnary, EBinary, EAnd, EOr, EChoose, ECast, ESizeOf, EIndex, EMember, EArrow, ECall, Program}
 use Rattle.cpc_tree.specs.declared.program.Mode.TheVariants.{Native, Detached}
 use Rattle.cpc_tree.specs.declared.program.UnaryOp.{UnaryOp}
 use Rattle.cpc_tree.specs.declared.program.UnaryOp.TheVariants.{Minus, Plus, Not, Complement, Dereference, AddressOf}
 use Rattle.cpc_tree.specs.Typing.{Scope, Meant, ALocal, AGlobal, AFunction, named, field, struct_tag, size}
 use Rattle.cpc_store.specs.declared.values.Class.{Class}
-use Rattle.cpc_store.specs.declared.values.Class.TheVariants.{Static, Auto}
+use Rattle.cpc_store.specs.declared.values.Class.TheVariants.{Static}
 use Rattle.cpc_store.specs.declared.values.Scalar.{Scalar}
 use Rattle.cpc_store.specs.Store.{Value, Unset, Whole, Null, At, Code, Cond, Store, alloc, cells_of, load, load_cell, load_block, suits, same_class}
-use Rattle.cpc_meaning.specs.Answer.{Answer, Gives, Faults, NoAnswer, ◌>>=◌, of_result, needed}
-use Rattle.cpc_meaning.specs.Eval.{Slot, Register, Boxed, Context, Spot, InSlot, InCell, number, place, value, place_type, used_type, read, field_spot, value_named, address_named, slot_spot, slot_value, moved, moved_within, moved_by, offsets, offsets_in, distance, ordered, on_pointers, on_mixed, on_number, negated, apply, operate, and_also, or_else, chosen, tested, truth_value, spot_named, element_size, pointer_to, address, pointed_type, pointed, holds, assigned, at_type}
+use Rattle.cpc_meaning.specs.Answer.{Answer, Gives, Faults, ◌>>=◌, of_result, needed}
+use Rattle.cpc_meaning.specs.Eval.{Slot, Register, Boxed, Context, Spot, InSlot, InCell, number, place, value, place_type, used_type, read, field_spot, value_named, address_named, slot_spot, slot_value, moved, moved_within, moved_by, offsets, offsets_in, distance, ordered, on_pointers, on_mixed, apply, operate, and_also, or_else, chosen, tested, truth_value, spot_named, element_size, pointer_to, address, pointed_type, pointed, holds, assigned, at_type}
 use Rattle.cpc_meaning.specs.Layout.{scalar_of}
 use Rattle.cpc_meaning.proofs.SameValues.{at}
 use Rattle.cpc_pointers.specs.Made.{IsBlock, IsMade, IsMadeSlot, IsMadeStore}
-use Rattle.cpc_pointers.proofs.Blocks.{Only, Any, only_any, only_then, any_then, only_if, Alike, Given, Broken, Neither, Keeps, itself, as_is, then_keeps, same_then, element, kept}
+use Rattle.cpc_pointers.proofs.Blocks.{Only, Any, only_any, only_then, any_then, only_if, Given, Broken, Neither, Keeps, itself, as_is, then_keeps, same_then, element, kept}
 
 -- a place in memory is in a block that was made
 abbrev pub IsMadeSpot : Store → Spot → Type 0

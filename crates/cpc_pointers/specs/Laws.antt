@@ -5,7 +5,7 @@ use Rattle.cpc_tree.specs.Points.{Point}
 use Rattle.cpc_store.specs.declared.values.Class.{Class}
 use Rattle.cpc_store.specs.declared.values.Class.TheVariants.{Static}
 use Rattle.cpc_store.specs.Store.{Value, Store, alloc}
-use Rattle.cpc_meaning.specs.Answer.{Answer, Gives, ◌>>=◌}
+use Rattle.cpc_meaning.specs.Answer.{Gives, ◌>>=◌}
 use Rattle.cpc_meaning.specs.Events.{event}
 use Rattle.cpc_meaning.specs.History.{History}
 use Rattle.cpc_meaning.specs.Plain.{Form, Stack, Done, Went, Returned, Asks, answered}
