@@ -1,5 +1,5 @@
 -- Calls, in the parts in which the code has them.
-use Rattle.std.specs.Prelude.{Bool, false, List, Option, Some, None, if◌then◌else◌, Result}
+use Rattle.std.specs.Prelude.{◌≡◌, Bool, false, List, Option, Some, None, if◌then◌else◌, Result}
 use Rattle.cpc_base.specs.Bytes.{Text}
 use Rattle.cpc_base.specs.declared.names.Name.{Name}
 use Rattle.cpc_base.specs.declared.stop.Stop.{Stop}
@@ -60,3 +60,9 @@ calls_known c x es = calls_if c x es (function_named c.program x)
 -- a call of a name that stands for no variable and no function
 abbrev pub calls_unmeant : E.Context → Text → Exprs → Answer M.Act
 calls_unmeant c x es = M.calls_named c x es NotMeant (primitive_named x) (function_named c.program x)
+
+-- the name of the function that is called, if the call comes to it
+abbrev pub IsNamed : Option Text → Answer (Text × List Value) → Type 0
+IsNamed o (Gives q) = o ≡ Some q.0
+IsNamed o (Faults fault) = o ≡ None
+IsNamed o NoAnswer = Unit {0}

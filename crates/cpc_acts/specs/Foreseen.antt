@@ -1,15 +1,19 @@
 -- What a step does to the live cells, as it is told before the step is made.
-use Rattle.std.specs.Prelude.{◌≡◌, ℕ, ◌+◌, ◌-◌, ◌^◌, min, List, [], ◌∷◌, Some}
+use Rattle.std.specs.Prelude.{◌≡◌, ℕ, ◌+◌, ◌-◌, ◌^◌, min, List, [], ◌∷◌, Option, Some, None}
 use Rattle.cpc_tree.specs.Erase.{Names, function_of}
-use Rattle.cpc_tree.specs.Syntax.{Function}
+use Rattle.cpc_tree.specs.Points.{Simple}
+use Rattle.cpc_tree.specs.Syntax.{Function, Expr, Exprs, Call}
+use Rattle.cpc_store.specs.declared.values.Class.{Class}
 use Rattle.cpc_store.specs.declared.values.Class.TheVariants.{Auto, Heap, Frame as FrameClass}
 use Rattle.cpc_store.specs.Store.{Value, Store, store_cells}
 use Rattle.cpc_meaning.specs.Answer.{Answer, Gives, Faults, NoAnswer, ◌>>=◌, needed}
 use Rattle.cpc_meaning.specs.Eval as E
 use Rattle.cpc_meaning.specs.Act as M
 use Rattle.cpc_meaning.specs.Plain.{asking}
-use Rattle.cpc_meaning.specs.Requests.{Asked, Builtin, Malloc, Free, RtFrame, RtBox, RtFrameFree, RtUnbox}
+use Rattle.cpc_meaning.specs.Requests.{Primitive, Asked, Builtin, Malloc, Free, RtFrame, RtBox, RtFrameFree, RtUnbox}
 use Rattle.cpc_meaning.specs.Section.{allocated, freed}
+use Rattle.cpc_index.specs.declared.index.Index.{Index}
+use Rattle.cpc_frames.specs.Frames.{IsOwn}
 use Rattle.cpc_acts.specs.declared.foreseen.Change.{Change}
 use Rattle.cpc_acts.specs.declared.foreseen.Change.TheVariants as C
 
@@ -71,3 +75,35 @@ Foresees names c stood change (Gives (M.Leaves v t)) = change ≡ C.Leaves
 Foresees names c stood change (Gives (M.AsksFor r)) = AsksSo c stood change r.asked r.arguments
 Foresees names c stood change (Faults fault) = change ≡ C.Stays
 Foresees names c stood change NoAnswer = Unit {0}
+
+-- ---- the parts of the code
+
+-- the function that is entered is one of the program
+abbrev pub EntersOwnly : Index → Change → Type 0
+EntersOwnly index (C.Enters g) = IsOwn index g.now
+EntersOwnly index change = Unit {0}
+
+-- a call stands there
+abbrev pub calling : Option Expr → Expr → Exprs → M.Stood
+calling x f es = M.AtStatement (Simple (Call x f es))
+
+-- the primitives that make a block of a class
+abbrev pub IsMaker : Primitive → Class → Type 0
+IsMaker Malloc class = class ≡ Heap
+IsMaker RtFrame class = class ≡ FrameClass
+IsMaker RtBox class = class ≡ Auto
+IsMaker prim class = ⊥
+
+-- the primitives that free a block of a class
+abbrev pub IsFreer : Primitive → Class → Type 0
+IsFreer Free class = class ≡ Heap
+IsFreer RtFrameFree class = class ≡ FrameClass
+IsFreer RtUnbox class = class ≡ Auto
+IsFreer prim class = ⊥
+
+-- the one argument, as it is taken, if there is one and no fault comes
+abbrev pub IsAlone : Option Value → Answer (List Value) → Type 0
+IsAlone (Some v) (Gives vs) = vs ≡ v ∷ []
+IsAlone None (Gives vs) = ⊥
+IsAlone o (Faults fault) = o ≡ None
+IsAlone o NoAnswer = Unit {0}

@@ -3,3 +3,4 @@ pub mod Rows
 pub mod Calls
 pub mod Deeds
 pub mod Acts
+pub mod Foreseen

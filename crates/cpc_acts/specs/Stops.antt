@@ -1,5 +1,5 @@
 -- What code that may want memory gives, against the answer of a definition.
-use Rattle.std.specs.Prelude.{List, Result, Ok, Err}
+use Rattle.std.specs.Prelude.{◌≡◌, Bool, true, false, List, Result, Ok, Err}
 use Rattle.std.specs.Result.{result_map_both}
 use Rattle.std.specs.Global.{Vec}
 use Rattle.cpc_base.specs.declared.stop.Stop.{Stop}
@@ -8,7 +8,7 @@ use Rattle.cpc_num.specs.declared.kinds.Fault.{Fault}
 use Rattle.cpc_tree.specs.Erase.{Names}
 use Rattle.cpc_store.specs.Store.{Value}
 use Rattle.cpc_store.specs.declared.values.Value as V
-use Rattle.cpc_meaning.specs.Answer.{Answer}
+use Rattle.cpc_meaning.specs.Answer.{Answer, Gives, Faults, NoAnswer}
 use Rattle.cpc_meaning.specs.Eval as E
 use Rattle.cpc_values.specs.Meets.{Meets}
 use Rattle.cpc_values.specs.Shown.{value_of, values_of}
@@ -20,6 +20,12 @@ abbrev pub MeetsOr : {A : Type 0} → Result A (Stop Fault) → Answer A → Typ
 MeetsOr (Ok x) a = Meets (Ok x) a
 MeetsOr (Err Memory) a = Unit {0}
 MeetsOr (Err (Faulted fault)) a = Meets (Err fault) a
+
+-- a value is given, or a fault comes; where no rule fits, nothing is said
+abbrev pub IsGiven : {A : Type 0} → Bool → Answer A → Type 0
+IsGiven b (Gives x) = b ≡ true
+IsGiven b (Faults fault) = b ≡ false
+IsGiven b NoAnswer = Unit {0}
 
 -- what is there in the words of the definitions, or why there is nothing
 abbrev pub seen_as : {X Y : Type 0} → (X → Y) → Result X (Stop Fault) → Result Y (Stop Fault)

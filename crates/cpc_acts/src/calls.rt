@@ -61,8 +61,8 @@ fn signature_of(shape: Shape) -> Option<(&CType, Row)>
     }
 }
 
-// The parameters of the type of a code; another type has none.
-fn parameters_of(shape: Shape) -> Row
+/// The parameters of the type of a code; another type has none.
+pub(crate) fn parameters_of(shape: Shape) -> Row
     ensures { (names : Texts) → row_types names result ≡ T.code_parameters (shape_of names shape.entry) }
 {
     match signature_of(shape) {
@@ -134,8 +134,8 @@ fn code_named(name: Name, shape: Shape, index: &Index) -> Result<Name, Fault>
     }
 }
 
-// The name of the function that a value of a type calls.
-fn callee(value: Value, shape: Shape, index: &Index) -> Result<Name, Fault>
+/// The name of the function that a value of a type calls.
+pub(crate) fn callee(value: Value, shape: Shape, index: &Index) -> Result<Name, Fault>
     ensures { (names : Texts) → AreApart names → Meets (result_map_both names (λ fault. fault) result) (code_called (items_of names index.now) (shape_of names shape.entry) (value_of names value)) }
 {
     match value {

@@ -5,7 +5,11 @@ mod act;
 mod below;
 mod calls;
 mod deeds;
+mod foreseen;
+mod looked;
 mod places;
+mod requested;
 mod rows;
 
 pub use act::{Act, step};
+pub use foreseen::{Change, foreseen};

@@ -83,8 +83,8 @@ fn values<'a>(
     Ok(row)
 }
 
-// A value as the argument for the parameter of a number.
-fn argument_at(row: Row, i: usize, value: Value) -> Result<Value, Fault>
+/// A value as the argument for the parameter of a number.
+pub(crate) fn argument_at(row: Row, i: usize, value: Value) -> Result<Value, Fault>
     requires { IsLawful (seen value) }
     ensures value { (names : Names) → Meets (shown names result) (by_nth E.assigned (row_types names row.entry) i (value_of names value)) }
     ensures lawful { IfOk result (λ v. IsLawful (seen v)) }
