@@ -1,19 +1,18 @@
 -- The cells of slots, one after the other, and whether their call can be left.
-use Rattle.std.proofs.Common.{◌≡◌, ℕ, ◌+◌, ◌-◌, ◌^◌, ◌<◌, ◌≤◌, min, Bool, true, false, List, [], ◌∷◌, length, get_or, drop, Option, Some, None, option_map, refl, sym, ap, subst, ◌∙◌, arith}
+use Rattle.std.proofs.Common.{◌≡◌, ℕ, ◌+◌, ◌-◌, ◌^◌, ◌<◌, ◌≤◌, min, List, [], ◌∷◌, length, get_or, drop, Option, Some, None, option_map, refl, sym, ap, subst, ◌∙◌, arith}
 use Rattle.std.specs.Prelude.{◌&&◌, is_some}
-use Rattle.std.specs.Option.{IfSome}
 use Rattle.std.proofs.lemmas.List.{drop_more, drop_all}
 use Rattle.cpc_base.specs.declared.names.Name.{Name}
-use Rattle.cpc_num.specs.declared.kinds.Fault.TheVariants as F
 use Rattle.cpc_store.specs.declared.values.Class.TheVariants.{Auto}
-use Rattle.cpc_store.specs.Store.{StoreOf, Store, size}
+use Rattle.cpc_store.specs.Store.{StoreOf, Store}
 use Rattle.cpc_store.proofs.CodeLemmas.{size-map}
 use Rattle.cpc_tree.specs.Erase.{Names}
-use Rattle.cpc_cells.specs.Cells.{or_zero, slots_cells}
-use Rattle.cpc_meaning.specs.Answer.{Answer, Gives, Faults}
+use Rattle.cpc_cells.specs.Cells.{or_zero, slot_cells, slots_cells}
+use Rattle.cpc_meaning.specs.Answer.{Answer}
 use Rattle.cpc_meaning.specs.Slots as M
 use Rattle.cpc_values.specs.Shown.{store_of}
 use Rattle.cpc_index.specs.Sized.{capped}
+use Rattle.cpc_eval.specs.Around.{slot_of}
 use Rattle.cpc_eval.specs.declared.around.Slot.{Slot}
 use Rattle.cpc_eval.specs.declared.around.Slot.TheVariants as S
 use Rattle.cpc_frames.specs.Frames.{RiseFrom}
@@ -67,19 +66,19 @@ live_sizes : (s : StoreOf Name) (slots : List Slot) → is_some (slots_size s sl
 live_sizes s [] = refl
 live_sizes s (x ∷ xs) = live_both (slot_size s x) (slots_size s xs) ∙ (ap (λ b. b && is_some (slots_size s xs)) (live_size s x) ∙ ap (λ b. is_live s x && b) (live_sizes s xs))
 
+-- the cells of one slot, and of those after it
+both_sized : (o q : Option ℕ) (n m k : ℕ) → plus o q ≡ Some n → ((c : ℕ) → o ≡ Some c → c ≡ m) → ((c : ℕ) → q ≡ Some c → c ≡ k) → n ≡ m + k
+both_sized None q n m k e f g = absurd cc
+both_sized (Some c) None n m k e f g = absurd cc
+both_sized (Some c) (Some d) n m k e f g = let a = f c refl in let b = g d refl in let i : c + d ≡ n = cc in omega arith
+
+one_sized : (names : Names) (s : StoreOf Name) (x : Slot) (c : ℕ) → slot_size s x ≡ Some c → c ≡ slot_cells (store_of names s) (slot_of names x)
+one_sized names s (S.Register v) c e = cc
+one_sized names s (S.Boxed n) c e = sym (ap or_zero (size-map names Auto n s ∙ e))
+
 sized : (names : Names) (s : StoreOf Name) (slots : List Slot) (n : ℕ) → slots_size s slots ≡ Some n → n ≡ slots_cells (store_of names s) (slots_of names slots)
 sized names s [] n e = cc
-sized names s (S.Register v ∷ xs) n e = go (slots_size s xs) refl e
-  where
-    go : (o : Option ℕ) → slots_size s xs ≡ o → plus (Some 1) o ≡ Some n → n ≡ 1 + slots_cells (store_of names s) (slots_of names xs)
-    go None i e = absurd cc
-    go (Some k) i e = let h = sized names s xs k i in let m : 1 + k ≡ n = cc in omega arith
-sized names s (S.Boxed b ∷ xs) n e = go (size Auto b s) (slots_size s xs) (size-map names Auto b s) refl e
-  where
-    go : (q o : Option ℕ) → size Auto b (store_of names s) ≡ q → slots_size s xs ≡ o → plus q o ≡ Some n → n ≡ or_zero (size Auto b (store_of names s)) + slots_cells (store_of names s) (slots_of names xs)
-    go None o j i e = absurd cc
-    go (Some c) None j i e = absurd cc
-    go (Some c) (Some k) j i e = let h = sized names s xs k i in let m : c + k ≡ n = cc in let z : or_zero (size Auto b (store_of names s)) ≡ c = ap or_zero j in omega arith
+sized names s (x ∷ xs) n e = both_sized (slot_size s x) (slots_size s xs) n _ _ e (one_sized names s x) (sized names s xs)
 
 pub cells_told : (names : Names) (s : StoreOf Name) (slots : List Slot) (r : ℕ) → with_left 0 (slots_size s slots) ≡ Some r → r ≡ min (slots_cells (store_of names s) (slots_of names slots)) (2 ^ 64 - 1)
 cells_told names s slots r e = go (slots_size s slots) refl e

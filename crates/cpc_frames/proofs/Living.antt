@@ -1,5 +1,5 @@
 -- Blocks that are all live and told from each other are freed; where one is not, none is.
-use Rattle.std.proofs.Common.{◌≡◌, ◌≢◌, ℕ, ◌+◌, ◌<◌, ◌≤◌, Bool, true, false, List, [], ◌∷◌, length, get_or, drop, Option, Some, None, refl, sym, ap, subst, ◌∙◌, arith}
+use Rattle.std.proofs.Common.{◌≡◌, ◌≢◌, ℕ, ◌+◌, ◌<◌, Bool, true, false, List, [], ◌∷◌, length, Option, Some, None, refl, sym, ap, subst, ◌∙◌, arith}
 use Rattle.std.specs.Prelude.{◌&&◌, ◌==◌, is_some, slice_set, if◌then◌else◌, Result, Ok, Err}
 use Rattle.std.specs.Option.{option_map}
 use Rattle.std.specs.Result.{result_map_both, OnErr}
@@ -7,7 +7,7 @@ use Rattle.cpc_base.specs.declared.names.Name.{Name}
 use Rattle.cpc_num.specs.declared.kinds.Fault.{Fault}
 use Rattle.cpc_num.specs.declared.kinds.Fault.TheVariants as F
 use Rattle.cpc_store.specs.declared.values.Class.TheVariants.{Auto}
-use Rattle.cpc_store.specs.Store.{StoreOf, Store, Value, At, blocks, with_blocks, cells_of, size, free}
+use Rattle.cpc_store.specs.Store.{StoreOf, Store, Value, At, blocks, with_blocks, cells_of, free}
 use Rattle.cpc_store.proofs.CodeLemmas.{size-map}
 use Rattle.cpc_store.proofs.StoreLemmas.{cells_of-set_other}
 use Rattle.cpc_tree.specs.Erase.{Names}
@@ -18,7 +18,7 @@ use Rattle.cpc_values.specs.Shown.{store_of}
 use Rattle.cpc_eval.specs.declared.around.Slot.{Slot}
 use Rattle.cpc_eval.specs.declared.around.Slot.TheVariants as S
 use Rattle.cpc_frames.specs.Frames.{RiseFrom}
-use Rattle.cpc_frames.specs.Living.{is_live, are_live}
+use Rattle.cpc_frames.specs.Living.{are_live}
 use Rattle.cpc_frames.specs.Made.{slots_of}
 
 -- the blocks of all slots are live in a store that is meant

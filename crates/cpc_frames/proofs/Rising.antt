@@ -1,5 +1,5 @@
 -- Slots that are made one after the other: the numbers of their blocks rise.
-use Rattle.std.proofs.Common.{◌≡◌, ℕ, ◌+◌, ◌≤◌, List, [], ◌∷◌, ◌++◌, length, map, ap, sym, ◌∙◌, arith, add-one, length-append}
+use Rattle.std.proofs.Common.{◌≡◌, ℕ, ◌+◌, ◌≤◌, List, [], ◌∷◌, ◌++◌, ap, sym, ◌∙◌, arith, length-append}
 use Rattle.std.proofs.lemmas.List.{length-map}
 use Rattle.cpc_base.specs.declared.names.Name.{Name}
 use Rattle.cpc_store.specs.declared.values.Class.TheVariants.{Auto}

@@ -1,4 +1,4 @@
-use Rattle.std.proofs.Common.{[], refl, sym, subst, ◌∙◌}
+use Rattle.std.proofs.Common.{[], refl, sym, ◌∙◌}
 use Rattle.cpc_tree.specs.Erase.{Names}
 use Rattle.cpc_values.specs.Shown.{store_of}
 use Rattle.cpc_frames.proofs.Freed.{meets_by}
