@@ -29,7 +29,7 @@ use Rattle.cpc_acts.proofs.Rowing.{after, one_more, none_more}
 use Rattle.cpc_acts.proofs.Stopping.{or_stands}
 
 -- the first argument that is left
-first_left : (names : Names) (args : List Expr) (i : ℕ) (x : Expr) → i < length args → x ≡ get_or args i x → exprs_of names (drop i args) ≡ AndExpr (expr_of names x) (exprs_of names (drop (i + 1) args))
+pub first_left : (names : Names) (args : List Expr) (i : ℕ) (x : Expr) → i < length args → x ≡ get_or args i x → exprs_of names (drop i args) ≡ AndExpr (expr_of names x) (exprs_of names (drop (i + 1) args))
 first_left names args i x h e = ap (exprs_of names) (drop_more args i x h ∙ ap (λ y. y ∷ drop (i + 1) args) (sym e))
 
 module _ (names : Names) (c : E.Context) (args : List Expr) (i : ℕ) (row : List V.Value) where

@@ -9,3 +9,5 @@ pub mod Planning
 pub mod Signing
 pub mod Evaluated
 pub mod Aiming
+pub mod Foreseeing
+pub mod Looking

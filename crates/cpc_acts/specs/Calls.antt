@@ -36,6 +36,13 @@ code_called p t Null = Faults F.Null
 code_called p t (Code x) = if is_of_type t (function_named p x) then Gives x else Faults F.Code
 code_called p t _ = NoAnswer
 
+-- a call of this value of a type: the name of the function, and the arguments
+abbrev pub called_with : E.Context → Ty → Value → Exprs → Answer (Text × List Value)
+called_with c t v es = do
+  ws ← passed c (code_parameters t) es
+  x ← code_called c.program t v
+  Gives (x, ws)
+
 -- a call of a value: the name of the function, and the arguments
 abbrev pub value_called : E.Context → Expr → Exprs → Answer (Text × List Value)
 value_called c f es = do

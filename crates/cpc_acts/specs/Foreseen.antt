@@ -14,8 +14,8 @@ use Rattle.cpc_meaning.specs.Requests.{Primitive, Asked, Builtin, Malloc, Free, 
 use Rattle.cpc_meaning.specs.Section.{allocated, freed}
 use Rattle.cpc_index.specs.declared.index.Index.{Index}
 use Rattle.cpc_frames.specs.Frames.{IsOwn}
-use Rattle.cpc_acts.specs.declared.foreseen.Change.{Change}
-use Rattle.cpc_acts.specs.declared.foreseen.Change.TheVariants as C
+use Rattle.cpc_acts.specs.declared.changes.Change.{Change}
+use Rattle.cpc_acts.specs.declared.changes.Change.TheVariants as C
 
 -- a value arrives where the code asks
 abbrev pub arrival : E.Context → M.Stood → Value → Answer M.Act
@@ -87,19 +87,19 @@ EntersOwnly index change = Unit {0}
 abbrev pub calling : Option Expr → Expr → Exprs → M.Stood
 calling x f es = M.AtStatement (Simple (Call x f es))
 
--- the primitives that make a block of a class
-abbrev pub IsMaker : Primitive → Class → Type 0
-IsMaker Malloc class = class ≡ Heap
-IsMaker RtFrame class = class ≡ FrameClass
-IsMaker RtBox class = class ≡ Auto
-IsMaker prim class = ⊥
+-- the class of the blocks that a primitive makes, if it makes any
+abbrev pub maker : Primitive → Option Class
+maker Malloc = Some Heap
+maker RtFrame = Some FrameClass
+maker RtBox = Some Auto
+maker _ = None
 
--- the primitives that free a block of a class
-abbrev pub IsFreer : Primitive → Class → Type 0
-IsFreer Free class = class ≡ Heap
-IsFreer RtFrameFree class = class ≡ FrameClass
-IsFreer RtUnbox class = class ≡ Auto
-IsFreer prim class = ⊥
+-- the class of the blocks that a primitive frees, if it frees any
+abbrev pub freer : Primitive → Option Class
+freer Free = Some Heap
+freer RtFrameFree = Some FrameClass
+freer RtUnbox = Some Auto
+freer _ = None
 
 -- the one argument, as it is taken, if there is one and no fault comes
 abbrev pub IsAlone : Option Value → Answer (List Value) → Type 0

@@ -28,6 +28,12 @@ by_nth f ts n v = do
   t ← needed (slice_get ts n)
   f t v
 
+-- the value of an argument, converted to the n-th of these types
+abbrev pub passed_nth : E.Context → List Ty → ℕ → Expr → Answer Value
+passed_nth c ts n e = do
+  v ← E.value c e
+  by_nth E.assigned ts n v
+
 -- the values of arguments, converted to these types
 abbrev pub passed : E.Context → List Ty → Exprs → Answer (List Value)
 passed c ts es = do

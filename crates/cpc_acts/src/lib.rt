@@ -4,12 +4,12 @@
 mod act;
 mod below;
 mod calls;
+mod changes;
 mod deeds;
-mod foreseen;
 mod looked;
 mod places;
 mod requested;
 mod rows;
 
 pub use act::{Act, step};
-pub use foreseen::{Change, foreseen};
+pub use changes::{Change, foreseen};

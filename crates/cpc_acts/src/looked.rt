@@ -4,8 +4,6 @@ ghost use Rattle.std.specs.Prelude.{◌≡◌, option_map};
 ghost use Rattle.cpc_tree.specs.Erase.{Names as Texts, type_of, expr_of, exprs_of};
 ghost use Rattle.cpc_store.specs.Store as S;
 ghost use Rattle.cpc_store.specs.Seen.{seen, IsLawful};
-ghost use Rattle.cpc_meaning.specs.Answer as A;
-ghost use Rattle.cpc_meaning.specs.Answer.{◌>>=◌};
 ghost use Rattle.cpc_meaning.specs.Act as M;
 ghost use Rattle.cpc_meaning.specs.Eval as E;
 ghost use Rattle.cpc_values.specs.Shown.{value_of, store_of};
@@ -14,10 +12,9 @@ ghost use Rattle.cpc_eval.specs.Around.{context_of, IsToldIn};
 ghost use Rattle.cpc_eval.specs.Numbers.{HasNumbers, MaybeNumbers, AllNumbers};
 ghost use Rattle.cpc_eval.specs.Shapes.{shape_of};
 ghost use Rattle.cpc_eval.specs.Spots.{spot_of, AreLawful};
-ghost use Rattle.cpc_tree.specs.Typing as T;
 ghost use Rattle.cpc_acts.specs.Stops.{IsGiven};
-ghost use Rattle.cpc_acts.specs.Rows.{row_types, by_nth, passed};
-ghost use Rattle.cpc_acts.specs.Calls.{code_called, value_called, IsNamed};
+ghost use Rattle.cpc_acts.specs.Rows.{row_types, passed_nth, passed};
+ghost use Rattle.cpc_acts.specs.Calls.{value_called, called_with, IsNamed};
 ghost use Rattle.cpc_acts.specs.Deeds.{returned};
 
 use crate::calls::{callee, parameters_of};
@@ -32,7 +29,7 @@ use cpc_values::assigned;
 fn is_passed_at<'a>(types: Row, i: usize, argument: &'a Expr, around: &Around<'a>) -> bool
     requires { AreLawful around.now.slots.now }
     ensures { (names : Texts) → IsToldIn names around.now → HasNumbers (items_of names around.now.index.now) (expr_of names argument.now)
-        → IsGiven result (E.value (context_of names around.now) (expr_of names argument.now) >>= by_nth E.assigned (row_types names types.entry) i) }
+        → IsGiven result (passed_nth (context_of names around.now) (row_types names types.entry) i (expr_of names argument.now)) }
 {
     match value(argument, around) {
         Ok(value) => argument_at(types, i, value).is_ok(),
@@ -63,8 +60,7 @@ fn code_entered<'a>(
 ) -> Option<Name>
     requires { AreLawful around.now.slots.now }
     ensures { (names : Texts) → IsToldIn names around.now → AllNumbers (items_of names around.now.index.now) (exprs_of names arguments.now)
-        → IsNamed (option_map names result) (passed (context_of names around.now) (T.code_parameters (shape_of names shape.entry)) (exprs_of names arguments.now)
-        >>= (λ ws. code_called (items_of names around.now.index.now) (shape_of names shape.entry) (value_of names called) >>= (λ x. A.Gives (x, ws)))) }
+        → IsNamed (option_map names result) (called_with (context_of names around.now) (shape_of names shape.entry) (value_of names called) (exprs_of names arguments.now)) }
 {
     if is_passed(parameters_of(shape), arguments, around) {
         callee(called, shape, around.index).ok()

@@ -10,20 +10,19 @@ ghost use Rattle.cpc_meaning.specs.Section.{allocated, freed};
 ghost use Rattle.cpc_values.specs.Shown.{value_of, store_of};
 ghost use Rattle.cpc_values.specs.Takes.{taken_of};
 ghost use Rattle.cpc_index.specs.Indexed.{items_of};
-ghost use Rattle.cpc_index.specs.declared.index.Index.{Index};
 ghost use Rattle.cpc_eval.specs.Around.{context_of, IsToldIn};
 ghost use Rattle.cpc_eval.specs.Numbers.{MaybeNumbers, AllNumbers};
 ghost use Rattle.cpc_eval.specs.Spots.{AreLawful};
 ghost use Rattle.cpc_builtins.specs.Builtins.{primitive_of};
-ghost use Rattle.cpc_acts.specs.Rows.{taken};
-ghost use Rattle.cpc_acts.specs.Foreseen.{Foresees, EntersOwnly, MakesSo, FreesSo, IsMaker, IsFreer, IsAlone, calling};
+ghost use Rattle.cpc_acts.specs.Rows as W;
+ghost use Rattle.cpc_acts.specs.Foreseen.{Foresees, EntersOwnly, MakesSo, FreesSo, maker, freer, IsAlone, calling};
 
-use crate::foreseen::Change;
+use crate::changes::Change;
 use crate::looked::is_delivered;
 use cpc_builtins::Builtin;
 use cpc_eval::{Around, value};
 use cpc_num::Kind;
-use cpc_store::{Block, Class, Scalar, Store, Value};
+use cpc_store::{Block, Class, Scalar, Value};
 use cpc_tree::program::Expr;
 use cpc_values::{Taken, taken_as};
 
@@ -31,7 +30,7 @@ use cpc_values::{Taken, taken_as};
 fn alone<'a>(taken: Taken, arguments: &'a [Expr], around: &Around<'a>) -> Option<Value>
     requires { AreLawful around.now.slots.now }
     ensures value { (names : Texts) (t : P.Taken) → taken_of t ≡ Some taken → IsToldIn names around.now → AllNumbers (items_of names around.now.index.now) (exprs_of names arguments.now)
-        → IsAlone (option_map (value_of names) result) (taken (context_of names around.now) (t ∷ []) (exprs_of names arguments.now)) }
+        → IsAlone (option_map (value_of names) result) (W.taken (context_of names around.now) (t ∷ []) (exprs_of names arguments.now)) }
     ensures lawful { IfSome result (λ v. IsLawful (seen v)) }
 {
     if arguments.len() != 1 {
@@ -57,16 +56,16 @@ fn cells_of(length: i128) -> Option<u64>
 }
 
 // A block of a class of so many cells is made, where the pointer to it arrives.
-fn made<'p, 'a>(
+fn made<'a>(
     class: Class,
     length: Value,
     target: &'a Option<Expr>,
     around: &Around<'a>,
-) -> Change<'p>
+) -> Change<'a>
     requires { AreLawful around.now.slots.now }
     ensures value { (names : Texts) (f : Y.Expr) (es : Y.Exprs) → IsToldIn names around.now → MaybeNumbers (items_of names around.now.index.now) (option_map (expr_of names) target.now)
         → MakesSo (context_of names around.now) (calling (option_map (expr_of names) target.now) f es) result (allocated class (value_of names length) (store_of names around.now.store.now)) }
-    ensures own { (index : Index) → EntersOwnly index result }
+    ensures own { EntersOwnly around.now.index.now result }
 {
     let Value::Int(_, length) = length else {
         return Change::Stays;
@@ -88,12 +87,12 @@ fn made<'p, 'a>(
 }
 
 // A block of a class is freed.
-fn dropped<'p>(class: Class, pointer: Value, store: &Store) -> Change<'p>
-    ensures value { (names : Texts) (c : E.Context) → c.store ≡ store_of names store.now → FreesSo c result (freed class (value_of names pointer) c.store) }
-    ensures own { (index : Index) → EntersOwnly index result }
+fn dropped<'a>(class: Class, pointer: Value, around: &Around<'a>) -> Change<'a>
+    ensures value { (names : Texts) (c : E.Context) → c.store ≡ store_of names around.now.store.now → FreesSo c result (freed class (value_of names pointer) c.store) }
+    ensures own { EntersOwnly around.now.index.now result }
 {
     match pointer {
-        Value::At(block, offset) => match store.size(block) {
+        Value::At(block, offset) => match around.store.size(block) {
             Some(cells) => {
                 if block.class == class && offset == 0 {
                     Change::Frees(cells)
@@ -108,16 +107,16 @@ fn dropped<'p>(class: Class, pointer: Value, store: &Store) -> Change<'p>
 }
 
 // A block of a class is asked for.
-fn makes<'p, 'a>(
+fn makes<'a>(
     class: Class,
     target: &'a Option<Expr>,
     arguments: &'a [Expr],
     around: &Around<'a>,
-) -> Change<'p>
+) -> Change<'a>
     requires { AreLawful around.now.slots.now }
-    ensures value { (names : Texts) (f : Y.Expr) (b : P.Primitive) → IsMaker b class → IsToldIn names around.now → MaybeNumbers (items_of names around.now.index.now) (option_map (expr_of names) target.now) → AllNumbers (items_of names around.now.index.now) (exprs_of names arguments.now)
+    ensures value { (names : Texts) (f : Y.Expr) (b : P.Primitive) → maker b ≡ Some class → IsToldIn names around.now → MaybeNumbers (items_of names around.now.index.now) (option_map (expr_of names) target.now) → AllNumbers (items_of names around.now.index.now) (exprs_of names arguments.now)
         → Foresees names (context_of names around.now) (calling (option_map (expr_of names) target.now) f (exprs_of names arguments.now)) result (M.asks_with (context_of names around.now) b (exprs_of names arguments.now) None) }
-    ensures own { (index : Index) → EntersOwnly index result }
+    ensures own { EntersOwnly around.now.index.now result }
 {
     match alone(Taken::SetOf(Scalar::Int(Kind::Long)), arguments, around) {
         Some(length) => made(class, length, target, around),
@@ -126,38 +125,60 @@ fn makes<'p, 'a>(
 }
 
 // A pointer to a block of a class is handed back.
-fn frees<'p, 'a>(class: Class, arguments: &'a [Expr], around: &Around<'a>) -> Change<'p>
+fn frees<'a>(class: Class, arguments: &'a [Expr], around: &Around<'a>) -> Change<'a>
     requires { AreLawful around.now.slots.now }
-    ensures value { (names : Texts) (stood : M.Stood) (b : P.Primitive) → IsFreer b class → IsToldIn names around.now → AllNumbers (items_of names around.now.index.now) (exprs_of names arguments.now)
+    ensures value { (names : Texts) (stood : M.Stood) (b : P.Primitive) → freer b ≡ Some class → IsToldIn names around.now → AllNumbers (items_of names around.now.index.now) (exprs_of names arguments.now)
         → Foresees names (context_of names around.now) stood result (M.asks_with (context_of names around.now) b (exprs_of names arguments.now) None) }
-    ensures own { (index : Index) → EntersOwnly index result }
+    ensures own { EntersOwnly around.now.index.now result }
 {
     match alone(Taken::SetOf(Scalar::Pointer), arguments, around) {
-        Some(pointer) => dropped(class, pointer, around.store),
+        Some(pointer) => dropped(class, pointer, around),
         None => Change::Stays,
     }
 }
 
+// The class of the blocks that a primitive makes, if it makes any.
+fn class_made(builtin: Builtin) -> Option<Class>
+    ensures { result ≡ maker (primitive_of builtin) }
+{
+    match builtin {
+        Builtin::Malloc => Some(Class::Heap),
+        Builtin::RtFrame => Some(Class::Frame),
+        Builtin::RtBox => Some(Class::Auto),
+        _ => None,
+    }
+}
+
+// The class of the blocks that a primitive frees, if it frees any.
+fn class_freed(builtin: Builtin) -> Option<Class>
+    ensures { result ≡ freer (primitive_of builtin) }
+{
+    match builtin {
+        Builtin::Free => Some(Class::Heap),
+        Builtin::RtFrameFree => Some(Class::Frame),
+        Builtin::RtUnbox => Some(Class::Auto),
+        _ => None,
+    }
+}
+
 /// A primitive is asked for, by a call with this place and these arguments.
-pub(crate) fn requested<'p, 'a>(
+pub(crate) fn requested<'a>(
     builtin: Builtin,
     target: &'a Option<Expr>,
     arguments: &'a [Expr],
     around: &Around<'a>,
-) -> Change<'p>
+) -> Change<'a>
     requires { AreLawful around.now.slots.now }
     ensures value { (names : Texts) (f : Y.Expr) → IsToldIn names around.now → MaybeNumbers (items_of names around.now.index.now) (option_map (expr_of names) target.now) → AllNumbers (items_of names around.now.index.now) (exprs_of names arguments.now)
         → Foresees names (context_of names around.now) (calling (option_map (expr_of names) target.now) f (exprs_of names arguments.now)) result
         (M.asks_with (context_of names around.now) (primitive_of builtin) (exprs_of names arguments.now) (M.puts_text (primitive_of builtin) (exprs_of names arguments.now))) }
-    ensures own { (index : Index) → EntersOwnly index result }
+    ensures own { EntersOwnly around.now.index.now result }
 {
-    match builtin {
-        Builtin::Malloc => makes(Class::Heap, target, arguments, around),
-        Builtin::RtFrame => makes(Class::Frame, target, arguments, around),
-        Builtin::RtBox => makes(Class::Auto, target, arguments, around),
-        Builtin::Free => frees(Class::Heap, arguments, around),
-        Builtin::RtFrameFree => frees(Class::Frame, arguments, around),
-        Builtin::RtUnbox => frees(Class::Auto, arguments, around),
-        _ => Change::Stays,
+    match class_made(builtin) {
+        Some(class) => makes(class, target, arguments, around),
+        None => match class_freed(builtin) {
+            Some(class) => frees(class, arguments, around),
+            None => Change::Stays,
+        },
     }
 }

@@ -1,5 +1,5 @@
 //! What a step of a frame does to the live cells, told before it is made. Nothing is changed and no memory is taken.
-ghost use Rattle.std.specs.Prelude.{◌≡◌, true, IfSome, option_map};
+ghost use Rattle.std.specs.Prelude.{◌≡◌, true, Option, IfSome, option_map};
 ghost use Rattle.cpc_tree.specs.Erase.{Names as Texts, type_of, stmt_of, expr_of, exprs_of, function_of};
 ghost use Rattle.cpc_tree.specs.Points as P;
 ghost use Rattle.cpc_tree.specs.Syntax as Y;
@@ -19,7 +19,6 @@ ghost use Rattle.cpc_frames.specs.Frames.{IsOwn, IsWellFrame, RiseFrom};
 ghost use Rattle.cpc_acts.specs.Acts.{stood_of, context_in, IsTexts, IsServing, IsLawfulIf};
 ghost use Rattle.cpc_acts.specs.Calls.{calls_known, calls_unmeant};
 ghost use Rattle.cpc_frames.specs.Made.{slots_of};
-ghost use Rattle.cpc_index.specs.declared.index.Index.{Index};
 ghost use Rattle.cpc_acts.specs.Foreseen.{Foresees, EntersOwnly, calling};
 
 use crate::calls::builtin_at;
@@ -27,7 +26,7 @@ use crate::looked::{is_passed, is_returned, value_entered};
 use crate::requested::requested;
 use crate::rows::Row;
 use cpc_base::{Name, Names};
-use cpc_eval::{Around, Slot};
+use cpc_eval::Around;
 use cpc_frames::{Frame, slots_cells};
 use cpc_index::{Index, Meant};
 use cpc_points::{Found, Phase, standing};
@@ -58,20 +57,18 @@ fn function_at<'p>(index: &Index<'p>, name: Name) -> Option<&'p Function>
 }
 
 // A call of a value.
-fn value_called<'p, 'a>(
-    index: &Index<'p>,
+fn value_called<'a>(
     function: &'a Expr,
     arguments: &'a [Expr],
     around: &Around<'a>,
-) -> Change<'p>
+) -> Change<'a>
     requires slots { AreLawful around.now.slots.now }
-    requires same { around.now.index.now ≡ index.now }
     ensures value { (names : Texts) (stood : M.Stood) → IsToldIn names around.now → HasNumbers (items_of names around.now.index.now) (expr_of names function.now) → AllNumbers (items_of names around.now.index.now) (exprs_of names arguments.now)
         → Foresees names (context_of names around.now) stood result (M.calls_value (context_of names around.now) (expr_of names function.now) (exprs_of names arguments.now)) }
-    ensures own { EntersOwnly index.now result }
+    ensures own { EntersOwnly around.now.index.now result }
 {
     match value_entered(function, arguments, around) {
-        Some(name) => match function_at(index, name) {
+        Some(name) => match function_at(around.index, name) {
             Some(entered) => Change::Enters(entered),
             None => Change::Stays,
         },
@@ -80,20 +77,18 @@ fn value_called<'p, 'a>(
 }
 
 // A call of a function of the program.
-fn function_called<'p, 'a>(
-    index: &Index<'p>,
+fn function_called<'a>(
     name: Name,
     function: &'a Expr,
     arguments: &'a [Expr],
     around: &Around<'a>,
-) -> Change<'p>
+) -> Change<'a>
     requires slots { AreLawful around.now.slots.now }
-    requires same { around.now.index.now ≡ index.now }
     ensures value { (names : Texts) (stood : M.Stood) → IsToldIn names around.now → expr_of names function.now ≡ Y.ENamed (names name) → AllNumbers (items_of names around.now.index.now) (exprs_of names arguments.now)
         → Foresees names (context_of names around.now) stood result (calls_known (context_of names around.now) (names name) (exprs_of names arguments.now)) }
-    ensures own { EntersOwnly index.now result }
+    ensures own { EntersOwnly around.now.index.now result }
 {
-    match function_at(index, name) {
+    match function_at(around.index, name) {
         Some(known) => {
             if is_passed(Row::Parameters(&known.parameters), arguments, around) {
                 Change::Enters(known)
@@ -101,126 +96,118 @@ fn function_called<'p, 'a>(
                 Change::Stays
             }
         }
-        None => value_called(index, function, arguments, around),
+        None => value_called(function, arguments, around),
     }
 }
 
 // A call of a name that stands for nothing else: of a primitive.
-fn primitive_called<'p, 'a>(
-    index: &Index<'p>,
+fn primitive_called<'a>(
     name: Name,
     target: &'a Option<Expr>,
     function: &'a Expr,
     arguments: &'a [Expr],
     around: &Around<'a>,
     texts: &Names,
-) -> Change<'p>
+) -> Change<'a>
     requires slots { AreLawful around.now.slots.now }
-    requires same { around.now.index.now ≡ index.now }
     ensures value { (names : Texts) → IsToldIn names around.now → Spells texts.now names → expr_of names function.now ≡ Y.ENamed (names name) → calls_served (Y.ENamed (names name)) ≡ true
         → MaybeNumbers (items_of names around.now.index.now) (option_map (expr_of names) target.now) → AllNumbers (items_of names around.now.index.now) (exprs_of names arguments.now)
         → Foresees names (context_of names around.now) (calling (option_map (expr_of names) target.now) (expr_of names function.now) (exprs_of names arguments.now)) result
         (calls_unmeant (context_of names around.now) (names name) (exprs_of names arguments.now)) }
-    ensures own { EntersOwnly index.now result }
+    ensures own { EntersOwnly around.now.index.now result }
 {
     match builtin_at(texts, name) {
         Some(builtin) => requested(builtin, target, arguments, around),
-        None => value_called(index, function, arguments, around),
+        None => value_called(function, arguments, around),
     }
 }
 
 // A call of a name.
-fn name_called<'p, 'a>(
-    index: &Index<'p>,
+fn name_called<'a>(
     name: Name,
     target: &'a Option<Expr>,
     function: &'a Expr,
     arguments: &'a [Expr],
     around: &Around<'a>,
     texts: &Names,
-) -> Change<'p>
+) -> Change<'a>
     requires slots { AreLawful around.now.slots.now }
-    requires same { around.now.index.now ≡ index.now }
     ensures value { (names : Texts) → IsToldIn names around.now → Spells texts.now names → is_served_program (items_of names around.now.index.now) ≡ true → expr_of names function.now ≡ Y.ENamed (names name) → calls_served (Y.ENamed (names name)) ≡ true
         → MaybeNumbers (items_of names around.now.index.now) (option_map (expr_of names) target.now) → AllNumbers (items_of names around.now.index.now) (exprs_of names arguments.now)
         → Foresees names (context_of names around.now) (calling (option_map (expr_of names) target.now) (expr_of names function.now) (exprs_of names arguments.now)) result
         (M.calls_expr (context_of names around.now) (Y.ENamed (names name)) (exprs_of names arguments.now)) }
-    ensures own { EntersOwnly index.now result }
+    ensures own { EntersOwnly around.now.index.now result }
 {
     match around.meant(name) {
-        Some(Meant::Local { .. }) => value_called(index, function, arguments, around),
-        Some(Meant::Global { .. }) => value_called(index, function, arguments, around),
-        Some(Meant::Function { .. }) => { function_called(index, name, function, arguments, around) }
-        None => primitive_called(index, name, target, function, arguments, around, texts),
+        Some(Meant::Local { .. }) => value_called(function, arguments, around),
+        Some(Meant::Global { .. }) => value_called(function, arguments, around),
+        Some(Meant::Function { .. }) => function_called(name, function, arguments, around),
+        None => primitive_called(name, target, function, arguments, around, texts),
     }
 }
 
 // A call.
-fn called<'p, 'a>(
-    index: &Index<'p>,
+fn called<'a>(
     target: &'a Option<Expr>,
     function: &'a Expr,
     arguments: &'a [Expr],
     around: &Around<'a>,
     texts: &Names,
-) -> Change<'p>
+) -> Change<'a>
     requires slots { AreLawful around.now.slots.now }
-    requires same { around.now.index.now ≡ index.now }
     ensures value { (names : Texts) → IsToldIn names around.now → Spells texts.now names → is_served_program (items_of names around.now.index.now) ≡ true → calls_served (expr_of names function.now) ≡ true
         → MaybeNumbers (items_of names around.now.index.now) (option_map (expr_of names) target.now) → HasNumbers (items_of names around.now.index.now) (expr_of names function.now) → AllNumbers (items_of names around.now.index.now) (exprs_of names arguments.now)
         → Foresees names (context_of names around.now) (calling (option_map (expr_of names) target.now) (expr_of names function.now) (exprs_of names arguments.now)) result
         (M.calls_expr (context_of names around.now) (expr_of names function.now) (exprs_of names arguments.now)) }
-    ensures own { EntersOwnly index.now result }
+    ensures own { EntersOwnly around.now.index.now result }
 {
     match function {
         Expr::Name(word) => {
-            name_called(index, word.name, target, function, arguments, around, texts)
+            name_called(word.name, target, function, arguments, around, texts)
         }
-        _ => value_called(index, function, arguments, around),
+        _ => value_called(function, arguments, around),
     }
 }
 
 // A call is left.
-fn left<'p>(slots: &[Slot], store: &Store) -> Change<'p>
-    requires { RiseFrom 0 slots.now }
-    ensures value { (names : Texts) (c : E.Context) (stood : M.Stood) (v : S.Value) → c.slots ≡ slots_of names slots.now → c.store ≡ store_of names store.now → Foresees names c stood result (M.leaves c v) }
-    ensures own { (index : Index) → EntersOwnly index result }
+fn left<'a>(around: &Around<'a>) -> Change<'a>
+    requires { RiseFrom 0 around.now.slots.now }
+    ensures value { (names : Texts) (c : E.Context) (stood : M.Stood) (v : S.Value) → c.slots ≡ slots_of names around.now.slots.now → c.store ≡ store_of names around.now.store.now → Foresees names c stood result (M.leaves c v) }
+    ensures own { EntersOwnly around.now.index.now result }
 {
-    match slots_cells(slots, store) {
+    match slots_cells(around.slots, around.store) {
         Some(_) => Change::Leaves,
         None => Change::Stays,
     }
 }
 
 // A return.
-fn returned<'p, 'a>(of: &CType, given: &'a Option<Expr>, around: &Around<'a>) -> Change<'p>
+fn returned<'a>(of: &CType, given: &'a Option<Expr>, around: &Around<'a>) -> Change<'a>
     requires slots { AreLawful around.now.slots.now }
     requires rise { RiseFrom 0 around.now.slots.now }
     ensures value { (names : Texts) (stood : M.Stood) → IsToldIn names around.now → MaybeNumbers (items_of names around.now.index.now) (option_map (expr_of names) given.now)
         → Foresees names (context_of names around.now) stood result (M.returns (context_of names around.now) (type_of names of.now) (option_map (expr_of names) given.now)) }
-    ensures own { (index : Index) → EntersOwnly index result }
+    ensures own { EntersOwnly around.now.index.now result }
 {
     if is_returned(of, given, around) {
-        left(around.slots, around.store)
+        left(around)
     } else {
         Change::Stays
     }
 }
 
 // A simple statement.
-fn simple<'p, 'a>(
-    index: &Index<'p>,
+fn simple<'a>(
     of: &CType,
     statement: &'a Statement,
     around: &Around<'a>,
     texts: &Names,
-) -> Change<'p>
+) -> Change<'a>
     requires slots { AreLawful around.now.slots.now }
     requires rise { RiseFrom 0 around.now.slots.now }
-    requires same { around.now.index.now ≡ index.now }
     ensures value { (names : Texts) → IsToldIn names around.now → Spells texts.now names → is_served_program (items_of names around.now.index.now) ≡ true → is_served_stmt (stmt_of names statement.now) ≡ true → StmtNumbers (items_of names around.now.index.now) (stmt_of names statement.now)
         → Foresees names (context_of names around.now) (M.AtStatement (P.Simple (stmt_of names statement.now))) result (M.simple_act (context_of names around.now) (type_of names of.now) (stmt_of names statement.now)) }
-    ensures own { EntersOwnly index.now result }
+    ensures own { EntersOwnly around.now.index.now result }
 {
     match statement {
         Statement::Call {
@@ -228,30 +215,59 @@ fn simple<'p, 'a>(
             function,
             arguments,
             ..
-        } => called(index, target, function, arguments, around, texts),
+        } => called(target, function, arguments, around, texts),
         Statement::Return { value, .. } => returned(of, value, around),
         _ => Change::Stays,
     }
 }
 
 // What stands at a point, in a function with this result.
-fn found<'p, 'a>(
-    index: &Index<'p>,
+fn found<'a>(
     of: &CType,
     there: Found<'a>,
     around: &Around<'a>,
     texts: &Names,
-) -> Change<'p>
+) -> Change<'a>
     requires slots { AreLawful around.now.slots.now }
     requires rise { RiseFrom 0 around.now.slots.now }
-    requires same { around.now.index.now ≡ index.now }
     ensures value { (names : Texts) → IsToldIn names around.now → Spells texts.now names → is_served_program (items_of names around.now.index.now) ≡ true → is_served_found (found_of names there.entry) ≡ true → FoundNumbers (items_of names around.now.index.now) (found_of names there.entry)
         → Foresees names (context_of names around.now) (M.AtStatement (found_of names there.entry)) result (M.found_act (context_of names around.now) (type_of names of.now) (found_of names there.entry)) }
-    ensures own { EntersOwnly index.now result }
+    ensures own { EntersOwnly around.now.index.now result }
 {
     match there {
-        Found::Simple(statement) => simple(index, of, statement, around, texts),
+        Found::Simple(statement) => simple(of, statement, around, texts),
         _ => Change::Stays,
+    }
+}
+
+// What a step of a frame does to the live cells.
+fn told<'a>(
+    index: &'a Index<'a>,
+    texts: &Names,
+    frame: &'a Frame<'a>,
+    store: &'a Store,
+) -> Change<'a>
+    requires { IsWellFrame index.now frame.now }
+    ensures value { (names : Texts) (o : Option S.Value) → IsTexts names index.now texts.now frame.now → IsServing names index.now frame.now
+        → Foresees names (context_in names index.now frame.now store.now) (stood_of names frame.now) result
+        (M.act (context_in names index.now frame.now store.now) (type_of names frame.now.function.now.result) o (stood_of names frame.now)) }
+    ensures own { EntersOwnly index.now result }
+{
+    let around = Around {
+        index,
+        function: frame.function,
+        path: &frame.point.path,
+        slots: &frame.slots,
+        store,
+    };
+    match frame.point.phase {
+        Phase::Here => {
+            let there = standing(&frame.function.body, &frame.point.path);
+            found(&frame.function.result, there, &around, texts)
+        }
+        // What arrives is written, or faults.
+        Phase::Arrival => Change::Stays,
+        Phase::End => left(&around),
     }
 }
 
@@ -270,23 +286,16 @@ pub fn foreseen<'p>(
         (M.act (context_in names index.now frame.now store.now) (type_of names frame.now.function.now.result) (option_map (value_of names) arriving) (stood_of names frame.now)) }
     ensures own { EntersOwnly index.now result }
 {
-    match frame.point.phase {
-        Phase::Here => {
-            let around = Around {
-                index,
-                function: frame.function,
-                path: &frame.point.path,
-                slots: &frame.slots,
-                store,
-            };
-            let there = standing(&frame.function.body, &frame.point.path);
-            found(index, &frame.function.result, there, &around, texts)
-        }
-        // What arrives is written, or faults.
-        Phase::Arrival => {
-            let _ = arriving;
-            Change::Stays
-        }
-        Phase::End => left(&frame.slots, store),
+    // What arrives makes and frees no block.
+    let _ = arriving;
+    match told(index, texts, frame, store) {
+        Change::Enters(function) => match function_at(index, function.word.name) {
+            Some(entered) => Change::Enters(entered),
+            None => Change::Stays,
+        },
+        Change::Stays => Change::Stays,
+        Change::Leaves => Change::Leaves,
+        Change::Makes(cells) => Change::Makes(cells),
+        Change::Frees(cells) => Change::Frees(cells),
     }
 }
