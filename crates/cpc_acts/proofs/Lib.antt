@@ -11,3 +11,5 @@ pub mod Evaluated
 pub mod Aiming
 pub mod Foreseeing
 pub mod Looking
+pub mod Requesting
+pub mod Blocks

@@ -3,6 +3,7 @@ ghost use Rattle.std.specs.Prelude.{◌≡◌, ◌-◌, ◌^◌, [], ◌∷◌, 
 ghost use Rattle.cpc_tree.specs.Erase.{Names as Texts, expr_of, exprs_of};
 ghost use Rattle.cpc_tree.specs.Primitives as P;
 ghost use Rattle.cpc_tree.specs.Syntax as Y;
+ghost use Rattle.cpc_store.specs.Store as S;
 ghost use Rattle.cpc_store.specs.Seen.{seen, IsLawful};
 ghost use Rattle.cpc_meaning.specs.Act as M;
 ghost use Rattle.cpc_meaning.specs.Eval as E;
@@ -86,6 +87,13 @@ fn made<'a>(
     }
 }
 
+// Whether two classes are one.
+fn is_same(class: Class, other: Class) -> bool
+    ensures { result ≡ S.same_class class other }
+{
+    class == other
+}
+
 // A block of a class is freed.
 fn dropped<'a>(class: Class, pointer: Value, around: &Around<'a>) -> Change<'a>
     ensures value { (names : Texts) (c : E.Context) → c.store ≡ store_of names around.now.store.now → FreesSo c result (freed class (value_of names pointer) c.store) }
@@ -94,7 +102,7 @@ fn dropped<'a>(class: Class, pointer: Value, around: &Around<'a>) -> Change<'a>
     match pointer {
         Value::At(block, offset) => match around.store.size(block) {
             Some(cells) => {
-                if block.class == class && offset == 0 {
+                if offset == 0 && is_same(class, block.class) {
                     Change::Frees(cells)
                 } else {
                     Change::Stays
@@ -114,7 +122,7 @@ fn makes<'a>(
     around: &Around<'a>,
 ) -> Change<'a>
     requires { AreLawful around.now.slots.now }
-    ensures value { (names : Texts) (f : Y.Expr) (b : P.Primitive) → maker b ≡ Some class → IsToldIn names around.now → MaybeNumbers (items_of names around.now.index.now) (option_map (expr_of names) target.now) → AllNumbers (items_of names around.now.index.now) (exprs_of names arguments.now)
+    ensures value { (names : Texts) (f : Y.Expr) (b : P.Primitive) → Some class ≡ maker b → IsToldIn names around.now → MaybeNumbers (items_of names around.now.index.now) (option_map (expr_of names) target.now) → AllNumbers (items_of names around.now.index.now) (exprs_of names arguments.now)
         → Foresees names (context_of names around.now) (calling (option_map (expr_of names) target.now) f (exprs_of names arguments.now)) result (M.asks_with (context_of names around.now) b (exprs_of names arguments.now) None) }
     ensures own { EntersOwnly around.now.index.now result }
 {
@@ -127,7 +135,7 @@ fn makes<'a>(
 // A pointer to a block of a class is handed back.
 fn frees<'a>(class: Class, arguments: &'a [Expr], around: &Around<'a>) -> Change<'a>
     requires { AreLawful around.now.slots.now }
-    ensures value { (names : Texts) (stood : M.Stood) (b : P.Primitive) → freer b ≡ Some class → IsToldIn names around.now → AllNumbers (items_of names around.now.index.now) (exprs_of names arguments.now)
+    ensures value { (names : Texts) (stood : M.Stood) (b : P.Primitive) → Some class ≡ freer b → IsToldIn names around.now → AllNumbers (items_of names around.now.index.now) (exprs_of names arguments.now)
         → Foresees names (context_of names around.now) stood result (M.asks_with (context_of names around.now) b (exprs_of names arguments.now) None) }
     ensures own { EntersOwnly around.now.index.now result }
 {
