@@ -13,3 +13,5 @@ pub mod Foreseeing
 pub mod Looking
 pub mod Requesting
 pub mod Blocks
+pub mod Foretold
+pub mod Standing

@@ -1,0 +1,66 @@
+-- What stands at a point and is neither a call nor a return leaves as many cells.
+use Rattle.std.proofs.Common.{◌≡◌, List, true, Option, Some, None, option_map, refl, sym, ap, subst, ◌∙◌, Vec, Global}
+use Rattle.cpc_base.specs.Bytes.{Text}
+use Rattle.cpc_base.specs.declared.stop.Place.{Place}
+use Rattle.cpc_tree.specs.Erase.{Names, type_of, stmt_of, expr_of, exprs_of}
+use Rattle.cpc_tree.specs.declared.program.Expr as G
+use Rattle.cpc_tree.specs.declared.program.Statement.{Statement}
+use Rattle.cpc_tree.specs.declared.program.Statement.TheVariants as T
+use Rattle.cpc_tree.specs.Syntax as Y
+use Rattle.cpc_tree.specs.Points as P
+use Rattle.cpc_store.specs.Store.{Value, Store}
+use Rattle.cpc_meaning.specs.Answer.{Answer, Gives, ◌>>=◌, needed}
+use Rattle.cpc_meaning.specs.Eval as E
+use Rattle.cpc_meaning.specs.Act as M
+use Rattle.cpc_meaning.specs.Requests as R
+use Rattle.cpc_tree.specs.Typing.{function_named, parameter_types}
+use Rattle.cpc_acts.specs.Foreseen.{Foresees}
+use Rattle.cpc_acts.specs.declared.changes.Change.TheVariants as C
+use Rattle.cpc_acts.proofs.Foreseeing.{after_any}
+
+module _ (names : Names) (c : E.Context) (stood : M.Stood) where
+  abbrev pub Stays : Answer M.Act → Type 0
+  Stays a = Foresees names c stood C.Stays a
+
+  -- what is done after parts that may fault
+  pub stays_after : {A : Type 0} (a : Answer A) (f : A → Answer M.Act) → ((x : A) → Stays (f x)) → Stays (a >>= f)
+  stays_after a f g = after_any Stays tt (λ d. refl) a f g
+
+  assigns_stays : (x v : Y.Expr) → Stays (M.assigns c x v)
+  assigns_stays x v = stays_after (E.value c v) _ (λ w. stays_after (M.assign c x w) _ (λ p. refl))
+
+  pub test_stays : (o : Option Y.Expr) → Stays (M.test_act c o)
+  test_stays None = refl
+  test_stays (Some t) = stays_after (E.value c t) _ (λ v. stays_after (E.holds v) _ (λ h. refl))
+
+  declare_stays : (result : Y.Ty) (x : Text) (t : Y.Ty) (o : Option Y.Expr) → Stays (M.simple_act c result (Y.Declare x t o))
+  declare_stays result x t None = refl
+  declare_stays result x t (Some v) = assigns_stays (Y.ENamed x) v
+
+  detaches_stays : (f : Text) (es : Y.Exprs) → Stays (M.detaches c f es)
+  detaches_stays f es =
+      stays_after (needed (function_named c.program f)) _ (λ g. stays_after (E.values c es) _ (λ vs. stays_after (R.all_taken (R.section_takes (parameter_types g)) vs) _ (λ ws. refl)))
+
+  spawns_stays : (f : Text) (es : Y.Exprs) → Stays (M.spawns c f es)
+  spawns_stays f es = stays_after (needed (function_named c.program f)) _ (λ g. stays_after (E.values c es) _ (λ vs. stays_after (R.arguments (parameter_types g) vs) _ (λ ws. refl)))
+
+  pub simple_stays : (result : Y.Ty) (s : Statement) → ((p o : Place) (e : Option G.Expr) (f : G.Expr) (es : Vec G.Expr Global) → s ≡ T.Call p o e f es → ⊥) → ((p : Place) (v : Option G.Expr) → s ≡ T.Return p v → ⊥) → Stays (M.simple_act c result (stmt_of names s))
+  simple_stays result (T.Block' p shape row) h g = refl
+  simple_stays result (T.Empty p) h g = refl
+  simple_stays result (T.Declare p w t start) h g = declare_stays result _ (type_of names t) (option_map (expr_of names) start)
+  simple_stays result (T.Assign p o e op v) h g = assigns_stays (expr_of names e) (M.right_side op (expr_of names e) (expr_of names v))
+  simple_stays result (T.Call p o e f es) h g = absurd (h p o e f es refl)
+  simple_stays result (T.Detach p o k e f es) h g = detaches_stays _ (exprs_of names es.items)
+  simple_stays result (T.Spawn p f es) h g = spawns_stays _ (exprs_of names es.items)
+  simple_stays result (T.If' p t q a b) h g = refl
+  simple_stays result (T.While' p t q s) h g = refl
+  simple_stays result (T.DoWhile' p q s t) h g = refl
+  simple_stays result (T.For' p shape row t step q s) h g = refl
+  simple_stays result (T.Goto p l) h g = refl
+  simple_stays result (T.Label' l q s) h g = refl
+  simple_stays result (T.Break p) h g = refl
+  simple_stays result (T.Continue p) h g = refl
+  simple_stays result (T.Return p v) h g = absurd (g p v refl)
+
+  pub arrives_stays : (f : P.Found) (o : Option Value) → Stays (M.arrives c f o)
+  arrives_stays f o = stays_after (needed o) _ (λ v. stays_after (needed (M.target_of f)) _ (λ x. stays_after (M.deliver c x v) _ (λ p. refl)))

@@ -1,0 +1,4 @@
+use Rattle.cpc_acts.proofs.changes.found.Goals as goal
+
+pub returns-in_default : goal.returns-in_default
+returns-in_default c = ?
