@@ -6,6 +6,15 @@ use Rattle.cpc_tree.specs.Erase.{Names, type_of, stmt_of, expr_of, exprs_of}
 use Rattle.cpc_tree.specs.declared.program.Expr as G
 use Rattle.cpc_tree.specs.declared.program.Statement.{Statement}
 use Rattle.cpc_tree.specs.declared.program.Statement.TheVariants as T
+use Rattle.cpc_tree.specs.declared.program.Expr.TheVariants as X
+use Rattle.cpc_tree.specs.declared.program.Word.{Word}
+use Rattle.std.specs.Borrow.{Bor}
+use Rattle.cpc_points.specs.Finds.{found_of}
+use Rattle.cpc_points.specs.declared.control.Found.{Found}
+use Rattle.cpc_points.specs.declared.control.Found.TheVariants as F
+use Rattle.cpc_points.specs.declared.parts.Phase.{Phase}
+use Rattle.cpc_points.specs.Seen.{point_at}
+use Rattle.cpc_meaning.specs.Trees.{scope_from, stood_at}
 use Rattle.cpc_tree.specs.Syntax as Y
 use Rattle.cpc_tree.specs.Points as P
 use Rattle.cpc_store.specs.Store.{Value, Store}
@@ -13,7 +22,7 @@ use Rattle.cpc_meaning.specs.Answer.{Answer, Gives, ◌>>=◌, needed}
 use Rattle.cpc_meaning.specs.Eval as E
 use Rattle.cpc_meaning.specs.Act as M
 use Rattle.cpc_meaning.specs.Requests as R
-use Rattle.cpc_tree.specs.Typing.{function_named, parameter_types}
+use Rattle.cpc_tree.specs.Typing.{Scope, function_named, parameter_types}
 use Rattle.cpc_acts.specs.Foreseen.{Foresees}
 use Rattle.cpc_acts.specs.declared.changes.Change.TheVariants as C
 use Rattle.cpc_acts.proofs.Foreseeing.{after_any}
@@ -64,3 +73,44 @@ module _ (names : Names) (c : E.Context) (stood : M.Stood) where
 
   pub arrives_stays : (f : P.Found) (o : Option Value) → Stays (M.arrives c f o)
   arrives_stays f o = stays_after (needed o) _ (λ v. stays_after (needed (M.target_of f)) _ (λ x. stays_after (M.deliver c x v) _ (λ p. refl)))
+
+  -- what is no simple statement
+  pub found_stays : (result : Y.Ty) (there : Found) → ((s : Bor Statement) → there ≡ F.Simple s → ⊥) → Stays (M.found_act c result (found_of names there))
+  found_stays result (F.Simple s) h = absurd (h s refl)
+  found_stays result F.Empty h = refl
+  found_stays result (F.Test o) h = test_stays (option_map (λ (t : Bor G.Expr). expr_of names t.now) o)
+  found_stays result F.Nothing h = tt
+
+-- a call of what is no name
+pub calls_other : (names : Names) (c : E.Context) (es : Y.Exprs) (e : G.Expr) → ((w : Word) → e ≡ X.Name w → ⊥) → M.calls_value c (expr_of names e) es ≡ M.calls_expr c (expr_of names e) es
+calls_other names c es (X.Name w) h = absurd (h w refl)
+calls_other names c es (X.Integer p kind v) h = refl
+calls_other names c es (X.Character p v) h = refl
+calls_other names c es (X.Text p bytes) h = refl
+calls_other names c es (X.Unary' p op q e) h = refl
+calls_other names c es (X.Binary' p op q a r b) h = refl
+calls_other names c es (X.And' p q a r b) h = refl
+calls_other names c es (X.Or' p q a r b) h = refl
+calls_other names c es (X.Choose' p q t r a s b) h = refl
+calls_other names c es (X.Cast' p t q e) h = refl
+calls_other names c es (X.SizeOf p t) h = refl
+calls_other names c es (X.Index' p q a r i) h = refl
+calls_other names c es (X.Member' p q e field) h = refl
+calls_other names c es (X.Arrow' p q e field) h = refl
+calls_other names c es (X.CallIn' p q f shape row) h = refl
+
+-- ---- where a frame stands
+
+module _ (p : Y.Program) (x : Text) (f : Y.Function) (path : P.Path) (slots : List E.Slot) (s : Store) (Q : E.Context → M.Stood → Type 0) where
+  abbrev pub within : Scope → E.Context
+  within scope = record { program = p; scope = scope; slots = slots; store = s }
+
+  -- what is said of a point of the function that the name means
+  abbrev pub SaidAt : Option Y.Function → Phase → Type 0
+  SaidAt g ph = Q (within (scope_from g (point_at ph path))) (stood_at (Some f) (point_at ph path))
+
+  pub said_at : (ph is : Phase) → ph ≡ is → function_named p x ≡ Some f → SaidAt (Some f) is → SaidAt (function_named p x) ph
+  said_at ph is e own h =
+      let A : Option Y.Function → Type 0 = λ g. SaidAt g is in
+      let B : Phase → Type 0 = λ q. SaidAt (function_named p x) q in
+      subst B (sym e) (subst A (sym own) h)

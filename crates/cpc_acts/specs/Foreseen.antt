@@ -2,6 +2,9 @@
 use Rattle.std.specs.Prelude.{◌≡◌, ℕ, ◌+◌, ◌-◌, ◌^◌, min, List, [], ◌∷◌, Option, Some, None}
 use Rattle.cpc_tree.specs.Erase.{Names, function_of}
 use Rattle.cpc_tree.specs.Points.{Simple}
+use Rattle.cpc_tree.specs.Typing.{function_named}
+use Rattle.cpc_tree.specs.declared.program.Function as G
+use Rattle.std.specs.Borrow.{Bor}
 use Rattle.cpc_tree.specs.Syntax.{Function, Expr, Exprs, Call}
 use Rattle.cpc_store.specs.declared.values.Class.{Class}
 use Rattle.cpc_store.specs.declared.values.Class.TheVariants.{Auto, Heap, Frame as FrameClass}
@@ -16,6 +19,8 @@ use Rattle.cpc_index.specs.declared.index.Index.{Index}
 use Rattle.cpc_frames.specs.Frames.{IsOwn}
 use Rattle.cpc_acts.specs.declared.changes.Change.{Change}
 use Rattle.cpc_acts.specs.declared.changes.Change.TheVariants as C
+use Rattle.cpc_acts.specs.declared.changes.Told.{Told}
+use Rattle.cpc_acts.specs.declared.changes.Told.TheVariants as T
 
 -- a value arrives where the code asks
 abbrev pub arrival : E.Context → M.Stood → Value → Answer M.Act
@@ -107,3 +112,19 @@ IsAlone (Some v) (Gives vs) = vs ≡ v ∷ []
 IsAlone None (Gives vs) = ⊥
 IsAlone o (Faults fault) = o ≡ None
 IsAlone o NoAnswer = Unit {0}
+
+-- a change, with the function that is entered by its name
+abbrev pub told_of : Change → Told
+told_of C.Stays = T.Stays
+told_of (C.Enters g) = T.Enters g.now.word.name
+told_of C.Leaves = T.Leaves
+told_of (C.Makes n) = T.Makes n
+told_of (C.Frees n) = T.Frees n
+
+-- the change that is told is that of the act, with the function that its name means
+abbrev pub Tells : Names → E.Context → M.Stood → Told → Answer M.Act → Type 0
+Tells names c stood (T.Enters x) a = (g : Bor G.Function) × (function_named c.program (names x) ≡ Some (function_of names g.now)) × Foresees names c stood (C.Enters g) a
+Tells names c stood T.Stays a = Foresees names c stood C.Stays a
+Tells names c stood T.Leaves a = Foresees names c stood C.Leaves a
+Tells names c stood (T.Makes n) a = Foresees names c stood (C.Makes n) a
+Tells names c stood (T.Frees n) a = Foresees names c stood (C.Frees n) a

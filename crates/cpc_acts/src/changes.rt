@@ -19,7 +19,7 @@ ghost use Rattle.cpc_frames.specs.Frames.{IsOwn, IsWellFrame, RiseFrom};
 ghost use Rattle.cpc_acts.specs.Acts.{stood_of, context_in, IsTexts, IsServing, IsLawfulIf};
 ghost use Rattle.cpc_acts.specs.Calls.{calls_known, calls_unmeant};
 ghost use Rattle.cpc_frames.specs.Made.{slots_of};
-ghost use Rattle.cpc_acts.specs.Foreseen.{Foresees, EntersOwnly, calling};
+ghost use Rattle.cpc_acts.specs.Foreseen.{Foresees, EntersOwnly, Tells, told_of, calling};
 
 use crate::calls::builtin_at;
 use crate::looked::{is_passed, is_returned, value_entered};
@@ -240,18 +240,34 @@ fn found<'a>(
     }
 }
 
-// What a step of a frame does to the live cells.
-fn told<'a>(
-    index: &'a Index<'a>,
-    texts: &Names,
-    frame: &'a Frame<'a>,
-    store: &'a Store,
-) -> Change<'a>
+// A change, with a function by its name.
+enum Told {
+    Stays,
+    Enters(Name),
+    Leaves,
+    Makes(u64),
+    Frees(u64),
+}
+
+// A change, with the function that is entered by its name.
+fn by_name(change: Change) -> Told
+    ensures { result ≡ told_of change.entry }
+{
+    match change {
+        Change::Stays => Told::Stays,
+        Change::Enters(function) => Told::Enters(function.word.name),
+        Change::Leaves => Told::Leaves,
+        Change::Makes(cells) => Told::Makes(cells),
+        Change::Frees(cells) => Told::Frees(cells),
+    }
+}
+
+// What a step of a frame does to the live cells. What arrives makes and frees no block.
+fn ahead(index: &Index<'_>, texts: &Names, frame: &Frame<'_>, store: &Store) -> Told
     requires { IsWellFrame index.now frame.now }
-    ensures value { (names : Texts) (o : Option S.Value) → IsTexts names index.now texts.now frame.now → IsServing names index.now frame.now
-        → Foresees names (context_in names index.now frame.now store.now) (stood_of names frame.now) result
+    ensures { (names : Texts) (o : Option S.Value) → IsTexts names index.now texts.now frame.now → IsServing names index.now frame.now
+        → Tells names (context_in names index.now frame.now store.now) (stood_of names frame.now) result
         (M.act (context_in names index.now frame.now store.now) (type_of names frame.now.function.now.result) o (stood_of names frame.now)) }
-    ensures own { EntersOwnly index.now result }
 {
     let around = Around {
         index,
@@ -263,11 +279,10 @@ fn told<'a>(
     match frame.point.phase {
         Phase::Here => {
             let there = standing(&frame.function.body, &frame.point.path);
-            found(&frame.function.result, there, &around, texts)
+            by_name(found(&frame.function.result, there, &around, texts))
         }
-        // What arrives is written, or faults.
-        Phase::Arrival => Change::Stays,
-        Phase::End => left(&around),
+        Phase::Arrival => Told::Stays,
+        Phase::End => by_name(left(&around)),
     }
 }
 
@@ -286,16 +301,15 @@ pub fn foreseen<'p>(
         (M.act (context_in names index.now frame.now store.now) (type_of names frame.now.function.now.result) (option_map (value_of names) arriving) (stood_of names frame.now)) }
     ensures own { EntersOwnly index.now result }
 {
-    // What arrives makes and frees no block.
     let _ = arriving;
-    match told(index, texts, frame, store) {
-        Change::Enters(function) => match function_at(index, function.word.name) {
-            Some(entered) => Change::Enters(entered),
+    match ahead(index, texts, frame, store) {
+        Told::Enters(name) => match function_at(index, name) {
+            Some(function) => Change::Enters(function),
             None => Change::Stays,
         },
-        Change::Stays => Change::Stays,
-        Change::Leaves => Change::Leaves,
-        Change::Makes(cells) => Change::Makes(cells),
-        Change::Frees(cells) => Change::Frees(cells),
+        Told::Stays => Change::Stays,
+        Told::Leaves => Change::Leaves,
+        Told::Makes(cells) => Change::Makes(cells),
+        Told::Frees(cells) => Change::Frees(cells),
     }
 }
