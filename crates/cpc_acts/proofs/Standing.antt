@@ -1,8 +1,8 @@
 -- What stands at a point and is neither a call nor a return leaves as many cells.
-use Rattle.std.proofs.Common.{◌≡◌, List, true, Option, Some, None, option_map, refl, sym, ap, subst, ◌∙◌, Vec, Global}
+use Rattle.std.proofs.Common.{◌≡◌, List, [], ◌∷◌, true, Option, Some, None, option_map, refl, sym, ap, subst, ◌∙◌, Vec, Global}
 use Rattle.cpc_base.specs.Bytes.{Text}
 use Rattle.cpc_base.specs.declared.stop.Place.{Place}
-use Rattle.cpc_tree.specs.Erase.{Names, type_of, stmt_of, expr_of, exprs_of}
+use Rattle.cpc_tree.specs.Erase.{Names, type_of, stmt_of, expr_of, exprs_of, function_of}
 use Rattle.cpc_tree.specs.declared.program.Expr as G
 use Rattle.cpc_tree.specs.declared.program.Statement.{Statement}
 use Rattle.cpc_tree.specs.declared.program.Statement.TheVariants as T
@@ -17,13 +17,23 @@ use Rattle.cpc_points.specs.Seen.{point_at}
 use Rattle.cpc_meaning.specs.Trees.{scope_from, stood_at}
 use Rattle.cpc_tree.specs.Syntax as Y
 use Rattle.cpc_tree.specs.Points as P
-use Rattle.cpc_store.specs.Store.{Value, Store}
-use Rattle.cpc_meaning.specs.Answer.{Answer, Gives, ◌>>=◌, needed}
+use Rattle.cpc_store.specs.Store.{Value, Store, store_cells}
+use Rattle.cpc_meaning.specs.Answer.{Answer, Gives, Faults, NoAnswer, ◌>>=◌, needed}
 use Rattle.cpc_meaning.specs.Eval as E
 use Rattle.cpc_meaning.specs.Act as M
 use Rattle.cpc_meaning.specs.Requests as R
 use Rattle.cpc_tree.specs.Typing.{Scope, function_named, parameter_types}
-use Rattle.cpc_acts.specs.Foreseen.{Foresees}
+use Rattle.cpc_base.specs.declared.names.Name.{Name}
+use Rattle.cpc_tree.specs.declared.program.Function as H
+use Rattle.cpc_rules.specs.Apart.{AreApart}
+use Rattle.cpc_store.specs.declared.values.Class.TheVariants as K
+use Rattle.cpc_meaning.specs.Section.{allocated, freed}
+use Rattle.cpc_index.specs.declared.index.Index.{Index}
+use Rattle.cpc_index.specs.Indexed.{items_of}
+use Rattle.cpc_acts.specs.Foreseen.{Foresees, MakesSo, FreesSo, ArrivesSo, AsksSo, EntersOwnly, Tells, told_of, arrival}
+use Rattle.cpc_acts.specs.declared.changes.Change as C0
+use Rattle.cpc_acts.specs.declared.changes.Told as T1
+use Rattle.cpc_acts.specs.declared.changes.Told.TheVariants as T0
 use Rattle.cpc_acts.specs.declared.changes.Change.TheVariants as C
 use Rattle.cpc_acts.proofs.Foreseeing.{after_any}
 
@@ -114,3 +124,62 @@ module _ (p : Y.Program) (x : Text) (f : Y.Function) (path : P.Path) (slots : Li
       let A : Option Y.Function → Type 0 = λ g. SaidAt g is in
       let B : Phase → Type 0 = λ q. SaidAt (function_named p x) q in
       subst B (sym e) (subst A (sym own) h)
+
+-- a change that is told by the name of the function
+pub tells_so : (names : Names) (index : Index) (c : E.Context) (stood : M.Stood) (change : C0.Change) (t : T1.Told) (a : Answer M.Act) → t ≡ told_of change → AreApart names → c.program ≡ items_of names index → EntersOwnly index change
+    → Foresees names c stood change a → Tells names c stood t a
+tells_so names index c stood change t a e apart program own h = let Q : T1.Told → Type 0 = λ u. Tells names c stood u a in subst Q (sym e) (go change own h)
+  where
+    go : (change : C0.Change) → EntersOwnly index change → Foresees names c stood change a → Tells names c stood (told_of change) a
+    go C.Stays own h = h
+    go (C.Enters g) own h = (g, ap (λ p. function_named p (names g.now.word.name)) program ∙ own names apart, h)
+    go C.Leaves own h = h
+    go (C.Makes n) own h = h
+    go (C.Frees n) own h = h
+
+-- nothing that is asked enters a function
+made_same : (c : E.Context) (stood : M.Stood) (g q : Bor H.Function) (a : Answer (Store × Value)) → MakesSo c stood (C.Enters q) a → MakesSo c stood (C.Enters g) a
+made_same c stood g q (Gives p) h = go (arrival c stood p.1) h
+  where
+    go : (a : Answer M.Act) → ArrivesSo (C.Enters q) (store_cells c.store) (store_cells p.0) a → ArrivesSo (C.Enters g) (store_cells c.store) (store_cells p.0) a
+    go (Gives act) h = h
+    go (Faults d) h = absurd cc
+    go NoAnswer h = tt
+made_same c stood g q (Faults d) h = absurd cc
+made_same c stood g q NoAnswer h = tt
+
+freed_same : (c : E.Context) (g q : Bor H.Function) (a : Answer (Store × Value)) → FreesSo c (C.Enters q) a → FreesSo c (C.Enters g) a
+freed_same c g q (Gives p) h = h
+freed_same c g q (Faults d) h = absurd cc
+freed_same c g q NoAnswer h = tt
+
+asks_same : (names : Names) (c : E.Context) (stood : M.Stood) (g q : Bor H.Function) (asked : R.Asked) (vs : List Value) → AsksSo c stood (C.Enters q) asked vs → AsksSo c stood (C.Enters g) asked vs
+asks_same names c stood g q (R.Builtin R.Malloc) (v ∷ []) h = made_same c stood g q (allocated K.Heap v c.store) h
+asks_same names c stood g q (R.Builtin R.RtFrame) (v ∷ []) h = made_same c stood g q (allocated K.Frame v c.store) h
+asks_same names c stood g q (R.Builtin R.RtBox) (v ∷ []) h = made_same c stood g q (allocated K.Auto v c.store) h
+asks_same names c stood g q (R.Builtin R.Free) (v ∷ []) h = freed_same c g q (freed K.Heap v c.store) h
+asks_same names c stood g q (R.Builtin R.RtFrameFree) (v ∷ []) h = freed_same c g q (freed K.Frame v c.store) h
+asks_same names c stood g q (R.Builtin R.RtUnbox) (v ∷ []) h = freed_same c g q (freed K.Auto v c.store) h
+asks_same names c stood g q _ vs h = absurd cc
+
+-- the same, where two functions are one
+same_enters : (names : Names) (c : E.Context) (stood : M.Stood) (g q : Bor H.Function) (a : Answer M.Act) → function_of names g.now ≡ function_of names q.now → Foresees names c stood (C.Enters q) a → Foresees names c stood (C.Enters g) a
+same_enters names c stood g q (Gives (M.Enters f vs)) is h = is ∙ h
+same_enters names c stood g q (Gives (M.GoesOn b t slots)) is h = absurd cc
+same_enters names c stood g q (Gives (M.Leaves v t)) is h = absurd cc
+same_enters names c stood g q (Gives (M.AsksFor r)) is h = asks_same names c stood g q r.asked r.arguments h
+same_enters names c stood g q (Faults d) is h = absurd cc
+same_enters names c stood g q NoAnswer is h = tt
+
+-- the function that the name means
+pub tells_found : (names : Names) (c : E.Context) (stood : M.Stood) (x : Name) (g : Bor H.Function) (a : Answer M.Act) → Tells names c stood (T0.Enters x) a → Some (function_of names g.now) ≡ function_named c.program (names x) → Foresees names c stood (C.Enters g) a
+tells_found names c stood x g a h e = let is : function_of names g.now ≡ function_of names h.0.now = some_same _ _ (e ∙ h.1) in same_enters names c stood g h.0 a is h.2
+  where
+    some_same : (u v : Y.Function) → Some u ≡ Some v → u ≡ v
+    some_same u v e = cc
+
+pub tells_none : (names : Names) (c : E.Context) (stood : M.Stood) (x : Name) (a : Answer M.Act) → Tells names c stood (T0.Enters x) a → None ≡ function_named c.program (names x) → ⊥
+tells_none names c stood x a h e = none_some _ (e ∙ h.1)
+  where
+    none_some : (u : Y.Function) → None ≡ Some u → ⊥
+    none_some u e = cc
