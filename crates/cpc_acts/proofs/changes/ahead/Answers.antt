@@ -1,4 +1,4 @@
-use Rattle.std.proofs.Common.{◌≡◌, List, true, Some, refl, sym, ap, subst, ◌∙◌}
+use Rattle.std.proofs.Common.{◌≡◌, List, [], true, Some, refl, sym, ap, subst, ◌∙◌}
 use Rattle.cpc_tree.specs.Erase.{type_of, stmt_of, function_of}
 use Rattle.cpc_tree.specs.Points as P
 use Rattle.cpc_tree.specs.Registers.{scope_in_function}
@@ -18,7 +18,8 @@ use Rattle.cpc_eval.specs.declared.around.Slot.{Slot}
 use Rattle.cpc_builtins.specs.Served.{is_served_found}
 use Rattle.cpc_frames.specs.Made.{slots_of}
 use Rattle.cpc_acts.specs.Acts.{is_served_stood, StoodNumbers}
-use Rattle.cpc_acts.specs.Foreseen.{Tells}
+use Rattle.cpc_acts.specs.Foreseen.{Foresees, Tells}
+use Rattle.cpc_acts.specs.declared.changes.Change.TheVariants as C
 use Rattle.cpc_acts.proofs.Standing.{arrives_stays, said_at, tells_so}
 use Rattle.cpc_acts.proofs.changes.ahead.Goals as goal
 
@@ -49,3 +50,34 @@ returns-in-Here c = λ names o texts serving.
     let h2 : Q (k frame.point.path.items c.deref-2.result.now) (M.AtStatement (P.found f.body path)) = (let R : List Part → Type 0 = λ ps. Q (k ps c.deref-2.result.now) (M.AtStatement (P.found f.body path)) in subst R c.deref.ensures.value h1) in
     let h3 : Q (k frame.point.path.items frame.slots.items) (M.AtStatement (P.found f.body path)) = (let R : List Slot → Type 0 = λ ss. Q (k frame.point.path.items ss) (M.AtStatement (P.found f.body path)) in subst R c.deref-2.ensures.value h2) in
     said_at p (names frame.function.now.word.name) f path slots s Q frame.point.phase F.Here c.in-Here.is (c.requires.own names texts.told.apart) h3
+
+pub returns-in-Arrival : goal.returns-in-Arrival
+returns-in-Arrival c = λ names o texts serving.
+    let frame = c.args.frame.now in
+    let p = items_of names c.args.index.now in
+    let f = function_of names frame.function.now in
+    let path = path_of frame.point.path.items in
+    let t = type_of names frame.function.now.result in
+    let slots = slots_of names frame.slots.items in
+    let s = store_of names c.args.store.now in
+    let Q : E.Context → M.Stood → Type 0 = λ k stood. Foresees names k stood C.Stays (M.act k t o stood) in
+    let k : E.Context = record { program = p; scope = scope_in_function f path; slots = slots; store = s } in
+    let h : Q k (M.AtArrival (P.found f.body path)) = arrives_stays names k (M.AtArrival (P.found f.body path)) (P.found f.body path) o in
+    said_at p (names frame.function.now.word.name) f path slots s Q frame.point.phase F.Arrival c.in-Arrival.is (c.requires.own names texts.told.apart) h
+
+pub returns-in-End : goal.returns-in-End
+returns-in-End c = λ names o texts serving.
+    let frame = c.args.frame.now in
+    let index = c.args.index.now in
+    let p = items_of names index in
+    let f = function_of names frame.function.now in
+    let path = path_of frame.point.path.items in
+    let t = type_of names frame.function.now.result in
+    let slots = slots_of names frame.slots.items in
+    let s = store_of names c.args.store.now in
+    let Q : E.Context → M.Stood → Type 0 = λ k stood. Tells names k stood c.by_name-in-End.result (M.act k t o stood) in
+    let k : E.Context = record { program = p; scope = []; slots = slots; store = s } in
+    let h : Q k M.AtEnd =
+        tells_so names index k M.AtEnd c.left.result c.by_name-in-End.result (M.leaves k S.Unset) c.by_name-in-End.ensures texts.told.apart refl c.left.ensures.own
+        (c.left.ensures.value names k M.AtEnd S.Unset (ap (slots_of names) (sym c.deref-2.ensures.value)) refl) in
+    said_at p (names frame.function.now.word.name) f path slots s Q frame.point.phase F.End c.in-End.is (c.requires.own names texts.told.apart) h
