@@ -1,5 +1,5 @@
 -- Blocks that are made and freed, and the cells that are live then.
-use Rattle.std.proofs.Common.{◌≡◌, ℕ, ◌+◌, ◌-◌, ◌^◌, min, Bool, true, false, List, length, Option, Some, None, option_map, Ok, Err, refl, sym, ap, subst, ◌∙◌, pos, arith}
+use Rattle.std.proofs.Common.{◌≡◌, ℕ, ◌+◌, ◌-◌, ◌^◌, min, Bool, true, false, List, length, Option, Some, None, option_map, Ok, Err, refl, sym, ap, subst, ◌∙◌, pos}
 use Rattle.std.specs.Prelude.{int_lt, unsigned_abs, replicate, is_some, ◌&&◌, ◌==◌, slice_set, if◌then◌else◌, ℤ}
 use Rattle.std.proofs.lemmas.List.{length-replicate}
 use Rattle.cpc_base.specs.declared.names.Name.{Name}
@@ -55,7 +55,7 @@ module _ (c : E.Context) (target : Option Expr) (f : Expr) (es : Exprs) (class :
       go false e =
           let n : cells ≡ min (unsigned_abs z) (2 ^ 64 - 1) = cc in
           let after : store_cells block.0 ≡ store_cells c.store + unsigned_abs z =
-              store_cells-alloc class (replicate (unsigned_abs z) Unset) c.store ∙ ap (λ k. store_cells c.store + k) (length-replicate (unsigned_abs z) _) in
+          store_cells-alloc class (replicate (unsigned_abs z) Unset) c.store ∙ ap (λ k. store_cells c.store + k) (length-replicate (unsigned_abs z) _) in
           arrives_so (C.Makes cells) (store_cells c.store) (store_cells block.0) (M.deliver c target block.1) h (unsigned_abs z, after, n)
 
   pub makes_not : (kind : Kind) → IsGiven false (M.deliver c target (At class (next_block class c.store) 0)) → MakesSo c (calling target f es) C.Stays (allocated class (Whole kind z) c.store)

@@ -158,8 +158,10 @@ pub pass_on : (names : Names) (c : E.Context) (ts : List Ty) (args : List G.Expr
 pass_on names c ts args i x within is left m =
     let P : Exprs → Type 0 = AllNumbers c.program in
     let here = first_left names args i x within is in
-    let rest = exprs_of names (drop (i + 1) args) in
-    ((subst P here left.0).1, λ b h.
-        let Q : Exprs → Type 0 = λ es. IsGiven b (passed c (drop i ts) es) in
-        let R : ℕ → Type 0 = λ n. IsGiven b (passed c (drop n ts) rest) in
-        left.1 b (subst Q (sym here) (passed_on b c ts i (expr_of names x) rest m (subst R (add-one i) h))))
+    let rest = exprs_of names (drop (i + 1) args) in (
+      (subst P here left.0).1,
+      λ b h.
+          let Q : Exprs → Type 0 = λ es. IsGiven b (passed c (drop i ts) es) in
+          let R : ℕ → Type 0 = λ n. IsGiven b (passed c (drop n ts) rest) in
+          left.1 b (subst Q (sym here) (passed_on b c ts i (expr_of names x) rest m (subst R (add-one i) h))),
+    )

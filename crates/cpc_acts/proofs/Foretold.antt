@@ -1,16 +1,16 @@
 -- What a step does to the live cells, by the parts that are looked at.
-use Rattle.std.proofs.Common.{◌≡◌, ℕ, Bool, true, false, List, map, Option, Some, None, option_map, refl, sym, ap, subst, ◌∙◌}
+use Rattle.std.proofs.Common.{◌≡◌, ℕ, true, List, map, Option, Some, None, option_map, refl, sym, ap, subst, ◌∙◌}
 use Rattle.std.specs.Option.{IfSome}
 use Rattle.std.specs.Borrow.{Bor}
 use Rattle.cpc_base.specs.Bytes.{Text}
 use Rattle.cpc_base.specs.declared.names.Name.{Name}
-use Rattle.cpc_tree.specs.Erase.{Names, function_of, type_of, stmt_of, parameter_of}
+use Rattle.cpc_tree.specs.Erase.{Names, function_of, type_of, parameter_of}
 use Rattle.cpc_tree.specs.declared.program.Function as G
 use Rattle.cpc_tree.specs.declared.program.CType.{CType}
 use Rattle.cpc_tree.specs.declared.program.Mode.{Mode}
 use Rattle.cpc_tree.specs.declared.program.Parameter.{Parameter}
-use Rattle.cpc_tree.specs.Syntax.{Ty, Expr, ENamed, Exprs, Function, Program}
-use Rattle.cpc_tree.specs.Typing.{Meant, function_named, parameter_type}
+use Rattle.cpc_tree.specs.Syntax.{Expr, ENamed, Exprs, Function, Program}
+use Rattle.cpc_tree.specs.Typing.{function_named, parameter_type}
 use Rattle.cpc_rules.specs.Apart.{AreApart}
 use Rattle.cpc_store.specs.Store.{Value, Store}
 use Rattle.cpc_meaning.specs.Answer.{Answer, Gives, Faults, NoAnswer, ◌>>=◌, needed}

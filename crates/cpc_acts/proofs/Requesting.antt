@@ -1,38 +1,28 @@
 -- Primitives that make and free blocks, by their one argument.
-use Rattle.std.proofs.Common.{◌≡◌, ℕ, ◌+◌, ◌-◌, ◌^◌, min, Bool, true, false, List, [], ◌∷◌, length, get_or, Option, Some, None, option_map, Result, Ok, Err, refl, sym, ap, subst, ◌∙◌, pos, arith}
-use Rattle.std.specs.Prelude.{int_lt, unsigned_abs, replicate, is_some, ◌&&◌, ◌==◌, slice_set, if◌then◌else◌}
+use Rattle.std.proofs.Common.{◌≡◌, List, [], ◌∷◌, length, get_or, Option, Some, None, option_map, Result, Ok, Err, refl, sym, ap, subst, ◌∙◌, arith}
 use Rattle.std.specs.Result.{result_ok, result_map_both}
-use Rattle.std.proofs.lemmas.List.{length-replicate}
 use Rattle.cpc_base.specs.Bytes.{Text}
-use Rattle.cpc_base.specs.declared.names.Name.{Name}
 use Rattle.cpc_num.specs.declared.kinds.Fault.{Fault}
-use Rattle.cpc_num.specs.declared.kinds.Fault.TheVariants as F
-use Rattle.cpc_num.specs.declared.kinds.Kind.{Kind}
 use Rattle.cpc_tree.specs.Erase.{Names, expr_of, exprs_of}
 use Rattle.cpc_tree.specs.Primitives as P
 use Rattle.cpc_tree.specs.declared.program.Expr as G
-use Rattle.cpc_tree.specs.Syntax.{Expr, Exprs, NoExpr, AndExpr}
+use Rattle.cpc_tree.specs.Syntax.{Exprs}
 use Rattle.cpc_store.specs.declared.values.Class.{Class}
 use Rattle.cpc_store.specs.declared.values.Class.TheVariants as K
-use Rattle.cpc_store.specs.Store as S
-use Rattle.cpc_store.specs.Store.{Value, Store, StoreOf, Whole, At, alloc, blocks, with_blocks, cells_of, size, next_block, store_cells, same_class, free}
-use Rattle.cpc_store.proofs.CellLemmas.{store_cells-alloc, store_cells-free}
-use Rattle.cpc_store.proofs.CodeLemmas.{size-map}
-use Rattle.cpc_meaning.specs.Answer.{Answer, Gives, Faults, NoAnswer, ◌>>=◌, of_result}
+use Rattle.cpc_store.specs.Store.{Value}
+use Rattle.cpc_meaning.specs.Answer.{Answer, Gives, Faults, NoAnswer, ◌>>=◌}
 use Rattle.cpc_meaning.specs.Eval as E
 use Rattle.cpc_meaning.specs.Act as M
 use Rattle.cpc_meaning.specs.Requests as R
 use Rattle.cpc_meaning.specs.Section.{allocated, freed}
 use Rattle.cpc_values.specs.Meets.{Meets}
-use Rattle.cpc_values.specs.Shown.{store_of}
 use Rattle.cpc_eval.specs.Numbers.{HasNumbers, AllNumbers}
 use Rattle.cpc_acts.specs.Rows.{taken}
-use Rattle.cpc_acts.specs.Stops.{IsGiven}
-use Rattle.cpc_acts.specs.Foreseen.{Foresees, MakesSo, FreesSo, AsksSo, IsAlone, maker, freer, calling}
+use Rattle.cpc_acts.specs.Foreseen.{Foresees, MakesSo, FreesSo, AsksSo, IsAlone, maker, freer}
 use Rattle.cpc_acts.specs.declared.changes.Change.{Change}
 use Rattle.cpc_acts.specs.declared.changes.Change.TheVariants as C
 use Rattle.cpc_acts.proofs.Calling.{chain}
-use Rattle.cpc_acts.proofs.Foreseeing.{after_any, after_value, after_fault}
+use Rattle.cpc_acts.proofs.Foreseeing.{after_any}
 
 -- ---- one argument
 

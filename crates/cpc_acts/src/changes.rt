@@ -57,11 +57,7 @@ fn function_at<'p>(index: &Index<'p>, name: Name) -> Option<&'p Function>
 }
 
 // A call of a value.
-fn value_called<'a>(
-    function: &'a Expr,
-    arguments: &'a [Expr],
-    around: &Around<'a>,
-) -> Change<'a>
+fn value_called<'a>(function: &'a Expr, arguments: &'a [Expr], around: &Around<'a>) -> Change<'a>
     requires slots { AreLawful around.now.slots.now }
     ensures value { (names : Texts) (stood : M.Stood) → IsToldIn names around.now → HasNumbers (items_of names around.now.index.now) (expr_of names function.now) → AllNumbers (items_of names around.now.index.now) (exprs_of names arguments.now)
         → Foresees names (context_of names around.now) stood result (M.calls_value (context_of names around.now) (expr_of names function.now) (exprs_of names arguments.now)) }
@@ -162,9 +158,7 @@ fn called<'a>(
     ensures own { EntersOwnly around.now.index.now result }
 {
     match function {
-        Expr::Name(word) => {
-            name_called(word.name, target, function, arguments, around, texts)
-        }
+        Expr::Name(word) => { name_called(word.name, target, function, arguments, around, texts) }
         _ => value_called(function, arguments, around),
     }
 }
@@ -222,12 +216,7 @@ fn simple<'a>(
 }
 
 // What stands at a point, in a function with this result.
-fn found<'a>(
-    of: &CType,
-    there: Found<'a>,
-    around: &Around<'a>,
-    texts: &Names,
-) -> Change<'a>
+fn found<'a>(of: &CType, there: Found<'a>, around: &Around<'a>, texts: &Names) -> Change<'a>
     requires slots { AreLawful around.now.slots.now }
     requires rise { RiseFrom 0 around.now.slots.now }
     ensures value { (names : Texts) → IsToldIn names around.now → Spells texts.now names → is_served_program (items_of names around.now.index.now) ≡ true → is_served_found (found_of names there.entry) ≡ true → FoundNumbers (items_of names around.now.index.now) (found_of names there.entry)

@@ -1,5 +1,5 @@
 use Rattle.std.proofs.Common.{◌≡◌, List, [], true, Some, refl, sym, ap, subst, ◌∙◌}
-use Rattle.cpc_tree.specs.Erase.{type_of, stmt_of, function_of}
+use Rattle.cpc_tree.specs.Erase.{type_of, function_of}
 use Rattle.cpc_tree.specs.Points as P
 use Rattle.cpc_tree.specs.Registers.{scope_in_function}
 use Rattle.cpc_store.specs.Store as S
@@ -78,6 +78,6 @@ returns-in-End c = λ names o texts serving.
     let Q : E.Context → M.Stood → Type 0 = λ k stood. Tells names k stood c.by_name-in-End.result (M.act k t o stood) in
     let k : E.Context = record { program = p; scope = []; slots = slots; store = s } in
     let h : Q k M.AtEnd =
-        tells_so names index k M.AtEnd c.left.result c.by_name-in-End.result (M.leaves k S.Unset) c.by_name-in-End.ensures texts.told.apart refl c.left.ensures.own
-        (c.left.ensures.value names k M.AtEnd S.Unset (ap (slots_of names) (sym c.deref-2.ensures.value)) refl) in
+    tells_so names index k M.AtEnd c.left.result c.by_name-in-End.result (M.leaves k S.Unset) c.by_name-in-End.ensures texts.told.apart refl c.left.ensures.own
+    (c.left.ensures.value names k M.AtEnd S.Unset (ap (slots_of names) (sym c.deref-2.ensures.value)) refl) in
     said_at p (names frame.function.now.word.name) f path slots s Q frame.point.phase F.End c.in-End.is (c.requires.own names texts.told.apart) h

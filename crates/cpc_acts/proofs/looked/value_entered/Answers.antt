@@ -1,4 +1,4 @@
-use Rattle.std.proofs.Common.{List, Option, Some, None, option_map}
+use Rattle.std.proofs.Common.{List, Some, None, option_map}
 use Rattle.cpc_base.specs.Bytes.{Text}
 use Rattle.cpc_tree.specs.Erase.{expr_of, exprs_of}
 use Rattle.cpc_store.specs.Store.{Value}

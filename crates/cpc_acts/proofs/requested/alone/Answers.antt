@@ -1,5 +1,4 @@
-use Rattle.std.proofs.Common.{option_map, sym, ap, ◌∙◌}
-use Rattle.std.specs.Result.{result_map_both}
+use Rattle.std.proofs.Common.{option_map}
 use Rattle.cpc_values.specs.Shown.{value_of, shown}
 use Rattle.cpc_eval.specs.Around.{context_of}
 use Rattle.cpc_acts.proofs.Requesting.{not_alone, alone_value, ok_seen}
