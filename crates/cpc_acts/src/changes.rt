@@ -8,7 +8,7 @@ ghost use Rattle.cpc_rules.specs.Apart.{AreApart, Spells};
 ghost use Rattle.cpc_store.specs.Store as S;
 ghost use Rattle.cpc_meaning.specs.Act as M;
 ghost use Rattle.cpc_meaning.specs.Eval as E;
-ghost use Rattle.cpc_values.specs.Shown.{value_of, store_of};
+ghost use Rattle.cpc_values.specs.Shown.{store_of};
 ghost use Rattle.cpc_index.specs.Indexed.{items_of};
 ghost use Rattle.cpc_points.specs.Finds.{found_of};
 ghost use Rattle.cpc_eval.specs.Around.{context_of, IsToldIn};
@@ -16,7 +16,7 @@ ghost use Rattle.cpc_eval.specs.Numbers.{HasNumbers, MaybeNumbers, AllNumbers, S
 ghost use Rattle.cpc_eval.specs.Spots.{AreLawful};
 ghost use Rattle.cpc_builtins.specs.Served.{calls_served, is_served_stmt, is_served_found, is_served_program};
 ghost use Rattle.cpc_frames.specs.Frames.{IsOwn, IsWellFrame, RiseFrom};
-ghost use Rattle.cpc_acts.specs.Acts.{stood_of, context_in, IsTexts, IsServing, IsLawfulIf};
+ghost use Rattle.cpc_acts.specs.Acts.{stood_of, context_in, IsTexts, IsServing};
 ghost use Rattle.cpc_acts.specs.Calls.{calls_known, calls_unmeant};
 ghost use Rattle.cpc_frames.specs.Made.{slots_of};
 ghost use Rattle.cpc_acts.specs.Foreseen.{Foresees, EntersOwnly, Tells, told_of, calling};
@@ -30,7 +30,7 @@ use cpc_eval::Around;
 use cpc_frames::{Frame, slots_cells};
 use cpc_index::{Index, Meant};
 use cpc_points::{Found, Phase, standing};
-use cpc_store::{Store, Value};
+use cpc_store::Store;
 use cpc_tree::program::{CType, Expr, Function, Statement};
 
 /// What a step of a frame does to the live cells.
@@ -275,22 +275,19 @@ fn ahead(index: &Index<'_>, texts: &Names, frame: &Frame<'_>, store: &Store) -> 
     }
 }
 
-/// What a step of a frame, where this value is arriving, does to the live cells. Nothing is changed and no memory is taken.
+/// What a step of a frame does to the live cells, whatever value is arriving. Nothing is changed and no memory is taken.
 pub fn foreseen<'p>(
     index: &Index<'p>,
     texts: &Names,
     frame: &Frame<'_>,
     store: &Store,
-    arriving: Option<Value>,
 ) -> Change<'p>
-    requires well { IsWellFrame index.now frame.now }
-    requires arriving { IsLawfulIf arriving }
-    ensures value { (names : Texts) → IsTexts names index.now texts.now frame.now → IsServing names index.now frame.now
+    requires { IsWellFrame index.now frame.now }
+    ensures value { (names : Texts) (o : Option S.Value) → IsTexts names index.now texts.now frame.now → IsServing names index.now frame.now
         → Foresees names (context_in names index.now frame.now store.now) (stood_of names frame.now) result
-        (M.act (context_in names index.now frame.now store.now) (type_of names frame.now.function.now.result) (option_map (value_of names) arriving) (stood_of names frame.now)) }
+        (M.act (context_in names index.now frame.now store.now) (type_of names frame.now.function.now.result) o (stood_of names frame.now)) }
     ensures own { EntersOwnly index.now result }
 {
-    let _ = arriving;
     match ahead(index, texts, frame, store) {
         Told::Enters(name) => match function_at(index, name) {
             Some(function) => Change::Enters(function),
