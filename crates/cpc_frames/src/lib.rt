@@ -5,8 +5,6 @@ mod cells;
 mod frame;
 mod freeing;
 mod making;
-#[cfg(test)]
-mod tests;
 
 pub use cells::{call_cells, slots_cells};
 pub use frame::{Frame, enter};
