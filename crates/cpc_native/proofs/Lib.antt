@@ -3,3 +3,6 @@ pub mod Asked
 pub mod Stepping
 pub mod Frames
 pub mod Machines
+pub mod Leaving
+pub mod Foretold
+pub mod Nexts

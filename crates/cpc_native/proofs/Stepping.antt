@@ -45,7 +45,7 @@ one_more_no_fault t fault (Faults other) h e = h other refl
 one_more_no_fault t fault NoAnswer h e = cc
 
 -- no slot of a call is a fault
-slots_no_fault : (p : Program) (f : Function) (n : ℕ) (xs : List Variable) (vs : List Value) (s : Store) (fault : Fault) → make_slots p f n xs vs s ≡ Faults fault → ⊥
+pub slots_no_fault : (p : Program) (f : Function) (n : ℕ) (xs : List Variable) (vs : List Value) (s : Store) (fault : Fault) → make_slots p f n xs vs s ≡ Faults fault → ⊥
 slots_no_fault p f n [] vs s fault e = cc
 slots_no_fault p f n (x ∷ xs) vs s fault e = at_size (size p x.type) (λ t other i. slots_no_fault p f (suc n) xs (rest_of vs) t other i) e
   where

@@ -2,3 +2,4 @@ pub mod Counts
 pub mod Stacks
 pub mod Runs
 pub mod Well
+pub mod Next

@@ -1,7 +1,8 @@
 //! The calls upon each other, and how many registers they have.
-ghost use Rattle.std.specs.Prelude.{◌≡◌, ◌↔◌, [], ◌∷◌, ◌++◌, IsTrue, OnOk, OnErr};
+ghost use Rattle.std.specs.Prelude.{◌≡◌, ◌↔◌, List, [], ◌∷◌, ◌++◌, IsTrue, IfSome, OnOk, OnErr};
 ghost use Rattle.std.specs.Option.{IfNone, option_to_list};
 ghost use Rattle.std.proofs.Props.{props};
+ghost use Rattle.cpc_frames.specs.declared.frame.Frame.{Frame};
 ghost use Rattle.cpc_native.specs.Counts.{is_register, registers_in, frames_count};
 
 use cpc_base::NoMemory;
@@ -67,6 +68,14 @@ impl<'p> Calls<'p> {
         let frame = self.frames.pop()?;
         self.registers -= registers_in(&frame.slots);
         Some(frame)
+    }
+
+    /// The innermost frame.
+    pub(crate) fn last(&self) -> Option<&Frame<'p>>
+        ensures some { IfSome result (λ frame. (front : List Frame) × (self.now.frames.items ≡ front ++ frame.now ∷ [])) }
+        ensures none { IfNone result (self.now.frames.items ≡ []) }
+    {
+        self.frames.last()
     }
 
     /// Drops all frames.

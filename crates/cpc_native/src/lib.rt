@@ -3,7 +3,6 @@
 
 mod calls;
 mod machine;
-#[cfg(test)]
-mod tests;
+mod next;
 
 pub use machine::{Machine, Request, Stepped};

@@ -1,5 +1,5 @@
 //! The machine: calls upon each other, and what the innermost one does next.
-ghost use Rattle.std.specs.Prelude.{◌≡◌, ◌+◌, ◌-◌, ◌<◌, ◌^◌, min, [], ◌∷◌, Option, Some, None, Ok, IfOk, OnOk, OnErr};
+ghost use Rattle.std.specs.Prelude.{◌≡◌, ℕ, ◌+◌, ◌-◌, ◌<◌, ◌≤◌, ◌^◌, min, [], ◌∷◌, Option, Some, None, Ok, IfOk, OnOk, OnErr};
 ghost use Rattle.std.specs.List.{All};
 ghost use Rattle.cpc_tree.specs.Erase.{Names as Texts, function_of};
 ghost use Rattle.cpc_tree.specs.Points as T;
@@ -22,12 +22,19 @@ ghost use Rattle.cpc_acts.specs.Acts.{act_of, IsLawfulAct, IsLawfulIf, EntersOwn
 ghost use Rattle.cpc_meaning.specs.Act as M;
 ghost use Rattle.cpc_frames.specs.Made.{slots_of};
 ghost use Rattle.cpc_native.specs.Stacks.{fault_of};
+ghost use Rattle.cpc_tree.specs.Points.{Point};
+ghost use Rattle.cpc_rules.specs.Apart.{AreApart};
+ghost use Rattle.cpc_cells.specs.Cells.{call_cells};
+ghost use Rattle.cpc_meaning.specs.Events.{Callback};
+ghost use Rattle.cpc_meaning.specs.Machine.{State};
+ghost use Rattle.cpc_meaning.specs.Runs.{live_cells};
 
 use crate::calls::Calls;
-use cpc_acts::{Act, step};
+use crate::next::counted;
+use cpc_acts::{Act, foreseen, step};
 use cpc_base::{Name, Names, NoMemory, Stop};
 use cpc_builtins::Builtin;
-use cpc_frames::{Frame, enter};
+use cpc_frames::{Frame, call_cells, enter};
 use cpc_index::Index;
 use cpc_num::Fault;
 use cpc_points::after;
@@ -78,6 +85,7 @@ fn fault_of(stepped: &Stepped) -> Option<Fault>
 
 impl<'p> Machine<'p> {
     ghost use Rattle.cpc_native.specs.Stacks.{frames_of, stack_of, done_of, went, TellsRunning};
+    ghost use Rattle.cpc_native.specs.Next.{FreesAlone, IsStateOf, LeavesSo, LeavesAtMost};
     ghost use Rattle.cpc_native.specs.Runs.{Runs};
     ghost use Rattle.cpc_native.specs.Well.{AreWell, IsWell, BackAfter, AskedBy, TellsFunction, Unchanged, IsSameBut, EndsEmpty, AsksServed, IsOver, IsLawfulStep};
 
@@ -329,6 +337,39 @@ impl<'p> Machine<'p> {
         self.store
             .live_cells()
             .saturating_add(self.calls.registers())
+    }
+
+    /// How many cells are live once the next step is made, what it asks for included, told before it is made. A step that
+    /// faults leaves those that there are. Where nothing runs, those that are live now. `u64::MAX` stands for every greater
+    /// number. No memory is taken. The number is exact where nothing takes the value of a freed block, as in every program
+    /// that breaks no rule (`next`), and wherever it is more than is live now (`more`); within a cap it is never too small
+    /// (`within`).
+    pub fn next_cells(&self) -> u64
+        requires { IsWell self.now }
+        ensures next { (names : Texts) (s : State Point Callback) → IsStateOf names self.now s → FreesAlone (trees (items_of names self.now.index)) s.store (stack_of names self.now) → LeavesSo names self.now s result }
+        ensures more { (names : Texts) (s : State Point Callback) → IsStateOf names self.now s → live_cells s < result → LeavesSo names self.now s result }
+        ensures within { (names : Texts) (s : State Point Callback) → IsStateOf names self.now s → (cap : ℕ) → cap < 2 ^ 62 → live_cells s ≤ cap → result ≤ cap → LeavesAtMost names self.now s cap }
+        ensures idle { self.now.calls.frames.items ≡ [] → (names : Texts) → result ≡ min (S.store_cells (store_of names self.now.store)) (2 ^ 64 - 1) }
+    {
+        let live = self.live_cells();
+        let Some(frame) = self.calls.last() else {
+            return live;
+        };
+        let change = foreseen(&self.index, self.texts, frame, &self.store);
+        counted(live, change, &self.index, &frame.slots, &self.store)
+    }
+
+    /// How many cells are live once a function of this name is called, where nothing runs; where the program has none, those
+    /// that are live now. `u64::MAX` stands for every greater number. No memory is taken.
+    pub fn cells_with(&self, function: Name) -> u64
+        ensures { (names : Texts) → AreApart names → (g : X.Function) → function_named (items_of names self.now.index) (names function) ≡ Some g
+            → result ≡ min (S.store_cells (store_of names self.now.store) + L.frames_registers (stack_of names self.now).frames + call_cells (items_of names self.now.index) g) (2 ^ 64 - 1) }
+    {
+        let live = self.live_cells();
+        match self.index.function(function) {
+            Some(function) => live.saturating_add(call_cells(&self.index, function)),
+            None => live,
+        }
     }
 
     /// The store.

@@ -1,0 +1,37 @@
+//! The live cells that a step leaves, counted from the change that is told of it.
+ghost use Rattle.cpc_tree.specs.Erase.{Names};
+ghost use Rattle.cpc_rules.specs.Apart.{AreApart};
+ghost use Rattle.cpc_values.specs.Shown.{store_of};
+ghost use Rattle.cpc_index.specs.Indexed.{items_of};
+ghost use Rattle.cpc_frames.specs.Frames.{RiseFrom};
+ghost use Rattle.cpc_frames.specs.Made.{slots_of};
+ghost use Rattle.cpc_native.specs.Next.{IsCounted};
+
+use cpc_acts::Change;
+use cpc_eval::Slot;
+use cpc_frames::{call_cells, slots_cells};
+use cpc_index::Index;
+use cpc_store::Store;
+
+/// How many cells are live after a change, where so many were before it and these are the variables of the innermost call.
+pub(crate) fn counted(
+    live: u64,
+    change: Change<'_>,
+    index: &Index<'_>,
+    slots: &[Slot],
+    store: &Store,
+) -> u64
+    requires { RiseFrom 0 slots.now }
+    ensures { (names : Names) → AreApart names → IsCounted names (items_of names index.now) (store_of names store.now) (slots_of names slots.now) live change.entry result }
+{
+    match change {
+        Change::Stays => live,
+        Change::Enters(function) => live.saturating_add(call_cells(index, function)),
+        Change::Leaves => match slots_cells(slots, store) {
+            Some(cells) => live.saturating_sub(cells),
+            None => live,
+        },
+        Change::Makes(cells) => live.saturating_add(cells),
+        Change::Frees(cells) => live.saturating_sub(cells),
+    }
+}
