@@ -1,32 +1,38 @@
 -- What a request does, and its answer, are one step.
-use Rattle.std.proofs.Common.{◌≡◌, ℕ, false, ℤ, pos, List, [], ◌∷◌, ◌++◌, Option, Some, Result, Ok, refl, sym, ap, subst, ◌∙◌, append_assoc}
+use Rattle.std.proofs.Common.{◌≡◌, ℕ, true, false, ℤ, pos, List, [], ◌∷◌, ◌++◌, Option, Some, None, Result, Ok, refl, sym, ap, subst, ◌∙◌, append_assoc}
 use Rattle.std.proofs.Common.{map}
 use Rattle.std.proofs.lemmas.List.{append-nil, map-append}
-use Rattle.std.specs.Prelude.{int_lt, unsigned_abs}
+use Rattle.std.specs.Prelude.{int_lt, unsigned_abs, is_some}
 use Rattle.cpc_base.specs.Bytes.{Text}
 use Rattle.cpc_base.specs.declared.names.Name.{Name}
+use Rattle.cpc_base.specs.declared.stop.NoMemory.{NoMemory}
 use Rattle.cpc_num.specs.declared.kinds.Kind.{Kind}
 use Rattle.cpc_tree.specs.Erase.{Names}
 use Rattle.cpc_tree.specs.Texts.{output, output_of}
+use Rattle.cpc_tree.specs.Points.{Point}
+use Rattle.cpc_tree.specs.Trace as T
 use Rattle.cpc_tree.specs.Trace.{Mark, Output}
-use Rattle.cpc_store.specs.declared.values.Block.{Block}
 use Rattle.cpc_store.specs.declared.values.Class.{Class}
+use Rattle.cpc_store.specs.declared.values.Class.TheVariants.{Static}
 use Rattle.cpc_store.specs.Store.{Store, Value, Unset, Whole, At, alloc, free, next_block, unset_cells}
-use Rattle.cpc_meaning.specs.Answer.{Gives}
+use Rattle.cpc_meaning.specs.Answer.{Answer, Gives, Faults, NoAnswer, ◌>>=◌}
 use Rattle.cpc_meaning.specs.Agenda as A
 use Rattle.cpc_meaning.specs.Events.{callbacks}
-use Rattle.cpc_meaning.specs.Machine.{marks, reply, replies, with_store, with_agenda, settled}
-use Rattle.cpc_meaning.specs.Plain.{running_function}
+use Rattle.cpc_meaning.specs.Machine.{marks, after_done, reply, replies, with_store, with_agenda, settled}
+use Rattle.cpc_meaning.specs.Plain.{Form, Stack, Done, Went, Returned, Asks, answered, running_function}
 use Rattle.cpc_meaning.specs.Section.{allocated, freed}
 use Rattle.cpc_meaning.specs.Trees.{trees}
 use Rattle.cpc_agenda.specs.declared.agenda.Agenda.{Agenda}
 use Rattle.cpc_agenda.specs.Lists.{lists_of}
 use Rattle.cpc_run.specs.declared.items.Item.{Item}
 use Rattle.cpc_run.specs.declared.looped.Loop.{Loop}
+use Rattle.cpc_pointers.specs.Made.{IsMadeCode}
+use Rattle.cpc_pointers.specs.Laws.{done_with}
+use Rattle.cpc_pointers.proofs.Answered.{answered_alike}
 use Rattle.cpc_run.specs.declared.outcome.Outcome.{Outcome}
-use Rattle.cpc_run.specs.declared.short.Short.{Short}
+use Rattle.cpc_run.specs.declared.outcome.Outcome.TheVariants as O
 use Rattle.cpc_run.specs.Code.{store_in, stack_in}
-use Rattle.cpc_run.specs.States.{States, Did, Acted, agenda_of, callback_of, due_callback, settles, program_in}
+use Rattle.cpc_run.specs.States.{States, Stands, Did, Acted, outcome_of, agenda_of, callback_of, due_callback, settles, program_in}
 
 -- one more mark goes out behind the others
 pub output_more : (ms : List Mark) (bytes : Text) → output (ms ++ Output bytes ∷ []) ≡ output ms ++ bytes
@@ -45,7 +51,7 @@ printed_more names l f sent old bytes new s e h = record {
 }
 
 -- the answer of a loop in the middle is that of the loop before it, where program and stack are the same
-pub carried : (names : Names) (r : Result (Option Outcome) Short) (l mid new : Loop) (printed : Text) (s t : States) (v : Value) → program_in names mid ≡ program_in names l → stack_in names mid.machine ≡ stack_in names l.machine
+pub carried : (names : Names) (r : Result (Option Outcome) NoMemory) (l mid new : Loop) (printed : Text) (s t : States) (v : Value) → program_in names mid ≡ program_in names l → stack_in names mid.machine ≡ stack_in names l.machine
     → Did names r new printed s (settles names mid s (reply (trees (program_in names mid)) (stack_in names mid.machine) v t))
     → Did names r new printed s (settles names l s (reply (trees (program_in names l)) (stack_in names l.machine) v t))
 carried names r l mid new printed s t v program stack h =
@@ -71,24 +77,70 @@ pub made_so : (class : Class) (kind : Kind) (count : ℤ) (cells : ℕ) (s : Sto
     → allocated class (Whole kind count) s ≡ Gives (alloc class (unset_cells cells) s, At class (next_block class s) 0)
 made_so class kind count cells s e f = simp (e, f) refl
 
-pub made_answered : (names : Names) (r : Result (Option Outcome) Short) (l mid new : Loop) (f : Name) (printed : Text) (s : States) (class : Class) (kind : Kind) (count : ℤ) (cells : ℕ) (b : Block)
-    → int_lt count (pos 0) ≡ false → unsigned_abs count ≡ cells → b ≡ record { class = class; number = next_block class (store_in names l.machine) }
-    → program_in names mid ≡ program_in names l → stack_in names mid.machine ≡ stack_in names l.machine → store_in names mid.machine ≡ alloc class (unset_cells cells) (store_in names l.machine) → mid.agenda ≡ l.agenda
-    → Acted names l f printed s s
-    → ((t : States) → Acted names mid f printed s t → Did names r new printed s (settles names mid s (reply (trees (program_in names mid)) (stack_in names mid.machine) (At b.class b.number 0) t)))
-    → Did names r new printed s (settles names l s (replies (trees (program_in names l)) (stack_in names l.machine) (allocated class (Whole kind count) s.store) s))
-made_answered names r l mid new f printed s class kind count cells b e g block program stack store agenda h answer =
-    let t = alloc class (unset_cells cells) s.store in
-    let at : At b.class b.number 0 ≡ At class (next_block class s.store) 0 = ap (λ x. At x.class x.number 0) block ∙ ap (λ u. At class (next_block class u) 0) (sym h.store) in
-    let done = carried names r l mid new printed s (with_store s t) (At b.class b.number 0) program stack (answer (with_store s t) (stored names l mid f printed s t stack (store ∙ ap (alloc class (unset_cells cells)) (sym h.store)) agenda h)) in
-    subst (λ a. Did names r new printed s (settles names l s (replies (trees (program_in names l)) (stack_in names l.machine) a s))) (sym (made_so class kind count cells s.store e g))
-    (subst (λ v. Did names r new printed s (settles names l s (reply (trees (program_in names l)) (stack_in names l.machine) v (with_store s t)))) at done)
+-- a loop in the middle, in which a pointer arrived, and the same with the block it leads to
+module _ (names : Names) (l mid : Loop) (printed : Text) (s : States) (class : Class) (cells : ℕ) (v : Value) (dynamic : ¬ (class ≡ Static)) (made : IsMadeCode s.store (stack_in names l.machine)) (going : s.outcome ≡ T.Going) where
+  abbrev p : Form Point
+  p = trees (program_in names l)
+
+  abbrev k : Stack Point
+  k = stack_in names l.machine
+
+  abbrev grown : States
+  grown = with_store s (alloc class (unset_cells cells) s.store)
+
+  -- the answer where the block is there, by the answer without it
+  abbrev with_it : Answer (Done Point) → Answer States
+  with_it a = (a >>= λ d. Gives (done_with class (unset_cells cells) d)) >>= after_done grown
+
+  reply_is : reply p k v grown ≡ with_it (answered p s.store k v)
+  reply_is = ap (λ a. a >>= after_done grown) (answered_alike p class (unset_cells cells) s.store k v dynamic made)
+
+  -- the loop with the block stands as the state with it
+  abbrev pub Grows : Loop → Type 0
+  Grows new = (t : States) → Stands names mid printed t → Stands names new printed (with_store t (alloc class (unset_cells cells) t.store))
+
+  went_on : (new : Loop) → Grows new → (a : Answer (Done Point)) → Did {E = NoMemory} names (Ok None) mid printed s (settles names l s (a >>= after_done s)) → Did {E = NoMemory} names (Ok None) new printed s (settles names l s (with_it a))
+  went_on new grows (Gives (Went t j)) h = grows (record s { store = t; running = Some j }) h
+  went_on new grows (Gives (Returned w t)) h = tt
+  went_on new grows (Gives (Asks r)) h = tt
+  went_on new grows (Faults fault) h = absurd (let g = h.going in cc g)
+  went_on new grows NoAnswer h = tt
+
+  not_going : (o : Outcome) → outcome_of names o ≡ T.Going → ⊥
+  not_going (O.Ended n) e = cc e
+  not_going (O.Exited z) e = cc e
+  not_going (O.Failed fault f) e = cc e
+
+  gone : (o : Outcome) (a : Answer (Done Point)) → Did {E = NoMemory} names (Ok (Some o)) mid printed s (settles names l s (a >>= after_done s)) → Did {E = NoMemory} names (Ok (Some o)) mid printed s (settles names l s (with_it a))
+  gone o (Gives (Went t j)) h = absurd (not_going o (sym (ap (λ (u : States). u.outcome) h) ∙ going))
+  gone o (Gives (Returned w t)) h = tt
+  gone o (Gives (Asks r)) h = tt
+  gone o (Faults fault) h = h
+  gone o NoAnswer h = tt
+
+  module _ (kind : Kind) (count : ℤ) (not_below : int_lt count (pos 0) ≡ false) (counted : unsigned_abs count ≡ cells) (pointer : v ≡ At class (next_block class s.store) 0) where
+    replies_is : replies p k (allocated class (Whole kind count) s.store) s ≡ with_it (answered p s.store k v)
+    replies_is =
+        ap (λ a. replies p k a s) (made_so class kind count cells s.store not_below counted)
+        ∙ ap (λ w. reply p k w grown) (sym pointer) ∙ reply_is
+
+    -- the step goes on, and the block was made
+    pub made_on : (new : Loop) → Grows new → (o : Option Outcome) → is_some o ≡ false → Did {E = NoMemory} names (Ok o) mid printed s (settles names l s (reply p k v s))
+        → Did {E = NoMemory} names (Ok None) new printed s (settles names l s (replies p k (allocated class (Whole kind count) s.store) s))
+    made_on new grows (Some o) e h = absurd (cc e)
+    made_on new grows None e h = subst (λ a. Did {E = NoMemory} names (Ok None) new printed s (settles names l s a)) (sym replies_is) (went_on new grows (answered p s.store k v) h)
+
+    -- the pointer could not arrive
+    pub made_not : (o : Option Outcome) → is_some o ≡ true → Did {E = NoMemory} names (Ok o) mid printed s (settles names l s (reply p k v s))
+        → Did {E = NoMemory} names (Ok o) mid printed s (settles names l s (replies p k (allocated class (Whole kind count) s.store) s))
+    made_not None e h = absurd (cc e)
+    made_not (Some o) e h = subst (λ a. Did {E = NoMemory} names (Ok (Some o)) mid printed s (settles names l s a)) (sym replies_is) (gone o (answered p s.store k v) h)
 
 -- a block is freed
 pub freed_so : (class : Class) (v : Value) (s t : Store) → Ok t ≡ free class v s → freed class v s ≡ Gives (t, Unset)
 freed_so class v s t e = simp (sym e) refl
 
-pub freed_answered : (names : Names) (r : Result (Option Outcome) Short) (l mid new : Loop) (f : Name) (printed : Text) (s : States) (class : Class) (v : Value)
+pub freed_answered : (names : Names) (r : Result (Option Outcome) NoMemory) (l mid new : Loop) (f : Name) (printed : Text) (s : States) (class : Class) (v : Value)
     → Ok (store_in names mid.machine) ≡ free class v (store_in names l.machine)
     → program_in names mid ≡ program_in names l → stack_in names mid.machine ≡ stack_in names l.machine → mid.agenda ≡ l.agenda
     → Acted names l f printed s s

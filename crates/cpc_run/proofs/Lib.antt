@@ -7,5 +7,4 @@ pub mod Runs
 pub mod Pieces
 pub mod Ends
 pub mod Bars
-pub mod Grown
-pub mod Beyond
+pub mod Shorts

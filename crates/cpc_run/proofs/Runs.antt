@@ -12,6 +12,7 @@ use Rattle.cpc_matching.specs.Steps.{or_stay}
 use Rattle.cpc_meaning.specs.Events.{callbacks}
 use Rattle.cpc_meaning.specs.Machine.{ends, try_step, unless_over, step}
 use Rattle.cpc_meaning.specs.Runs.{live_cells}
+use Rattle.cpc_pointers.proofs.Runs.{runs_are_made}
 use Rattle.cpc_run.specs.declared.looped.Loop.{Loop}
 use Rattle.cpc_run.specs.declared.made.Made.{Made}
 use Rattle.cpc_run.specs.declared.made.Made.TheVariants as M
@@ -20,8 +21,8 @@ use Rattle.cpc_run.specs.declared.outcome.Ended.TheVariants as E
 use Rattle.cpc_run.specs.declared.outcome.Limits.{Limits}
 use Rattle.cpc_run.specs.declared.outcome.Outcome.{Outcome}
 use Rattle.cpc_run.specs.declared.outcome.RunReport.{RunReport}
-use Rattle.cpc_run.specs.States.{States, Keeps, outcome_of, program_in}
-use Rattle.cpc_run.specs.Reports.{MadeSo, Reached, NeverStuck, IsLeft, IsPrefix, WentOut, EndsSo, Tells, Wrote, run_of, written}
+use Rattle.cpc_run.specs.States.{States, Within, Keeps, outcome_of, program_in}
+use Rattle.cpc_run.specs.Reports.{MadeSo, Reached, NeverStuck, IsLeft, IsPrefix, WentOut, EndsSo, Tells, Wrote, untold, run_of, written}
 
 -- ---- the next state
 
@@ -87,6 +88,10 @@ module _ (names : Names) (q : Program) (cap : ℕ) (l : Loop) (printed : Text) (
   pub full_next : (new : Loop) (text : Text) (left : ℕ) → MadeSo names cap (Ok (M.Full left)) new printed text (run_of q n) (try_step (callbacks (program_in names l)) (run_of q n))
       → (text ≡ printed) × (left ≡ live_cells (run_of q (suc n))) × (cap < left)
   full_next new text left h = made_next (Ok (M.Full left)) new printed text h
+
+-- a state that was reached has no more live cells than the cap, and its pointers lead into blocks that were made
+pub within_cap : (names : Names) (q : Program) (cap : ℕ) (l : Loop) (printed : Text) (n cells : ℕ) → Reached names q cap l printed n cells → Within cap (run_of q n)
+within_cap names q cap l printed n cells r = record { made = runs_are_made q untold n refl; live = r.bounded n (omega arith) }
 
 -- ---- what is told
 

@@ -1,7 +1,8 @@
 -- A step is what runs, or what is taken.
-use Rattle.std.proofs.Common.{◌≡◌, true, false, [], ◌∷◌, map, Option, Some, None, Result, Ok, Err, IfOk, refl, sym, ap, subst, ◌∙◌}
+use Rattle.std.proofs.Common.{◌≡◌, ℕ, true, false, [], ◌∷◌, map, Option, Some, None, Result, Ok, Err, IfOk, refl, sym, ap, subst, ◌∙◌}
 use Rattle.cpc_base.specs.Bytes.{Text}
 use Rattle.cpc_base.specs.declared.names.Name.{Name}
+use Rattle.cpc_base.specs.declared.stop.NoMemory.{NoMemory}
 use Rattle.cpc_num.specs.declared.kinds.Fault.{Fault}
 use Rattle.cpc_num.specs.declared.kinds.Kind.TheVariants.{Int}
 use Rattle.cpc_tree.specs.Erase.{Names}
@@ -27,15 +28,14 @@ use Rattle.cpc_run.specs.declared.looped.Loop.{Loop}
 use Rattle.cpc_run.specs.declared.outcome.Outcome.{Outcome}
 use Rattle.cpc_run.specs.declared.outcome.Outcome.TheVariants as O
 use Rattle.cpc_run.specs.declared.short.Short.{Short}
-use Rattle.cpc_run.specs.declared.short.Short.TheVariants as W
+use Rattle.cpc_run.specs.Shorts.{Counts}
 use Rattle.cpc_run.specs.Code.{items_in, store_in, stack_in, Same}
 use Rattle.cpc_run.specs.States.{States, Stands, Came, Did, agenda_of, callback_of, due_callback, settles, where_running, program_in}
 
 -- where no rule fits nothing is said
-pub nothing : (names : Names) (r : Result (Option Outcome) Short) (new : Loop) (printed : Text) (s : States) → Did names r new printed s None
+pub nothing : {E : Type 0} (names : Names) (r : Result (Option Outcome) E) (new : Loop) (printed : Text) (s : States) → Did names r new printed s None
 nothing names (Ok r) new printed s = tt
-nothing names (Err W.Memory) new printed s = tt
-nothing names (Err (W.Beyond cells)) new printed s = tt
+nothing names (Err e) new printed s = tt
 
 -- ---- a callback
 
@@ -54,7 +54,7 @@ calls_with names r l new printed s f pointer (S.Cond n) w e h = nothing names r 
 
 -- ---- what the code asks for
 
-done_so : (names : Names) (r : Result (Option Outcome) Short) (l new : Loop) (printed : Text) (s : States) (request : Request) (a : Answer (Done Point)) → Same (Ok (Asks request)) a
+done_so : (names : Names) (r : Result (Option Outcome) NoMemory) (l new : Loop) (printed : Text) (s : States) (request : Request) (a : Answer (Done Point)) → Same (Ok (Asks request)) a
     → Did names r new printed s (settles names l s (asked_by (callbacks (program_in names l)) (stack_in names l.machine) s request.asked request.arguments))
     → Did names r new printed s (settles names l s (a >>= runs_on (callbacks (program_in names l)) s (stack_in names l.machine)))
 done_so names r l new printed s request NoAnswer e h = nothing names r new printed s
@@ -63,7 +63,7 @@ done_so names r l new printed s request (Gives d) e h =
     let same : Asks request ≡ d = cc e in
     subst (λ d. Did names r new printed s (settles names l s (runs_on (callbacks (program_in names l)) s (stack_in names l.machine) d))) same h
 
-pub asked_so : (names : Names) (r : Result (Option Outcome) Short) (l mid new : Loop) (before printed : Text) (s : States) (request : Request) → Stands names l before s
+pub asked_so : (names : Names) (r : Result (Option Outcome) NoMemory) (l mid new : Loop) (before printed : Text) (s : States) (request : Request) → Stands names l before s
     → program_in names mid ≡ program_in names l → stack_in names mid.machine ≡ stack_in names l.machine
     → Same (Ok (Asks request)) (plain (trees (program_in names l)) (store_in names l.machine) (stack_in names l.machine))
     → Did names r new printed s (settles names mid s (asked_by (callbacks (program_in names mid)) (stack_in names mid.machine) s request.asked request.arguments))
@@ -92,21 +92,29 @@ faulted_so names l new before printed s fault f stands running name e =
     failed_so names l new printed s fault f (plain (trees (program_in names l)) s.store k) (subst (λ t. Same (Err fault) (plain (trees (program_in names l)) t k)) (sym stands.store) e) name
     (stands.running ∙ ap (λ b. where_running b k) running)
 
+-- a step in which code runs
+pub code_step_is : (names : Names) (l : Loop) (s : States) → s.running ≡ Some (stack_in names l.machine)
+    → settles names l s (code_step (callbacks (program_in names l)) s (stack_in names l.machine)) ≡ try_step (callbacks (program_in names l)) s
+code_step_is names l s running = let m = callbacks (program_in names l) in sym (ap (λ o. settled m s (step_running m s o)) running)
+
 -- ---- what is taken
 
 -- a step that goes on, or is not made, does so from either state, where as many cells are live
 from_either : (names : Names) (r : Result (Option Outcome) Short) (l new : Loop) (printed : Text) (s t : States) (a : Answer States) → live_cells t ≡ live_cells s → IfOk r (λ o. o ≡ None)
     → Did names r new printed t (settles names l t a) → Did names r new printed s (settles names l s a)
-from_either names (Err W.Memory) l new printed s t a live on h = tt
-from_either names (Err (W.Beyond cells)) l new printed s t NoAnswer live on h = tt
-from_either names (Err (W.Beyond cells)) l new printed s t (Gives u) live on h = h
-from_either names (Err (W.Beyond cells)) l new printed s t (Faults fault) live on h = h ∙ live
+from_either names (Err e) l new printed s t a live on h = tt
 from_either names (Ok (Some o)) l new printed s t a live on h = absurd (cc on)
 from_either names (Ok None) l new printed s t NoAnswer live on h = tt
 from_either names (Ok None) l new printed s t (Gives u) live on h = h
 from_either names (Ok None) l new printed s t (Faults fault) live on h = absurd (let going = h.going in cc)
 
-module _ (names : Names) (r : Result (Option Outcome) Short) (l mid new : Loop) (before printed : Text) (s : States) (item : Item) (v : Value) where
+-- the live cells are the same from either state
+counts_either : (P : ℕ → Type 0) (names : Names) (l : Loop) (s t : States) (a : Answer States) → live_cells t ≡ live_cells s → Counts P (settles names l t a) → Counts P (settles names l s a)
+counts_either P names l s t NoAnswer live h = tt
+counts_either P names l s t (Gives u) live h = h
+counts_either P names l s t (Faults fault) live h = subst P live h
+
+module _ (names : Names) (l mid : Loop) (before : Text) (s : States) (item : Item) (v : Value) where
   abbrev after_it : A.Agenda Callback
   after_it = agenda_of names mid.agenda
 
@@ -123,22 +131,45 @@ module _ (names : Names) (r : Result (Option Outcome) Short) (l mid new : Loop) 
       ap (λ a. schedules (callbacks (program_in names l)) s a.round) e
       ∙ ap (λ a. starts_callback (trees (program_in names l)) (callback_of names item) (value_of names v) (with_agenda s (record a { round = after_it.round }))) e
 
-  pub taken : Stands names l before s → l.running ≡ false → mid.machine ≡ l.machine → mid.running ≡ false
-      → lists_of names l.agenda ≡ record (lists_of names mid.agenda) { round = due_of names (item, v) ∷ (lists_of names mid.agenda).round }
-      → IfOk r (λ o. o ≡ None)
-      → ((t : States) → Stands names mid before t → Did names r new printed t (settles names mid t (starts_callback (trees (program_in names mid)) (callback_of names item) (value_of names v) t)))
-      → Did names r new printed s (try_step (callbacks (program_in names l)) s)
-  taken h idle same still e on start =
-      let t = with_agenda s after_it in
+  -- the item is taken
+  abbrev Taken : Type 0
+  Taken = lists_of names l.agenda ≡ record (lists_of names mid.agenda) { round = due_of names (item, v) ∷ (lists_of names mid.agenda).round }
+
+  -- the state without the item
+  abbrev rest : States
+  rest = with_agenda s after_it
+
+  -- what the item comes to
+  abbrev begins : Loop → States → Answer States
+  begins at t = starts_callback (trees (program_in names at)) (callback_of names item) (value_of names v) t
+
+  rest_stands : Stands names l before s → l.running ≡ false → mid.machine ≡ l.machine → mid.running ≡ false → Stands names mid before rest
+  rest_stands h idle same still = record {
+    store = h.store ∙ ap (store_in names) (sym same);
+    running = h.running ∙ ap (λ b. where_running b (stack_in names l.machine)) (idle ∙ sym still) ∙ ap (λ x. where_running mid.running (stack_in names x)) (sym same);
+    agenda = refl;
+    printed_so = h.printed_so;
+    going = h.going;
+  }
+
+  -- the step is what the item comes to
+  step_is : Stands names l before s → l.running ≡ false → Taken → try_step (callbacks (program_in names l)) s ≡ settled (callbacks (program_in names l)) s (begins l rest)
+  step_is h idle e =
       let m = callbacks (program_in names l) in
-      let stands : Stands names mid before t = record {
-        store = h.store ∙ ap (store_in names) (sym same);
-        running = h.running ∙ ap (λ b. where_running b (stack_in names l.machine)) (idle ∙ sym still) ∙ ap (λ x. where_running mid.running (stack_in names x)) (sym same);
-        agenda = refl;
-        printed_so = h.printed_so;
-        going = h.going;
-      } in
-      let begun = subst (λ x. Did names r new printed t (settled (callbacks (items_in names x)) t (starts_callback (trees (items_in names x)) (callback_of names item) (value_of names v) t))) same (start t stands) in
-      let here = from_either names r l new printed s t (starts_callback (trees (program_in names l)) (callback_of names item) (value_of names v) t) refl on begun in
-      subst (λ a. Did names r new printed s (settled m s a))
-      (sym (ap (step_running m s) (h.running ∙ ap (λ b. where_running b (stack_in names l.machine)) idle) ∙ scheduled (h.agenda ∙ next_is e))) here
+      ap (settled m s) (ap (step_running m s) (h.running ∙ ap (λ b. where_running b (stack_in names l.machine)) idle) ∙ scheduled (h.agenda ∙ next_is e))
+
+  pub taken : (r : Result (Option Outcome) Short) (new : Loop) (printed : Text) → Stands names l before s → l.running ≡ false → mid.machine ≡ l.machine → mid.running ≡ false → Taken
+      → IfOk r (λ o. o ≡ None)
+      → ((t : States) → Stands names mid before t → Did names r new printed t (settles names mid t (begins mid t)))
+      → Did names r new printed s (try_step (callbacks (program_in names l)) s)
+  taken r new printed h idle same still e on start =
+      let begun = subst (λ x. Did names r new printed rest (settled (callbacks (items_in names x)) rest (starts_callback (trees (items_in names x)) (callback_of names item) (value_of names v) rest))) same (start rest (rest_stands h idle same still)) in
+      subst (λ o. Did names r new printed s o) (sym (step_is h idle e)) (from_either names r l new printed s rest (begins l rest) refl on begun)
+
+  -- and so are its live cells
+  pub taken_counts : (P : ℕ → Type 0) → Stands names l before s → l.running ≡ false → mid.machine ≡ l.machine → mid.running ≡ false → Taken
+      → ((t : States) → Stands names mid before t → live_cells t ≡ live_cells s → Counts P (settles names mid t (begins mid t)))
+      → Counts P (try_step (callbacks (program_in names l)) s)
+  taken_counts P h idle same still e start =
+      let begun = subst (λ x. Counts P (settled (callbacks (items_in names x)) rest (starts_callback (trees (items_in names x)) (callback_of names item) (value_of names v) rest))) same (start rest (rest_stands h idle same still) refl) in
+      subst (Counts P) (sym (step_is h idle e)) (counts_either P names l s rest (begins l rest) refl begun)

@@ -24,6 +24,7 @@ use Rattle.cpc_agenda.specs.Lists.{lists_of}
 use Rattle.cpc_run.specs.declared.items.Item.{Item}
 use Rattle.cpc_run.specs.declared.looped.Loop.{Loop}
 use Rattle.cpc_run.specs.declared.outcome.Outcome.TheVariants as O
+use Rattle.cpc_run.specs.declared.short.Short.{Short}
 use Rattle.cpc_run.specs.Code.{store_in, stack_in}
 use Rattle.cpc_run.specs.States.{States, Stands, Did, Came, agenda_of, due_callback, settles, where_running, program_in}
 
@@ -70,7 +71,7 @@ framed_never_fails p f fault (Faults other) none e = none other refl
 framed_never_fails p f fault NoAnswer none e = cc
 
 -- no frame fails
-frame_never_fails : (p : Program) (f : Function) (vs : List Value) (s : Store) (fault : Fault) → make_frame (trees p) f vs s ≡ Faults fault → ⊥
+pub frame_never_fails : (p : Program) (f : Function) (vs : List Value) (s : Store) (fault : Fault) → make_frame (trees p) f vs s ≡ Faults fault → ⊥
 frame_never_fails p f vs s fault e =
     framed_never_fails p f fault (make_slots p f 0 (variables f) vs s) (λ other. slots_never_fail p f 0 (variables f) vs s other) e
 
@@ -103,19 +104,19 @@ module _ (names : Names) (l new : Loop) (printed : Text) (s : States) (h : Stand
   }
 
   made : (g : Function) (vs : List Value) (a : Answer (Frame Point × Store)) → ((fault : Fault) → a ≡ Faults fault → ⊥) → ((frame : Frame Point) (t : Store) → a ≡ Gives (frame, t) → (stack_in names new.machine ≡ stack_of frame) × (store_in names new.machine ≡ t))
-      → Did names (Ok None) new printed s (settles names l s (runs_in s a))
+      → Did {E = Short} names (Ok None) new printed s (settles names l s (runs_in s a))
   made g vs NoAnswer none entered = tt
   made g vs (Faults fault) none entered = absurd (none fault refl)
   made g vs (Gives (frame, t)) none entered = in_frame frame t (entered frame t refl)
 
   named : (f : Text) (vs : List Value) (o : Option Function) → function_named (program_in names l) f ≡ o → Entered f vs
-      → Did names (Ok None) new printed s (settles names l s (runs_named (program_in names l) vs s o))
+      → Did {E = Short} names (Ok None) new printed s (settles names l s (runs_named (program_in names l) vs s o))
   named f vs None e entered = tt
   named f vs (Some g) e entered =
       made g vs (make_frame (trees (program_in names l)) g vs s.store) (λ fault. frame_never_fails (program_in names l) g vs s.store fault)
       (λ frame t m. entered g frame t e (ap (make_frame (trees (program_in names l)) g vs) (sym h.store) ∙ m))
 
-  pub called : (f : Text) (vs : List Value) → Entered f vs → Did names (Ok None) new printed s (settles names l s (runs (trees (program_in names l)) f vs s))
+  pub called : (f : Text) (vs : List Value) → Entered f vs → Did {E = Short} names (Ok None) new printed s (settles names l s (runs (trees (program_in names l)) f vs s))
   called f vs entered = named f vs (function_named (program_in names l) f) refl entered
 
 -- ---- a turn

@@ -10,8 +10,9 @@ use Rattle.cpc_run.specs.declared.looped.Loop.{Loop}
 use Rattle.cpc_run.specs.declared.made.Made.TheVariants as M
 use Rattle.cpc_run.specs.declared.outcome.Outcome.{Outcome}
 use Rattle.cpc_run.specs.declared.short.Short.TheVariants as W
+use Rattle.cpc_run.specs.Shorts.{Counts, IsBeyond}
 use Rattle.cpc_run.specs.Code.{store_in, stack_in, IsIdle}
-use Rattle.cpc_run.specs.States.{States, Stands, Came, IsShort, IsSteady, where_running}
+use Rattle.cpc_run.specs.States.{States, Stands, Came, IsSteady, where_running}
 use Rattle.cpc_run.specs.Reports.{MadeSo}
 use Rattle.cpc_run.proofs.Coded.{idle_frames}
 
@@ -41,19 +42,16 @@ behind_all sent old more new e = append_assoc sent old more ∙ ap (λ t. sent +
 
 module _ (names : Names) (cap : ℕ) (l : Loop) (s : States) where
   pub made_on : (old printed new : Text) (cells greatest : ℕ) (o : Option States) → printed ≡ new → Came names None l printed s o
-      → ((t : States) → Stands names l printed t → cells ≡ min (live_cells t) greatest) → cells ≢ greatest → cells ≤ cap → MadeSo names cap (Ok (M.On cells)) l old new s o
-  made_on old printed new cells greatest None e h counted ne le = tt
-  made_on old printed new cells greatest (Some t) e h counted ne le = (subst (λ p. Stands names l p t) e h, uncapped cells (live_cells t) greatest (counted t h) ne, le)
-
-  pub made_full : (old printed new : Text) (cells greatest : ℕ) (o : Option States) → Came names None l printed s o
-      → ((t : States) → Stands names l printed t → cells ≡ min (live_cells t) greatest) → cells ≢ greatest → cap < cells → new ≡ old → MadeSo names cap (Ok (M.Full cells)) l old new s o
-  made_full old printed new cells greatest None h counted ne lt same = tt
-  made_full old printed new cells greatest (Some t) h counted ne lt same = (same, uncapped cells (live_cells t) greatest (counted t h) ne, lt)
+      → ((t : States) → Stands names l printed t → cells ≡ min (live_cells t) greatest) → cap < greatest → Counts (λ n. n ≤ cap) o → MadeSo names cap (Ok (M.On cells)) l old new s o
+  made_on old printed new cells greatest None e h counted small le = tt
+  made_on old printed new cells greatest (Some t) e h counted small le =
+      let is = counted t h in
+      (subst (λ p. Stands names l p t) e h, omega (arith, is, small, le), omega (arith, is, small, le))
 
   pub made_over : (old printed new : Text) (outcome : Outcome) (o : Option States) → Came names (Some outcome) l printed s o → new ≡ old → MadeSo names cap (Ok (M.Over outcome)) l old new s o
   made_over old printed new outcome None h same = tt
   made_over old printed new outcome (Some t) h same = (same, h)
 
-  pub made_beyond : (old new : Text) (cells : ℕ) (o : Option States) → IsShort (W.Beyond cells) o → cap < cells → new ≡ old → MadeSo names cap (Ok (M.Full cells)) l old new s o
-  made_beyond old new cells None h lt same = tt
-  made_beyond old new cells (Some t) h lt same = (same, h, lt)
+  pub made_full : (old new : Text) (cells : ℕ) (o : Option States) → Counts (IsBeyond cap (W.Beyond cells)) o → new ≡ old → MadeSo names cap (Ok (M.Full cells)) l old new s o
+  made_full old new cells None h same = tt
+  made_full old new cells (Some t) h same = (same, h.0, h.1)

@@ -1,3 +1,4 @@
 pub mod Code
 pub mod States
 pub mod Reports
+pub mod Shorts

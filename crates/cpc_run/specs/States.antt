@@ -1,5 +1,5 @@
 -- The loop of the code, as a state of the event machine.
-use Rattle.std.specs.Prelude.{◌≡◌, ℕ, Bool, true, false, not, map, Option, Some, None, Result, Ok, Err}
+use Rattle.std.specs.Prelude.{◌≡◌, ℕ, ◌≤◌, Bool, true, false, not, map, Option, Some, None, Result, Ok, Err}
 use Rattle.cpc_base.specs.Bytes.{Text}
 use Rattle.cpc_base.specs.declared.names.Name.{Name}
 use Rattle.cpc_tree.specs.Erase.{Names}
@@ -9,14 +9,13 @@ use Rattle.cpc_tree.specs.Syntax.{Program}
 use Rattle.cpc_tree.specs.Texts.{output}
 use Rattle.cpc_tree.specs.Trace as T
 use Rattle.cpc_meaning.specs.Agenda as A
-use Rattle.cpc_meaning.specs.Answer.{Answer, Gives}
+use Rattle.cpc_meaning.specs.Answer.{Answer}
 use Rattle.cpc_meaning.specs.Events.{Callback, CallMain, CallWith, callbacks}
 use Rattle.cpc_meaning.specs.Machine.{State, ends, settled}
 use Rattle.cpc_meaning.specs.Plain.{running_function}
 use Rattle.cpc_meaning.specs.Runs.{live_cells}
 use Rattle.cpc_meaning.specs.Start.{before_bars, main_name}
-use Rattle.cpc_store.specs.declared.values.Class.{Class}
-use Rattle.cpc_store.specs.Store.{Store, Value, At, alloc, next_block, unset_cells}
+use Rattle.cpc_pointers.specs.Made.{IsMadeState}
 use Rattle.cpc_values.specs.Shown.{value_of}
 use Rattle.cpc_agenda.specs.declared.agenda.Agenda.{Agenda}
 use Rattle.cpc_agenda.specs.Lists.{lists_of}
@@ -25,8 +24,6 @@ use Rattle.cpc_run.specs.declared.items.Item.TheVariants as I
 use Rattle.cpc_run.specs.declared.looped.Loop.{Loop}
 use Rattle.cpc_run.specs.declared.outcome.Outcome.{Outcome}
 use Rattle.cpc_run.specs.declared.outcome.Outcome.TheVariants as O
-use Rattle.cpc_run.specs.declared.short.Short.{Short}
-use Rattle.cpc_run.specs.declared.short.Short.TheVariants as W
 use Rattle.cpc_run.specs.Code.{items_in, store_in, stack_in, IsIdle, IsWell, Runs}
 
 -- what the loop takes up
@@ -75,6 +72,11 @@ pub record Stands (names : Names) (l : Loop) (printed : Text) (s : States) : Typ
   pub printed_so : output s.trace ≡ printed
   pub going : s.outcome ≡ T.Going
 
+-- each pointer of the state leads into a block that was made, and no more cells are live than the cap allows
+pub record Within (cap : ℕ) (s : States) : Type 0 where
+  pub made : IsMadeState s
+  pub live : live_cells s ≤ cap
+
 -- what the texts of names and the program have to be, and that `main` is called by its name
 pub record Fits (names : Names) (l : Loop) : Type 0 where
   pub runs : Runs names l.machine
@@ -97,15 +99,9 @@ Came names r l printed s None = Unit {0}
 Came names None l printed s (Some t) = Stands names l printed t
 Came names (Some outcome) l printed s (Some t) = t ≡ ends (outcome_of names outcome) s
 
--- a step that was not made: the next state would have so many live cells; nothing is said of want of memory
-abbrev pub IsShort : Short → Option States → Type 0
-IsShort W.Memory o = Unit {0}
-IsShort (W.Beyond cells) None = Unit {0}
-IsShort (W.Beyond cells) (Some t) = cells ≡ live_cells t
-
--- the same, or the step was not made
-abbrev pub Did : Names → Result (Option Outcome) Short → Loop → Text → States → Option States → Type 0
-Did names (Err short) l printed s o = IsShort short o
+-- the same; of a step that was not made nothing is said
+abbrev pub Did : {E : Type 0} → Names → Result (Option Outcome) E → Loop → Text → States → Option States → Type 0
+Did names (Err e) l printed s o = Unit {0}
 Did names (Ok r) l printed s o = Came names r l printed s o
 
 -- s runs on, whose code asks in this function, and the loop stands as t, which is s after what the request does, but for its answer
@@ -117,11 +113,7 @@ pub record Acted (names : Names) (l : Loop) (function : Name) (printed : Text) (
   pub printed_so : output t.trace ≡ printed
   pub going : t.outcome ≡ T.Going
 
--- a store with one more block of so many unset cells, and the pointer to it
-abbrev pub block_made : Class → (cells : ℕ) → Store → Answer (Store × Value)
-block_made class cells s = Gives (alloc class (unset_cells cells) s, At class (next_block class s) 0)
-
 -- where a step goes on, the loop is as before in what it keeps
-abbrev pub GoesSteady : Result (Option Outcome) Short → Loop → Type 0
+abbrev pub GoesSteady : {E : Type 0} → Result (Option Outcome) E → Loop → Type 0
 GoesSteady (Ok None) l = IsSteady l
 GoesSteady _ l = Unit {0}

@@ -1,5 +1,5 @@
 //! The machine of code by the texts of names: what it runs, its store and its stack.
-ghost use Rattle.std.specs.Prelude.{◌≡◌, map, ◌+◌, ◌<◌, ◌^◌, ◌-◌, IfOk, OnOk, min, Some};
+ghost use Rattle.std.specs.Prelude.{◌≡◌, ℕ, map, ◌+◌, ◌<◌, ◌≤◌, ◌^◌, ◌-◌, IfOk, OnOk, min, Some};
 ghost use Rattle.std.specs.List.{All};
 ghost use Rattle.cpc_tree.specs.Erase.{Names as Spelling, item_of};
 ghost use Rattle.cpc_tree.specs.Typing.{function_named};
@@ -7,7 +7,11 @@ ghost use Rattle.cpc_tree.specs.Syntax as T;
 ghost use Rattle.cpc_tree.specs.Points.{Point};
 ghost use Rattle.cpc_meaning.specs.Answer.{Gives};
 ghost use Rattle.cpc_meaning.specs.Plain as P;
-ghost use Rattle.cpc_meaning.specs.Runs.{frames_registers};
+ghost use Rattle.cpc_meaning.specs.Events.{Callback, callbacks};
+ghost use Rattle.cpc_meaning.specs.Machine.{State, try_step};
+ghost use Rattle.cpc_meaning.specs.Runs.{frames_registers, live_cells};
+ghost use Rattle.cpc_pointers.specs.Made.{IsMadeCode};
+ghost use Rattle.cpc_cells.specs.Cells.{call_cells};
 ghost use Rattle.cpc_meaning.specs.Trees.{trees};
 ghost use Rattle.cpc_store.specs.Seen.{seen, result_with, IsLawful};
 ghost use Rattle.cpc_store.specs.Store as S;
@@ -98,6 +102,27 @@ impl<'p> Code<'p> {
         ensures { (names : Spelling) → result ≡ min (S.store_cells (store_in names self.now) + frames_registers (stack_in names self.now).frames) (2 ^ 64 - 1) }
     {
         self.machine.live_cells()
+    }
+
+    /// How many cells are live once the next step is made, what it asks for included; `u64::MAX` stands for every greater
+    /// number.
+    pub(crate) fn next_cells(&self) -> u64
+        requires well { IsWell self.now }
+        ensures more { (names : Spelling) (s : State Point Callback) → Runs names self.now → s.store ≡ store_in names self.now → s.running ≡ Some (stack_in names self.now) → IsMadeCode s.store (stack_in names self.now)
+            → live_cells s < 2 ^ 62 → live_cells s < result → (t : State Point Callback) → try_step (callbacks (items_in names self.now)) s ≡ Some t → result ≡ min (live_cells t) (2 ^ 64 - 1) }
+        ensures within { (names : Spelling) (s : State Point Callback) → Runs names self.now → s.store ≡ store_in names self.now → s.running ≡ Some (stack_in names self.now) → IsMadeCode s.store (stack_in names self.now)
+            → (cap : ℕ) → cap < 2 ^ 62 → live_cells s ≤ cap → result ≤ cap → (t : State Point Callback) → try_step (callbacks (items_in names self.now)) s ≡ Some t → live_cells t ≤ cap }
+    {
+        self.machine.next_cells()
+    }
+
+    /// How many cells are live once a function of this name is called, where nothing runs; `u64::MAX` stands for every
+    /// greater number.
+    pub(crate) fn cells_with(&self, function: Name) -> u64
+        ensures { (names : Spelling) → Runs names self.now → (g : T.Function) → function_named (items_in names self.now) (names function) ≡ Some g
+            → result ≡ min (S.store_cells (store_in names self.now) + frames_registers (stack_in names self.now).frames + call_cells (items_in names self.now) g) (2 ^ 64 - 1) }
+    {
+        self.machine.cells_with(function)
     }
 
     /// How many blocks of a class were made.

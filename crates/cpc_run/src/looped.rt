@@ -1,5 +1,5 @@
 //! The loop: what runs, what is ready, and a step of them.
-ghost use Rattle.std.specs.Prelude.{◌≡◌, [], ◌++◌, ◌<◌, ◌^◌, None, Some, IfOk, IfSome, OnOk, IfNone, true, false};
+ghost use Rattle.std.specs.Prelude.{◌≡◌, [], ◌++◌, ◌<◌, ◌≤◌, ◌^◌, None, Some, IfOk, IfErr, OnOk, true, false};
 ghost use Rattle.cpc_base.specs.Bytes.{Text};
 ghost use Rattle.cpc_tree.specs.Erase.{Names};
 ghost use Rattle.std.specs.List.{All};
@@ -10,14 +10,15 @@ ghost use Rattle.cpc_meaning.specs.Trees.{trees};
 ghost use Rattle.cpc_values.specs.Shown.{value_of, values_of};
 ghost use Rattle.cpc_agenda.specs.Lists.{lists_of};
 ghost use Rattle.cpc_run.specs.Code.{stack_in};
-ghost use Rattle.cpc_run.specs.States.{States, Stands, Fits, IsSteady, GoesSteady, Keeps, Came, Did, Acted, settles, program_in, callback_of};
+ghost use Rattle.cpc_run.specs.Shorts.{Counts, IsBeyond};
+ghost use Rattle.cpc_run.specs.States.{States, Stands, Within, Fits, IsSteady, GoesSteady, Keeps, Came, Did, Acted, settles, program_in, callback_of};
 
 use crate::code::Code;
 use crate::items::{Item, waited_for};
 use crate::outcome::Outcome;
-use crate::short::Short;
+use crate::short::{Short, above};
 use cpc_agenda::Agenda;
-use cpc_base::{Name, Stop};
+use cpc_base::{Name, NoMemory, Stop};
 use cpc_native::Stepped;
 use cpc_store::Value;
 use std::alloc::Global;
@@ -44,19 +45,20 @@ impl<'p> Loop<'p> {
         alloc: Global,
         function: Name,
         value: Value,
-    ) -> Result<Option<Outcome>, Short>
+    ) -> Result<Option<Outcome>, NoMemory>
         requires steady { IsSteady self.old }
         requires running { self.old.running ≡ true }
         requires lawful { IsLawful (seen value) }
         ensures keeps { Keeps self.old self.new }
         ensures steady { GoesSteady result self.new }
+        ensures stays { IfOk result (λ o. o ≡ None → (self.new.running ≡ true) × (self.new.agenda ≡ self.old.agenda)) }
         ensures did { (names : Names) → Fits names self.old → (printed : Text) (s t : States) → Acted names self.old function printed s t
             → Did names result self.new printed s (settles names self.old s (reply (trees (program_in names self.old)) (stack_in names self.old.machine) (value_of names value) t)) }
     {
         match self.machine.answer(alloc, value) {
             Ok(()) => Ok(None),
             Err(Stop::Fault(fault)) => Ok(Some(Outcome::Failed(fault, function))),
-            Err(Stop::Memory) => Err(Short::Memory),
+            Err(Stop::Memory) => Err(NoMemory),
         }
     }
 
@@ -67,6 +69,7 @@ impl<'p> Loop<'p> {
         requires round { (names : Names) → (lists_of names self.old.agenda).round ≡ [] }
         ensures keeps { Keeps self.old self.new }
         ensures steady { IsSteady self.new }
+        ensures same { self.new.machine ≡ self.old.machine }
         ensures did { (names : Names) → Fits names self.old → (printed : Text) (s : States) → Stands names self.old printed s
             → Came names result self.new printed s (settles names self.old s (turns (callbacks (program_in names self.old)) s)) }
     {
@@ -79,97 +82,121 @@ impl<'p> Loop<'p> {
     }
 
     // Nothing runs: an item that was the first of the round is taken.
-    fn take(&mut self, alloc: Global, item: Item, waited: Value) -> Result<Option<Outcome>, Short>
+    fn take(
+        &mut self,
+        alloc: Global,
+        item: Item,
+        waited: Value,
+        cap: u64,
+    ) -> Result<Option<Outcome>, Short>
         requires steady { IsSteady self.old }
         requires idle { self.old.running ≡ false }
+        requires cap { cap < 2 ^ 62 }
         ensures keeps { Keeps self.old self.new }
         ensures steady { GoesSteady result self.new }
         ensures on { IfOk result (λ o. o ≡ None) }
+        ensures short { IfErr result (λ short. (names : Names) → Fits names self.old → (sent : Text) (s : States) → Stands names self.old sent s → Counts (IsBeyond cap short) (settles names self.old s (starts_callback (trees (program_in names self.old)) (callback_of names item) (value_of names waited) s))) }
+        ensures capped { OnOk result ((names : Names) → Fits names self.old → (sent : Text) (s : States) → Stands names self.old sent s → Counts (λ cells. cells ≤ cap) (settles names self.old s (starts_callback (trees (program_in names self.old)) (callback_of names item) (value_of names waited) s))) }
         ensures did { (names : Names) → Fits names self.old → (printed : Text) (s : States) → Stands names self.old printed s
             → Did names result self.new printed s (settles names self.old s (starts_callback (trees (program_in names self.old)) (callback_of names item) (value_of names waited) s)) }
     {
         match item {
             Item::Main => {
                 let main = self.main;
-                self.starts(alloc, main, &[])
+                self.starts(alloc, main, &[], cap)
             }
             Item::With(function, pointer) => {
                 // What a callback was made ready with is lawful.
                 if !pointer.is_lawful() {
                     return Err(Short::Memory);
                 }
-                self.starts(alloc, function, &[pointer, waited_for(waited)])
+                self.starts(alloc, function, &[pointer, waited_for(waited)], cap)
             }
         }
     }
 
-    // Nothing runs: a function is called.
+    // Nothing runs: a function is called, unless that would leave more live cells than the cap.
     fn starts(
         &mut self,
         alloc: Global,
         function: Name,
         arguments: &[Value],
+        cap: u64,
     ) -> Result<Option<Outcome>, Short>
         requires steady { IsSteady self.old }
         requires idle { self.old.running ≡ false }
         requires lawful { All (λ v. IsLawful (seen v)) arguments.now }
+        requires cap { cap < 2 ^ 62 }
         ensures on { IfOk result (λ o. o ≡ None) }
         ensures keeps { Keeps self.old self.new }
         ensures steady { GoesSteady result self.new }
+        ensures short { IfErr result (λ short. (names : Names) → Fits names self.old → (sent : Text) (s : States) → Stands names self.old sent s → Counts (IsBeyond cap short) (settles names self.old s (runs (trees (program_in names self.old)) (names function) (values_of names arguments.now) s))) }
+        ensures capped { OnOk result ((names : Names) → Fits names self.old → (sent : Text) (s : States) → Stands names self.old sent s → Counts (λ cells. cells ≤ cap) (settles names self.old s (runs (trees (program_in names self.old)) (names function) (values_of names arguments.now) s))) }
         ensures did { (names : Names) → Fits names self.old → (printed : Text) (s : States) → Stands names self.old printed s
             → Did names result self.new printed s (settles names self.old s (runs (trees (program_in names self.old)) (names function) (values_of names arguments.now) s)) }
     {
+        if let Some(short) = above(self.machine.cells_with(function), cap) {
+            return Err(short);
+        }
         self.machine.call(alloc, function, arguments)?;
         self.running = true;
         Ok(None)
     }
 
-    // A step of the running code, with what it asks for. What goes out is put behind `pending`.
+    // A step of the running code, with what it asks for, unless it would leave more live cells than the cap. What goes out is
+    // put behind `pending`.
     fn goes_on(
         &mut self,
         alloc: Global,
         pending: &mut Vec<u8>,
-        room: u64,
+        cap: u64,
     ) -> Result<Option<Outcome>, Short>
         requires steady { IsSteady self.old }
         requires running { self.old.running ≡ true }
-        requires room { room < 2 ^ 63 }
+        requires cap { cap < 2 ^ 62 }
         ensures keeps { Keeps self.old self.new }
         ensures steady { GoesSteady result self.new }
-        ensures did { (names : Names) → Fits names self.old → (sent : Text) (s : States) → Stands names self.old (sent ++ pending.old.items) s
+        ensures short { IfErr result (λ short. (names : Names) → Fits names self.old → (sent : Text) (s : States) → Within cap s → Stands names self.old sent s → Counts (IsBeyond cap short) (settles names self.old s (code_step (callbacks (program_in names self.old)) s (stack_in names self.old.machine)))) }
+        ensures capped { OnOk result ((names : Names) → Fits names self.old → (sent : Text) (s : States) → Within cap s → Stands names self.old sent s → Counts (λ cells. cells ≤ cap) (settles names self.old s (code_step (callbacks (program_in names self.old)) s (stack_in names self.old.machine)))) }
+        ensures did { (names : Names) → Fits names self.old → (sent : Text) (s : States) → Within cap s → Stands names self.old (sent ++ pending.old.items) s
             → Did names result self.new (sent ++ pending.new.items) s (settles names self.old s (code_step (callbacks (program_in names self.old)) s (stack_in names self.old.machine))) }
     {
+        if let Some(short) = above(self.machine.next_cells(), cap) {
+            return Err(short);
+        }
         match self.machine.step(alloc)? {
             Stepped::Went => Ok(None),
             Stepped::Returned(_) => {
                 self.running = false;
                 Ok(None)
             }
-            Stepped::Asked(request) => self.asked(alloc, &request, pending, room),
+            Stepped::Asked(request) => Ok(self.asked(alloc, &request, pending)?),
             Stepped::Faulted(fault, function) => Ok(Some(Outcome::Failed(fault, function))),
         }
     }
 
     /// A step of the run, as the event machine makes it: the run goes on, or is over. What goes out is put behind `pending`.
-    /// No block is made that would leave more cells in blocks than `room`: the step is told as short.
+    /// A step that would leave more live cells than the cap is not made, and told as short.
     pub(crate) fn step(
         &mut self,
         alloc: Global,
         pending: &mut Vec<u8>,
-        room: u64,
+        cap: u64,
     ) -> Result<Option<Outcome>, Short>
         requires steady { IsSteady self.old }
-        requires room { room < 2 ^ 63 }
+        requires cap { cap < 2 ^ 62 }
         ensures keeps { Keeps self.old self.new }
         ensures steady { GoesSteady result self.new }
-        ensures did { (names : Names) → Fits names self.old → (sent : Text) (s : States) → Stands names self.old (sent ++ pending.old.items) s
+        ensures short { IfErr result (λ short. (names : Names) → Fits names self.old → (sent : Text) (s : States) → Within cap s → Stands names self.old sent s → Counts (IsBeyond cap short) (try_step (callbacks (program_in names self.old)) s)) }
+        ensures capped { OnOk result ((names : Names) → Fits names self.old → (sent : Text) (s : States) → Within cap s → Stands names self.old sent s → Counts (λ cells. cells ≤ cap) (try_step (callbacks (program_in names self.old)) s)) }
+        ensures did { (names : Names) → Fits names self.old → (sent : Text) (s : States) → Within cap s → Stands names self.old (sent ++ pending.old.items) s
             → Did names result self.new (sent ++ pending.new.items) s (try_step (callbacks (program_in names self.old)) s) }
     {
         if self.running {
-            return self.goes_on(alloc, pending, room);
+            return self.goes_on(alloc, pending, cap);
         }
         match self.agenda.next() {
-            Some((item, waited)) => self.take(alloc, item, waited),
+            Some((item, waited)) => self.take(alloc, item, waited, cap),
             None => Ok(self.turn()),
         }
     }

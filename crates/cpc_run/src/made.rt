@@ -5,7 +5,7 @@ ghost use Rattle.cpc_tree.specs.Erase.{Names};
 ghost use Rattle.cpc_meaning.specs.Events.{callbacks};
 ghost use Rattle.cpc_meaning.specs.Machine.{try_step};
 ghost use Rattle.cpc_meaning.specs.Runs.{live_cells};
-ghost use Rattle.cpc_run.specs.States.{States, Stands, Fits, IsSteady, Keeps, program_in};
+ghost use Rattle.cpc_run.specs.States.{States, Stands, Within, Fits, IsSteady, Keeps, program_in};
 ghost use Rattle.cpc_run.specs.Reports.{MadeSo, MadeSteady};
 
 use crate::looped::Loop;
@@ -13,9 +13,6 @@ use crate::outcome::Outcome;
 use crate::short::Short;
 use cpc_base::NoMemory;
 use std::alloc::Global;
-
-// How many cells more than the cap a block may take and be made, so that its step is told as it is, also where it fails.
-const SPARE_CELLS: u64 = 1 << 20;
 
 /// What a step within a cap came to.
 #[derive(Clone, Copy, Debug)]
@@ -37,7 +34,7 @@ impl<'p> Loop<'p> {
         self.machine.live_cells()
     }
 
-    /// A step of the run. What it puts out is put behind `pending`, but for a step that leaves too many cells.
+    /// A step of the run, unless it would leave too many cells. What it puts out is put behind `pending`.
     pub(crate) fn make(
         &mut self,
         alloc: Global,
@@ -48,25 +45,18 @@ impl<'p> Loop<'p> {
         requires cap { cap < 2 ^ 62 }
         ensures keeps { Keeps self.old self.new }
         ensures steady { MadeSteady result self.new }
-        ensures made { (names : Names) → Fits names self.old → (sent : Text) (s : States) → Stands names self.old (sent ++ pending.old.items) s
+        ensures made { (names : Names) → Fits names self.old → (sent : Text) (s : States) → Within cap s → Stands names self.old (sent ++ pending.old.items) s
             → MadeSo names cap result self.new (sent ++ pending.old.items) (sent ++ pending.new.items) s (try_step (callbacks (program_in names self.old)) s) }
     {
         let mut text = Vec::new(alloc);
-        match self.step(alloc, &mut text, cap + SPARE_CELLS) {
+        match self.step(alloc, &mut text, cap) {
             Ok(Some(outcome)) => Ok(Made::Over(outcome)),
             Ok(None) => {
-                let cells = self.cells();
-                if cells == u64::MAX {
-                    return Err(NoMemory);
-                }
-                if cells > cap {
-                    return Ok(Made::Full(cells));
-                }
                 pending.extend_from_slice(text.as_slice())?;
-                Ok(Made::On(cells))
+                Ok(Made::On(self.cells()))
             }
-            Err(Short::Beyond(cells)) if cells > cap => Ok(Made::Full(cells)),
-            Err(_) => Err(NoMemory),
+            Err(Short::Beyond(cells)) => Ok(Made::Full(cells)),
+            Err(Short::Memory) => Err(NoMemory),
         }
     }
 }

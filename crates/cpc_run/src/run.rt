@@ -206,12 +206,12 @@ fn run_program<O: Sink>(alloc: Global, program: &Program, limits: Limits, out: &
 }
 
 /// Runs an event program that asks only for what the loop answers, with nothing told from outside, and writes what it puts
-/// out. The bound on steps is looked at before each step, the cap on live cells at what it leaves: a step that leaves
-/// more is not counted, and nothing of it goes out. The cells of the first state are counted before it is made.
+/// out. The bound on steps is looked at before each step, and so is the cap, at what the step would leave: one that would leave
+/// more live cells is not made, and nothing of it goes out. The cells of the first state are counted before it is made.
 ///
 /// `Ended::WriteFault` is a failure of the sink, `Ended::Memory` want of memory; then what went out is the first part of
-/// what the run put out. A step that makes a block of whatever size above the cap is `Ended::Full` like any other; only one
-/// that fails at the place for the pointer to the block may be `Ended::Memory` in place of its fault.
+/// what the run put out. A step that would leave more cells than the cap is told before it is made, so that it takes no
+/// memory, whatever the size of a block or of a call.
 pub fn run_event<O: Sink>(
     alloc: Global,
     program: &Checked,

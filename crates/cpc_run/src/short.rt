@@ -1,6 +1,7 @@
 //! Why the loop leaves a step unmade.
-ghost use Rattle.std.specs.Prelude.{◌≡◌};
+ghost use Rattle.std.specs.Prelude.{◌≡◌, ◌≤◌, IfSome, IfNone};
 ghost use Rattle.cpc_run.specs.declared.short.Short.TheVariants.{Memory};
+ghost use Rattle.cpc_run.specs.Shorts.{IsAbove};
 
 use cpc_base::NoMemory;
 use std::alloc::{AllocError, AllocFailed};
@@ -10,8 +11,23 @@ use std::alloc::{AllocError, AllocFailed};
 pub(crate) enum Short {
     /// Memory was wanting.
     Memory,
-    /// The step makes a block for which there is no room; so many cells would be live after it.
+    /// So many cells would be live after the step, more than the cap.
     Beyond(u64),
+}
+
+/// Why a step is not made that would leave so many live cells, if they are above a cap: that, or want of memory for `u64::MAX`,
+/// which stands for every greater number.
+pub(crate) fn above(cells: u64, cap: u64) -> Option<Short>
+    ensures some { IfSome result (λ short. IsAbove cap cells short) }
+    ensures none { IfNone result (cells ≤ cap) }
+{
+    if cells <= cap {
+        return None;
+    }
+    if cells == u64::MAX {
+        return Some(Short::Memory);
+    }
+    Some(Short::Beyond(cells))
 }
 
 impl From<NoMemory> for Short {
