@@ -6,10 +6,3 @@ mod top;
 
 pub use answer::{End, Outcome, Report, Role};
 pub use top::{TEXT_LIMIT, cpc_main};
-
-#[cfg(test)]
-mod refusals;
-#[cfg(test)]
-mod rows;
-#[cfg(test)]
-mod tests;

@@ -2,9 +2,15 @@
 #![tactic(auto)]
 
 #[cfg(test)]
+mod command;
+#[cfg(test)]
 mod control;
 #[cfg(test)]
 mod faults;
+#[cfg(test)]
+mod language;
+#[cfg(test)]
+mod refusals;
 #[cfg(test)]
 mod rows;
 #[cfg(test)]

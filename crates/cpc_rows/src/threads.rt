@@ -1,5 +1,6 @@
 //! Threads that print, yield and spawn: what they write as threads is what the callbacks made of them write.
-use crate::rows::{Row, call, check, sink};
+use crate::rows::{Row, call, check};
+use cpc_base::{Calls, MemSink};
 use cpc_run::{Ended, Limits, Outcome, run_event};
 use cpc_translate::translate;
 use std::alloc::Global;
@@ -108,7 +109,7 @@ fn check_again(rt: &impl Abort, alloc: Global, row: &Row) -> Result<(), Fail> {
         steps: 1_000_000,
         cells: 1_000_000,
     };
-    let mut again = sink(alloc);
+    let mut again = MemSink::new(alloc, 4096, Calls::new(Vec::new(alloc)));
     let report = run_event(alloc, &translated.read_back, limits, &mut again);
     assert_eq!(rt; again.bytes(), out.as_bytes(), "{text}");
     assert_eq!(rt;

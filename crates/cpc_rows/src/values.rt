@@ -160,7 +160,7 @@ fn every_byte_goes_out(rt: HostRuntime) -> Result<(), Fail> {
 }
 
 /// A block above the cap, of cells that are not filled, and calls above it.
-static FULL: [Row; 6] = [
+static FULL: [Row; 10] = [
     (
         "int main(void){ int *p; cpc_print(1); p = malloc(9); cpc_print(2); p = malloc(1); return 0; }",
         7,
@@ -197,6 +197,32 @@ static FULL: [Row; 6] = [
         7,
         "",
         "full: cap 10, asked 9223372036854775807\n",
+    ),
+    // a fault of the place is told, however great the block that is asked for
+    (
+        "int main(void){ int **q; q = 0; *q = malloc(100000000); return 0; }",
+        1,
+        "",
+        "fault null in main\n",
+    ),
+    (
+        "int main(void){ int **q; q = malloc(1); free(q); *q = malloc(9223372036854775807); return 0; }",
+        1,
+        "",
+        "fault freed in main\n",
+    ),
+    // a call for whose variables there is no room, and one that faults before
+    (
+        "int f(int n){ int a[65536]; return n; } int main(void){ int r; cpc_print(1); r = f(2); return 0; }",
+        7,
+        "1\n",
+        "full: cap 10, asked 65538\n",
+    ),
+    (
+        "int f(int n){ int a[65536]; return n; } int main(void){ int r; cpc_print(1); r = f(1 / 0); return 0; }",
+        1,
+        "1\n",
+        "fault divide in main\n",
     ),
 ];
 

@@ -1,6 +1,6 @@
 //! Whole command lines over objects in memory, and each call of these objects failing in turn.
-use crate::cpc_main;
 use cpc_base::{Calls, Failed, MemFile, MemShelf, MemSink, Sink};
+use cpc_cli::cpc_main;
 use std::alloc::{AllocError, Global};
 use std::test::Fail;
 
@@ -10,7 +10,7 @@ const SEVEN_PRINTED: &[u8] = b"int main(void)\n{\n    cpc_print(7);\n    return 
 
 const THREE_LINES: &[u8] = b"int main(void){\n cpc_print(7);\n cpc_print(10);\n return 0;\n}\n";
 
-// How the objects behave: the file `a.c`, the most bytes of a call, and the number of the call that fails, or 0.
+/// How the objects behave: the file `a.c`, the most bytes of a call, and the number of the call that fails, or 0.
 #[derive(Clone, Copy)]
 pub(crate) struct Setting<'a> {
     pub text: &'a [u8],
@@ -20,7 +20,7 @@ pub(crate) struct Setting<'a> {
     pub said: u64,
 }
 
-// What a call left: its report, and what the two sinks took.
+/// What a call left: its report, and what the two sinks took.
 #[derive(Drop)]
 pub(crate) struct Left {
     pub status: u8,
@@ -31,6 +31,7 @@ pub(crate) struct Left {
     pub err: Vec<u8>,
 }
 
+/// The file has this text, calls take thousands of bytes, and none fails.
 pub(crate) fn ample(text: &[u8]) -> Setting<'_> {
     Setting {
         text,
@@ -59,6 +60,7 @@ fn failing(alloc: Global, call: u64) -> Result<Calls, AllocError> {
     Ok(Calls::new(calls))
 }
 
+/// The command with these words, over objects that behave so.
 pub(crate) fn call(alloc: Global, line: &[&str], setting: Setting<'_>) -> Result<Left, AllocError> {
     let mut files = Vec::new(alloc);
     files.push(MemFile {

@@ -1,5 +1,5 @@
 //! The texts of `docs/ERRORS.md`, each with the line that it gives there.
-use crate::tests::{ample, call};
+use crate::rows::call;
 use std::alloc::Global;
 use std::process::Abort;
 use std::test::Fail;
@@ -113,7 +113,7 @@ fn check_lines(
     rows: &[(&str, &str)],
 ) -> Result<(), Fail> {
     for (text, line) in rows {
-        let left = call(alloc, words, ample(text.as_bytes()))?;
+        let left = call(alloc, words, text)?;
         assert_eq!(rt; left.err.as_slice(), line.as_bytes(), "{text}");
         assert_eq!(rt; left.status, status, "{text}");
         assert_eq!(rt; left.out.as_slice(), b"".as_slice(), "{text}");

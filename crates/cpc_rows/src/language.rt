@@ -1,26 +1,9 @@
 //! Programs that are run: what they print, and how they end.
-use crate::tests::{ample, call};
-use std::alloc::Global;
-use std::process::Abort;
+use crate::command::{ample, call};
+use crate::rows::{Row, check};
 use std::test::Fail;
 
-// Texts with the status of a call, and what it writes on `out` and on `err`.
-fn check_rows(
-    rt: &impl Abort,
-    alloc: Global,
-    words: &[&str],
-    rows: &[(&str, u8, &str, &str)],
-) -> Result<(), Fail> {
-    for (text, status, out, err) in rows {
-        let left = call(alloc, words, ample(text.as_bytes()))?;
-        assert_eq!(rt; left.err.as_slice(), err.as_bytes(), "{text}");
-        assert_eq!(rt; left.out.as_slice(), out.as_bytes(), "{text}");
-        assert_eq!(rt; left.status, *status, "{text}");
-    }
-    Ok(())
-}
-
-static NUMBERS: [(&str, u8, &str, &str); 7] = [
+static NUMBERS: [Row; 7] = [
     ("int main(void){ cpc_print(7); return 0; }", 0, "7\n", ""),
     (
         "int main(void){ int i; i = 0; while (i < 3) { cpc_print(i * 10); i = i + 1; } return 0; }",
@@ -62,10 +45,10 @@ static NUMBERS: [(&str, u8, &str, &str); 7] = [
 
 #[test]
 fn numbers_and_control(rt: HostRuntime) -> Result<(), Fail> {
-    check_rows(&rt, rt.alloc(), &["run", "a.c"], &NUMBERS)
+    check(&rt, rt.alloc(), &["run", "a.c"], &NUMBERS)
 }
 
-static REFUSALS: [(&str, u8, &str, &str); 4] = [
+static REFUSALS: [Row; 4] = [
     ("", 3, "", "refused 1:1 check 16 no main\n"),
     (
         "int main(void){ cpc_yield(); q = 1; return 0; }",
@@ -89,31 +72,31 @@ static REFUSALS: [(&str, u8, &str, &str); 4] = [
 
 #[test]
 fn refusals(rt: HostRuntime) -> Result<(), Fail> {
-    check_rows(&rt, rt.alloc(), &["run", "a.c"], &REFUSALS)
+    check(&rt, rt.alloc(), &["run", "a.c"], &REFUSALS)
 }
 
-static MILLION: [(&str, u8, &str, &str); 1] = [(
+static MILLION: [Row; 1] = [(
     "int main(void){ while (1) { } return 0; }",
     6,
     "",
     "stopped after 1000000 steps\n",
 )];
 
-static THOUSAND: [(&str, u8, &str, &str); 1] = [(
+static THOUSAND: [Row; 1] = [(
     "int main(void){ cpc_print(1); while (1) {} return 0; }",
     6,
     "1\n",
     "stopped after 1000 steps\n",
 )];
 
-static DEEP: [(&str, u8, &str, &str); 1] = [(
+static DEEP: [Row; 1] = [(
     "int f(int n){ int r; r = f(n + 1); return r; }\nint main(void){ int r; cpc_print(1); r = f(0); return 0; }",
     7,
     "1\n",
     "full: cap 100, asked 101\n",
 )];
 
-static BROAD: [(&str, u8, &str, &str); 1] = [(
+static BROAD: [Row; 1] = [(
     "int a[11]; int main(void){ cpc_print(1); return 0; }",
     7,
     "",
@@ -122,13 +105,13 @@ static BROAD: [(&str, u8, &str, &str); 1] = [(
 
 #[test]
 fn bounds_on_steps(rt: HostRuntime) -> Result<(), Fail> {
-    check_rows(
+    check(
         &rt,
         rt.alloc(),
         &["run", "a.c", "--steps", "1000000"],
         &MILLION,
     )?;
-    check_rows(
+    check(
         &rt,
         rt.alloc(),
         &["run", "a.c", "--steps", "1000"],
@@ -138,8 +121,8 @@ fn bounds_on_steps(rt: HostRuntime) -> Result<(), Fail> {
 
 #[test]
 fn bounds_on_cells(rt: HostRuntime) -> Result<(), Fail> {
-    check_rows(&rt, rt.alloc(), &["run", "a.c", "--cells", "100"], &DEEP)?;
-    check_rows(&rt, rt.alloc(), &["run", "a.c", "--cells", "10"], &BROAD)
+    check(&rt, rt.alloc(), &["run", "a.c", "--cells", "100"], &DEEP)?;
+    check(&rt, rt.alloc(), &["run", "a.c", "--cells", "10"], &BROAD)
 }
 
 #[test]
@@ -152,7 +135,7 @@ fn cells_of_a_full_run(rt: HostRuntime) -> Result<(), Fail> {
     Ok(())
 }
 
-static MEMORY: [(&str, u8, &str, &str); 3] = [
+static MEMORY: [Row; 3] = [
     (
         "struct s { int a; char b[3]; };\nstruct s g[2];\nint main(void){ struct s *p; long d; char *q;\n  p = &g[0]; q = g[1].b; q[2] = 300; d = &g[1] - p;\n  cpc_print(g[1].b[2]); cpc_print(d); cpc_print(sizeof(struct s)); cpc_print(g[1].b[3]); return 0; }",
         1,
@@ -175,10 +158,10 @@ static MEMORY: [(&str, u8, &str, &str); 3] = [
 
 #[test]
 fn memory_and_calls(rt: HostRuntime) -> Result<(), Fail> {
-    check_rows(&rt, rt.alloc(), &["run", "a.c"], &MEMORY)
+    check(&rt, rt.alloc(), &["run", "a.c"], &MEMORY)
 }
 
-static RELAY: [(&str, u8, &str, &str); 1] = [(
+static RELAY: [Row; 1] = [(
     "
 struct conn { int fd; int got; int late; int refs; char buf[64]; cpc_condvar c; };
 int served;
@@ -224,5 +207,5 @@ int main(void) { cpc_spawn accept(); return 0; }
 
 #[test]
 fn a_relay_is_accepted(rt: HostRuntime) -> Result<(), Fail> {
-    check_rows(&rt, rt.alloc(), &["check", "a.c"], &RELAY)
+    check(&rt, rt.alloc(), &["check", "a.c"], &RELAY)
 }
