@@ -4,6 +4,3 @@
 mod agenda;
 
 pub use agenda::Agenda;
-
-#[cfg(test)]
-mod tests;

@@ -10,8 +10,6 @@ mod outside;
 mod poll;
 mod steady;
 mod stop;
-#[cfg(test)]
-mod tests;
 
 pub use calls::Calls;
 pub use file::{ReadFault, read_file, write_all};

@@ -6,9 +6,9 @@ use Rattle.cpc_tree.specs.declared.program.Mode.{Mode}
 use Rattle.cpc_tree.specs.declared.program.Mode.TheVariants.{Extern, Native, Cps, Detached}
 use Rattle.cpc_tree.specs.Syntax.{Ty}
 use Rattle.cpc_tree.specs.Located.{LExpr, LNamed, LStmt, Block, Call, Detach, Spawn, If, While, DoWhile, For, Label, LStmts, NoLStmt, AndLStmt, MaybeLStmt, NoneLStmt, SomeLStmt, LParameter, LItem, LStruct, LGlobal, LPrototype, LFunctionItem, bare_expr, bare_stmt, bare_stmts, bare_maybe, bare_item}
-use Rattle.cpc_rules.specs.Operators.{is_cps}
-use Rattle.cpc_rule_laws.specs.Native.{spawns_none, all_spawn_none, maybe_spawns_none, is_native_item, are_native}
-use Rattle.cpc_builtins.specs.Served.{calls_served, is_served_stmt, are_served, is_served_arm, is_extern, is_served_item, is_served_program}
+use Rattle.cpc_check_rules.specs.Operators.{is_cps}
+use Rattle.cpc_check_laws.specs.Native.{spawns_none, all_spawn_none, maybe_spawns_none, is_native_item, are_native}
+use Rattle.cpc_native_builtins.specs.Served.{calls_served, is_served_stmt, are_served, is_served_arm, is_extern, is_served_item, is_served_program}
 use Rattle.cpc_first_form.specs.Threads.{unless, or_then, has_threads, unbuilt_threads}
 use Rattle.cpc_first_form.proofs.Theorem.{form_is_first}
 use Rattle.cpc_built.specs.Built.{is_built_type, is_built, are_built, is_built_if, are_built_parameters, is_native, is_built_head, unbuilt_stmt, unbuilt_stmts, unbuilt_arm, unbuilt_item, unbuilt_items, unbuilt_native}

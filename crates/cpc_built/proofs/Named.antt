@@ -8,8 +8,8 @@ use Rattle.cpc_base.specs.Bytes.{Text}
 use Rattle.cpc_base.specs.declared.names.Name.{Name}
 use Rattle.cpc_tree.specs.Erase.{Table, in_table}
 use Rattle.cpc_tree.specs.Primitives.{primitive_named}
-use Rattle.cpc_builtins.specs.declared.builtins.Builtin.{Builtin}
-use Rattle.cpc_builtins.specs.Builtins.{primitive_of}
+use Rattle.cpc_native_builtins.specs.declared.builtins.Builtin.{Builtin}
+use Rattle.cpc_native_builtins.specs.Builtins.{primitive_of}
 
 -- a name of the table
 pub primitive_some : (table : Table) (n : Name) (text : Text) (o : Option Builtin) → Some text ≡ slice_get table n.0

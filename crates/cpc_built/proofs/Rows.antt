@@ -10,7 +10,7 @@ use Rattle.cpc_tree.specs.Located as L
 use Rattle.cpc_tree.specs.Located.{LStmt, LStmts, NoLStmt, AndLStmt}
 use Rattle.cpc_tree.specs.Locate.{located_stmt, located_list}
 use Rattle.cpc_tree.proofs.LocatedClauses.{located_block_is}
-use Rattle.cpc_rules.specs.FunctionRules.{statements, statements_in}
+use Rattle.cpc_check_rules.specs.FunctionRules.{statements, statements_in}
 use Rattle.cpc_first_form.specs.Threads.{or_then, unbuilt_stmt, unbuilt_stmts, and_declared}
 
 -- ---- how many statements there are

@@ -14,7 +14,7 @@ use Rattle.cpc_convert.specs.Decided.{first_of}
 use Rattle.cpc_convert.proofs.Marks.{differs_marked}
 use Rattle.cpc_convert.proofs.Sound.{first_decided}
 use Rattle.cpc_convert.proofs.Joined.{first_converted}
-use Rattle.cpc_builtins.specs.Served.{serves, is_extern, is_served_stmt, are_served, is_served_program}
+use Rattle.cpc_native_builtins.specs.Served.{serves, is_extern, is_served_stmt, are_served, is_served_program}
 use Rattle.cpc_built.specs.Laws.{ConvertedAreServed}
 
 both : (a b : Bool) → a ≡ true → b ≡ true → (a && b) ≡ true

@@ -8,7 +8,7 @@ use Rattle.cpc_tree.specs.Syntax.{Ty, TyCondvar, TyPointer, TyCode, TyArray, Tys
 use Rattle.cpc_tree.specs.Located.{LExpr, LNamed, LUnary, LBinary, LAnd, LOr, LChoose, LCast, LSizeOf, LIndex, LMember, LArrow, LCall, LExprs, NoLExpr, AndLExpr, LStmt, Block, Declare, Assign, Call, Detach, Spawn, If, While, DoWhile, For, Label, Return, LStmts, NoLStmt, AndLStmt, MaybeLStmt, NoneLStmt, SomeLStmt, LVariable, LParameter, LItem, LStruct, LGlobal, LPrototype, LFunctionItem, LProgram}
 use Rattle.cpc_tree.specs.Primitives.{primitive_named}
 use Rattle.cpc_first_form.specs.Threads.{unless, or_then, has_threads, unbuilt_threads}
-use Rattle.cpc_builtins.specs.Served.{serves}
+use Rattle.cpc_native_builtins.specs.Served.{serves}
 
 -- ---- what is of the built forms
 

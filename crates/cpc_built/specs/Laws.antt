@@ -3,9 +3,9 @@ use Rattle.std.specs.Prelude.{◌≡◌, true, false, [], None}
 use Rattle.cpc_base.specs.declared.stop.Dialect.TheVariants as D
 use Rattle.cpc_tree.specs.Syntax.{Program}
 use Rattle.cpc_tree.specs.Located.{LProgram, bare}
-use Rattle.cpc_rules.specs.Rules.{breaks}
-use Rattle.cpc_rule_laws.specs.Native.{are_native}
-use Rattle.cpc_builtins.specs.Served.{is_served_program}
+use Rattle.cpc_check_rules.specs.Rules.{breaks}
+use Rattle.cpc_check_laws.specs.Native.{are_native}
+use Rattle.cpc_native_builtins.specs.Served.{is_served_program}
 use Rattle.cpc_convert.specs.Programs.{converted}
 use Rattle.cpc_convert.specs.Decided.{is_first}
 use Rattle.cpc_first_form.specs.Threads.{has_threads}

@@ -3,13 +3,13 @@ ghost use Rattle.std.specs.Prelude.{◌≡◌, option_map};
 ghost use Rattle.cpc_tree.specs.Erase.{in_table};
 ghost use Rattle.cpc_tree.specs.Locate.{located_expr, located_exprs};
 ghost use Rattle.cpc_tree.specs.Primitives.{primitive_named};
-ghost use Rattle.cpc_builtins.specs.Builtins.{primitive_of};
-ghost use Rattle.cpc_builtins.specs.Served.{is_served, serves};
+ghost use Rattle.cpc_native_builtins.specs.Builtins.{primitive_of};
+ghost use Rattle.cpc_native_builtins.specs.Served.{is_served, serves};
 ghost use Rattle.cpc_built.specs.Built.{is_built, are_built, is_built_if};
 
 use crate::types::is_built_type;
 use cpc_base::{Name, Names};
-use cpc_builtins::{Builtin, builtin_named};
+use cpc_native_builtins::{Builtin, builtin_named};
 use cpc_tree::program::Expr;
 
 // Whether the loop answers a primitive.

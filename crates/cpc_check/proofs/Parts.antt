@@ -20,14 +20,14 @@ use Rattle.cpc_tree.specs.declared.program.Expr.{Expr}
 use Rattle.cpc_tree.proofs.Places.{bare_located, bare_statement}
 use Rattle.cpc_tree.specs.declared.program.Function as GFunction
 use Rattle.cpc_tree.specs.Located.{LFunction, LFunctionItem, bare_item, bare_parameter, bare_variable, bare_expr}
-use Rattle.cpc_rules.specs.declared.rule.Rule.{Rule}
-use Rattle.cpc_rules.specs.declared.rule.Rule.TheVariants.{NoMain}
-use Rattle.cpc_rules.specs.Rule.{Broken, at_if}
-use Rattle.cpc_rules.specs.Rules.{breaks, has_main, breadth_breaks}
-use Rattle.cpc_rules.specs.Scopes as S
-use Rattle.cpc_rules.specs.ItemRules as R
-use Rattle.cpc_rules.specs.Noted.{noted}
-use Rattle.cpc_rules.proofs.Firsts.{noted_both}
+use Rattle.cpc_check_rules.specs.declared.rule.Rule.{Rule}
+use Rattle.cpc_check_rules.specs.declared.rule.Rule.TheVariants.{NoMain}
+use Rattle.cpc_check_rules.specs.Rule.{Broken, at_if}
+use Rattle.cpc_check_rules.specs.Rules.{breaks, has_main, breadth_breaks}
+use Rattle.cpc_check_rules.specs.Scopes as S
+use Rattle.cpc_check_rules.specs.ItemRules as R
+use Rattle.cpc_check_rules.specs.Noted.{noted}
+use Rattle.cpc_check_rules.proofs.Firsts.{noted_both}
 use Rattle.cpc_types.specs.Blocks.{with_parameters}
 use Rattle.cpc_types.specs.Scoped.{first_items}
 use Rattle.cpc_check_items.specs.Parts.{head_parts, tail_parts}

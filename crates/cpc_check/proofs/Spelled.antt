@@ -11,8 +11,8 @@ use Rattle.cpc_base.specs.Texts.{AreDistinct}
 use Rattle.cpc_base.specs.declared.stop.Dialect.{Dialect}
 use Rattle.cpc_base.specs.declared.stop.Dialect.TheVariants as D
 use Rattle.cpc_tree.specs.Erase.{Names, Table}
-use Rattle.cpc_rules.specs.FunctionRules.{holds_bars, is_reserved}
-use Rattle.cpc_rules.specs.Apart.{IsUnknown, Spells}
+use Rattle.cpc_check_rules.specs.FunctionRules.{holds_bars, is_reserved}
+use Rattle.cpc_check_rules.specs.Apart.{IsUnknown, Spells}
 
 -- the bytes of all texts
 bytes_of : Table → ℕ

@@ -9,11 +9,11 @@ use Rattle.cpc_base.specs.declared.stop.Stop.TheVariants.{Fault}
 use Rattle.cpc_tree.specs.declared.program.Program as GProgram
 use Rattle.cpc_tree.specs.Erase.{Names}
 use Rattle.cpc_tree.specs.Locate.{located, located_item}
-use Rattle.cpc_rules.specs.declared.rule.Rule.{Rule}
-use Rattle.cpc_rules.specs.declared.first.Breach.{Breach}
-use Rattle.cpc_rules.specs.Apart.{Spells}
-use Rattle.cpc_rules.specs.Noted.{noted}
-use Rattle.cpc_rules.specs.Rules.{breaks}
+use Rattle.cpc_check_rules.specs.declared.rule.Rule.{Rule}
+use Rattle.cpc_check_rules.specs.declared.first.Breach.{Breach}
+use Rattle.cpc_check_rules.specs.Apart.{Spells}
+use Rattle.cpc_check_rules.specs.Noted.{noted}
+use Rattle.cpc_check_rules.specs.Rules.{breaks}
 use Rattle.cpc_check.specs.Accepted.{IsWithin}
 use Rattle.cpc_check.proofs.Spelled.{spelling, spells}
 

@@ -8,7 +8,7 @@ use Rattle.cpc_tree.specs.Erase.{Names, in_table}
 use Rattle.cpc_tree.specs.Located.{LProgram}
 use Rattle.cpc_tree.specs.Locate.{located_item}
 use Rattle.cpc_tree.specs.Grammar.{Parses}
-use Rattle.cpc_rules.specs.Rules.{breaks}
+use Rattle.cpc_check_rules.specs.Rules.{breaks}
 
 -- the text is cut and read as the program, which breaks no rule
 pub record Accepts (dialect : Dialect) (text : Text) (p : LProgram) : Type 0 where

@@ -1,7 +1,7 @@
 //! Programs that break no rule.
 ghost use Rattle.std.specs.Prelude.{◌≡◌, []};
 ghost use Rattle.cpc_tree.specs.Locate.{located};
-ghost use Rattle.cpc_rules.specs.Rules.{breaks};
+ghost use Rattle.cpc_check_rules.specs.Rules.{breaks};
 ghost use Rattle.cpc_check.specs.Accepted.{IsRead, IsWithin};
 
 use cpc_base::Dialect;

@@ -4,9 +4,9 @@ ghost use Rattle.cpc_tree.specs.Erase.{Names as Spelling};
 ghost use Rattle.cpc_tree.specs.Syntax.{Program};
 ghost use Rattle.cpc_tree.specs.Locate.{located_function, located_item};
 ghost use Rattle.cpc_tree.specs.declared.program.Item.TheVariants as I;
-ghost use Rattle.cpc_rules.specs.Apart.{Spells};
-ghost use Rattle.cpc_rules.specs.ItemRules as R;
-ghost use Rattle.cpc_rules.specs.Noted.{noted, first_of};
+ghost use Rattle.cpc_check_rules.specs.Apart.{Spells};
+ghost use Rattle.cpc_check_rules.specs.ItemRules as R;
+ghost use Rattle.cpc_check_rules.specs.Noted.{noted, first_of};
 ghost use Rattle.cpc_types.specs.Scoped.{all_items, first_items, scope_of};
 ghost use Rattle.cpc_check_items.specs.Pasts.{AreEarlier};
 ghost use Rattle.cpc_check_items.specs.Parts.{AreBodies};
@@ -17,8 +17,8 @@ use cpc_base::NoMemory;
 use cpc_check_items::{
     Earlier, Signature, global_rules, head_rules, prototype_rules, struct_rules, tail_rules,
 };
+use cpc_check_rules::First;
 use cpc_check_statements::{Around, body_rules};
-use cpc_rules::First;
 use cpc_tree::program::{Function, Item};
 use cpc_types::Scope;
 use std::alloc::Global;

@@ -1,8 +1,8 @@
 //! What no clause says: that the rules are gone through with memory at hand, on small programs that are written out.
 use crate::checking::first_broken;
 use cpc_base::{Dialect, Name, Names, NoMemory, Place};
+use cpc_check_rules::{First, Rule};
 use cpc_num::Kind;
-use cpc_rules::{First, Rule};
 use cpc_tree::program::{CType, Item, Program, Word};
 use std::alloc::Global;
 

@@ -3,11 +3,11 @@ use Rattle.std.proofs.Common.{◌≡◌, true, not, [], ◌∷◌, ◌++◌, sym
 use Rattle.cpc_base.specs.declared.stop.Dialect.{Dialect}
 use Rattle.cpc_tree.specs.Syntax.{Ty, Program}
 use Rattle.cpc_tree.specs.Located.{Ident, LExpr, LFunction}
-use Rattle.cpc_rules.specs.declared.rule.Rule.TheVariants.{Twice, Incomplete}
-use Rattle.cpc_rules.specs.Rule.{Broken, at_if}
-use Rattle.cpc_rules.specs.Scopes.{is_sized}
-use Rattle.cpc_rules.specs.FunctionRules.{reserved_breaks}
-use Rattle.cpc_rules.specs.ItemRules as R
+use Rattle.cpc_check_rules.specs.declared.rule.Rule.TheVariants.{Twice, Incomplete}
+use Rattle.cpc_check_rules.specs.Rule.{Broken, at_if}
+use Rattle.cpc_check_rules.specs.Scopes.{is_sized}
+use Rattle.cpc_check_rules.specs.FunctionRules.{reserved_breaks}
+use Rattle.cpc_check_rules.specs.ItemRules as R
 use Rattle.cpc_check_items.specs.Parts.{global_parts, head_parts, tail_parts}
 
 three : (a b c t : Broken) → a ++ (b ++ (c ++ t)) ≡ (a ++ (b ++ c)) ++ t

@@ -16,14 +16,14 @@ use Rattle.cpc_tree.specs.Typing as T
 use Rattle.cpc_tree.specs.Typing.{◌>>=◌}
 use Rattle.cpc_tree.specs.Erase.{Names, item_of, field_of}
 use Rattle.cpc_tree.specs.Locate.{ident, located_field}
-use Rattle.cpc_rules.specs.declared.rule.Rule.{Rule}
-use Rattle.cpc_rules.specs.declared.rule.Rule.TheVariants.{Incomplete, Reserved}
-use Rattle.cpc_rules.specs.Rule.{Broken, at_if}
-use Rattle.cpc_rules.specs.Noted.{noted}
-use Rattle.cpc_rules.specs.Scopes as S
-use Rattle.cpc_rules.specs.FunctionRules.{is_reserved, reserved_breaks}
-use Rattle.cpc_rules.specs.ItemRules as R
-use Rattle.cpc_rules.proofs.Firsts.{noted_both}
+use Rattle.cpc_check_rules.specs.declared.rule.Rule.{Rule}
+use Rattle.cpc_check_rules.specs.declared.rule.Rule.TheVariants.{Incomplete, Reserved}
+use Rattle.cpc_check_rules.specs.Rule.{Broken, at_if}
+use Rattle.cpc_check_rules.specs.Noted.{noted}
+use Rattle.cpc_check_rules.specs.Scopes as S
+use Rattle.cpc_check_rules.specs.FunctionRules.{is_reserved, reserved_breaks}
+use Rattle.cpc_check_rules.specs.ItemRules as R
+use Rattle.cpc_check_rules.proofs.Firsts.{noted_both}
 use Rattle.cpc_types.specs.Counted.{fields_count, count}
 use Rattle.cpc_check_names.proofs.Nodes.{drop_item}
 use Rattle.cpc_check_items.specs.Signatures.{types_of}

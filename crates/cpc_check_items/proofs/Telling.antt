@@ -11,8 +11,8 @@ use Rattle.cpc_tree.specs.declared.program.Parameter as GParameter
 use Rattle.cpc_tree.specs.Syntax.{Ty, Expr, Variable, Parameter, Function, Item, StructItem, GlobalItem, PrototypeItem, FunctionItem, Program}
 use Rattle.cpc_tree.specs.Typing.{parameter_type}
 use Rattle.cpc_tree.specs.Erase.{Names, type_of, parameter_of}
-use Rattle.cpc_rules.specs.Apart.{AreApart}
-use Rattle.cpc_rules.specs.ItemRules as R
+use Rattle.cpc_check_rules.specs.Apart.{AreApart}
+use Rattle.cpc_check_rules.specs.ItemRules as R
 use Rattle.cpc_check_items.specs.Signatures.{types_of, signature_of, are_mixed}
 use Rattle.cpc_check_items.specs.Pasts.{is_clash_beside, agrees_with, is_disagreeing_beside, defined_by, joined, Tells, AreEarlier}
 use Rattle.cpc_check_items.specs.declared.signatures.Signature.{Signature}

@@ -7,11 +7,11 @@ use Rattle.cpc_num.specs.declared.kinds.Kind.TheVariants.{Char}
 use Rattle.cpc_tree.specs.Syntax.{Ty, TyInt, TyArray, Program}
 use Rattle.cpc_tree.specs.Located.{Ident, LFunction}
 use Rattle.cpc_tree.specs.Erase.{Names}
-use Rattle.cpc_rules.specs.declared.rule.Rule.TheVariants.{Twice, Incomplete}
-use Rattle.cpc_rules.specs.Rule.{Broken, at_if}
-use Rattle.cpc_rules.specs.Scopes.{is_sized}
-use Rattle.cpc_rules.specs.FunctionRules.{label_breaks, stray_breaks, reserved_breaks, locals, labels, many_breaks}
-use Rattle.cpc_rules.specs.ItemRules as R
+use Rattle.cpc_check_rules.specs.declared.rule.Rule.TheVariants.{Twice, Incomplete}
+use Rattle.cpc_check_rules.specs.Rule.{Broken, at_if}
+use Rattle.cpc_check_rules.specs.Scopes.{is_sized}
+use Rattle.cpc_check_rules.specs.FunctionRules.{label_breaks, stray_breaks, reserved_breaks, locals, labels, many_breaks}
+use Rattle.cpc_check_rules.specs.ItemRules as R
 use Rattle.cpc_check_items.specs.declared.bodies.Bodies.{Bodies}
 
 -- a global, apart from what it starts with

@@ -5,7 +5,7 @@ use Rattle.cpc_base.specs.Bytes.{Text}
 use Rattle.cpc_base.specs.declared.names.Name.{Name}
 use Rattle.cpc_tree.specs.Syntax.{Program}
 use Rattle.cpc_tree.specs.Erase.{Names, type_of}
-use Rattle.cpc_rules.specs.ItemRules as R
+use Rattle.cpc_check_rules.specs.ItemRules as R
 use Rattle.cpc_check_items.specs.Signatures.{types_of, signature_of, are_mixed}
 use Rattle.cpc_check_items.specs.declared.signatures.Signature.{Signature}
 use Rattle.cpc_check_items.specs.declared.earlier.Past.{Past}

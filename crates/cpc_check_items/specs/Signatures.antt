@@ -6,7 +6,7 @@ use Rattle.cpc_tree.specs.declared.program.Parameter.{Parameter}
 use Rattle.cpc_tree.specs.Syntax.{Ty}
 use Rattle.cpc_tree.specs.Erase.{Names, type_of}
 use Rattle.cpc_tree.specs.Locate.{located_parameter}
-use Rattle.cpc_rules.specs.ItemRules as R
+use Rattle.cpc_check_rules.specs.ItemRules as R
 use Rattle.cpc_check_items.specs.declared.signatures.Signature.{Signature}
 
 -- the types of parameters

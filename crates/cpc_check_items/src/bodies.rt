@@ -1,7 +1,7 @@
 //! The names of the functions of a program that have bodies.
 ghost use Rattle.std.specs.Prelude.{◌≡◌, IfOk, OnOk, map};
 ghost use Rattle.cpc_tree.specs.Erase.{Names, item_of};
-ghost use Rattle.cpc_rules.specs.Apart.{AreApart};
+ghost use Rattle.cpc_check_rules.specs.Apart.{AreApart};
 
 use cpc_base::{Name, NoMemory};
 use cpc_tree::program::Item;
@@ -17,7 +17,7 @@ pub struct Bodies {
 impl Bodies {
     ghost use Rattle.std.specs.Prelude.{ℕ, ◌∷◌, [], ◌||◌, nat_eq};
     ghost use Rattle.std.specs.HashSet as set;
-    ghost use Rattle.cpc_rules.specs.ItemRules as R;
+    ghost use Rattle.cpc_check_rules.specs.ItemRules as R;
     ghost use Rattle.cpc_check_items.specs.Parts.{AreBodies};
 
     /// Those of these items. `NoMemory` is want of memory.

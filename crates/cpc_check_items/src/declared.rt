@@ -3,16 +3,16 @@ ghost use Rattle.std.specs.Prelude.{◌≡◌};
 ghost use Rattle.cpc_tree.specs.Erase.{Names};
 ghost use Rattle.cpc_tree.specs.Syntax.{Program};
 ghost use Rattle.cpc_tree.specs.Locate.{ident};
-ghost use Rattle.cpc_rules.specs.Apart.{AreApart};
-ghost use Rattle.cpc_rules.specs.Noted.{noted, first_of};
-ghost use Rattle.cpc_rules.specs.ItemRules as R;
+ghost use Rattle.cpc_check_rules.specs.Apart.{AreApart};
+ghost use Rattle.cpc_check_rules.specs.Noted.{noted, first_of};
+ghost use Rattle.cpc_check_rules.specs.ItemRules as R;
 ghost use Rattle.cpc_check_items.specs.Signatures.{signature_of};
 ghost use Rattle.cpc_check_items.specs.Pasts.{AreEarlier};
 
 use crate::earlier::Earlier;
 use crate::joins::{is_clash, is_disagreeing};
 use crate::signatures::Signature;
-use cpc_rules::{First, Rule};
+use cpc_check_rules::{First, Rule};
 use cpc_tree::program::Word;
 
 /// Notes a function that may not be declared beside earlier items, or that disagrees with one of them.

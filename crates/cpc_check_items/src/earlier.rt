@@ -3,7 +3,7 @@ ghost use Rattle.std.specs.Prelude.{◌≡◌, ℕ, ◌∷◌, ◌++◌, [], OnO
 ghost use Rattle.std.specs.HashMap as hash;
 ghost use Rattle.cpc_tree.specs.Erase.{Names, item_of};
 ghost use Rattle.cpc_tree.specs.Syntax.{Program};
-ghost use Rattle.cpc_rules.specs.Apart.{AreApart};
+ghost use Rattle.cpc_check_rules.specs.Apart.{AreApart};
 
 use crate::joins::with;
 use crate::signatures::Signature;

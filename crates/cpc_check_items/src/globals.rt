@@ -2,9 +2,9 @@
 ghost use Rattle.std.specs.Prelude.{◌≡◌};
 ghost use Rattle.cpc_tree.specs.Erase.{Names as Spelling, type_of};
 ghost use Rattle.cpc_tree.specs.Locate.{ident};
-ghost use Rattle.cpc_rules.specs.Apart.{Spells};
-ghost use Rattle.cpc_rules.specs.Noted.{noted, first_of};
-ghost use Rattle.cpc_rules.specs.ItemRules as R;
+ghost use Rattle.cpc_check_rules.specs.Apart.{Spells};
+ghost use Rattle.cpc_check_rules.specs.Noted.{noted, first_of};
+ghost use Rattle.cpc_check_rules.specs.ItemRules as R;
 ghost use Rattle.cpc_types.specs.Scoped.{scope_of};
 ghost use Rattle.cpc_check_items.specs.Pasts.{AreEarlier};
 ghost use Rattle.cpc_check_items.specs.Parts.{global_parts, room_of};
@@ -12,8 +12,8 @@ ghost use Rattle.cpc_check_items.specs.Parts.{global_parts, room_of};
 use crate::earlier::Earlier;
 use cpc_base::{Dialect, Names, Place};
 use cpc_check_names::name_rules;
+use cpc_check_rules::{First, Rule};
 use cpc_num::Kind;
-use cpc_rules::{First, Rule};
 use cpc_tree::program::{CType, Word};
 use cpc_types::{Scope, is_sized};
 

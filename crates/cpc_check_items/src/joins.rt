@@ -1,7 +1,7 @@
 //! One more declaration of a function beside those of its name.
 ghost use Rattle.std.specs.Prelude.{◌≡◌};
 ghost use Rattle.cpc_tree.specs.Erase.{Names};
-ghost use Rattle.cpc_rules.specs.Apart.{AreApart};
+ghost use Rattle.cpc_check_rules.specs.Apart.{AreApart};
 ghost use Rattle.cpc_check_items.specs.Signatures.{signature_of};
 ghost use Rattle.cpc_check_items.specs.Pasts.{joined, is_clash_beside, is_disagreeing_beside};
 

@@ -2,14 +2,14 @@
 ghost use Rattle.std.specs.Prelude.{◌≡◌, ◌∷◌, [], OnOk, map};
 ghost use Rattle.cpc_tree.specs.Erase.{Names as Spelling};
 ghost use Rattle.cpc_tree.specs.Locate.{located_parameter};
-ghost use Rattle.cpc_rules.specs.Apart.{AreApart, Spells};
-ghost use Rattle.cpc_rules.specs.Noted.{noted, first_of};
-ghost use Rattle.cpc_rules.specs.ItemRules as R;
+ghost use Rattle.cpc_check_rules.specs.Apart.{AreApart, Spells};
+ghost use Rattle.cpc_check_rules.specs.Noted.{noted, first_of};
+ghost use Rattle.cpc_check_rules.specs.ItemRules as R;
 ghost use Rattle.cpc_types.specs.Scoped.{scope_of};
 
 use cpc_base::{Dialect, Names, NoMemory, Place};
 use cpc_check_names::{name_rules, parameter_words, repeated_rules};
-use cpc_rules::{First, Rule};
+use cpc_check_rules::{First, Rule};
 use cpc_tree::program::{Mode, Parameter};
 use cpc_types::{Scope, is_sized};
 use std::alloc::Global;

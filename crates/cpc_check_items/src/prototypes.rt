@@ -3,9 +3,9 @@ ghost use Rattle.std.specs.Prelude.{◌≡◌, ◌&&◌, not, nat_le, length, On
 ghost use Rattle.cpc_tree.specs.Erase.{Names as Spelling, type_of};
 ghost use Rattle.cpc_tree.specs.Syntax.{Program};
 ghost use Rattle.cpc_tree.specs.Locate.{ident, located_parameter};
-ghost use Rattle.cpc_rules.specs.Apart.{Spells};
-ghost use Rattle.cpc_rules.specs.Noted.{noted, first_of};
-ghost use Rattle.cpc_rules.specs.ItemRules as R;
+ghost use Rattle.cpc_check_rules.specs.Apart.{Spells};
+ghost use Rattle.cpc_check_rules.specs.Noted.{noted, first_of};
+ghost use Rattle.cpc_check_rules.specs.ItemRules as R;
 ghost use Rattle.cpc_check_items.specs.Signatures.{signature_of, types_of};
 ghost use Rattle.cpc_check_items.specs.Pasts.{AreEarlier};
 ghost use Rattle.cpc_check_items.specs.Parts.{AreBodies};
@@ -17,8 +17,8 @@ use crate::parameters::{cps_rules, parameter_rules};
 use crate::signatures::{Signature, is_extern};
 use cpc_base::{Dialect, Name, Names, NoMemory, Place};
 use cpc_check_names::name_rules;
+use cpc_check_rules::{First, Rule};
 use cpc_num::Kind;
-use cpc_rules::{First, Rule};
 use cpc_tree::program::{CType, Parameter, Word};
 use std::alloc::Global;
 

@@ -1,8 +1,8 @@
 //! What is declared of functions, and whether two declarations agree.
 ghost use Rattle.std.specs.Prelude.{◌≡◌};
 ghost use Rattle.cpc_tree.specs.Erase.{Names};
-ghost use Rattle.cpc_rules.specs.Apart.{AreApart};
-ghost use Rattle.cpc_rules.specs.ItemRules as R;
+ghost use Rattle.cpc_check_rules.specs.Apart.{AreApart};
+ghost use Rattle.cpc_check_rules.specs.ItemRules as R;
 ghost use Rattle.cpc_check_items.specs.Signatures.{types_of, are_mixed};
 
 use cpc_tree::program::{CType, Function, Mode, Parameter};

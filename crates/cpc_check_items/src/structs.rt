@@ -2,14 +2,14 @@
 ghost use Rattle.std.specs.Prelude.{◌≡◌, ◌∷◌, [], ◌++◌, OnOk, IfOk, map};
 ghost use Rattle.cpc_tree.specs.Erase.{Names as Spelling};
 ghost use Rattle.cpc_tree.specs.Locate.{ident, located_field};
-ghost use Rattle.cpc_rules.specs.Apart.{AreApart, Spells};
-ghost use Rattle.cpc_rules.specs.Noted.{noted, first_of};
-ghost use Rattle.cpc_rules.specs.ItemRules as R;
+ghost use Rattle.cpc_check_rules.specs.Apart.{AreApart, Spells};
+ghost use Rattle.cpc_check_rules.specs.Noted.{noted, first_of};
+ghost use Rattle.cpc_check_rules.specs.ItemRules as R;
 ghost use Rattle.cpc_types.specs.Scoped.{scope_of};
 
 use cpc_base::{Dialect, Names, NoMemory};
 use cpc_check_names::{name_rules, repeated_rules};
-use cpc_rules::{First, Rule};
+use cpc_check_rules::{First, Rule};
 use cpc_tree::program::{Field, Word};
 use cpc_types::{Scope, are_oversized, is_sized};
 use std::alloc::Global;

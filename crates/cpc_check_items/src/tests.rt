@@ -4,8 +4,8 @@ use crate::{
     struct_rules, tail_rules,
 };
 use cpc_base::{Dialect, Name, Names, NoMemory, Place};
+use cpc_check_rules::{First, Rule};
 use cpc_num::Kind;
-use cpc_rules::{First, Rule};
 use cpc_tree::program::{
     CType, Expr, Field, Function, Item, Mode, Parameter, Program, Statement, Word,
 };

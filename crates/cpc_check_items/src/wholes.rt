@@ -3,7 +3,7 @@ ghost use Rattle.std.specs.Prelude.{◌≡◌, ◌++◌, Option};
 ghost use Rattle.cpc_base.specs.declared.stop.Dialect.{Dialect};
 ghost use Rattle.cpc_tree.specs.Syntax.{Ty, Program};
 ghost use Rattle.cpc_tree.specs.Located.{Ident, LExpr, LFunction};
-ghost use Rattle.cpc_rules.specs.ItemRules as R;
+ghost use Rattle.cpc_check_rules.specs.ItemRules as R;
 ghost use Rattle.cpc_check_items.specs.Parts.{global_parts, head_parts, tail_parts};
 
 /// With what it starts with, the parts of a global variable break what it breaks; with its body, those of a function.

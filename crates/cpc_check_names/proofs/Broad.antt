@@ -7,9 +7,9 @@ use Rattle.cpc_tree.specs.declared.program.Item.{Item}
 use Rattle.cpc_tree.specs.Located.{LItem}
 use Rattle.cpc_tree.specs.Erase.{Names}
 use Rattle.cpc_tree.specs.Locate.{located_item}
-use Rattle.cpc_rules.specs.declared.rule.Rule.{Rule}
-use Rattle.cpc_rules.specs.Rules.{breadth_limit, broad_breaks}
-use Rattle.cpc_rules.specs.Noted.{noted}
+use Rattle.cpc_check_rules.specs.declared.rule.Rule.{Rule}
+use Rattle.cpc_check_rules.specs.Rules.{breadth_limit, broad_breaks}
+use Rattle.cpc_check_rules.specs.Noted.{noted}
 use Rattle.cpc_check_names.proofs.Nodes.{drop_item}
 
 abbrev Firsts : Type 0

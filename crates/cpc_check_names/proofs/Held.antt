@@ -8,13 +8,13 @@ use Rattle.cpc_tree.specs.declared.program.Word.{Word}
 use Rattle.cpc_tree.specs.Located.{Ident, LStmt}
 use Rattle.cpc_tree.specs.Erase.{Names}
 use Rattle.cpc_tree.specs.Locate.{ident}
-use Rattle.cpc_rules.specs.declared.rule.Rule.{Rule}
-use Rattle.cpc_rules.specs.declared.rule.Rule.TheVariants.{LabelTwice}
-use Rattle.cpc_rules.specs.Rule.{at_if}
-use Rattle.cpc_rules.specs.FunctionRules.{among, repeated, missing, labels, gotos, label_breaks}
-use Rattle.cpc_rules.specs.Noted.{noted}
-use Rattle.cpc_rules.proofs.Firsts.{noted_both}
-use Rattle.cpc_rules.specs.Apart.{AreApart}
+use Rattle.cpc_check_rules.specs.declared.rule.Rule.{Rule}
+use Rattle.cpc_check_rules.specs.declared.rule.Rule.TheVariants.{LabelTwice}
+use Rattle.cpc_check_rules.specs.Rule.{at_if}
+use Rattle.cpc_check_rules.specs.FunctionRules.{among, repeated, missing, labels, gotos, label_breaks}
+use Rattle.cpc_check_rules.specs.Noted.{noted}
+use Rattle.cpc_check_rules.proofs.Firsts.{noted_both}
+use Rattle.cpc_check_rules.specs.Apart.{AreApart}
 use Rattle.cpc_check_names.specs.Held.{AreHeld}
 
 or_swap : (p q r : Bool) → (p || (q || r)) ≡ (q || (p || r))

@@ -5,7 +5,7 @@ use Rattle.cpc_tree.specs.declared.program.Item.{Item}
 use Rattle.cpc_tree.specs.Located.{LItem, LStruct, LGlobal, LPrototype, LFunctionItem}
 use Rattle.cpc_tree.specs.Erase.{Names}
 use Rattle.cpc_tree.specs.Locate.{located_item}
-use Rattle.cpc_rules.specs.Rules.{is_main, has_main}
+use Rattle.cpc_check_rules.specs.Rules.{is_main, has_main}
 use Rattle.cpc_check_names.proofs.Nodes.{drop_item}
 
 chosen : (b : Bool) (c : Bool) → (if b then true else false) ≡ false → (if b then true else c) ≡ c

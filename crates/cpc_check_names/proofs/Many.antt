@@ -6,10 +6,10 @@ use Rattle.cpc_tree.specs.declared.program.Word.{Word}
 use Rattle.cpc_tree.specs.Located.{Ident}
 use Rattle.cpc_tree.specs.Erase.{Names}
 use Rattle.cpc_tree.specs.Locate.{ident}
-use Rattle.cpc_rules.specs.declared.rule.Rule.{Rule}
-use Rattle.cpc_rules.specs.declared.rule.Rule.TheVariants.{TooMany}
-use Rattle.cpc_rules.specs.FunctionRules as F
-use Rattle.cpc_rules.specs.Noted.{earlier, noted}
+use Rattle.cpc_check_rules.specs.declared.rule.Rule.{Rule}
+use Rattle.cpc_check_rules.specs.declared.rule.Rule.TheVariants.{TooMany}
+use Rattle.cpc_check_rules.specs.FunctionRules as F
+use Rattle.cpc_check_rules.specs.Noted.{earlier, noted}
 
 abbrev Firsts : Type 0
 Firsts = Option (Place × Rule)

@@ -6,7 +6,7 @@ use Rattle.cpc_tree.specs.Syntax.{Ty}
 use Rattle.cpc_tree.specs.Located.{Ident, LParameter}
 use Rattle.cpc_tree.specs.Erase.{Names}
 use Rattle.cpc_tree.specs.Locate.{located_parameter}
-use Rattle.cpc_rules.specs.FunctionRules.{parameter_names}
+use Rattle.cpc_check_rules.specs.FunctionRules.{parameter_names}
 use Rattle.cpc_check_names.proofs.Nodes.{drop_item}
 
 called_first : (o : Option Ident) (t : Ty) (ps : List LParameter) → parameter_names (record { called = o; type = t } ∷ ps) ≡ parameter_names (record { called = o; type = t } ∷ []) ++ parameter_names ps

@@ -8,7 +8,7 @@ use Rattle.std.proofs.lemmas.Option.{unwrap_or-slice_get}
 use Rattle.cpc_base.specs.Bytes.{Text}
 use Rattle.cpc_base.specs.declared.stop.Dialect.{Dialect}
 use Rattle.cpc_base.specs.declared.stop.Dialect.TheVariants as D
-use Rattle.cpc_rules.specs.FunctionRules.{begins_with, holds_bars, is_reserved}
+use Rattle.cpc_check_rules.specs.FunctionRules.{begins_with, holds_bars, is_reserved}
 
 and_true : (a b : Bool) → (a && b) ≡ ((a && true) && b)
 and_true true b = refl

@@ -15,11 +15,11 @@ use Rattle.cpc_tree.specs.declared.program.Parameter.{Parameter}
 use Rattle.cpc_tree.specs.Erase.{Names, Table, in_table, type_of}
 use Rattle.cpc_tree.specs.Located.{LFunction}
 use Rattle.cpc_tree.specs.Locate.{ident, located_function, located_item, located_parameter}
-use Rattle.cpc_rules.specs.declared.rule.Rule.TheVariants.{Reserved}
-use Rattle.cpc_rules.specs.Rule.{at_if}
-use Rattle.cpc_rules.specs.Apart.{Spells}
-use Rattle.cpc_rules.specs.FunctionRules.{is_reserved, reserved_breaks}
-use Rattle.cpc_rules.specs.Rules.{is_main, has_main}
+use Rattle.cpc_check_rules.specs.declared.rule.Rule.TheVariants.{Reserved}
+use Rattle.cpc_check_rules.specs.Rule.{at_if}
+use Rattle.cpc_check_rules.specs.Apart.{Spells}
+use Rattle.cpc_check_rules.specs.FunctionRules.{is_reserved, reserved_breaks}
+use Rattle.cpc_check_rules.specs.Rules.{is_main, has_main}
 use Rattle.cpc_check_names.proofs.Spelled.{empty_kept}
 
 past : (table : Table) (n : ℕ) → length table ≤ n → get_or table n [] ≡ []

@@ -1,7 +1,7 @@
 -- The names that one traversal gathers, of each kind.
 use Rattle.std.specs.Prelude.{List}
 use Rattle.cpc_tree.specs.Located.{Ident, LStmt, LStmts}
-use Rattle.cpc_rules.specs.FunctionRules.{labels, labels_in, gotos, gotos_in, locals, locals_in}
+use Rattle.cpc_check_rules.specs.FunctionRules.{labels, labels_in, gotos, gotos_in, locals, locals_in}
 use Rattle.cpc_check_names.specs.declared.words.Wanted.{Wanted}
 use Rattle.cpc_check_names.specs.declared.words.Wanted.TheVariants.{Labels, Jumps, Locals}
 

@@ -3,14 +3,14 @@ ghost use Rattle.std.specs.Prelude.{◌≡◌, ◌<◌, ◌≤◌, ◌∷◌, Li
 ghost use Rattle.cpc_tree.specs.Erase.{Names};
 ghost use Rattle.cpc_tree.specs.Located.{LItem};
 ghost use Rattle.cpc_tree.specs.Locate.{located_stmt, located_list, located_function, located_item};
-ghost use Rattle.cpc_rules.specs.FunctionRules.{statements, statements_in};
-ghost use Rattle.cpc_rules.specs.Rules.{breadth, breadth_limit, broad_breaks, breadth_breaks};
-ghost use Rattle.cpc_rules.specs.Noted.{noted, first_of};
+ghost use Rattle.cpc_check_rules.specs.FunctionRules.{statements, statements_in};
+ghost use Rattle.cpc_check_rules.specs.Rules.{breadth, breadth_limit, broad_breaks, breadth_breaks};
+ghost use Rattle.cpc_check_rules.specs.Noted.{noted, first_of};
 ghost use Rattle.cpc_check_names.specs.Counts.{capped};
 
 use crate::variables::variable_words;
 use cpc_base::{Dialect, NoMemory};
-use cpc_rules::{First, Rule};
+use cpc_check_rules::{First, Rule};
 use cpc_tree::program::{Function, Item, Mode, Statement};
 use std::alloc::Global;
 

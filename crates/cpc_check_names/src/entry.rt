@@ -2,15 +2,15 @@
 ghost use Rattle.std.specs.Prelude.{◌≡◌, [], ◌∷◌, map, not, bytes_eq, codes};
 ghost use Rattle.cpc_tree.specs.Erase.{Names as Spelling, in_table};
 ghost use Rattle.cpc_tree.specs.Locate.{located_function, located_item};
-ghost use Rattle.cpc_rules.specs.declared.rule.Rule.TheVariants.{NoMain};
-ghost use Rattle.cpc_rules.specs.Apart.{Spells};
-ghost use Rattle.cpc_rules.specs.Rule.{at_if};
-ghost use Rattle.cpc_rules.specs.Rules.{is_main, has_main};
-ghost use Rattle.cpc_rules.specs.Noted.{noted, first_of};
+ghost use Rattle.cpc_check_rules.specs.declared.rule.Rule.TheVariants.{NoMain};
+ghost use Rattle.cpc_check_rules.specs.Apart.{Spells};
+ghost use Rattle.cpc_check_rules.specs.Rule.{at_if};
+ghost use Rattle.cpc_check_rules.specs.Rules.{is_main, has_main};
+ghost use Rattle.cpc_check_rules.specs.Noted.{noted, first_of};
 
 use cpc_base::{Name, Names, Place};
+use cpc_check_rules::{First, Rule};
 use cpc_num::Kind;
-use cpc_rules::{First, Rule};
 use cpc_tree::program::{CType, Function, Item, Mode};
 
 /// Whether a name of a table is `main`. A name that the table does not have is not.

@@ -4,14 +4,14 @@ ghost use Rattle.std.specs.HashSet as set;
 ghost use Rattle.cpc_tree.specs.Erase.{Names};
 ghost use Rattle.cpc_tree.specs.Located.{Ident};
 ghost use Rattle.cpc_tree.specs.Locate.{ident, located_stmt};
-ghost use Rattle.cpc_rules.specs.FunctionRules.{repeated, missing, label_breaks};
-ghost use Rattle.cpc_rules.specs.Noted.{noted, first_of};
-ghost use Rattle.cpc_rules.specs.Apart.{AreApart};
+ghost use Rattle.cpc_check_rules.specs.FunctionRules.{repeated, missing, label_breaks};
+ghost use Rattle.cpc_check_rules.specs.Noted.{noted, first_of};
+ghost use Rattle.cpc_check_rules.specs.Apart.{AreApart};
 ghost use Rattle.cpc_check_names.specs.Held.{AreHeld};
 
 use crate::words::{jump_words, label_words};
 use cpc_base::NoMemory;
-use cpc_rules::{First, Rule};
+use cpc_check_rules::{First, Rule};
 use cpc_tree::program::{Statement, Word};
 use std::alloc::Global;
 use std::collections::HashSet;

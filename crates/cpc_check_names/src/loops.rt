@@ -2,10 +2,10 @@
 ghost use Rattle.std.specs.Prelude.{◌≡◌};
 ghost use Rattle.cpc_tree.specs.Erase.{Names};
 ghost use Rattle.cpc_tree.specs.Locate.{located_stmt, located_list};
-ghost use Rattle.cpc_rules.specs.FunctionRules.{stray_breaks, stray_in};
-ghost use Rattle.cpc_rules.specs.Noted.{noted, first_of};
+ghost use Rattle.cpc_check_rules.specs.FunctionRules.{stray_breaks, stray_in};
+ghost use Rattle.cpc_check_rules.specs.Noted.{noted, first_of};
 
-use cpc_rules::{First, Rule};
+use cpc_check_rules::{First, Rule};
 use cpc_tree::program::Statement;
 
 /// Notes each `break` and `continue` that has no loop around it.

@@ -2,12 +2,12 @@
 ghost use Rattle.std.specs.Prelude.{◌≡◌, map};
 ghost use Rattle.cpc_tree.specs.Erase.{Names as Spelling, in_table};
 ghost use Rattle.cpc_tree.specs.Locate.{ident};
-ghost use Rattle.cpc_rules.specs.Apart.{Spells};
-ghost use Rattle.cpc_rules.specs.FunctionRules.{begins_with, holds_bars, is_kept, is_reserved, reserved_breaks};
-ghost use Rattle.cpc_rules.specs.Noted.{noted, first_of};
+ghost use Rattle.cpc_check_rules.specs.Apart.{Spells};
+ghost use Rattle.cpc_check_rules.specs.FunctionRules.{begins_with, holds_bars, is_kept, is_reserved, reserved_breaks};
+ghost use Rattle.cpc_check_rules.specs.Noted.{noted, first_of};
 
 use cpc_base::{Dialect, Names};
-use cpc_rules::{First, Rule};
+use cpc_check_rules::{First, Rule};
 use cpc_tree::program::Word;
 
 /// Whether a text begins with another.

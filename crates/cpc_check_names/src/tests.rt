@@ -4,8 +4,8 @@ use crate::{
     name_rules, parameter_words, repeated_rules,
 };
 use cpc_base::{Dialect, Name, Names, Place};
+use cpc_check_rules::{First, Rule};
 use cpc_num::Kind;
-use cpc_rules::{First, Rule};
 use cpc_tree::program::{CType, Function, Mode, Parameter, Statement, Word};
 use std::alloc::{AllocError, Global};
 use std::test::Fail;

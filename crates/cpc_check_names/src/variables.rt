@@ -2,12 +2,12 @@
 ghost use Rattle.std.specs.Prelude.{◌≡◌, OnOk, IfOk, map};
 ghost use Rattle.cpc_tree.specs.Erase.{Names};
 ghost use Rattle.cpc_tree.specs.Locate.{ident, located_stmt, located_parameter};
-ghost use Rattle.cpc_rules.specs.FunctionRules.{variables, variable_limit, many_breaks};
-ghost use Rattle.cpc_rules.specs.Noted.{noted, first_of};
+ghost use Rattle.cpc_check_rules.specs.FunctionRules.{variables, variable_limit, many_breaks};
+ghost use Rattle.cpc_check_rules.specs.Noted.{noted, first_of};
 
 use crate::words::{Wanted, add_words, parameter_words};
 use cpc_base::{Dialect, NoMemory};
-use cpc_rules::{First, Rule};
+use cpc_check_rules::{First, Rule};
 use cpc_tree::program::{Parameter, Statement, Word};
 use std::alloc::Global;
 

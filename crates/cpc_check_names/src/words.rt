@@ -2,7 +2,7 @@
 ghost use Rattle.std.specs.Prelude.{◌≡◌, ◌++◌, [], ◌∷◌, OnOk, IfOk, map, if◌then◌else◌};
 ghost use Rattle.cpc_tree.specs.Erase.{Names};
 ghost use Rattle.cpc_tree.specs.Locate.{ident, located_stmt, located_list, located_parameter};
-ghost use Rattle.cpc_rules.specs.FunctionRules.{labels, gotos, locals, parameter_names, variables};
+ghost use Rattle.cpc_check_rules.specs.FunctionRules.{labels, gotos, locals, parameter_names, variables};
 ghost use Rattle.cpc_check_names.specs.Words.{words_of, words_in};
 
 use cpc_base::NoMemory;

@@ -9,13 +9,13 @@ use Rattle.cpc_tree.specs.Syntax.{Ty, Variable, Program}
 use Rattle.cpc_tree.specs.Located.{Ident, LExpr, LNamed, LInteger, LCharacter, LText, LUnary, LBinary, LAnd, LOr, LChoose, LCast, LSizeOf, LIndex, LMember, LArrow, LCall, LExprs, NoLExpr, AndLExpr, bare_expr}
 use Rattle.cpc_tree.specs.Primitives.{Primitive, RtDetach, primitive_named, takes_first}
 use Rattle.cpc_tree.specs.Typing.{Meant, ALocal, AGlobal, AFunction, NotMeant, Typed, APlace, typing_of}
-use Rattle.cpc_rules.specs.declared.rule.Rule.TheVariants.{Disagree, NotClosed, CallInside}
-use Rattle.cpc_rules.specs.Rule.{Broken, at_if}
-use Rattle.cpc_rules.specs.Scopes.{Block, meant, takes_typed, with_name, with_block}
-use Rattle.cpc_rules.specs.Operators.{Where, typed_at, used_of, first, is_detached, name_breaks, no_rule, binary_breaks, address_breaks, member_breaks, arrow_breaks}
-use Rattle.cpc_rules.specs.Calls as C
-use Rattle.cpc_rules.specs.ExprRules.{called_breaks, arg_breaks, expr_breaks, args_breaks}
-use Rattle.cpc_rules.specs.StmtRules.{in_scope, start_breaks, fits_breaks}
+use Rattle.cpc_check_rules.specs.declared.rule.Rule.TheVariants.{Disagree, NotClosed, CallInside}
+use Rattle.cpc_check_rules.specs.Rule.{Broken, at_if}
+use Rattle.cpc_check_rules.specs.Scopes.{Block, meant, takes_typed, with_name, with_block}
+use Rattle.cpc_check_rules.specs.Operators.{Where, typed_at, used_of, first, is_detached, name_breaks, no_rule, binary_breaks, address_breaks, member_breaks, arrow_breaks}
+use Rattle.cpc_check_rules.specs.Calls as C
+use Rattle.cpc_check_rules.specs.ExprRules.{called_breaks, arg_breaks, expr_breaks, args_breaks}
+use Rattle.cpc_check_rules.specs.StmtRules.{in_scope, start_breaks, fits_breaks}
 
 two : {a b c d : Broken} → a ≡ b → c ≡ d → a ++ c ≡ b ++ d
 two {b = b} {c = c} e f = ap (λ z. z ++ c) e ∙ ap (λ z. b ++ z) f

@@ -3,14 +3,14 @@ use Rattle.std.proofs.Common.{◌≡◌, not, ◌++◌, Option, refl, ap, ◌∙
 use Rattle.cpc_base.specs.declared.stop.Place.{Place}
 use Rattle.cpc_tree.specs.Syntax.{Ty}
 use Rattle.cpc_tree.specs.Located.{LExpr, Ident}
-use Rattle.cpc_rules.specs.declared.rule.Rule.{Rule}
-use Rattle.cpc_rules.specs.declared.rule.Rule.TheVariants.{Twice, Incomplete}
-use Rattle.cpc_rules.specs.Rule.{Broken, at_if}
-use Rattle.cpc_rules.specs.Noted.{noted}
-use Rattle.cpc_rules.specs.Scopes.{is_here, is_sized, with_name, with_block}
-use Rattle.cpc_rules.specs.Operators.{Where}
-use Rattle.cpc_rules.specs.StmtRules.{in_scope, variable, start_breaks, local_breaks}
-use Rattle.cpc_rules.proofs.Firsts.{noted_both}
+use Rattle.cpc_check_rules.specs.declared.rule.Rule.{Rule}
+use Rattle.cpc_check_rules.specs.declared.rule.Rule.TheVariants.{Twice, Incomplete}
+use Rattle.cpc_check_rules.specs.Rule.{Broken, at_if}
+use Rattle.cpc_check_rules.specs.Noted.{noted}
+use Rattle.cpc_check_rules.specs.Scopes.{is_here, is_sized, with_name, with_block}
+use Rattle.cpc_check_rules.specs.Operators.{Where}
+use Rattle.cpc_check_rules.specs.StmtRules.{in_scope, variable, start_breaks, local_breaks}
+use Rattle.cpc_check_rules.proofs.Firsts.{noted_both}
 use Rattle.cpc_check_statements.proofs.Parts.{after_two}
 use Rattle.cpc_check_statements.proofs.Alike.{start_alone}
 

@@ -9,10 +9,10 @@ use Rattle.cpc_tree.specs.declared.program.Statement.TheVariants as T
 use Rattle.cpc_tree.specs.Located as L
 use Rattle.cpc_tree.specs.Erase.{Names}
 use Rattle.cpc_tree.specs.Locate.{ident, located_expr, located_exprs, located_stmt}
-use Rattle.cpc_rules.specs.declared.rule.Rule.{Rule}
-use Rattle.cpc_rules.specs.Noted.{noted}
-use Rattle.cpc_rules.specs.Operators.{Where}
-use Rattle.cpc_rules.specs.StmtRules.{stmt_breaks}
+use Rattle.cpc_check_rules.specs.declared.rule.Rule.{Rule}
+use Rattle.cpc_check_rules.specs.Noted.{noted}
+use Rattle.cpc_check_rules.specs.Operators.{Where}
+use Rattle.cpc_check_rules.specs.StmtRules.{stmt_breaks}
 use Rattle.cpc_check_statements.specs.Plain.{plain_breaks}
 
 abbrev Firsts : Type 0

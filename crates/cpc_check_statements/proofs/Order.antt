@@ -2,10 +2,10 @@
 use Rattle.std.proofs.Common.{◌≡◌, ℕ, ◌<◌, ◌≤◌, Bool, true, false, ◌||◌, ◌&&◌, nat_lt, [], ◌∷◌, Option, Some, None, refl, sym, ap, ◌∙◌, arith, inl, inr}
 use Rattle.std.specs.Prelude.{◌⊎◌, ◌==◌, if◌then◌else◌}
 use Rattle.cpc_base.specs.declared.stop.Place.{Place}
-use Rattle.cpc_rules.specs.declared.rule.Rule.{Rule}
-use Rattle.cpc_rules.specs.declared.rule.Rule.TheVariants.{Undeclared, Twice, Disagree, NoPlace, WrongNumber, CpsInNative, NoLabel, LabelTwice, Stray, NoField, Incomplete, Reserved, BadReturn, NotClosed, CpsAsValue, NoMain, TooMany, TooBroad, CallInside, RtCall, CpsForm}
-use Rattle.cpc_rules.specs.Rule.{Broken, number}
-use Rattle.cpc_rules.specs.Noted.{comes_before, earlier, noted}
+use Rattle.cpc_check_rules.specs.declared.rule.Rule.{Rule}
+use Rattle.cpc_check_rules.specs.declared.rule.Rule.TheVariants.{Undeclared, Twice, Disagree, NoPlace, WrongNumber, CpsInNative, NoLabel, LabelTwice, Stray, NoField, Incomplete, Reserved, BadReturn, NotClosed, CpsAsValue, NoMain, TooMany, TooBroad, CallInside, RtCall, CpsForm}
+use Rattle.cpc_check_rules.specs.Rule.{Broken, number}
+use Rattle.cpc_check_rules.specs.Noted.{comes_before, earlier, noted}
 
 abbrev Firsts : Type 0
 Firsts = Option (Place × Rule)

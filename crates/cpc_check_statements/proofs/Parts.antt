@@ -6,16 +6,16 @@ use Rattle.cpc_tree.specs.Syntax.{Ty, Expr}
 use Rattle.cpc_tree.specs.Typing as T
 use Rattle.cpc_tree.specs.Typing.{Typed, AValue, APlace, used}
 use Rattle.cpc_tree.specs.Located.{LExpr, LExprs, Ident, bare_expr}
-use Rattle.cpc_rules.specs.declared.rule.Rule.{Rule}
-use Rattle.cpc_rules.specs.declared.rule.Rule.TheVariants.{Disagree, CpsInNative, BadReturn, CpsForm}
-use Rattle.cpc_rules.specs.Rule.{Broken, at_if}
-use Rattle.cpc_rules.specs.Noted.{noted}
-use Rattle.cpc_rules.specs.Scopes.{Scope, meant}
-use Rattle.cpc_rules.specs.Operators.{Where, typed_at, first, is_cps, binary_breaks}
-use Rattle.cpc_rules.specs.Calls as C
-use Rattle.cpc_rules.specs.ExprRules.{expr_breaks, call_breaks}
-use Rattle.cpc_rules.specs.StmtRules as S
-use Rattle.cpc_rules.proofs.Firsts.{noted_both}
+use Rattle.cpc_check_rules.specs.declared.rule.Rule.{Rule}
+use Rattle.cpc_check_rules.specs.declared.rule.Rule.TheVariants.{Disagree, CpsInNative, BadReturn, CpsForm}
+use Rattle.cpc_check_rules.specs.Rule.{Broken, at_if}
+use Rattle.cpc_check_rules.specs.Noted.{noted}
+use Rattle.cpc_check_rules.specs.Scopes.{Scope, meant}
+use Rattle.cpc_check_rules.specs.Operators.{Where, typed_at, first, is_cps, binary_breaks}
+use Rattle.cpc_check_rules.specs.Calls as C
+use Rattle.cpc_check_rules.specs.ExprRules.{expr_breaks, call_breaks}
+use Rattle.cpc_check_rules.specs.StmtRules as S
+use Rattle.cpc_check_rules.proofs.Firsts.{noted_both}
 use Rattle.cpc_types.specs.Forms as F
 use Rattle.cpc_check_statements.specs.Plain.{is_unfit, value_type}
 use Rattle.cpc_check_statements.proofs.Order.{noted_swap}

@@ -13,12 +13,12 @@ use Rattle.cpc_tree.specs.Located.{LStmt, LStmts, NoLStmt, AndLStmt, Declare}
 use Rattle.cpc_tree.specs.Erase.{Names}
 use Rattle.cpc_tree.specs.Locate.{located_expr, located_stmt, located_list, located_at}
 use Rattle.cpc_tree.proofs.LocatedClauses.{located_block_is, located_for_is, located_if_is}
-use Rattle.cpc_rules.specs.declared.rule.Rule.{Rule}
-use Rattle.cpc_rules.specs.Noted.{noted}
-use Rattle.cpc_rules.specs.Scopes.{Scope, with_name, with_block}
-use Rattle.cpc_rules.specs.Operators.{Where}
-use Rattle.cpc_rules.specs.StmtRules.{in_scope, inner, behind, all_behind, test_breaks, maybe_test, stmt_breaks, stmts_breaks, maybe_breaks}
-use Rattle.cpc_rules.specs.ItemRules.{body_breaks}
+use Rattle.cpc_check_rules.specs.declared.rule.Rule.{Rule}
+use Rattle.cpc_check_rules.specs.Noted.{noted}
+use Rattle.cpc_check_rules.specs.Scopes.{Scope, with_name, with_block}
+use Rattle.cpc_check_rules.specs.Operators.{Where}
+use Rattle.cpc_check_rules.specs.StmtRules.{in_scope, inner, behind, all_behind, test_breaks, maybe_test, stmt_breaks, stmts_breaks, maybe_breaks}
+use Rattle.cpc_check_rules.specs.ItemRules.{body_breaks}
 use Rattle.cpc_types.specs.Blocks.{without_block}
 use Rattle.cpc_check_statements.specs.Plain.{for_breaks}
 use Rattle.cpc_check_statements.proofs.Parts.{after_one, after_two, after_three}

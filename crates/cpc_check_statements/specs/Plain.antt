@@ -3,10 +3,10 @@ use Rattle.std.specs.Prelude.{Bool, false, not, [], Option, Some, None}
 use Rattle.cpc_tree.specs.Syntax.{Ty, Expr}
 use Rattle.cpc_tree.specs.Typing.{Typed, AValue}
 use Rattle.cpc_tree.specs.Located.{LStmt, Assign, Call, Detach, Spawn, For, Return}
-use Rattle.cpc_rules.specs.Rule.{Broken}
-use Rattle.cpc_rules.specs.Scopes.{takes_typed}
-use Rattle.cpc_rules.specs.Operators.{Where}
-use Rattle.cpc_rules.specs.StmtRules.{stmt_breaks}
+use Rattle.cpc_check_rules.specs.Rule.{Broken}
+use Rattle.cpc_check_rules.specs.Scopes.{takes_typed}
+use Rattle.cpc_check_rules.specs.Operators.{Where}
+use Rattle.cpc_check_rules.specs.StmtRules.{stmt_breaks}
 
 abbrev pub plain_breaks : Where → LStmt → Broken
 plain_breaks w (Assign q o v op e) = stmt_breaks w (Assign q o v op e)

@@ -2,7 +2,7 @@
 use Rattle.cpc_tree.specs.Erase.{Names, type_of}
 use Rattle.cpc_types.specs.Scoped.{scope_of}
 use Rattle.cpc_types.specs.declared.scope.Scope.{Scope}
-use Rattle.cpc_rules.specs.Operators as O
+use Rattle.cpc_check_rules.specs.Operators as O
 use Rattle.cpc_check_statements.specs.declared.around.Around.{Around}
 
 abbrev pub standing : Names → Scope → Around → O.Where

@@ -5,19 +5,19 @@ ghost use Rattle.cpc_tree.specs.Erase.{Names};
 ghost use Rattle.cpc_tree.specs.Locate.{ident, located_expr, located_exprs};
 ghost use Rattle.cpc_tree.specs.Located as L;
 ghost use Rattle.cpc_tree.specs.Syntax.{TyInt};
-ghost use Rattle.cpc_rules.specs.Apart.{Spells};
-ghost use Rattle.cpc_rules.specs.StmtRules as S;
-ghost use Rattle.cpc_rules.specs.Calls as C;
-ghost use Rattle.cpc_rules.specs.Operators as O;
-ghost use Rattle.cpc_rules.specs.Noted.{noted, first_of};
+ghost use Rattle.cpc_check_rules.specs.Apart.{Spells};
+ghost use Rattle.cpc_check_rules.specs.StmtRules as S;
+ghost use Rattle.cpc_check_rules.specs.Calls as C;
+ghost use Rattle.cpc_check_rules.specs.Operators as O;
+ghost use Rattle.cpc_check_rules.specs.Noted.{noted, first_of};
 ghost use Rattle.cpc_check_values.specs.Stands.{where_of};
 
 use crate::assigned::note_given;
 use crate::places::target_rules;
 use cpc_base::{Dialect, NoMemory, Place};
+use cpc_check_rules::{First, Rule};
 use cpc_check_values::{Start, Where, call_rules, started_rules};
 use cpc_num::Kind;
-use cpc_rules::{First, Rule};
 use cpc_tree::program::{CType, Expr, Mode, Word};
 use std::alloc::Global;
 

@@ -1,18 +1,18 @@
 //! What operators break whose value goes to their left operand.
 ghost use Rattle.std.specs.Prelude.{◌≡◌, IfOk, OnOk, [], ◌∷◌, is_some, option_map, if◌then◌else◌};
 ghost use Rattle.cpc_tree.specs.Erase.{Names, type_of};
-ghost use Rattle.cpc_rules.specs.declared.rule.Rule.TheVariants.{Incomplete};
-ghost use Rattle.cpc_rules.specs.Apart.{AreApart};
-ghost use Rattle.cpc_rules.specs.Operators as O;
-ghost use Rattle.cpc_rules.specs.Calls as C;
-ghost use Rattle.cpc_rules.specs.Noted.{noted, first_of};
+ghost use Rattle.cpc_check_rules.specs.declared.rule.Rule.TheVariants.{Incomplete};
+ghost use Rattle.cpc_check_rules.specs.Apart.{AreApart};
+ghost use Rattle.cpc_check_rules.specs.Operators as O;
+ghost use Rattle.cpc_check_rules.specs.Calls as C;
+ghost use Rattle.cpc_check_rules.specs.Noted.{noted, first_of};
 ghost use Rattle.cpc_types.specs.Forms as F;
 ghost use Rattle.cpc_types.specs.Found.{found_of};
 ghost use Rattle.cpc_types.specs.Scoped.{scope_of};
 
 use cpc_base::{NoMemory, Place};
+use cpc_check_rules::{First, Rule};
 use cpc_num::Op;
-use cpc_rules::{First, Rule};
 use cpc_tree::program::CType;
 use cpc_types::{Scope, TypeFound, binary_form, cells, same_type};
 use std::alloc::Global;

@@ -2,8 +2,8 @@
 ghost use Rattle.std.specs.Prelude.{◌≡◌, OnOk};
 ghost use Rattle.cpc_tree.specs.Erase.{Names};
 ghost use Rattle.cpc_tree.specs.Locate.{located_stmt};
-ghost use Rattle.cpc_rules.specs.Apart.{Spells};
-ghost use Rattle.cpc_rules.specs.Noted.{noted, first_of};
+ghost use Rattle.cpc_check_rules.specs.Apart.{Spells};
+ghost use Rattle.cpc_check_rules.specs.Noted.{noted, first_of};
 ghost use Rattle.cpc_check_values.specs.Stands.{where_of};
 ghost use Rattle.cpc_check_statements.specs.Plain.{plain_breaks};
 
@@ -11,8 +11,8 @@ use crate::assigned::assign_rules;
 use crate::called::{performed_rules, section_rules, thread_rules};
 use crate::returned::return_rules;
 use cpc_base::NoMemory;
+use cpc_check_rules::First;
 use cpc_check_values::Where;
-use cpc_rules::First;
 use cpc_tree::program::Statement;
 use std::alloc::Global;
 

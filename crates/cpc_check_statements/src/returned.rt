@@ -2,16 +2,16 @@
 ghost use Rattle.std.specs.Prelude.{◌≡◌, OnOk, option_map};
 ghost use Rattle.cpc_tree.specs.Erase.{Names, type_of};
 ghost use Rattle.cpc_tree.specs.Locate.{located_expr};
-ghost use Rattle.cpc_rules.specs.Apart.{AreApart, Spells};
-ghost use Rattle.cpc_rules.specs.StmtRules as S;
-ghost use Rattle.cpc_rules.specs.Noted.{noted, first_of};
+ghost use Rattle.cpc_check_rules.specs.Apart.{AreApart, Spells};
+ghost use Rattle.cpc_check_rules.specs.StmtRules as S;
+ghost use Rattle.cpc_check_rules.specs.Noted.{noted, first_of};
 ghost use Rattle.cpc_types.specs.Found.{found_of};
 ghost use Rattle.cpc_check_values.specs.Stands.{where_of};
 
 use crate::assigned::is_unfit;
 use cpc_base::{NoMemory, Place};
+use cpc_check_rules::{First, Rule};
 use cpc_check_values::{Where, value_rules};
-use cpc_rules::{First, Rule};
 use cpc_tree::program::{CType, Expr};
 use cpc_types::TypeFound;
 use std::alloc::Global;

@@ -2,9 +2,9 @@
 //! where is by C11 6.2.1 (scopes of names), 6.5.16, 6.8.5, 6.8.6.4 and the tree of each body.
 use crate::{Around, body_rules, start_rules};
 use cpc_base::{Dialect, Name, Names, NoMemory, Place};
+use cpc_check_rules::{Breach, First, Rule};
 use cpc_check_values::Where;
 use cpc_num::Kind;
-use cpc_rules::{Breach, First, Rule};
 use cpc_tree::program::{CType, Expr, Function, Mode, Program, Statement, Word};
 use cpc_types::Scope;
 use std::alloc::Global;

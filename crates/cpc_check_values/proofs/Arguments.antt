@@ -10,14 +10,14 @@ use Rattle.cpc_tree.specs.Located.{LExpr, LText, LExprs, AndLExpr}
 use Rattle.cpc_tree.specs.Typing.{Typed}
 use Rattle.cpc_tree.proofs.LocatedClauses.{located_call_is}
 use Rattle.cpc_tree.specs.Locate.{located_expr, located_exprs}
-use Rattle.cpc_rules.specs.declared.rule.Rule.{Rule}
-use Rattle.cpc_rules.specs.declared.rule.Rule.TheVariants.{WrongNumber, NotClosed, CallInside}
-use Rattle.cpc_rules.specs.Rule.{at_if}
-use Rattle.cpc_rules.specs.Noted.{earlier, noted}
-use Rattle.cpc_rules.specs.Operators.{Where, typed_at, first, is_detached}
-use Rattle.cpc_rules.specs.Calls as C
-use Rattle.cpc_rules.specs.ExprRules.{args_breaks, called_breaks, call_breaks, expr_breaks}
-use Rattle.cpc_rules.proofs.Firsts.{noted_both}
+use Rattle.cpc_check_rules.specs.declared.rule.Rule.{Rule}
+use Rattle.cpc_check_rules.specs.declared.rule.Rule.TheVariants.{WrongNumber, NotClosed, CallInside}
+use Rattle.cpc_check_rules.specs.Rule.{at_if}
+use Rattle.cpc_check_rules.specs.Noted.{earlier, noted}
+use Rattle.cpc_check_rules.specs.Operators.{Where, typed_at, first, is_detached}
+use Rattle.cpc_check_rules.specs.Calls as C
+use Rattle.cpc_check_rules.specs.ExprRules.{args_breaks, called_breaks, call_breaks, expr_breaks}
+use Rattle.cpc_check_rules.proofs.Firsts.{noted_both}
 use Rattle.cpc_check_values.specs.Walked.{count_breaks, inside_breaks, wanted_breaks, is_wanted_text}
 
 abbrev Firsts : Type 0

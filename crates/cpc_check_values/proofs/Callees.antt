@@ -11,8 +11,8 @@ use Rattle.cpc_tree.specs.Locate.{located_expr, located_exprs}
 use Rattle.cpc_tree.specs.Primitives as P
 use Rattle.cpc_tree.specs.Syntax.{Ty}
 use Rattle.cpc_tree.specs.Typing as T
-use Rattle.cpc_rules.specs.Scopes.{Scope}
-use Rattle.cpc_rules.specs.Calls as C
+use Rattle.cpc_check_rules.specs.Scopes.{Scope}
+use Rattle.cpc_check_rules.specs.Calls as C
 use Rattle.cpc_types.specs.Listed.{optional_of}
 use Rattle.cpc_types.proofs.CodeParts.{code_is}
 use Rattle.cpc_check_values.specs.declared.primitives.Primitive.{Primitive}

@@ -10,12 +10,12 @@ use Rattle.cpc_tree.specs.Located.{LAnd, bare_expr}
 use Rattle.cpc_tree.specs.Locate.{located_expr}
 use Rattle.cpc_tree.specs.Typing as T
 use Rattle.cpc_tree.specs.Typing.{Typed}
-use Rattle.cpc_rules.specs.declared.rule.Rule.{Rule}
-use Rattle.cpc_rules.specs.Rule.{Broken}
-use Rattle.cpc_rules.specs.Noted.{noted}
-use Rattle.cpc_rules.specs.Operators as O
-use Rattle.cpc_rules.specs.Operators.{Where, typed_at}
-use Rattle.cpc_rules.specs.ExprRules.{expr_breaks}
+use Rattle.cpc_check_rules.specs.declared.rule.Rule.{Rule}
+use Rattle.cpc_check_rules.specs.Rule.{Broken}
+use Rattle.cpc_check_rules.specs.Noted.{noted}
+use Rattle.cpc_check_rules.specs.Operators as O
+use Rattle.cpc_check_rules.specs.Operators.{Where, typed_at}
+use Rattle.cpc_check_rules.specs.ExprRules.{expr_breaks}
 use Rattle.cpc_types.specs.Forms as F
 use Rattle.cpc_check_values.specs.Walked.{wide_typed, wide_breaks, logical_typed, logical_breaks}
 use Rattle.cpc_check_values.proofs.Walks.{after_two, after_three}

@@ -6,13 +6,13 @@ use Rattle.cpc_tree.specs.Erase.{Names}
 use Rattle.cpc_tree.specs.Located.{Ident}
 use Rattle.cpc_tree.specs.Locate.{located_exprs}
 use Rattle.cpc_tree.specs.Typing.{Meant}
-use Rattle.cpc_rules.specs.declared.rule.Rule.{Rule}
-use Rattle.cpc_rules.specs.Noted.{noted}
-use Rattle.cpc_rules.specs.Scopes.{meant}
-use Rattle.cpc_rules.specs.Operators.{Where}
-use Rattle.cpc_rules.specs.Calls as C
-use Rattle.cpc_rules.specs.ExprRules.{args_breaks}
-use Rattle.cpc_rules.specs.StmtRules as S
+use Rattle.cpc_check_rules.specs.declared.rule.Rule.{Rule}
+use Rattle.cpc_check_rules.specs.Noted.{noted}
+use Rattle.cpc_check_rules.specs.Scopes.{meant}
+use Rattle.cpc_check_rules.specs.Operators.{Where}
+use Rattle.cpc_check_rules.specs.Calls as C
+use Rattle.cpc_check_rules.specs.ExprRules.{args_breaks}
+use Rattle.cpc_check_rules.specs.StmtRules as S
 use Rattle.cpc_check_values.specs.Walked.{count_breaks}
 use Rattle.cpc_check_values.proofs.Walks.{after_two}
 use Rattle.cpc_check_values.proofs.Arguments.{number_is}

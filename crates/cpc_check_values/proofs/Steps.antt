@@ -12,12 +12,12 @@ use Rattle.cpc_tree.specs.Locate.{ident, located_expr}
 use Rattle.cpc_tree.specs.Typing as T
 use Rattle.cpc_tree.specs.Typing.{Typed}
 use Rattle.cpc_tree.proofs.Places.{bare_located}
-use Rattle.cpc_rules.specs.declared.rule.Rule.{Rule}
-use Rattle.cpc_rules.specs.Rule.{Broken}
-use Rattle.cpc_rules.specs.Noted.{noted}
-use Rattle.cpc_rules.specs.Operators as O
-use Rattle.cpc_rules.specs.Operators.{Where, typed_at, first}
-use Rattle.cpc_rules.specs.ExprRules.{expr_breaks}
+use Rattle.cpc_check_rules.specs.declared.rule.Rule.{Rule}
+use Rattle.cpc_check_rules.specs.Rule.{Broken}
+use Rattle.cpc_check_rules.specs.Noted.{noted}
+use Rattle.cpc_check_rules.specs.Operators as O
+use Rattle.cpc_check_rules.specs.Operators.{Where, typed_at, first}
+use Rattle.cpc_check_rules.specs.ExprRules.{expr_breaks}
 use Rattle.cpc_types.specs.Forms as F
 use Rattle.cpc_check_values.specs.Parts.{unary_breaks}
 use Rattle.cpc_check_values.specs.Walked.{narrow_typed, narrow_breaks}

@@ -7,7 +7,7 @@ use Rattle.cpc_base.specs.Bytes.{Text}
 use Rattle.cpc_base.specs.declared.names.Name.{Name}
 use Rattle.cpc_tree.specs.Erase.{Names, Table}
 use Rattle.cpc_tree.specs.Primitives as P
-use Rattle.cpc_rules.specs.Apart.{Spells}
+use Rattle.cpc_check_rules.specs.Apart.{Spells}
 use Rattle.cpc_check_values.specs.declared.primitives.Primitive.{Primitive}
 use Rattle.cpc_check_values.specs.Wants.{primitive_of}
 

@@ -6,10 +6,10 @@ use Rattle.cpc_base.specs.declared.stop.Place.{Place}
 use Rattle.cpc_tree.specs.Syntax.{Ty, TyStruct}
 use Rattle.cpc_tree.specs.Located.{Ident}
 use Rattle.cpc_tree.specs.Typing.{Typed, used, fields}
-use Rattle.cpc_rules.specs.Scopes.{Scope}
-use Rattle.cpc_rules.specs.Rule.{at_if}
-use Rattle.cpc_rules.specs.Operators as O
-use Rattle.cpc_rules.specs.declared.rule.Rule.TheVariants as R
+use Rattle.cpc_check_rules.specs.Scopes.{Scope}
+use Rattle.cpc_check_rules.specs.Rule.{at_if}
+use Rattle.cpc_check_rules.specs.Operators as O
+use Rattle.cpc_check_rules.specs.declared.rule.Rule.TheVariants as R
 use Rattle.cpc_check_values.specs.declared.fields.Base.{Base}
 use Rattle.cpc_check_values.specs.declared.fields.Base.TheVariants.{Fields, Incomplete}
 use Rattle.cpc_check_values.specs.Bases.{base_of, base_breaks}

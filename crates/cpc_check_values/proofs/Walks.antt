@@ -5,13 +5,13 @@ use Rattle.cpc_tree.specs.declared.program.UnaryOp.{UnaryOp}
 use Rattle.cpc_tree.specs.declared.program.UnaryOp.TheVariants as U
 use Rattle.cpc_tree.specs.Syntax.{Ty}
 use Rattle.cpc_tree.specs.Located.{Ident, LExpr, LUnary, LCast, LMember, LArrow, bare_expr}
-use Rattle.cpc_rules.specs.declared.rule.Rule.{Rule}
-use Rattle.cpc_rules.specs.Rule.{Broken}
-use Rattle.cpc_rules.specs.Noted.{noted}
-use Rattle.cpc_rules.specs.Operators as O
-use Rattle.cpc_rules.specs.Operators.{Where, typed_at, first}
-use Rattle.cpc_rules.specs.ExprRules.{expr_breaks}
-use Rattle.cpc_rules.proofs.Firsts.{noted_both}
+use Rattle.cpc_check_rules.specs.declared.rule.Rule.{Rule}
+use Rattle.cpc_check_rules.specs.Rule.{Broken}
+use Rattle.cpc_check_rules.specs.Noted.{noted}
+use Rattle.cpc_check_rules.specs.Operators as O
+use Rattle.cpc_check_rules.specs.Operators.{Where, typed_at, first}
+use Rattle.cpc_check_rules.specs.ExprRules.{expr_breaks}
+use Rattle.cpc_check_rules.proofs.Firsts.{noted_both}
 use Rattle.cpc_types.specs.Forms as F
 use Rattle.cpc_types.proofs.ExprParts.{unary_typed}
 use Rattle.cpc_check_values.specs.Parts.{unary_breaks}

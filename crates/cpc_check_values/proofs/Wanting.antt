@@ -7,7 +7,7 @@ use Rattle.cpc_tree.specs.declared.program.Parameter.{Parameter}
 use Rattle.cpc_tree.specs.Erase.{Names, type_of, parameter_of}
 use Rattle.cpc_tree.specs.Typing.{parameter_type}
 use Rattle.cpc_tree.specs.Primitives as P
-use Rattle.cpc_rules.specs.Calls as C
+use Rattle.cpc_check_rules.specs.Calls as C
 use Rattle.cpc_check_values.specs.declared.wants.Wanted.{Wanted}
 use Rattle.cpc_check_values.specs.declared.primitives.Primitive.{Primitive}
 use Rattle.cpc_check_values.specs.declared.primitives.Primitive.TheVariants as R

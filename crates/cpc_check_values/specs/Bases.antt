@@ -4,9 +4,9 @@ use Rattle.std.specs.Option.{is_none}
 use Rattle.cpc_base.specs.declared.stop.Place.{Place}
 use Rattle.cpc_tree.specs.Syntax.{Ty, TyStruct}
 use Rattle.cpc_tree.specs.Typing.{Typed, fields}
-use Rattle.cpc_rules.specs.Scopes.{Scope}
-use Rattle.cpc_rules.specs.Rule.{Broken, at_if}
-use Rattle.cpc_rules.specs.declared.rule.Rule.TheVariants as R
+use Rattle.cpc_check_rules.specs.Scopes.{Scope}
+use Rattle.cpc_check_rules.specs.Rule.{Broken, at_if}
+use Rattle.cpc_check_rules.specs.declared.rule.Rule.TheVariants as R
 use Rattle.cpc_check_values.specs.declared.fields.Base.{Base}
 use Rattle.cpc_check_values.specs.declared.fields.Base.TheVariants.{Fields, Incomplete, Other}
 

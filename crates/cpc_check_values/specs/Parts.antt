@@ -5,8 +5,8 @@ use Rattle.cpc_tree.specs.declared.program.UnaryOp.{UnaryOp}
 use Rattle.cpc_tree.specs.declared.program.UnaryOp.TheVariants.{AddressOf}
 use Rattle.cpc_tree.specs.Syntax.{Ty}
 use Rattle.cpc_tree.specs.Typing.{Typed, typed_place}
-use Rattle.cpc_rules.specs.Rule.{Broken}
-use Rattle.cpc_rules.specs.Operators.{no_rule, address_breaks}
+use Rattle.cpc_check_rules.specs.Rule.{Broken}
+use Rattle.cpc_check_rules.specs.Operators.{no_rule, address_breaks}
 
 -- the type of a place
 abbrev pub place_of : Option Typed → Option Ty

@@ -3,12 +3,12 @@ use Rattle.std.specs.Prelude.{ℕ, ◌==◌, Bool, true, false, not, length, [],
 use Rattle.cpc_base.specs.declared.stop.Place.{Place}
 use Rattle.cpc_tree.specs.Located.{LExpr, LText, LUnary, LBinary, LAnd, LOr, LChoose, LCast, LIndex, LMember, LArrow, LCall}
 use Rattle.cpc_tree.specs.Typing.{Meant, Typed}
-use Rattle.cpc_rules.specs.declared.rule.Rule.TheVariants.{WrongNumber}
-use Rattle.cpc_rules.specs.Rule.{Broken, at_if}
-use Rattle.cpc_rules.specs.Scopes.{Scope}
-use Rattle.cpc_rules.specs.Operators.{Where, typed_at}
-use Rattle.cpc_rules.specs.Calls as C
-use Rattle.cpc_rules.specs.ExprRules.{expr_breaks, arg_breaks}
+use Rattle.cpc_check_rules.specs.declared.rule.Rule.TheVariants.{WrongNumber}
+use Rattle.cpc_check_rules.specs.Rule.{Broken, at_if}
+use Rattle.cpc_check_rules.specs.Scopes.{Scope}
+use Rattle.cpc_check_rules.specs.Operators.{Where, typed_at}
+use Rattle.cpc_check_rules.specs.Calls as C
+use Rattle.cpc_check_rules.specs.ExprRules.{expr_breaks, arg_breaks}
 use Rattle.cpc_check_values.specs.declared.started.Start.{Start}
 use Rattle.cpc_check_values.specs.declared.started.Start.TheVariants.{Thread, Section}
 

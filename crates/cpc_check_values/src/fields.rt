@@ -2,9 +2,9 @@
 ghost use Rattle.std.specs.Prelude.{◌≡◌, IfOk, OnOk, option_map};
 ghost use Rattle.cpc_tree.specs.Erase.{Names, type_of};
 ghost use Rattle.cpc_tree.specs.Locate.{ident};
-ghost use Rattle.cpc_rules.specs.Apart.{AreApart};
-ghost use Rattle.cpc_rules.specs.Operators as O;
-ghost use Rattle.cpc_rules.specs.Noted.{noted, first_of};
+ghost use Rattle.cpc_check_rules.specs.Apart.{AreApart};
+ghost use Rattle.cpc_check_rules.specs.Operators as O;
+ghost use Rattle.cpc_check_rules.specs.Noted.{noted, first_of};
 ghost use Rattle.cpc_types.specs.Found.{found_of};
 ghost use Rattle.cpc_types.specs.Forms as F;
 ghost use Rattle.cpc_types.specs.Scoped.{scope_of};
@@ -12,7 +12,7 @@ ghost use Rattle.cpc_check_values.specs.Bases.{base_of, base_breaks};
 
 use crate::parts::{is_typed, place_of, pointed};
 use cpc_base::{NoMemory, Place};
-use cpc_rules::{First, Rule};
+use cpc_check_rules::{First, Rule};
 use cpc_tree::program::{CType, Word};
 use cpc_types::{Scope, TypeFound, arrow_form, member_form};
 use std::alloc::Global;

@@ -1,16 +1,16 @@
 //! What names break that are used as values.
 ghost use Rattle.std.specs.Prelude.{◌≡◌};
 ghost use Rattle.cpc_tree.specs.Erase.{Names};
-ghost use Rattle.cpc_rules.specs.Apart.{AreApart};
-ghost use Rattle.cpc_rules.specs.Scopes as R;
-ghost use Rattle.cpc_rules.specs.Operators as O;
-ghost use Rattle.cpc_rules.specs.Noted.{noted, first_of};
+ghost use Rattle.cpc_check_rules.specs.Apart.{AreApart};
+ghost use Rattle.cpc_check_rules.specs.Scopes as R;
+ghost use Rattle.cpc_check_rules.specs.Operators as O;
+ghost use Rattle.cpc_check_rules.specs.Noted.{noted, first_of};
 ghost use Rattle.cpc_types.specs.Scoped.{scope_of};
 ghost use Rattle.cpc_types.specs.Meanings.{meant_of};
 
 use crate::wheres::Where;
 use cpc_base::Place;
-use cpc_rules::{First, Rule};
+use cpc_check_rules::{First, Rule};
 use cpc_tree::program::{Mode, Word};
 use cpc_types::Meant;
 

@@ -1,24 +1,24 @@
 //! What operators break.
 ghost use Rattle.std.specs.Prelude.{◌≡◌, IfOk, OnOk, ◌&&◌, is_some, [], ◌∷◌, if◌then◌else◌};
 ghost use Rattle.std.specs.Option.{is_none};
-ghost use Rattle.cpc_rules.specs.declared.rule.Rule.TheVariants.{Incomplete};
-ghost use Rattle.cpc_rules.specs.Rule.{at_if};
-ghost use Rattle.cpc_rules.specs.Scopes as R;
+ghost use Rattle.cpc_check_rules.specs.declared.rule.Rule.TheVariants.{Incomplete};
+ghost use Rattle.cpc_check_rules.specs.Rule.{at_if};
+ghost use Rattle.cpc_check_rules.specs.Scopes as R;
 ghost use Rattle.cpc_tree.specs.Syntax.{ESizeOf};
 ghost use Rattle.cpc_check_values.specs.Parts.{unary_breaks};
 ghost use Rattle.cpc_tree.specs.Erase.{Names, type_of};
 ghost use Rattle.cpc_tree.specs.Typing as T;
-ghost use Rattle.cpc_rules.specs.Apart.{AreApart};
-ghost use Rattle.cpc_rules.specs.Operators as O;
-ghost use Rattle.cpc_rules.specs.Noted.{noted, first_of};
+ghost use Rattle.cpc_check_rules.specs.Apart.{AreApart};
+ghost use Rattle.cpc_check_rules.specs.Operators as O;
+ghost use Rattle.cpc_check_rules.specs.Noted.{noted, first_of};
 ghost use Rattle.cpc_types.specs.Found.{found_of};
 ghost use Rattle.cpc_types.specs.Forms as F;
 ghost use Rattle.cpc_types.specs.Scoped.{scope_of};
 
 use crate::parts::{is_incomplete_sum, is_typed};
 use cpc_base::{NoMemory, Place};
+use cpc_check_rules::{First, Rule};
 use cpc_num::Op;
-use cpc_rules::{First, Rule};
 use cpc_tree::program::{CType, UnaryOp};
 use cpc_types::{
     Scope, TypeFound, binary_form, cast_form, cells, choice_form, index_form, size_form, test_form,

@@ -2,9 +2,9 @@
 ghost use Rattle.std.specs.Prelude.{◌≡◌, is_some, option_map};
 ghost use Rattle.cpc_tree.specs.Erase.{Names, type_of};
 ghost use Rattle.cpc_tree.specs.Typing as T;
-ghost use Rattle.cpc_rules.specs.Apart.{AreApart};
-ghost use Rattle.cpc_rules.specs.Operators as O;
-ghost use Rattle.cpc_rules.specs.Calls as C;
+ghost use Rattle.cpc_check_rules.specs.Apart.{AreApart};
+ghost use Rattle.cpc_check_rules.specs.Operators as O;
+ghost use Rattle.cpc_check_rules.specs.Calls as C;
 ghost use Rattle.cpc_types.specs.Found.{found_of};
 ghost use Rattle.cpc_types.specs.Scoped.{scope_of};
 ghost use Rattle.cpc_check_values.specs.Parts.{place_of};

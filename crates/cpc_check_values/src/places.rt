@@ -2,7 +2,7 @@
 ghost use Rattle.std.specs.Prelude.{◌≡◌};
 ghost use Rattle.cpc_tree.specs.Erase.{Names};
 ghost use Rattle.cpc_tree.specs.Locate.{located_expr};
-ghost use Rattle.cpc_rules.specs.Operators as O;
+ghost use Rattle.cpc_check_rules.specs.Operators as O;
 
 use cpc_base::Place;
 use cpc_tree::program::Expr;

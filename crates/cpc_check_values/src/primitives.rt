@@ -1,7 +1,7 @@
 //! The primitives of the language.
 ghost use Rattle.std.specs.Prelude.{◌≡◌, option_map};
 ghost use Rattle.cpc_tree.specs.Primitives as P;
-ghost use Rattle.cpc_rules.specs.Calls as C;
+ghost use Rattle.cpc_check_rules.specs.Calls as C;
 ghost use Rattle.cpc_check_values.specs.Wants.{primitive_of, spelling_of, primitive_found};
 
 /// A primitive: of both dialects, of the dialect Cpc, or of the dialect Event.

@@ -1,8 +1,8 @@
 //! The first rule that expressions, calls and started functions break, with its place, on trees that are written out.
 use crate::{Start, Where, call_rules, first_place, primitive_named, started_rules, value_rules};
 use cpc_base::{Dialect, Name, Names, NoMemory, Place};
+use cpc_check_rules::{First, Rule};
 use cpc_num::{Kind, Op};
-use cpc_rules::{First, Rule};
 use cpc_tree::program::{CType, Expr, Field, Item, Mode, Parameter, Program, UnaryOp, Word};
 use cpc_types::Scope;
 use std::alloc::Global;

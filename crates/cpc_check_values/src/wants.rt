@@ -2,7 +2,7 @@
 ghost use Rattle.std.specs.Prelude.{◌≡◌, IfOk, length, map, option_map, slice_get};
 ghost use Rattle.std.specs.Prelude as Std;
 ghost use Rattle.cpc_tree.specs.Erase.{Names, type_of};
-ghost use Rattle.cpc_rules.specs.Calls as C;
+ghost use Rattle.cpc_check_rules.specs.Calls as C;
 ghost use Rattle.cpc_types.specs.Listed.{optional_of};
 ghost use Rattle.cpc_check_values.specs.Wants.{want_of, primitive_of, primitive_wants, wants_of, callee_of, wants_count};
 

@@ -9,7 +9,7 @@ use Rattle.cpc_tree.specs.Syntax.{Program}
 use Rattle.cpc_tree.specs.Located.{LProgram, bare}
 use Rattle.cpc_meaning.specs.Events.{event}
 use Rattle.cpc_meaning.specs.Runs.{live_cells}
-use Rattle.cpc_command.specs.Commands.{Command, Run, Translate, Check, command_of}
+use Rattle.cpc_cli_command.specs.Commands.{Command, Run, Translate, Check, command_of}
 use Rattle.cpc_check.specs.Accepted.{Accepts}
 use Rattle.cpc_cli.specs.Command.{Asks, Builds, named}
 use Rattle.cpc_cli.specs.Answer.{Answer, Rises, status_of, Does, DoesInPart, HasCells, MayHaveCells, NotAccepted, EndedIn, did, not_begun, unwritten_in, starved_in, IsEnd, misused, starved, performed, NoRun, Nothing, Printed, RanWhole, RanInPart, StandsSo, shown}

@@ -2,7 +2,7 @@
 use Rattle.std.proofs.Common.{◌≡◌, ◌≢◌, List, [], refl, sym, subst, ◌∙◌, inl, inr, Option, None, Some}
 use Rattle.cpc_base.specs.Bytes.{Text}
 use Rattle.cpc_base.specs.Outside.{Files}
-use Rattle.cpc_command.specs.Commands.{Command, Run, Translate, Check, command_of}
+use Rattle.cpc_cli_command.specs.Commands.{Command, Run, Translate, Check, command_of}
 use Rattle.cpc_cli.specs.Command.{Builds, named}
 use Rattle.cpc_cli.specs.Answer.{Answer, Rises, Does, NotAccepted, EndedIn, did, not_begun, unwritten_in, starved_in, IsEnd, misused, starved, performed, status_of}
 use Rattle.cpc_cli.specs.Exact.{Due, for_usage, for_absent, for_too_long, for_refused, for_unbuilt, for_check, for_translate, for_run, NoneRose, Gives}

@@ -13,7 +13,7 @@ use Rattle.cpc_tree.specs.Erase.{program_of}
 use Rattle.cpc_tree.specs.Locate.{located}
 use Rattle.cpc_tree.proofs.Places.{bare_program}
 use Rattle.cpc_meaning.specs.Runs.{SameRuns, Within}
-use Rattle.cpc_command.specs.Commands.{Command, Run, command_of}
+use Rattle.cpc_cli_command.specs.Commands.{Command, Run, command_of}
 use Rattle.cpc_check.specs.Accepted.{Accepts}
 use Rattle.cpc_shape.specs.Shape.{Shape}
 use Rattle.cpc_translate.specs.Refusals.{IsTextFault}

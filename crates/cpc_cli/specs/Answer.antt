@@ -17,7 +17,7 @@ use Rattle.cpc_base.specs.declared.stop.Stop.TheVariants as W
 use Rattle.cpc_translate.specs.declared.fault.TextFault.{TextFault}
 use Rattle.cpc_translate.specs.declared.translating.Refusal.{Refusal}
 use Rattle.cpc_translate.specs.declared.translating.Refusal.TheVariants as X
-use Rattle.cpc_command.specs.Commands.{Command, Check, Translate, Run, command_of}
+use Rattle.cpc_cli_command.specs.Commands.{Command, Check, Translate, Run, command_of}
 use Rattle.cpc_check.specs.Accepted.{Accepts}
 use Rattle.cpc_translate.specs.Refusals.{IsTextFault}
 use Rattle.cpc_translate.specs.Events.{event_of}

@@ -1,7 +1,7 @@
 -- The files of a command.
 use Rattle.std.specs.Prelude.{◌≡◌, ℕ, List, Some}
 use Rattle.cpc_base.specs.Bytes.{Text}
-use Rattle.cpc_command.specs.Commands.{Command, Check, Translate, Run, command_of}
+use Rattle.cpc_cli_command.specs.Commands.{Command, Check, Translate, Run, command_of}
 use Rattle.cpc_cli.specs.declared.answer.Role.{Role}
 use Rattle.cpc_cli.specs.declared.answer.Role.TheVariants as R
 

@@ -9,7 +9,7 @@ use Rattle.cpc_check.specs.Accepted.{Accepts}
 use Rattle.cpc_translate.specs.Refusals.{IsTextFault}
 use Rattle.cpc_built.specs.Built.{unbuilt}
 use Rattle.cpc_translate.specs.declared.fault.TextFault.{TextFault}
-use Rattle.cpc_command.specs.Commands.{Command, Check, Translate, Run, command_of}
+use Rattle.cpc_cli_command.specs.Commands.{Command, Check, Translate, Run, command_of}
 use Rattle.cpc_cli.specs.Command.{Builds, named, limit_of}
 use Rattle.cpc_cli.specs.Answer.{IsTranslated, Rises, StandsSo, shown, status_of, line_of, name_in}
 use Rattle.cpc_cli.specs.declared.answer.Role.TheVariants as R

@@ -5,13 +5,13 @@ ghost use Rattle.cpc_base.specs.declared.stop.Dialect.TheVariants as D;
 ghost use Rattle.cpc_tree.specs.Erase.{in_table, program_of};
 ghost use Rattle.cpc_tree.specs.Locate.{located};
 ghost use Rattle.cpc_tree.specs.Located.{bare};
-ghost use Rattle.cpc_builtins.specs.Served.{is_served_program};
+ghost use Rattle.cpc_native_builtins.specs.Served.{is_served_program};
 ghost use Rattle.cpc_run.specs.States.{outcome_of as run_outcome_of};
 ghost use Rattle.cpc_cli.specs.Exact.{Gives, NoneRose};
 ghost use Rattle.cpc_cli.specs.declared.answer.End.{End};
-ghost use Rattle.cpc_command.specs.Commands.{Run, Translate, Check, asked, command_of};
-ghost use Rattle.cpc_command.specs.Usage.{IsBounded};
-ghost use Rattle.cpc_command.specs.Number.{most_cells};
+ghost use Rattle.cpc_cli_command.specs.Commands.{Run, Translate, Check, asked, command_of};
+ghost use Rattle.cpc_cli_command.specs.Usage.{IsBounded};
+ghost use Rattle.cpc_cli_command.specs.Number.{most_cells};
 ghost use Rattle.cpc_cli.specs.Command.{Asks, named};
 ghost use Rattle.cpc_cli.specs.declared.answer.Role.TheVariants as R;
 ghost use Rattle.cpc_cli.specs.Answer.{AcceptedAs, Answer, EndedIn, IsEnd, IsTranslated, NotAccepted, Nothing, Printed, RanTo, TextHas, heading, line_of, name_in, outcome_in, refused_end, rises, unread_end, untranslated_end};
@@ -22,7 +22,7 @@ use cpc_base::{
     Dialect, Failed, Name, Names, NoMemory, ReadFault, Shelf, Sink, Stop, read_file, write_all,
 };
 use cpc_check::Checked;
-use cpc_command::{Command, Usage, read_words};
+use cpc_cli_command::{Command, Usage, read_words};
 use cpc_run::{Ended, Limits, Outcome as RunOutcome, before_bars, run_event};
 use cpc_translate::{Refusal, TextFault, read, translate};
 use std::alloc::Global;

@@ -1,7 +1,7 @@
 -- The rows of a thread's steps.
 use Rattle.std.proofs.Common.{◌≡◌, List, [], ◌∷◌, ◌++◌, Option, Some, None, refl, ap, arith}
 use Rattle.cpc_base.specs.Bytes.{Text}
-use Rattle.cpc_matching.specs.Simulation.{Last}
+use Rattle.cpc_meaning_matching.specs.Simulation.{Last}
 use Rattle.cpc_store.specs.Store.{Value, Store}
 use Rattle.cpc_meaning.specs.Answer.{Answer}
 use Rattle.cpc_meaning.specs.Eval.{Slot}

@@ -3,7 +3,7 @@ use Rattle.std.proofs.Common.{◌≡◌, ℕ, suc, inl, true, List, [], ◌∷�
 use Rattle.cpc_base.specs.Bytes.{Text}
 use Rattle.cpc_tree.specs.Syntax.{Expr, ENamed, Block, Empty, AndStmt, TyVoid}
 use Rattle.cpc_tree.specs.declared.program.Mode.TheVariants.{Native}
-use Rattle.cpc_matching.specs.Simulation.{Last, More}
+use Rattle.cpc_meaning_matching.specs.Simulation.{Last, More}
 use Rattle.cpc_store.specs.Store.{Value, Null, Store}
 use Rattle.cpc_tree.specs.Typing.{AFunction, named}
 use Rattle.cpc_meaning.specs.Eval.{Context, value}

@@ -1,7 +1,7 @@
 -- The rows of the loop: taking an item, turning the round, and the end.
 use Rattle.std.proofs.Common.{◌≡◌, ℕ, suc, List, [], ◌∷◌, Some, None, refl, sym, ◌∙◌, ap, subst, arith, length}
 use Rattle.cpc_tree.specs.Syntax.{Stmt, Block, Variable, Program}
-use Rattle.cpc_matching.specs.Simulation.{Last}
+use Rattle.cpc_meaning_matching.specs.Simulation.{Last}
 use Rattle.cpc_store.specs.Store.{Value, Unset, Null, Store}
 use Rattle.cpc_meaning.specs.Answer.{Gives}
 use Rattle.cpc_meaning.specs.Eval.{Slot, Register}

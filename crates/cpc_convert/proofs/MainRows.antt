@@ -4,7 +4,7 @@ use Rattle.cpc_base.specs.Bytes.{Text}
 use Rattle.cpc_tree.specs.Syntax.{Expr, NoExpr, ENamed, Stmt, Assign, Spawn, Return, TyVoid, TyInt}
 use Rattle.cpc_tree.specs.declared.program.Mode.TheVariants.{Native}
 use Rattle.cpc_num.specs.declared.kinds.Fault.{Fault}
-use Rattle.cpc_matching.specs.Simulation.{Last, More}
+use Rattle.cpc_meaning_matching.specs.Simulation.{Last, More}
 use Rattle.cpc_num.specs.Number.{is_zero}
 use Rattle.cpc_store.specs.Store.{Value, Null, Store}
 use Rattle.cpc_tree.specs.Typing.{Scope, AFunction, named}

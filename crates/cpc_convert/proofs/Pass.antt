@@ -1,10 +1,10 @@
 -- The event program follows the source, which is never stuck.
 use Rattle.std.proofs.Common.{◌≡◌, ℕ, zero, suc, ◌⊎◌, inl, inr, ⊎_elim, true, List, [], ◌∷◌, Option, Some, None, refl, sym, ◌∙◌, ap, subst, arith}
-use Rattle.cpc_matching.specs.Steps.{or_stay}
-use Rattle.cpc_matching.specs.Simulation.{Path, Last, More, one, Matches, Follows}
-use Rattle.cpc_matching.specs.Systems.{System, run, NotStuck, NeverStuck}
-use Rattle.cpc_matching.specs.Systems as Law
-use Rattle.cpc_matching.proofs.Paths.{path_map, matches_of_paths}
+use Rattle.cpc_meaning_matching.specs.Steps.{or_stay}
+use Rattle.cpc_meaning_matching.specs.Simulation.{Path, Last, More, one, Matches, Follows}
+use Rattle.cpc_meaning_matching.specs.Systems.{System, run, NotStuck, NeverStuck}
+use Rattle.cpc_meaning_matching.specs.Systems as Law
+use Rattle.cpc_meaning_matching.proofs.Paths.{path_map, matches_of_paths}
 use Rattle.cpc_store.specs.Store.{Store, empty_store}
 use Rattle.cpc_tree.specs.Points.{Point}
 use Rattle.cpc_tree.specs.Trace.{Mark, Outcome, is_over}

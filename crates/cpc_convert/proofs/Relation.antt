@@ -4,7 +4,7 @@ use Rattle.cpc_base.specs.Bytes.{Text}
 use Rattle.cpc_tree.specs.Syntax.{TyVoid, TyInt, TyPointer}
 use Rattle.cpc_tree.specs.declared.program.Mode.TheVariants.{Native}
 use Rattle.cpc_num.specs.declared.kinds.Kind.TheVariants.{Int}
-use Rattle.cpc_matching.specs.Simulation.{Path, one}
+use Rattle.cpc_meaning_matching.specs.Simulation.{Path, one}
 use Rattle.cpc_store.specs.Store.{Value, Null, Store}
 use Rattle.cpc_tree.specs.Typing.{AFunction, NotMeant, item_named, function_named}
 use Rattle.cpc_meaning.specs.Eval.{Slot}

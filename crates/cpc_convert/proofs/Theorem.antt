@@ -1,11 +1,11 @@
 -- What the conversion promises, from what was accepted, by the laws of matching.
 use Rattle.std.proofs.Common.{arith}
-use Rattle.cpc_matching.proofs.Systems.{matches_within}
+use Rattle.cpc_meaning_matching.proofs.Systems.{matches_within}
 use Rattle.cpc_meaning.proofs.Connect.{simulation_makes_same_runs, simulation_within_cost}
 use Rattle.cpc_convert.specs.First.{source}
 use Rattle.cpc_convert.specs.Converted.{target}
 use Rattle.cpc_convert.specs.Promises.{four, FirstRuns, FirstCost, FirstWithin, FirstNeverStuck, FirstFollows}
-use Rattle.cpc_matching.specs.Simulation.{one}
+use Rattle.cpc_meaning_matching.specs.Simulation.{one}
 use Rattle.cpc_convert.proofs.Lookups.{facts}
 use Rattle.cpc_convert.proofs.Pass.{never_stuck, follows, matches}
 

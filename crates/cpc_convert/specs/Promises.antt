@@ -2,8 +2,8 @@
 use Rattle.std.specs.Prelude.{ℕ}
 use Rattle.cpc_tree.specs.Trace.{is_over}
 use Rattle.cpc_tree.specs.Points.{Point}
-use Rattle.cpc_matching.specs.Systems.{RunsWithin}
-use Rattle.cpc_matching.specs.Simulation.{Follows, one}
+use Rattle.cpc_meaning_matching.specs.Systems.{RunsWithin}
+use Rattle.cpc_meaning_matching.specs.Simulation.{Follows, one}
 use Rattle.cpc_meaning.specs.Trees.{trees}
 use Rattle.cpc_meaning.specs.History.{History}
 use Rattle.cpc_meaning.specs.Machine.{State}

@@ -6,8 +6,6 @@ mod cut;
 mod made;
 mod names;
 mod respawn;
-#[cfg(test)]
-mod tests;
 mod trees;
 mod yields;
 

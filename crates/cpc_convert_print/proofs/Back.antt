@@ -14,10 +14,10 @@ use Rattle.cpc_tree.specs.Grammar.{nesting_limit, Parses}
 use Rattle.cpc_tree.specs.ItemGrammar.{ReadsItems}
 use Rattle.cpc_tree.specs.ItemPrint.{Printable, program_row, program_depth, lexemes}
 use Rattle.cpc_tree.proofs.Known.{AreBytes, row_spellable}
-use Rattle.cpc_printing.proofs.Fitting.{spelled_all, all_spelled}
-use Rattle.cpc_printing.proofs.LeastPrograms.{prints_least}
-use Rattle.cpc_printing.proofs.FitPrograms.{read_spellable}
-use Rattle.cpc_printing.proofs.ProgramsRead.{prints_back}
+use Rattle.cpc_printer_laws.proofs.Fitting.{spelled_all, all_spelled}
+use Rattle.cpc_printer_laws.proofs.LeastPrograms.{prints_least}
+use Rattle.cpc_printer_laws.proofs.FitPrograms.{read_spellable}
+use Rattle.cpc_printer_laws.proofs.ProgramsRead.{prints_back}
 use Rattle.cpc_printer.specs.Style.{is_tight_for, printed_row, IsPrint, ReadsBack}
 use Rattle.cpc_convert.specs.First.{source}
 use Rattle.cpc_convert.specs.Converted.{target}

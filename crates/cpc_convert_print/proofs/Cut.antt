@@ -11,7 +11,7 @@ use Rattle.cpc_tree.specs.Syntax.{ENamed, Stmt, Empty, Declare, Assign, Return, 
 use Rattle.cpc_tree.specs.Typing.{Scope}
 use Rattle.cpc_tree.specs.ExprPrint.{expr_row, expr_depth, args_row, args_depth, PrintableExpr}
 use Rattle.cpc_tree.specs.StmtPrint.{stmt_row, block_row, stmt_depth, block_depth, PrintableStmt, PrintableBlock}
-use Rattle.cpc_printing.proofs.Fitting.{Spelled}
+use Rattle.cpc_printer_laws.proofs.Fitting.{Spelled}
 use Rattle.cpc_convert.specs.First.{Line, Prints, Yields, Spawns, Routine, line_statement, statements}
 use Rattle.cpc_convert.specs.Converted.{piece_name, spawner_name, respawned, respawned_all, readies, cut, after_yields, piece_statements}
 use Rattle.cpc_convert.specs.Form.{GoodStmt, TheEmpty, TheDeclare, TheAssign, ThePrint, TheSpawn, TheReturn, TheBlock, TheIf, TheWhile, GoodStmts, NoStatement, AndStatement}

@@ -15,7 +15,7 @@ use Rattle.cpc_tree.specs.ItemGrammar.{all_named}
 use Rattle.cpc_tree.specs.TypePrint.{param_row, param_depth, params_row, params_depth, PrintableType, AllPrintable}
 use Rattle.cpc_tree.specs.StmtPrint.{stmt_row, block_row, block_depth, PrintableBlock}
 use Rattle.cpc_tree.specs.ItemPrint.{item_row, item_depth, PrintableItem}
-use Rattle.cpc_printing.proofs.Fitting.{Spelled, spelled_both, spelled_parts}
+use Rattle.cpc_printer_laws.proofs.Fitting.{Spelled, spelled_both, spelled_parts}
 use Rattle.cpc_convert.specs.First.{Line, Routine, statements, routine_item, main_function}
 use Rattle.cpc_convert.specs.Converted.{piece_name, spawner_name, respawned, respawned_all, readies, callback_parameters, piece_function, piece_statements, spawner_function, pieces, made_from, yields}
 use Rattle.cpc_convert.specs.Form.{GoodStmt, TheBlock}

@@ -6,7 +6,7 @@ use Rattle.cpc_base.specs.declared.stop.Dialect.TheVariants as D
 use Rattle.cpc_tree.specs.Syntax.{Stmts, Function, Item, Program}
 use Rattle.cpc_tree.specs.StmtPrint.{block_row, block_depth, PrintableBlock}
 use Rattle.cpc_tree.specs.ItemPrint.{item_row, item_depth, program_row, program_depth, PrintableItem, Printable}
-use Rattle.cpc_printing.proofs.Fitting.{Spelled, spelled_both, spelled_parts}
+use Rattle.cpc_printer_laws.proofs.Fitting.{Spelled, spelled_both, spelled_parts}
 use Rattle.cpc_convert.specs.Converted.{function_item, prototype}
 use Rattle.cpc_convert_print.proofs.Kept.{AllKept}
 

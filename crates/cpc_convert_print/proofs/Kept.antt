@@ -9,7 +9,7 @@ use Rattle.cpc_tree.specs.Syntax.{Expr, ENamed, NoExpr, Stmt, Block, Call, Spawn
 use Rattle.cpc_tree.specs.ExprGrammar.{Whole}
 use Rattle.cpc_tree.specs.ExprPrint.{expr_row, expr_depth, args_row, args_depth, PrintableExpr}
 use Rattle.cpc_tree.specs.StmtPrint.{stmt_row, block_row, stmt_depth, block_depth, is_local, PrintableStmt, PrintableBlock}
-use Rattle.cpc_printing.proofs.Fitting.{Spelled, spelled_both, spelled_parts}
+use Rattle.cpc_printer_laws.proofs.Fitting.{Spelled, spelled_both, spelled_parts}
 use Rattle.cpc_convert_print.proofs.Widened.{row_widened}
 
 -- a statement in place of another

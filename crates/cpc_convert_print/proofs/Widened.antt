@@ -4,7 +4,7 @@ use Rattle.cpc_base.specs.Bytes.{Text}
 use Rattle.cpc_base.specs.declared.stop.Dialect.TheVariants as D
 use Rattle.cpc_tree.specs.Tokens.{Lexeme, Word, Mark, Named, Number, Character, Quoted}
 use Rattle.cpc_tree.specs.Spelling.{IsName, IsSpellable}
-use Rattle.cpc_printing.proofs.Fitting.{Spelled}
+use Rattle.cpc_printer_laws.proofs.Fitting.{Spelled}
 
 -- a name
 pub name_widened : (x : Text) → IsName D.Cpc x → IsName D.Event x

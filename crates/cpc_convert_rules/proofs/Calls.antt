@@ -6,12 +6,12 @@ use Rattle.cpc_tree.specs.declared.program.Mode.TheVariants.{Native}
 use Rattle.cpc_tree.specs.Syntax.{Ty, TyVoid, TyInt, TyPointer, NoExpr}
 use Rattle.cpc_tree.specs.Located.{LExpr, LNamed, NoLExpr, AndLExpr, Call}
 use Rattle.cpc_tree.specs.Typing.{Meant, AFunction, NotMeant}
-use Rattle.cpc_rules.specs.Scopes.{Scope, meant}
-use Rattle.cpc_rules.specs.Operators.{typed_at}
-use Rattle.cpc_rules.specs.ExprRules.{expr_breaks}
-use Rattle.cpc_rules.specs.StmtRules.{stmt_breaks}
-use Rattle.cpc_rule_laws.proofs.NativeValues.{both_none, event}
-use Rattle.cpc_rule_laws.proofs.OnePlace.{here, ident_here, stmt_here}
+use Rattle.cpc_check_rules.specs.Scopes.{Scope, meant}
+use Rattle.cpc_check_rules.specs.Operators.{typed_at}
+use Rattle.cpc_check_rules.specs.ExprRules.{expr_breaks}
+use Rattle.cpc_check_rules.specs.StmtRules.{stmt_breaks}
+use Rattle.cpc_check_laws.proofs.NativeValues.{both_none, event}
+use Rattle.cpc_check_laws.proofs.OnePlace.{here, ident_here, stmt_here}
 use Rattle.cpc_convert.specs.First.{call_of}
 use Rattle.cpc_convert.specs.Converted.{readies}
 use Rattle.cpc_convert_rules.proofs.Values.{IsInteger, suits_integer}

@@ -8,10 +8,10 @@ use Rattle.cpc_tree.specs.Typing.{Meant, AFunction, parameter_type}
 use Rattle.cpc_meaning.specs.Start.{main_name}
 use Rattle.cpc_meaning.proofs.Functions.{texts_differ}
 use Rattle.cpc_base.specs.declared.stop.Dialect.TheVariants as D
-use Rattle.cpc_rules.specs.Scopes.{Scope, in_items}
-use Rattle.cpc_rules.specs.FunctionRules.{is_kept, reserved_breaks, locals, labels, label_breaks, stray_breaks, many_breaks}
-use Rattle.cpc_rules.specs.ItemRules.{Signature, is_item, is_function, is_clash, is_disagreeing, clashes, agrees, disagrees, types, parameters_breaks, sized_breaks}
-use Rattle.cpc_rule_laws.proofs.OnePlace.{parameter_here, stmt_here}
+use Rattle.cpc_check_rules.specs.Scopes.{Scope, in_items}
+use Rattle.cpc_check_rules.specs.FunctionRules.{is_kept, reserved_breaks, locals, labels, label_breaks, stray_breaks, many_breaks}
+use Rattle.cpc_check_rules.specs.ItemRules.{Signature, is_item, is_function, is_clash, is_disagreeing, clashes, agrees, disagrees, types, parameters_breaks, sized_breaks}
+use Rattle.cpc_check_laws.proofs.OnePlace.{parameter_here, stmt_here}
 use Rattle.cpc_convert.specs.Converted.{prototype, function_item}
 use Rattle.cpc_convert.specs.Form.{Has}
 use Rattle.cpc_convert.specs.Accepted.{has_marks}

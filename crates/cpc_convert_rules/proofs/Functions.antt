@@ -5,12 +5,12 @@ use Rattle.cpc_base.specs.declared.stop.Dialect.TheVariants as D
 use Rattle.cpc_tree.specs.declared.program.Mode.{Mode}
 use Rattle.cpc_tree.specs.Syntax.{Function, Program}
 use Rattle.cpc_meaning.proofs.Functions.{texts_differ, text_same}
-use Rattle.cpc_rules.specs.declared.rule.Rule.TheVariants.{Disagree, Reserved, Twice, Undeclared}
-use Rattle.cpc_rules.specs.Rule.{at_if}
-use Rattle.cpc_rules.specs.FunctionRules.{reserved_breaks, is_kept}
-use Rattle.cpc_rules.specs.ItemRules.{Signature, declared_breaks, is_item, is_function, is_clash, is_disagreeing, is_extern, is_host_like, types, cps_breaks, item_breaks, outside, in_body, body_breaks}
-use Rattle.cpc_rule_laws.proofs.NativeValues.{both_none}
-use Rattle.cpc_rule_laws.proofs.OnePlace.{here, ident_here, stmt_here, parameter_here, function_here, item_here}
+use Rattle.cpc_check_rules.specs.declared.rule.Rule.TheVariants.{Disagree, Reserved, Twice, Undeclared}
+use Rattle.cpc_check_rules.specs.Rule.{at_if}
+use Rattle.cpc_check_rules.specs.FunctionRules.{reserved_breaks, is_kept}
+use Rattle.cpc_check_rules.specs.ItemRules.{Signature, declared_breaks, is_item, is_function, is_clash, is_disagreeing, is_extern, is_host_like, types, cps_breaks, item_breaks, outside, in_body, body_breaks}
+use Rattle.cpc_check_laws.proofs.NativeValues.{both_none}
+use Rattle.cpc_check_laws.proofs.OnePlace.{here, ident_here, stmt_here, parameter_here, function_here, item_here}
 use Rattle.cpc_convert.specs.Converted.{prototype, function_item}
 use Rattle.cpc_convert.specs.Form.{Has, OnTop, Below}
 use Rattle.cpc_convert_rules.proofs.Items.{or_none, or_right, is_item_append, item_front, item_behind, is_function_more, no_clash, no_disagreement}

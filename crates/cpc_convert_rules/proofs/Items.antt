@@ -4,8 +4,8 @@ use Rattle.std.proofs.lemmas.List.{reverse-append}
 use Rattle.cpc_base.specs.Bytes.{Text}
 use Rattle.cpc_tree.specs.Syntax.{Function, StructItem, GlobalItem, PrototypeItem, FunctionItem, Program}
 use Rattle.cpc_tree.specs.Typing.{AGlobal, AFunction, NotMeant, parameter_type}
-use Rattle.cpc_rules.specs.Scopes.{in_items}
-use Rattle.cpc_rules.specs.ItemRules.{Signature, is_item, is_function, is_clash, is_disagreeing, clashes, disagrees}
+use Rattle.cpc_check_rules.specs.Scopes.{in_items}
+use Rattle.cpc_check_rules.specs.ItemRules.{Signature, is_item, is_function, is_clash, is_disagreeing, clashes, disagrees}
 
 -- ---- two tests
 

@@ -7,15 +7,15 @@ use Rattle.cpc_tree.specs.Syntax.{TyInt, Expr, ENamed, Stmt, Return, Stmts, Vari
 use Rattle.cpc_tree.specs.Typing.{Local, Meant, ALocal, NotMeant, type_named}
 use Rattle.cpc_tree.specs.Typing as T
 use Rattle.cpc_tree.specs.Points.{extended}
-use Rattle.cpc_rules.specs.declared.rule.Rule.TheVariants.{BadReturn}
-use Rattle.cpc_rules.specs.Rule.{at_if}
-use Rattle.cpc_rules.specs.Scopes.{Scope, Block, in_items, in_blocks, meant, with_name}
-use Rattle.cpc_rules.specs.Operators.{Where, typed_at, name_breaks, first}
-use Rattle.cpc_rules.specs.ExprRules.{expr_breaks}
-use Rattle.cpc_rules.specs.StmtRules.{stmt_breaks, stmts_breaks, test_breaks, behind, place_breaks, fits_breaks, target_breaks, assign_breaks}
-use Rattle.cpc_rules.specs.ItemRules.{body_breaks}
-use Rattle.cpc_rule_laws.proofs.NativeValues.{left_none, right_none, both_none, cpc, event}
-use Rattle.cpc_rule_laws.proofs.OnePlace.{here, expr_here, stmt_here, stmts_here}
+use Rattle.cpc_check_rules.specs.declared.rule.Rule.TheVariants.{BadReturn}
+use Rattle.cpc_check_rules.specs.Rule.{at_if}
+use Rattle.cpc_check_rules.specs.Scopes.{Scope, Block, in_items, in_blocks, meant, with_name}
+use Rattle.cpc_check_rules.specs.Operators.{Where, typed_at, name_breaks, first}
+use Rattle.cpc_check_rules.specs.ExprRules.{expr_breaks}
+use Rattle.cpc_check_rules.specs.StmtRules.{stmt_breaks, stmts_breaks, test_breaks, behind, place_breaks, fits_breaks, target_breaks, assign_breaks}
+use Rattle.cpc_check_rules.specs.ItemRules.{body_breaks}
+use Rattle.cpc_check_laws.proofs.NativeValues.{left_none, right_none, both_none, cpc, event}
+use Rattle.cpc_check_laws.proofs.OnePlace.{here, expr_here, stmt_here, stmts_here}
 use Rattle.cpc_convert.specs.First.{Routine}
 use Rattle.cpc_convert.specs.Converted.{spawner_name, respawned, respawned_all}
 use Rattle.cpc_convert.specs.Form.{Has, local_in, IsLocal, IsFree, Small, GoodStmt, TheEmpty, TheDeclare, TheAssign, ThePrint, TheSpawn, TheReturn, TheBlock, TheIf, TheWhile, GoodStmts, NoStatement, AndStatement}

@@ -1,7 +1,7 @@
 -- Names that are made are not kept, where the name that they are made from is not.
 use Rattle.std.proofs.Common.{◌≡◌, Bool, true, false, ◌&&◌, not, [], ◌∷◌, ◌++◌, bytes_eq, codes, refl}
 use Rattle.cpc_base.specs.Bytes.{Text}
-use Rattle.cpc_rules.specs.FunctionRules.{begins_with, is_kept}
+use Rattle.cpc_check_rules.specs.FunctionRules.{begins_with, is_kept}
 use Rattle.cpc_convert.specs.Converted.{marked}
 use Rattle.cpc_convert.proofs.Marks.{marked_differs}
 use Rattle.cpc_convert_rules.proofs.Items.{neither, or_none}

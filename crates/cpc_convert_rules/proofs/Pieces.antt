@@ -5,11 +5,11 @@ use Rattle.cpc_tree.specs.declared.program.Mode.TheVariants.{Native}
 use Rattle.cpc_tree.specs.Syntax.{TyVoid}
 use Rattle.cpc_tree.specs.Located.{LStmts}
 use Rattle.cpc_tree.specs.Typing.{NotMeant}
-use Rattle.cpc_rules.specs.Scopes.{Scope, meant}
-use Rattle.cpc_rules.specs.StmtRules.{stmts_breaks}
-use Rattle.cpc_rules.specs.FunctionRules.{locals_in, labels_in, gotos_in, stray_in}
-use Rattle.cpc_rule_laws.proofs.NativeValues.{both_none, event}
-use Rattle.cpc_rule_laws.proofs.OnePlace.{expr_here, stmts_here}
+use Rattle.cpc_check_rules.specs.Scopes.{Scope, meant}
+use Rattle.cpc_check_rules.specs.StmtRules.{stmts_breaks}
+use Rattle.cpc_check_rules.specs.FunctionRules.{locals_in, labels_in, gotos_in, stray_in}
+use Rattle.cpc_check_laws.proofs.NativeValues.{both_none, event}
+use Rattle.cpc_check_laws.proofs.OnePlace.{expr_here, stmts_here}
 use Rattle.cpc_convert.specs.First.{Line, Prints, Yields, Spawns, Routine}
 use Rattle.cpc_convert.specs.Converted.{cut, after_yields, yields, piece_statements, piece_name, spawner_name}
 use Rattle.cpc_convert.specs.Form.{Has, NoName, GoodPrint, GoodYield, GoodSpawn, AllGood, NoLines, AndLine}

@@ -1,6 +1,6 @@
 -- Programs that show what the law of converted programs needs.
 use Rattle.std.proofs.Common.{◌≡◌, ℕ, [], ◌∷◌, length, refl, ap}
-use Rattle.cpc_rules.specs.Rule.{Broken}
+use Rattle.cpc_check_rules.specs.Rule.{Broken}
 use Rattle.cpc_convert_rules.specs.Refusals.{RulesAreNeeded, FormIsNeeded}
 
 one_is_not_none : ¬ (◌≡◌ {A = ℕ} 1 0)

@@ -3,12 +3,12 @@ use Rattle.std.proofs.Common.{◌≡◌, List, [], ◌∷◌, ◌++◌, refl, sy
 use Rattle.cpc_base.specs.declared.stop.Dialect.TheVariants as D
 use Rattle.cpc_tree.specs.Syntax.{Stmt, Block, If, While, DoWhile, For, Label, Stmts, NoStmt, AndStmt, MaybeStmt, Absent, Present}
 use Rattle.cpc_tree.specs.Located.{Ident, LParameter}
-use Rattle.cpc_rules.specs.declared.rule.Rule.TheVariants.{LabelTwice, Reserved}
-use Rattle.cpc_rules.specs.Rule.{at_if}
-use Rattle.cpc_rules.specs.FunctionRules as F
-use Rattle.cpc_rules.specs.FunctionRules.{locals, locals_in, locals_maybe, labels, labels_in, labels_maybe, gotos, gotos_in, gotos_maybe, stray_breaks, stray_in, stray_maybe, label_breaks, repeated, missing, many_breaks, variables, parameter_names, reserved_breaks, is_kept, is_reserved, holds_bars}
-use Rattle.cpc_rule_laws.proofs.NativeValues.{left_none, right_none, both_none, unbroken}
-use Rattle.cpc_rule_laws.proofs.OnePlace.{ident_here, stmt_here, stmts_here, maybe_here}
+use Rattle.cpc_check_rules.specs.declared.rule.Rule.TheVariants.{LabelTwice, Reserved}
+use Rattle.cpc_check_rules.specs.Rule.{at_if}
+use Rattle.cpc_check_rules.specs.FunctionRules as F
+use Rattle.cpc_check_rules.specs.FunctionRules.{locals, locals_in, locals_maybe, labels, labels_in, labels_maybe, gotos, gotos_in, gotos_maybe, stray_breaks, stray_in, stray_maybe, label_breaks, repeated, missing, many_breaks, variables, parameter_names, reserved_breaks, is_kept, is_reserved, holds_bars}
+use Rattle.cpc_check_laws.proofs.NativeValues.{left_none, right_none, both_none, unbroken}
+use Rattle.cpc_check_laws.proofs.OnePlace.{ident_here, stmt_here, stmts_here, maybe_here}
 use Rattle.cpc_convert.specs.Converted.{respawned, respawned_all, respawned_arm}
 use Rattle.cpc_convert_rules.proofs.Items.{neither}
 

@@ -2,11 +2,11 @@
 use Rattle.std.proofs.Common.{◌≡◌, Bool, true, false, cond, [], ◌∷◌, ◌++◌, map, refl, sym, subst}
 use Rattle.cpc_base.specs.declared.stop.Dialect.{Dialect}
 use Rattle.cpc_tree.specs.Syntax.{Item, StructItem, GlobalItem, PrototypeItem, FunctionItem, Program}
-use Rattle.cpc_rules.specs.Rule.{Broken}
-use Rattle.cpc_rules.specs.ItemRules.{item_breaks, items_breaks}
-use Rattle.cpc_rules.specs.Rules.{is_main, has_main}
-use Rattle.cpc_rule_laws.proofs.NativeValues.{left_none, right_none, both_none}
-use Rattle.cpc_rule_laws.proofs.OnePlace.{function_here, item_here, item_again}
+use Rattle.cpc_check_rules.specs.Rule.{Broken}
+use Rattle.cpc_check_rules.specs.ItemRules.{item_breaks, items_breaks}
+use Rattle.cpc_check_rules.specs.Rules.{is_main, has_main}
+use Rattle.cpc_check_laws.proofs.NativeValues.{left_none, right_none, both_none}
+use Rattle.cpc_check_laws.proofs.OnePlace.{function_here, item_here, item_again}
 
 -- what items break at one place, behind these
 abbrev pub rows : Dialect → Program → Program → Program → Broken

@@ -3,9 +3,9 @@ use Rattle.std.proofs.Common.{◌≡◌, false, List, [], ◌∷◌, ◌++◌, m
 use Rattle.cpc_base.specs.Bytes.{Text}
 use Rattle.cpc_base.specs.declared.stop.Dialect.TheVariants as D
 use Rattle.cpc_tree.specs.Syntax.{Program}
-use Rattle.cpc_rules.specs.FunctionRules.{is_kept, is_reserved, holds_bars, reserved_breaks}
-use Rattle.cpc_rule_laws.proofs.NativeValues.{left_none, unbroken}
-use Rattle.cpc_rule_laws.proofs.OnePlace.{here, ident_here}
+use Rattle.cpc_check_rules.specs.FunctionRules.{is_kept, is_reserved, holds_bars, reserved_breaks}
+use Rattle.cpc_check_laws.proofs.NativeValues.{left_none, unbroken}
+use Rattle.cpc_check_laws.proofs.OnePlace.{here, ident_here}
 use Rattle.cpc_convert.specs.First.{Routine, routine_item}
 use Rattle.cpc_convert.specs.Form.{Has, OnTop, Below}
 use Rattle.cpc_convert_rules.proofs.Items.{neither}

@@ -8,15 +8,15 @@ use Rattle.cpc_tree.specs.Typing.{NotMeant}
 use Rattle.cpc_tree.specs.Points.{declared}
 use Rattle.cpc_tree.specs.Located.{bare, bare_item, bare_function}
 use Rattle.cpc_meaning.specs.Start.{main_name}
-use Rattle.cpc_rules.specs.declared.rule.Rule.TheVariants.{NoMain}
-use Rattle.cpc_rules.specs.Rule.{at_if}
-use Rattle.cpc_rules.specs.Scopes as R
-use Rattle.cpc_rules.specs.Scopes.{Scope, in_block, in_items}
-use Rattle.cpc_rules.specs.FunctionRules.{is_kept, reserved_breaks, locals, labels, label_breaks, stray_breaks}
-use Rattle.cpc_rules.specs.ItemRules.{is_item, is_function, declared_breaks, cps_breaks, parameters_breaks, sized_breaks, outside, in_body, body_breaks, function_breaks, item_breaks}
-use Rattle.cpc_rules.specs.Rules.{breaks, has_main}
-use Rattle.cpc_rule_laws.proofs.NativeValues.{left_none, right_none, both_none}
-use Rattle.cpc_rule_laws.proofs.OnePlace.{here, stmt_here, function_here, item_here, item_again, program_here, program_again}
+use Rattle.cpc_check_rules.specs.declared.rule.Rule.TheVariants.{NoMain}
+use Rattle.cpc_check_rules.specs.Rule.{at_if}
+use Rattle.cpc_check_rules.specs.Scopes as R
+use Rattle.cpc_check_rules.specs.Scopes.{Scope, in_block, in_items}
+use Rattle.cpc_check_rules.specs.FunctionRules.{is_kept, reserved_breaks, locals, labels, label_breaks, stray_breaks}
+use Rattle.cpc_check_rules.specs.ItemRules.{is_item, is_function, declared_breaks, cps_breaks, parameters_breaks, sized_breaks, outside, in_body, body_breaks, function_breaks, item_breaks}
+use Rattle.cpc_check_rules.specs.Rules.{breaks, has_main}
+use Rattle.cpc_check_laws.proofs.NativeValues.{left_none, right_none, both_none}
+use Rattle.cpc_check_laws.proofs.OnePlace.{here, stmt_here, function_here, item_here, item_again, program_here, program_again}
 use Rattle.cpc_convert.specs.First.{Routine, First, main_function}
 use Rattle.cpc_convert.specs.Converted.{prototype, function_item, made_from_all, piece_function, spawner_function, piece_name, spawner_name, yields, respawned, target}
 use Rattle.cpc_convert.specs.Form.{Has, OnTop, Below}

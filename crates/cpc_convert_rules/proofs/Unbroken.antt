@@ -3,10 +3,10 @@ use Rattle.std.proofs.Common.{◌≡◌, true, [], ◌∷◌, map, sym, ◌∙�
 use Rattle.cpc_base.specs.declared.stop.Dialect.TheVariants as D
 use Rattle.cpc_tree.specs.Syntax.{FunctionItem}
 use Rattle.cpc_tree.specs.Located.{LProgram, bare}
-use Rattle.cpc_rules.specs.Rules.{breaks}
-use Rattle.cpc_rule_laws.proofs.NativeValues.{left_none}
-use Rattle.cpc_rule_laws.proofs.OnePlace.{program_here, program_again}
-use Rattle.cpc_rule_laws.proofs.PlacesItems.{unbroken_at_any_places}
+use Rattle.cpc_check_rules.specs.Rules.{breaks}
+use Rattle.cpc_check_laws.proofs.NativeValues.{left_none}
+use Rattle.cpc_check_laws.proofs.OnePlace.{program_here, program_again}
+use Rattle.cpc_check_laws.proofs.PlacesItems.{unbroken_at_any_places}
 use Rattle.cpc_convert.specs.First.{First, source, routine_item, main_function}
 use Rattle.cpc_convert.specs.Converted.{target}
 use Rattle.cpc_convert.specs.Accepted.{Accepted}

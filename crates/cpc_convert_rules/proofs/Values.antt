@@ -12,13 +12,13 @@ use Rattle.cpc_num.specs.Number.{promoted, common}
 use Rattle.cpc_tree.specs.Syntax.{TyInt, Expr, EBinary, Program}
 use Rattle.cpc_tree.specs.Located.{LExpr}
 use Rattle.cpc_tree.specs.Typing.{ALocal, Typed, AValue, APlace, used, type_named, binary_type, ◌>>=◌}
-use Rattle.cpc_rules.specs.Scopes.{Scope, meant}
-use Rattle.cpc_rules.specs.Operators.{Where, typed_at, name_breaks, is_incomplete_sum, binary_breaks}
-use Rattle.cpc_rules.specs.Calls.{Integer, suit_breaks}
-use Rattle.cpc_rules.specs.ExprRules.{expr_breaks}
-use Rattle.cpc_rules.specs.StmtRules.{fits_breaks, tested_breaks, unfit_return}
-use Rattle.cpc_rule_laws.proofs.NativeValues.{both_none}
-use Rattle.cpc_rule_laws.proofs.OnePlace.{here, expr_here}
+use Rattle.cpc_check_rules.specs.Scopes.{Scope, meant}
+use Rattle.cpc_check_rules.specs.Operators.{Where, typed_at, name_breaks, is_incomplete_sum, binary_breaks}
+use Rattle.cpc_check_rules.specs.Calls.{Integer, suit_breaks}
+use Rattle.cpc_check_rules.specs.ExprRules.{expr_breaks}
+use Rattle.cpc_check_rules.specs.StmtRules.{fits_breaks, tested_breaks, unfit_return}
+use Rattle.cpc_check_laws.proofs.NativeValues.{both_none}
+use Rattle.cpc_check_laws.proofs.OnePlace.{here, expr_here}
 use Rattle.cpc_convert.specs.Form.{Small, SmallName, SmallNumber, SmallBinary}
 
 -- an expression of an integer type

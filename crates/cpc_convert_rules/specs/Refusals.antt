@@ -8,7 +8,7 @@ use Rattle.cpc_num.specs.declared.kinds.Kind.TheVariants.{Int}
 use Rattle.cpc_tree.specs.declared.program.Mode.TheVariants.{Native}
 use Rattle.cpc_tree.specs.Syntax.{TyInt}
 use Rattle.cpc_tree.specs.Located.{Ident, LNamed, LInteger, LStmt, Block, Declare, Return, LStmts, NoLStmt, AndLStmt, LItem, LGlobal, LFunctionItem, LProgram, bare}
-use Rattle.cpc_rules.specs.Rules.{breaks}
+use Rattle.cpc_check_rules.specs.Rules.{breaks}
 use Rattle.cpc_convert.specs.Decided.{is_first}
 use Rattle.cpc_convert.specs.Programs.{converted}
 

@@ -17,8 +17,8 @@ use Rattle.cpc_store.specs.Store.{Value, Whole}
 use Rattle.cpc_meaning.specs.Answer.{Answer, Gives, Faults, NoAnswer, ◌>>=◌, needed}
 use Rattle.cpc_meaning.specs.Eval as E
 use Rattle.cpc_types.specs.Found.{used_of}
-use Rattle.cpc_values.specs.Meets.{Meets}
-use Rattle.cpc_values.proofs.Meeting.{meets_then, meets_fault}
+use Rattle.cpc_eval_values.specs.Meets.{Meets}
+use Rattle.cpc_eval_values.proofs.Meeting.{meets_then, meets_fault}
 use Rattle.cpc_eval.specs.Around.{operate_in, type_in, meant_in}
 use Rattle.cpc_eval.specs.Numbers.{HasNumbers, FitsSize, size_value}
 use Rattle.cpc_eval.specs.Shapes.{Agrees}

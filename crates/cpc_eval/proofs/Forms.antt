@@ -14,7 +14,7 @@ use Rattle.cpc_tree.specs.declared.program.Expr.TheVariants as G
 use Rattle.cpc_tree.specs.Erase.{Names, type_of, expr_of}
 use Rattle.cpc_tree.specs.Syntax as S
 use Rattle.cpc_meaning.specs.Answer.{Answer}
-use Rattle.cpc_values.specs.Meets.{Meets}
+use Rattle.cpc_eval_values.specs.Meets.{Meets}
 use Rattle.cpc_eval.specs.Around.{slot_of, context_of}
 use Rattle.cpc_eval.specs.declared.around.Around.{Around}
 

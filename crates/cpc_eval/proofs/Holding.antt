@@ -10,10 +10,10 @@ use Rattle.cpc_tree.specs.Syntax as S
 use Rattle.cpc_tree.specs.Syntax.{Stmt, AndStmt}
 use Rattle.cpc_tree.specs.Erase.{Names, type_of, expr_of, parameter_of, stmt_of, list_of, maybe_at}
 use Rattle.cpc_tree.specs.Points.{Path, Nth, declared}
-use Rattle.cpc_points.specs.declared.parts.Part.{Part}
-use Rattle.cpc_points.specs.declared.parts.Part.TheVariants as Q
-use Rattle.cpc_points.specs.Seen.{part_of, path_of}
-use Rattle.cpc_values.specs.Counted.{capped}
+use Rattle.cpc_native_points.specs.declared.parts.Part.{Part}
+use Rattle.cpc_native_points.specs.declared.parts.Part.TheVariants as Q
+use Rattle.cpc_native_points.specs.Seen.{part_of, path_of}
+use Rattle.cpc_eval_values.specs.Counted.{capped}
 use Rattle.cpc_eval.specs.Held.{Held, held_from, held_after, held_behind, count_behind, held_at, held_in}
 use Rattle.std.proofs.lemmas.List.{drop_more}
 use Rattle.cpc_tree.specs.declared.program.Parameter as GParameter

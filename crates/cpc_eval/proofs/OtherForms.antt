@@ -14,7 +14,7 @@ use Rattle.cpc_tree.specs.Syntax as S
 use Rattle.cpc_store.specs.Store.{Value}
 use Rattle.cpc_meaning.specs.Answer.{Answer, NoAnswer}
 use Rattle.cpc_meaning.specs.Eval as E
-use Rattle.cpc_values.specs.Meets.{Meets}
+use Rattle.cpc_eval_values.specs.Meets.{Meets}
 use Rattle.cpc_eval.specs.Values.{unary_value, operator_value, branch_value}
 
 module _ (names : Names) (c : E.Context) where

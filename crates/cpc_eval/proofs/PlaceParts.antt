@@ -11,8 +11,8 @@ use Rattle.cpc_store.specs.Store.{Value}
 use Rattle.cpc_meaning.specs.Answer.{Answer, Gives, Faults, NoAnswer, ◌>>=◌}
 use Rattle.cpc_meaning.specs.Eval as E
 use Rattle.cpc_types.specs.Found.{used_of}
-use Rattle.cpc_values.specs.Meets.{Meets}
-use Rattle.cpc_values.proofs.Meeting.{meets_then, meets_fault}
+use Rattle.cpc_eval_values.specs.Meets.{Meets}
+use Rattle.cpc_eval_values.proofs.Meeting.{meets_then, meets_fault}
 use Rattle.cpc_eval.specs.Around.{operate_in, type_in}
 use Rattle.cpc_eval.specs.Numbers.{HasNumbers}
 use Rattle.cpc_eval.specs.Shapes.{Agrees}

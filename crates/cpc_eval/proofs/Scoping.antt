@@ -9,7 +9,7 @@ use Rattle.cpc_tree.specs.Registers.{or_empty, parameter_scope, scope_in_functio
 use Rattle.cpc_tree.specs.declared.program.Function as GFunction
 use Rattle.cpc_tree.specs.Erase.{Names, stmt_of, parameter_of, function_of}
 use Rattle.std.proofs.lemmas.List.{length-map}
-use Rattle.cpc_values.specs.Counted.{capped}
+use Rattle.cpc_eval_values.specs.Counted.{capped}
 use Rattle.cpc_eval.specs.Held.{Held, local_in, capped_held, held_among, held_from, held_after, held_behind, count_behind, held_at, held_in, held_arm}
 
 held_if : (b : Bool) (n : ℕ) (t : Ty) (o : Held) → capped_held (if b then Some (n, t) else o) ≡ (if b then Some (capped n, t) else capped_held o)

@@ -5,7 +5,7 @@ use Rattle.cpc_tree.specs.Typing as T
 use Rattle.cpc_meaning.specs.Answer.{Gives, NoAnswer}
 use Rattle.cpc_meaning.specs.Eval as E
 use Rattle.cpc_types.specs.Found.{used_of}
-use Rattle.cpc_values.specs.Counted.{IsSize}
+use Rattle.cpc_eval_values.specs.Counted.{IsSize}
 use Rattle.cpc_eval.specs.Shapes.{Agrees}
 
 pub no_type : {X : Type 0} (p : Program) (o : Option Ty) (n : ℕ) → None ≡ o → E.element_size p o ≡ Gives n → X

@@ -23,13 +23,13 @@ use Rattle.cpc_base.specs.declared.names.Name.{Name}
 use Rattle.cpc_meaning.specs.Answer.{◌>>=◌, of_result, needed}
 use Rattle.cpc_meaning.specs.Layout.{scalar_of}
 use Rattle.cpc_meaning.specs.Eval as E
-use Rattle.cpc_index.specs.Meanings.{meant_of}
-use Rattle.cpc_index.specs.Sized.{capped, capped_field}
-use Rattle.cpc_index.specs.declared.meant.Meant.{Meant}
-use Rattle.cpc_index.specs.declared.meant.Meant.TheVariants as G
-use Rattle.cpc_values.specs.Meets.{Meets}
-use Rattle.cpc_values.specs.Shown.{shown, store_of}
-use Rattle.cpc_values.proofs.Meeting.{meets_then, meets_fault}
+use Rattle.cpc_eval_index.specs.Meanings.{meant_of}
+use Rattle.cpc_eval_index.specs.Sized.{capped, capped_field}
+use Rattle.cpc_eval_index.specs.declared.meant.Meant.{Meant}
+use Rattle.cpc_eval_index.specs.declared.meant.Meant.TheVariants as G
+use Rattle.cpc_eval_values.specs.Meets.{Meets}
+use Rattle.cpc_eval_values.specs.Shown.{shown, store_of}
+use Rattle.cpc_eval_values.proofs.Meeting.{meets_then, meets_fault}
 use Rattle.cpc_eval.specs.Shapes.{field_among}
 use Rattle.cpc_eval.specs.Spots.{cell_read, code_named}
 

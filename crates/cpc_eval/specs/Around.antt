@@ -9,11 +9,11 @@ use Rattle.cpc_num.specs.declared.kinds.Op.{Op}
 use Rattle.cpc_store.specs.Store.{Value}
 use Rattle.cpc_meaning.specs.Answer.{Answer}
 use Rattle.cpc_meaning.specs.Eval as E
-use Rattle.cpc_points.specs.Seen.{path_of}
-use Rattle.cpc_values.specs.Shown.{value_of, store_of}
-use Rattle.cpc_index.specs.Indexed.{items_of}
+use Rattle.cpc_native_points.specs.Seen.{path_of}
+use Rattle.cpc_eval_values.specs.Shown.{value_of, store_of}
+use Rattle.cpc_eval_index.specs.Indexed.{items_of}
 use Rattle.cpc_eval.specs.Held.{Held, local_in, capped_held}
-use Rattle.cpc_variables.specs.Told.{IsTold}
+use Rattle.cpc_eval_variables.specs.Told.{IsTold}
 use Rattle.cpc_eval.specs.declared.around.Around.{Around}
 use Rattle.cpc_eval.specs.declared.around.Slot.{Slot}
 use Rattle.cpc_eval.specs.declared.around.Slot.TheVariants as S

@@ -5,7 +5,7 @@ use Rattle.cpc_tree.specs.Syntax.{Ty, Stmt, Block, Declare, If, While, DoWhile, 
 use Rattle.cpc_tree.specs.Typing.{Scope}
 use Rattle.cpc_tree.specs.Points.{Path, Nth, TheTest, TheYes, TheNo, TheStep, TheBody, declared}
 use Rattle.cpc_tree.specs.Registers.{or_empty}
-use Rattle.cpc_values.specs.Counted.{capped}
+use Rattle.cpc_eval_values.specs.Counted.{capped}
 
 -- the number and the type of a local, where a name stands for one
 abbrev pub Held : Type 0

@@ -4,8 +4,8 @@ ghost use Rattle.cpc_tree.specs.Erase.{Names};
 
 use crate::locals::local_at;
 use cpc_base::Name;
-use cpc_index::{Index, Meant};
-use cpc_points::Part;
+use cpc_eval_index::{Index, Meant};
+use cpc_native_points::Part;
 use cpc_store::{Store, Value};
 use cpc_tree::program::Function;
 
@@ -27,7 +27,7 @@ pub struct Around<'a> {
 }
 
 impl<'a> Around<'a> {
-    ghost use Rattle.cpc_index.specs.Meanings.{meant_if};
+    ghost use Rattle.cpc_eval_index.specs.Meanings.{meant_if};
     ghost use Rattle.cpc_eval.specs.Around.{context_of, IsToldIn, meant_in};
 
     /// What a name stands for: the innermost local, or else an item. A local's number above `u64::MAX` is `u64::MAX`.

@@ -2,17 +2,17 @@
 ghost use Rattle.std.specs.Prelude.{IfOk};
 ghost use Rattle.cpc_tree.specs.Erase.{Names, expr_of};
 ghost use Rattle.cpc_store.specs.Seen.{seen, IsLawful};
-ghost use Rattle.cpc_values.specs.Meets.{Meets};
-ghost use Rattle.cpc_values.specs.Shown.{value_of, shown};
+ghost use Rattle.cpc_eval_values.specs.Meets.{Meets};
+ghost use Rattle.cpc_eval_values.specs.Shown.{value_of, shown};
 ghost use Rattle.cpc_eval.specs.Around.{context_of, IsToldIn};
 ghost use Rattle.cpc_eval.specs.Values.{assigned_at};
 
 use crate::around::Around;
 use crate::typing::{place_of, typed};
+use cpc_eval_values::assigned;
 use cpc_num::Fault;
 use cpc_store::Value;
 use cpc_tree::program::Expr;
-use cpc_values::assigned;
 
 /// A value converted to the type of a place, as an assignment does. It takes no memory.
 ///

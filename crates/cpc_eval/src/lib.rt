@@ -10,8 +10,6 @@ mod locals;
 mod operands;
 mod places;
 mod shapes;
-#[cfg(test)]
-mod tests;
 mod typing;
 mod values;
 

@@ -5,15 +5,15 @@ ghost use Rattle.cpc_base.specs.Bytes.{Text};
 ghost use Rattle.cpc_tree.specs.Syntax as S;
 ghost use Rattle.cpc_tree.specs.Points as P;
 ghost use Rattle.cpc_tree.specs.Registers as R;
-ghost use Rattle.cpc_rules.specs.Apart.{AreApart};
-ghost use Rattle.cpc_points.specs.Seen.{part_of, path_of};
-ghost use Rattle.cpc_values.specs.Counted.{capped};
+ghost use Rattle.cpc_check_rules.specs.Apart.{AreApart};
+ghost use Rattle.cpc_native_points.specs.Seen.{part_of, path_of};
+ghost use Rattle.cpc_eval_values.specs.Counted.{capped};
 ghost use Rattle.cpc_eval.specs.Held.{held_after, held_behind, count_behind, held_at, held_in, held_among, local_in, capped_held};
-ghost use Rattle.cpc_variables.specs.Told.{IsTold};
+ghost use Rattle.cpc_eval_variables.specs.Told.{IsTold};
 ghost use Rattle.cpc_eval.specs.Locals.{held_of, held_by};
 
 use cpc_base::Name;
-use cpc_points::Part;
+use cpc_native_points::Part;
 use cpc_tree::program::{CType, Function, Parameter, Statement};
 
 /// A parameter or a local variable of a function: its number among them all, counted from 0, and its type.

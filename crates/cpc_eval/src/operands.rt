@@ -4,16 +4,16 @@ ghost use Rattle.cpc_num.specs.Number as N;
 ghost use Rattle.cpc_tree.specs.Erase.{Names, type_of, expr_of};
 ghost use Rattle.cpc_tree.specs.Syntax.{Ty};
 ghost use Rattle.cpc_tree.specs.Typing as T;
-ghost use Rattle.cpc_rules.specs.Apart.{AreApart};
+ghost use Rattle.cpc_check_rules.specs.Apart.{AreApart};
 ghost use Rattle.cpc_store.specs.Seen.{seen, IsLawful};
 ghost use Rattle.cpc_store.specs.Store.{Whole};
-ghost use Rattle.cpc_index.specs.Indexed.{items_of};
+ghost use Rattle.cpc_eval_index.specs.Indexed.{items_of};
 ghost use Rattle.cpc_types.specs.Found.{used_of};
 ghost use Rattle.cpc_meaning.specs.Eval as E;
-ghost use Rattle.cpc_values.specs.Meets.{Meets};
+ghost use Rattle.cpc_eval_values.specs.Meets.{Meets};
 ghost use Rattle.cpc_meaning.specs.Answer.{Gives};
-ghost use Rattle.cpc_values.specs.Counted.{IsSize, counted, cells_counted};
-ghost use Rattle.cpc_values.specs.Shown.{value_of, shown};
+ghost use Rattle.cpc_eval_values.specs.Counted.{IsSize, counted, cells_counted};
+ghost use Rattle.cpc_eval_values.specs.Shown.{value_of, shown};
 ghost use Rattle.cpc_eval.specs.Around.{context_of, IsToldIn, operate_in};
 ghost use Rattle.cpc_eval.specs.Shapes.{shapes_of, types_of};
 ghost use Rattle.cpc_eval.specs.Numbers.{FitsSize, size_value};
@@ -21,11 +21,11 @@ ghost use Rattle.cpc_eval.specs.Numbers.{FitsSize, size_value};
 use crate::around::Around;
 use crate::shapes::{Shape, Typed, pointee, scalar};
 use crate::typing::{typed, used_if};
-use cpc_index::Index;
+use cpc_eval_index::Index;
+use cpc_eval_values::{Side, at_scalar, counted, holds, operate, truth_value};
 use cpc_num::{Fault, Kind, Op, convert};
 use cpc_store::Value;
 use cpc_tree::program::{CType, Expr};
-use cpc_values::{Side, at_scalar, counted, holds, operate, truth_value};
 
 /// A literal of a kind.
 pub(crate) fn integer(kind: Kind, number: i128) -> Value

@@ -1,24 +1,24 @@
 //! Where places are, and what they hold.
 ghost use Rattle.std.specs.Prelude.{◌≡◌, IfOk, map, option_map, slice_get};
 ghost use Rattle.cpc_tree.specs.Erase.{Names, type_of};
-ghost use Rattle.cpc_rules.specs.Apart.{AreApart};
+ghost use Rattle.cpc_check_rules.specs.Apart.{AreApart};
 ghost use Rattle.cpc_store.specs.Seen.{seen, IsLawful};
-ghost use Rattle.cpc_index.specs.Indexed.{items_of};
-ghost use Rattle.cpc_index.specs.Meanings.{meant_if, meant_of};
+ghost use Rattle.cpc_eval_index.specs.Indexed.{items_of};
+ghost use Rattle.cpc_eval_index.specs.Meanings.{meant_if, meant_of};
 ghost use Rattle.cpc_meaning.specs.Eval as E;
-ghost use Rattle.cpc_values.specs.Meets.{Meets};
-ghost use Rattle.cpc_values.specs.Shown.{value_of, store_of, shown};
+ghost use Rattle.cpc_eval_values.specs.Meets.{Meets};
+ghost use Rattle.cpc_eval_values.specs.Shown.{value_of, store_of, shown};
 ghost use Rattle.cpc_eval.specs.Around.{slot_of};
 ghost use Rattle.cpc_eval.specs.Spots.{spot_of, spot_shown, cell_read, code_named, AreLawful, IsLawfulSpot};
 
 use crate::around::Slot;
 use crate::typing::field_of;
 use cpc_base::Name;
-use cpc_index::{Index, Meant};
+use cpc_eval_index::{Index, Meant};
+use cpc_eval_values::{moved_up, scalar_of};
 use cpc_num::Fault;
 use cpc_store::{Block, Class, Store, Value};
 use cpc_tree::program::{CType, Mode};
-use cpc_values::{moved_up, scalar_of};
 
 /// Where a place is: the number of a slot of the call, or a cell of a block.
 #[derive(Clone, Copy, PartialEq, Eq, Debug)]

@@ -5,10 +5,10 @@ ghost use Rattle.cpc_tree.specs.Typing as T;
 ghost use Rattle.cpc_meaning.specs.Layout as L;
 ghost use Rattle.cpc_eval.specs.Shapes.{shape_of, shapes_of, typed_of};
 
+use cpc_eval_values::scalar_of;
 use cpc_num::Kind;
 use cpc_store::Scalar;
 use cpc_tree::program::{CType, Parameter};
-use cpc_values::scalar_of;
 
 /// A type, by references into a tree.
 #[derive(Clone, Copy)]

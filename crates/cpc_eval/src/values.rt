@@ -5,8 +5,8 @@ ghost use Rattle.cpc_store.specs.Seen.{seen, IsLawful};
 ghost use Rattle.cpc_tree.specs.Syntax.{EUnary};
 ghost use Rattle.cpc_tree.specs.declared.program.UnaryOp.TheVariants.{AddressOf};
 ghost use Rattle.cpc_meaning.specs.Eval as E;
-ghost use Rattle.cpc_values.specs.Meets.{Meets};
-ghost use Rattle.cpc_values.specs.Shown.{shown};
+ghost use Rattle.cpc_eval_values.specs.Meets.{Meets};
+ghost use Rattle.cpc_eval_values.specs.Shown.{shown};
 ghost use Rattle.cpc_eval.specs.Around.{context_of, IsToldIn};
 ghost use Rattle.cpc_eval.specs.Numbers.{HasNumbers};
 ghost use Rattle.cpc_eval.specs.Spots.{spot_shown, AreLawful, IsLawfulSpot};
@@ -18,10 +18,10 @@ use crate::places::{
     Spot, address_named, field_spot, pointed, pointer_to, read, spot_named, value_named,
 };
 use crate::typing::{place_of, pointee_of, typed, used_if};
+use cpc_eval_values::{apply, at_type, holds, truth_value};
 use cpc_num::{Fault, Kind, Op};
 use cpc_store::Value;
 use cpc_tree::program::{Expr, UnaryOp};
-use cpc_values::{apply, at_type, holds, truth_value};
 
 /// The value of an expression. It takes no memory.
 ///

@@ -7,13 +7,13 @@ use Rattle.cpc_tree.specs.declared.program.Mode.{Mode}
 use Rattle.cpc_tree.specs.declared.program.Mode.TheVariants.{Native, Cps}
 use Rattle.cpc_tree.specs.Syntax.{Ty, TyVoid, TyInt, Program}
 use Rattle.cpc_tree.specs.Located.{LNamed, NoLExpr, AndLExpr, LStmt, Block, Declare, Call, Spawn, If, While, DoWhile, For, Label, LStmts, NoLStmt, AndLStmt, LParameter, LFunction, LItem, LFunctionItem, bare_stmt, bare_stmts, bare_parameter, bare_item}
-use Rattle.cpc_rules.specs.Operators.{Where, is_cps}
-use Rattle.cpc_rules.specs.StmtRules.{stmt_breaks, stmts_breaks, behind}
-use Rattle.cpc_rules.specs.FunctionRules.{is_reserved, reserved_breaks, locals, labels, statements, statements_in}
-use Rattle.cpc_rules.specs.declared.rule.Rule.TheVariants.{Twice}
-use Rattle.cpc_rules.specs.ItemRules.{Signature, outside, types, cps_breaks, declared_breaks, is_clash, parameters_breaks, sized_breaks, in_body, body_breaks, function_breaks}
-use Rattle.cpc_rule_laws.proofs.NativeValues.{left_none, right_none, unbroken}
-use Rattle.cpc_rule_laws.proofs.NativeStatements.{and_left, and_right}
+use Rattle.cpc_check_rules.specs.Operators.{Where, is_cps}
+use Rattle.cpc_check_rules.specs.StmtRules.{stmt_breaks, stmts_breaks, behind}
+use Rattle.cpc_check_rules.specs.FunctionRules.{is_reserved, reserved_breaks, locals, labels, statements, statements_in}
+use Rattle.cpc_check_rules.specs.declared.rule.Rule.TheVariants.{Twice}
+use Rattle.cpc_check_rules.specs.ItemRules.{Signature, outside, types, cps_breaks, declared_breaks, is_clash, parameters_breaks, sized_breaks, in_body, body_breaks, function_breaks}
+use Rattle.cpc_check_laws.proofs.NativeValues.{left_none, right_none, unbroken}
+use Rattle.cpc_check_laws.proofs.NativeStatements.{and_left, and_right}
 use Rattle.cpc_convert.specs.First.{Line, Prints, Yields, Spawns, Routine}
 use Rattle.cpc_convert.specs.Converted.{yields}
 use Rattle.cpc_convert.specs.Programs.{statements_of}

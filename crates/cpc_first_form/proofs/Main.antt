@@ -10,17 +10,17 @@ use Rattle.cpc_tree.specs.Typing as T
 use Rattle.cpc_tree.specs.Typing.{Meant, ALocal, AGlobal, AFunction, NotMeant}
 use Rattle.cpc_tree.specs.Points as P
 use Rattle.cpc_tree.specs.Points.{declared, extended}
-use Rattle.cpc_rules.specs.declared.rule.Rule.TheVariants.{NotClosed, CpsForm}
-use Rattle.cpc_rules.specs.Rule.{at_if}
-use Rattle.cpc_rules.specs.Scopes as S
-use Rattle.cpc_rules.specs.Scopes.{in_block, in_items, in_blocks, meant, with_name, with_block}
-use Rattle.cpc_rules.specs.Operators.{Where, is_detached}
-use Rattle.cpc_rules.specs.Calls.{is_event, spawn_callee}
-use Rattle.cpc_rules.specs.StmtRules.{stmt_breaks, stmts_breaks, test_breaks, wrong_name, inner, variable, behind}
-use Rattle.cpc_rules.specs.FunctionRules.{is_reserved, is_kept, locals, locals_in}
-use Rattle.cpc_rules.specs.ItemRules.{body_breaks}
-use Rattle.cpc_rule_laws.proofs.NativeValues.{left_none, right_none}
-use Rattle.cpc_rule_laws.proofs.NativeStatements.{and_left, and_right}
+use Rattle.cpc_check_rules.specs.declared.rule.Rule.TheVariants.{NotClosed, CpsForm}
+use Rattle.cpc_check_rules.specs.Rule.{at_if}
+use Rattle.cpc_check_rules.specs.Scopes as S
+use Rattle.cpc_check_rules.specs.Scopes.{in_block, in_items, in_blocks, meant, with_name, with_block}
+use Rattle.cpc_check_rules.specs.Operators.{Where, is_detached}
+use Rattle.cpc_check_rules.specs.Calls.{is_event, spawn_callee}
+use Rattle.cpc_check_rules.specs.StmtRules.{stmt_breaks, stmts_breaks, test_breaks, wrong_name, inner, variable, behind}
+use Rattle.cpc_check_rules.specs.FunctionRules.{is_reserved, is_kept, locals, locals_in}
+use Rattle.cpc_check_rules.specs.ItemRules.{body_breaks}
+use Rattle.cpc_check_laws.proofs.NativeValues.{left_none, right_none}
+use Rattle.cpc_check_laws.proofs.NativeStatements.{and_left, and_right}
 use Rattle.cpc_convert.specs.First.{Routine}
 use Rattle.cpc_convert.specs.Form.{local_in}
 use Rattle.cpc_convert.specs.Accepted.{is_called}

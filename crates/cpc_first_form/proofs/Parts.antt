@@ -6,12 +6,12 @@ use Rattle.cpc_base.specs.declared.stop.Dialect.TheVariants as D
 use Rattle.cpc_num.specs.declared.kinds.Kind.TheVariants.{Int}
 use Rattle.cpc_tree.specs.Syntax.{Ty, TyInt}
 use Rattle.cpc_tree.specs.Located.{Ident, LExpr, LNamed, LInteger, LBinary, bare_expr}
-use Rattle.cpc_rules.specs.declared.rule.Rule.TheVariants.{Reserved}
-use Rattle.cpc_rules.specs.Rule.{at_if}
-use Rattle.cpc_rules.specs.FunctionRules.{begins_with, is_reserved, holds_bars, reserved_breaks}
+use Rattle.cpc_check_rules.specs.declared.rule.Rule.TheVariants.{Reserved}
+use Rattle.cpc_check_rules.specs.Rule.{at_if}
+use Rattle.cpc_check_rules.specs.FunctionRules.{begins_with, is_reserved, holds_bars, reserved_breaks}
 use Rattle.cpc_meaning.proofs.Functions.{same_text}
-use Rattle.cpc_rule_laws.proofs.NativeValues.{left_none, right_none, unbroken}
-use Rattle.cpc_rule_laws.proofs.NativeStatements.{and_left, and_right}
+use Rattle.cpc_check_laws.proofs.NativeValues.{left_none, right_none, unbroken}
+use Rattle.cpc_check_laws.proofs.NativeStatements.{and_left, and_right}
 use Rattle.cpc_convert.specs.Accepted.{marks_in, has_marks}
 use Rattle.cpc_convert.specs.Decided as C
 use Rattle.cpc_first_form.specs.Threads.{unless, or_then, is_small, is_int}

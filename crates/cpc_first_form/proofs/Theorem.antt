@@ -12,16 +12,16 @@ use Rattle.cpc_tree.specs.Typing.{Meant, AFunction}
 use Rattle.cpc_tree.specs.Points.{declared}
 use Rattle.cpc_meaning.specs.Start.{main_name}
 use Rattle.cpc_meaning.proofs.Functions.{same_text, text_same}
-use Rattle.cpc_rules.specs.declared.rule.Rule.{Rule}
-use Rattle.cpc_rules.specs.declared.rule.Rule.TheVariants.{NoMain}
-use Rattle.cpc_rules.specs.Rule.{Broken, at_if}
-use Rattle.cpc_rules.specs.Rules.{breaks, has_main, breadth, breadth_limit, broad_breaks}
-use Rattle.cpc_rules.specs.Scopes as S
-use Rattle.cpc_rules.specs.Scopes.{in_block, in_items, in_blocks}
-use Rattle.cpc_rules.specs.Operators.{is_cps}
-use Rattle.cpc_rules.specs.FunctionRules.{is_reserved, is_kept, holds_bars, statements, variables}
-use Rattle.cpc_rules.specs.ItemRules.{Signature, clashes, is_clash, is_function, parameter_block, in_body, function_breaks, items_breaks}
-use Rattle.cpc_rule_laws.proofs.NativeValues.{left_none, right_none}
+use Rattle.cpc_check_rules.specs.declared.rule.Rule.{Rule}
+use Rattle.cpc_check_rules.specs.declared.rule.Rule.TheVariants.{NoMain}
+use Rattle.cpc_check_rules.specs.Rule.{Broken, at_if}
+use Rattle.cpc_check_rules.specs.Rules.{breaks, has_main, breadth, breadth_limit, broad_breaks}
+use Rattle.cpc_check_rules.specs.Scopes as S
+use Rattle.cpc_check_rules.specs.Scopes.{in_block, in_items, in_blocks}
+use Rattle.cpc_check_rules.specs.Operators.{is_cps}
+use Rattle.cpc_check_rules.specs.FunctionRules.{is_reserved, is_kept, holds_bars, statements, variables}
+use Rattle.cpc_check_rules.specs.ItemRules.{Signature, clashes, is_clash, is_function, parameter_block, in_body, function_breaks, items_breaks}
+use Rattle.cpc_check_laws.proofs.NativeValues.{left_none, right_none}
 use Rattle.cpc_convert.specs.First.{Routine}
 use Rattle.cpc_convert.specs.Converted.{yields}
 use Rattle.cpc_convert.specs.Accepted.{is_called, are_apart}

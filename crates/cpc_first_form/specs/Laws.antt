@@ -2,7 +2,7 @@
 use Rattle.std.specs.Prelude.{◌≡◌, true, [], None}
 use Rattle.cpc_base.specs.declared.stop.Dialect.TheVariants as D
 use Rattle.cpc_tree.specs.Located.{LProgram, bare}
-use Rattle.cpc_rules.specs.Rules.{breaks}
+use Rattle.cpc_check_rules.specs.Rules.{breaks}
 use Rattle.cpc_convert.specs.Decided.{is_first}
 use Rattle.cpc_first_form.specs.Threads.{unbuilt_threads}
 

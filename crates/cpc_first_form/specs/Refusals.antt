@@ -7,7 +7,7 @@ use Rattle.cpc_num.specs.declared.kinds.Kind.TheVariants.{Int}
 use Rattle.cpc_tree.specs.declared.program.Mode.TheVariants.{Native, Cps}
 use Rattle.cpc_tree.specs.Syntax.{TyVoid, TyInt}
 use Rattle.cpc_tree.specs.Located.{Ident, LInteger, NoLExpr, LStmt, Block, Empty, Spawn, Return, LStmts, NoLStmt, AndLStmt, LFunction, LItem, LFunctionItem, LProgram, bare}
-use Rattle.cpc_rules.specs.Rules.{breaks}
+use Rattle.cpc_check_rules.specs.Rules.{breaks}
 use Rattle.cpc_convert.specs.Decided.{is_first}
 use Rattle.cpc_first_form.specs.Threads.{unbuilt_threads}
 

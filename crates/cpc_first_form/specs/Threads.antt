@@ -7,7 +7,7 @@ use Rattle.cpc_tree.specs.declared.program.Mode.{Mode}
 use Rattle.cpc_tree.specs.declared.program.Mode.TheVariants.{Native, Cps}
 use Rattle.cpc_tree.specs.Syntax.{Ty, TyVoid, TyInt}
 use Rattle.cpc_tree.specs.Located.{LExpr, LNamed, LInteger, LBinary, NoLExpr, AndLExpr, LStmt, Block, Empty, Declare, Assign, Call, Detach, Spawn, If, While, DoWhile, For, Goto, Label, Break, Continue, Return, LStmts, NoLStmt, AndLStmt, NoneLStmt, LParameter, LFunction, LItem, LStruct, LGlobal, LPrototype, LFunctionItem}
-use Rattle.cpc_rules.specs.Operators.{is_cps}
+use Rattle.cpc_check_rules.specs.Operators.{is_cps}
 
 -- nowhere where this holds, and else here
 abbrev pub unless : Bool → Place → Option Place

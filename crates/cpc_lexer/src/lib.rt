@@ -8,8 +8,6 @@ mod front;
 mod integer;
 mod mark;
 mod quoted;
-#[cfg(test)]
-mod tests;
 mod text;
 mod word;
 

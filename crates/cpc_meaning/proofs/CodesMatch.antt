@@ -3,9 +3,9 @@ use Rattle.std.proofs.Common.{◌≡◌, ◌⊎◌, [], Option, Some, None, opti
 use Rattle.cpc_base.specs.Bytes.{Text}
 use Rattle.cpc_tree.specs.Syntax.{Program}
 use Rattle.cpc_tree.specs.Trace.{Going, is_over}
-use Rattle.cpc_matching.specs.Systems.{Alike, NeverStuck}
-use Rattle.cpc_matching.specs.Simulation.{one, Matches, Follows, Path, Last}
-use Rattle.cpc_matching.proofs.Paths.{matches_of_paths}
+use Rattle.cpc_meaning_matching.specs.Systems.{Alike, NeverStuck}
+use Rattle.cpc_meaning_matching.specs.Simulation.{one, Matches, Follows, Path, Last}
+use Rattle.cpc_meaning_matching.proofs.Paths.{matches_of_paths}
 use Rattle.cpc_meaning.specs.Plain.{Code, Form}
 use Rattle.cpc_meaning.specs.History.{History}
 use Rattle.cpc_meaning.specs.Machine.{State}

@@ -7,7 +7,7 @@ use Rattle.cpc_tree.specs.Points.{Point}
 use Rattle.cpc_tree.specs.Trace.{Sleeping, Waiting, Awaiting}
 use Rattle.cpc_store.specs.declared.values.Class.TheVariants.{Auto, Frame as FrameClass}
 use Rattle.cpc_store.specs.Store.{Value, Unset, Code}
-use Rattle.cpc_matching.specs.Steps.{after}
+use Rattle.cpc_meaning_matching.specs.Steps.{after}
 use Rattle.cpc_meaning.specs.Answer.{Answer, NoAnswer, ◌>>=◌}
 use Rattle.cpc_meaning.specs.Eval.{assigned}
 use Rattle.cpc_meaning.specs.Requests.{Primitive, RtFrame, RtBox, RtFrameFree, RtUnbox, RtReady, RtWait, RtSleep, RtIo, RtDetach}

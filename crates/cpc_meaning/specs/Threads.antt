@@ -9,7 +9,7 @@ use Rattle.cpc_tree.specs.Typing.{function_named}
 use Rattle.cpc_tree.specs.Points.{Point}
 use Rattle.cpc_tree.specs.Trace.{Sleeping, Waiting, Awaiting}
 use Rattle.cpc_store.specs.Store.{Value, Unset}
-use Rattle.cpc_matching.specs.Steps.{after}
+use Rattle.cpc_meaning_matching.specs.Steps.{after}
 use Rattle.cpc_meaning.specs.Answer.{Answer, Gives, NoAnswer, ◌>>=◌, of_result}
 use Rattle.cpc_meaning.specs.Requests.{Primitive, Yield, Sleep, IoWait, Wait}
 use Rattle.cpc_meaning.specs.Plain.{Form, Stack, waiting}

@@ -14,7 +14,7 @@ use Rattle.cpc_meaning.specs.Act.{Stood, AtStatement, AtArrival, AtEnd, assign, 
 use Rattle.cpc_meaning.specs.Plain.{Frame, Stack, Done, Asks, make_frame, returned_to, perform, context, frames_step, plain}
 use Rattle.cpc_meaning.specs.Trees.{trees, stood_at}
 use Rattle.cpc_meaning.proofs.Functions.{gives_then}
-use Rattle.cpc_builtins.specs.Served.{is_served, serves, calls_served, is_served_stmt, is_served_found, is_extern, is_served_item, is_served_program}
+use Rattle.cpc_native_builtins.specs.Served.{is_served, serves, calls_served, is_served_stmt, is_served_found, is_extern, is_served_item, is_served_program}
 use Rattle.cpc_native.proofs.Standing.{and_left, and_right, stands_served}
 
 -- ---- answers

@@ -21,15 +21,15 @@ use Rattle.cpc_meaning.specs.Plain.{Frame, Stack, Done, Went, moved_to, returned
 use Rattle.cpc_meaning.specs.Requests.{Asked, Builtin, Host, ToSpawn, Section, Primitive, Malloc, Free, RtFrame, RtBox, RtFrameFree, RtUnbox}
 use Rattle.cpc_meaning.specs.Runs.{slots_registers, frames_registers}
 use Rattle.cpc_meaning.specs.Trees.{trees, stood_at}
-use Rattle.cpc_cells.specs.Cells.{call_cells, slots_cells, code_cells, done_cells, acted_cells, request_cells, after_plain, step_cells}
-use Rattle.cpc_cells.proofs.Calls.{call_takes, leaving_gives_back}
-use Rattle.cpc_cells.proofs.Going.{going_on_keeps}
-use Rattle.cpc_pointers.specs.Made.{IsMadeCode}
-use Rattle.cpc_pointers.specs.Laws.{done_with}
-use Rattle.cpc_pointers.proofs.Answered.{requests_alike}
-use Rattle.cpc_acts.specs.declared.changes.Change.{Change}
-use Rattle.cpc_acts.specs.declared.changes.Change.TheVariants as C
-use Rattle.cpc_acts.specs.Foreseen.{Foresees, EntersSo, AsksSo, MakesSo, ArrivesSo, FreesSo, IsMaking, IsFreeing, arrival}
+use Rattle.cpc_meaning_cell_laws.specs.Cells.{call_cells, slots_cells, code_cells, done_cells, acted_cells, request_cells, after_plain, step_cells}
+use Rattle.cpc_meaning_cell_laws.proofs.Calls.{call_takes, leaving_gives_back}
+use Rattle.cpc_meaning_cell_laws.proofs.Going.{going_on_keeps}
+use Rattle.cpc_meaning_pointer_laws.specs.Made.{IsMadeCode}
+use Rattle.cpc_meaning_pointer_laws.specs.Laws.{done_with}
+use Rattle.cpc_meaning_pointer_laws.proofs.Answered.{requests_alike}
+use Rattle.cpc_native_acts.specs.declared.changes.Change.{Change}
+use Rattle.cpc_native_acts.specs.declared.changes.Change.TheVariants as C
+use Rattle.cpc_native_acts.specs.Foreseen.{Foresees, EntersSo, AsksSo, MakesSo, ArrivesSo, FreesSo, IsMaking, IsFreeing, arrival}
 use Rattle.cpc_native.proofs.Leaving.{left_free}
 use Rattle.cpc_native.proofs.Stepping.{step_of_own, slots_no_fault}
 use Rattle.cpc_native.specs.Next.{frees, GoesNowhere, FreesAlone}

@@ -14,21 +14,21 @@ use Rattle.cpc_tree.specs.declared.program.Word.{Word}
 use Rattle.cpc_meaning.specs.Plain as P
 use Rattle.cpc_meaning.specs.Trees.{stood_at}
 use Rattle.cpc_meaning.specs.Runs.{slots_registers, frames_registers}
-use Rattle.cpc_points.specs.Seen.{point_at, path_of}
-use Rattle.cpc_points.specs.declared.parts.Phase.{Phase}
-use Rattle.cpc_points.specs.declared.parts.Phase.TheVariants as F
-use Rattle.cpc_rules.specs.Apart.{Spells}
-use Rattle.cpc_variables.specs.Told.{IsTold}
-use Rattle.cpc_index.specs.declared.index.Index.{Index}
-use Rattle.cpc_index.specs.Indexed.{items_of}
+use Rattle.cpc_native_points.specs.Seen.{point_at, path_of}
+use Rattle.cpc_native_points.specs.declared.parts.Phase.{Phase}
+use Rattle.cpc_native_points.specs.declared.parts.Phase.TheVariants as F
+use Rattle.cpc_check_rules.specs.Apart.{Spells}
+use Rattle.cpc_eval_variables.specs.Told.{IsTold}
+use Rattle.cpc_eval_index.specs.declared.index.Index.{Index}
+use Rattle.cpc_eval_index.specs.Indexed.{items_of}
 use Rattle.cpc_eval.specs.declared.around.Slot.{Slot}
 use Rattle.cpc_eval.specs.declared.around.Slot.TheVariants as G
-use Rattle.cpc_builtins.specs.Served.{is_served_program}
+use Rattle.cpc_native_builtins.specs.Served.{is_served_program}
 use Rattle.cpc_eval.specs.Numbers.{ProgramNumbers}
-use Rattle.cpc_frames.specs.declared.frame.Frame.{Frame}
-use Rattle.cpc_frames.specs.Frames.{frame_of, IsOwn, IsWellFrame}
-use Rattle.cpc_frames.specs.Made.{slots_of}
-use Rattle.cpc_acts.specs.Acts.{StoodNumbers, is_served_stood, IsTexts, IsServing}
+use Rattle.cpc_native_frames.specs.declared.frame.Frame.{Frame}
+use Rattle.cpc_native_frames.specs.Frames.{frame_of, IsOwn, IsWellFrame}
+use Rattle.cpc_native_frames.specs.Made.{slots_of}
+use Rattle.cpc_native_acts.specs.Acts.{StoodNumbers, is_served_stood, IsTexts, IsServing}
 use Rattle.cpc_native.specs.Stacks.{frames_of}
 use Rattle.cpc_native.specs.Runs.{Runs}
 use Rattle.cpc_native.specs.Well.{AreWell}

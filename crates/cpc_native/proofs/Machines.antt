@@ -15,21 +15,21 @@ use Rattle.cpc_meaning.specs.Answer.{Answer, ◌>>=◌}
 use Rattle.cpc_meaning.specs.Act as M
 use Rattle.cpc_meaning.specs.Plain as P
 use Rattle.cpc_meaning.specs.Trees.{trees}
-use Rattle.cpc_points.specs.Seen.{point_at, point_of, path_of}
-use Rattle.cpc_points.specs.declared.parts.Phase.{Phase}
-use Rattle.cpc_points.specs.declared.parts.Phase.TheVariants as F
-use Rattle.cpc_values.specs.Meets.{Meets}
-use Rattle.cpc_values.specs.Shown.{value_of, store_of}
-use Rattle.cpc_rules.specs.Apart.{AreApart}
-use Rattle.cpc_index.specs.declared.index.Index.{Index}
-use Rattle.cpc_index.specs.Indexed.{items_of}
-use Rattle.cpc_frames.specs.declared.frame.Frame.{Frame}
-use Rattle.cpc_frames.specs.Frames.{frame_of, IsOwn}
-use Rattle.cpc_frames.specs.Made.{slots_of}
-use Rattle.cpc_acts.specs.declared.act.Act.{Act}
-use Rattle.cpc_acts.specs.declared.act.Act.TheVariants as A
-use Rattle.cpc_acts.specs.Stops.{MeetsOr}
-use Rattle.cpc_acts.specs.Acts.{act_of, stood_of, context_in, Keeps}
+use Rattle.cpc_native_points.specs.Seen.{point_at, point_of, path_of}
+use Rattle.cpc_native_points.specs.declared.parts.Phase.{Phase}
+use Rattle.cpc_native_points.specs.declared.parts.Phase.TheVariants as F
+use Rattle.cpc_eval_values.specs.Meets.{Meets}
+use Rattle.cpc_eval_values.specs.Shown.{value_of, store_of}
+use Rattle.cpc_check_rules.specs.Apart.{AreApart}
+use Rattle.cpc_eval_index.specs.declared.index.Index.{Index}
+use Rattle.cpc_eval_index.specs.Indexed.{items_of}
+use Rattle.cpc_native_frames.specs.declared.frame.Frame.{Frame}
+use Rattle.cpc_native_frames.specs.Frames.{frame_of, IsOwn}
+use Rattle.cpc_native_frames.specs.Made.{slots_of}
+use Rattle.cpc_native_acts.specs.declared.act.Act.{Act}
+use Rattle.cpc_native_acts.specs.declared.act.Act.TheVariants as A
+use Rattle.cpc_native_acts.specs.Stops.{MeetsOr}
+use Rattle.cpc_native_acts.specs.Acts.{act_of, stood_of, context_in, Keeps}
 use Rattle.cpc_native.specs.declared.machine.Machine.{Machine}
 use Rattle.cpc_native.specs.declared.machine.Stepped.{Stepped}
 use Rattle.cpc_native.specs.declared.machine.Stepped.TheVariants as N

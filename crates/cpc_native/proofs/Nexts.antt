@@ -11,18 +11,18 @@ use Rattle.cpc_meaning.specs.Machine.{State, try_step}
 use Rattle.cpc_meaning.specs.Plain as P
 use Rattle.cpc_meaning.specs.Runs.{live_cells, registers, frames_registers}
 use Rattle.cpc_meaning.specs.Trees.{trees}
-use Rattle.cpc_values.specs.Shown.{value_of, store_of}
-use Rattle.cpc_index.specs.Indexed.{items_of}
-use Rattle.cpc_cells.specs.Cells.{code_cells, step_cells}
-use Rattle.cpc_cells.proofs.Steps.{steps_leave}
-use Rattle.cpc_pointers.specs.Made.{IsMadeCode}
-use Rattle.cpc_frames.specs.declared.frame.Frame.{Frame}
-use Rattle.cpc_frames.specs.Frames.{frame_of, IsOwn}
-use Rattle.cpc_frames.specs.Made.{slots_of}
-use Rattle.cpc_acts.specs.declared.changes.Change.{Change}
-use Rattle.cpc_acts.specs.declared.changes.Change.TheVariants as C
-use Rattle.cpc_acts.specs.Acts.{stood_of, context_in}
-use Rattle.cpc_acts.specs.Foreseen.{Foresees}
+use Rattle.cpc_eval_values.specs.Shown.{value_of, store_of}
+use Rattle.cpc_eval_index.specs.Indexed.{items_of}
+use Rattle.cpc_meaning_cell_laws.specs.Cells.{code_cells, step_cells}
+use Rattle.cpc_meaning_cell_laws.proofs.Steps.{steps_leave}
+use Rattle.cpc_meaning_pointer_laws.specs.Made.{IsMadeCode}
+use Rattle.cpc_native_frames.specs.declared.frame.Frame.{Frame}
+use Rattle.cpc_native_frames.specs.Frames.{frame_of, IsOwn}
+use Rattle.cpc_native_frames.specs.Made.{slots_of}
+use Rattle.cpc_native_acts.specs.declared.changes.Change.{Change}
+use Rattle.cpc_native_acts.specs.declared.changes.Change.TheVariants as C
+use Rattle.cpc_native_acts.specs.Acts.{stood_of, context_in}
+use Rattle.cpc_native_acts.specs.Foreseen.{Foresees}
 use Rattle.cpc_native.specs.declared.machine.Machine.{Machine}
 use Rattle.cpc_native.specs.Stacks.{frames_of, stack_of}
 use Rattle.cpc_native.specs.Next.{FreesAlone, IsStateOf, LeavesSo, LeavesAtMost, IsCounted, greatest}

@@ -4,7 +4,7 @@ use Rattle.cpc_base.specs.Bytes.{Text}
 use Rattle.cpc_tree.specs.Syntax.{Stmt, Block, Empty, Declare, Assign, Call, Detach, Spawn, If, While, DoWhile, For, Goto, Label, Break, Continue, Return, Stmts, NoStmt, AndStmt, MaybeStmt, Absent, Present, Function, StructItem, GlobalItem, PrototypeItem, FunctionItem, Program}
 use Rattle.cpc_tree.specs.Typing.{function_named}
 use Rattle.cpc_tree.specs.Points.{Nth, TheTest, TheYes, TheNo, TheStep, TheBody, Path, found, found_in, found_arm}
-use Rattle.cpc_builtins.specs.Served.{is_served_stmt, are_served, is_served_arm, is_served_found, is_extern, is_served_item, is_served_program}
+use Rattle.cpc_native_builtins.specs.Served.{is_served_stmt, are_served, is_served_arm, is_served_found, is_extern, is_served_item, is_served_program}
 use Rattle.cpc_eval.specs.Numbers.{StmtNumbers, StmtsNumbers, ArmNumbers, FoundNumbers, ItemsNumbers, ProgramNumbers}
 
 -- ---- tests

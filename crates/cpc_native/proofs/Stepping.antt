@@ -15,7 +15,7 @@ use Rattle.cpc_meaning.specs.Slots.{make_slot, make_slots, call_slots}
 use Rattle.cpc_meaning.specs.Act.{Act, GoesOn, Enters, Leaves, AsksFor, act, arrives, target_of, deliver}
 use Rattle.cpc_meaning.specs.Plain.{Frame, Stack, Done, Went, make_frame, moved_to, perform, context, frames_step, asking, frames_answered}
 use Rattle.cpc_meaning.specs.Trees.{trees, stood_at, scope_from, point_after, arrival_at}
-use Rattle.cpc_values.specs.Meets.{Meets}
+use Rattle.cpc_eval_values.specs.Meets.{Meets}
 
 -- ---- answers one after another
 

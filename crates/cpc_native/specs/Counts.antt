@@ -3,7 +3,7 @@ use Rattle.std.specs.Prelude.{ℕ, Bool, true, false, List}
 use Rattle.std.specs.List.{sum_by, count_by}
 use Rattle.cpc_eval.specs.declared.around.Slot.{Slot}
 use Rattle.cpc_eval.specs.declared.around.Slot.TheVariants as G
-use Rattle.cpc_frames.specs.declared.frame.Frame.{Frame}
+use Rattle.cpc_native_frames.specs.declared.frame.Frame.{Frame}
 
 abbrev pub is_register : Slot → Bool
 is_register (G.Register v) = true

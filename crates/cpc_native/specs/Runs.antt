@@ -5,9 +5,9 @@ use Rattle.cpc_base.specs.declared.names.Name.{Name}
 use Rattle.cpc_tree.specs.Erase.{Names, Table}
 use Rattle.cpc_tree.specs.Syntax.{Parameter, Function, Program}
 use Rattle.cpc_tree.specs.Typing.{function_named}
-use Rattle.cpc_rules.specs.Apart.{Spells}
+use Rattle.cpc_check_rules.specs.Apart.{Spells}
 use Rattle.cpc_eval.specs.Numbers.{ProgramNumbers}
-use Rattle.cpc_builtins.specs.Served.{is_served_program}
+use Rattle.cpc_native_builtins.specs.Served.{is_served_program}
 
 -- no name has the empty text, where a parameter of the function has no name
 pub record ToldFromUnnamed (names : Names) (f : Function) : Type 0 where

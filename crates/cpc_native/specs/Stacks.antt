@@ -8,10 +8,10 @@ use Rattle.cpc_tree.specs.Points as T
 use Rattle.cpc_store.specs.declared.values.Value as V
 use Rattle.cpc_meaning.specs.Requests as R
 use Rattle.cpc_meaning.specs.Plain as P
-use Rattle.cpc_values.specs.Shown.{value_of, values_of, store_of}
-use Rattle.cpc_builtins.specs.Builtins.{primitive_of}
-use Rattle.cpc_frames.specs.declared.frame.Frame.{Frame}
-use Rattle.cpc_frames.specs.Frames.{frame_of}
+use Rattle.cpc_eval_values.specs.Shown.{value_of, values_of, store_of}
+use Rattle.cpc_native_builtins.specs.Builtins.{primitive_of}
+use Rattle.cpc_native_frames.specs.declared.frame.Frame.{Frame}
+use Rattle.cpc_native_frames.specs.Frames.{frame_of}
 use Rattle.cpc_native.specs.declared.machine.Machine.{Machine}
 use Rattle.cpc_native.specs.declared.machine.Request.{Request}
 use Rattle.cpc_native.specs.declared.machine.Stepped.{Stepped}

@@ -3,14 +3,14 @@ use Rattle.std.specs.Prelude.{◌≡◌, true, List, [], ◌∷◌, ◌++◌}
 use Rattle.std.specs.List.{All}
 use Rattle.cpc_tree.specs.Erase.{Names}
 use Rattle.cpc_store.specs.Seen.{seen, IsLawful}
-use Rattle.cpc_index.specs.declared.index.Index.{Index}
-use Rattle.cpc_builtins.specs.Builtins.{primitive_of}
-use Rattle.cpc_builtins.specs.Served.{is_served}
-use Rattle.cpc_frames.specs.declared.frame.Frame.{Frame}
-use Rattle.cpc_frames.specs.Frames.{IsWellFrame}
-use Rattle.cpc_acts.specs.Acts.{IsLawfulIf}
-use Rattle.cpc_acts.specs.declared.act.Act.{Act}
-use Rattle.cpc_acts.specs.declared.act.Act.TheVariants as A
+use Rattle.cpc_eval_index.specs.declared.index.Index.{Index}
+use Rattle.cpc_native_builtins.specs.Builtins.{primitive_of}
+use Rattle.cpc_native_builtins.specs.Served.{is_served}
+use Rattle.cpc_native_frames.specs.declared.frame.Frame.{Frame}
+use Rattle.cpc_native_frames.specs.Frames.{IsWellFrame}
+use Rattle.cpc_native_acts.specs.Acts.{IsLawfulIf}
+use Rattle.cpc_native_acts.specs.declared.act.Act.{Act}
+use Rattle.cpc_native_acts.specs.declared.act.Act.TheVariants as A
 use Rattle.cpc_native.specs.declared.machine.Machine.{Machine}
 use Rattle.cpc_native.specs.declared.machine.Stepped.{Stepped}
 use Rattle.cpc_native.specs.declared.machine.Stepped.TheVariants as S

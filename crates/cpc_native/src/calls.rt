@@ -2,12 +2,12 @@
 ghost use Rattle.std.specs.Prelude.{◌≡◌, ◌↔◌, List, [], ◌∷◌, ◌++◌, IsTrue, IfSome, OnOk, OnErr};
 ghost use Rattle.std.specs.Option.{IfNone, option_to_list};
 ghost use Rattle.std.proofs.Props.{props};
-ghost use Rattle.cpc_frames.specs.declared.frame.Frame.{Frame};
+ghost use Rattle.cpc_native_frames.specs.declared.frame.Frame.{Frame};
 ghost use Rattle.cpc_native.specs.Counts.{is_register, registers_in, frames_count};
 
 use cpc_base::NoMemory;
 use cpc_eval::Slot;
-use cpc_frames::Frame;
+use cpc_native_frames::Frame;
 use std::alloc::Global;
 
 /// The frames of calls, of which the innermost is the last, with the number of their registers.

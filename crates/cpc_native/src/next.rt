@@ -1,16 +1,16 @@
 //! The live cells that a step leaves, counted from the change that is told of it.
 ghost use Rattle.cpc_tree.specs.Erase.{Names};
-ghost use Rattle.cpc_rules.specs.Apart.{AreApart};
-ghost use Rattle.cpc_values.specs.Shown.{store_of};
-ghost use Rattle.cpc_index.specs.Indexed.{items_of};
-ghost use Rattle.cpc_frames.specs.Frames.{RiseFrom};
-ghost use Rattle.cpc_frames.specs.Made.{slots_of};
+ghost use Rattle.cpc_check_rules.specs.Apart.{AreApart};
+ghost use Rattle.cpc_eval_values.specs.Shown.{store_of};
+ghost use Rattle.cpc_eval_index.specs.Indexed.{items_of};
+ghost use Rattle.cpc_native_frames.specs.Frames.{RiseFrom};
+ghost use Rattle.cpc_native_frames.specs.Made.{slots_of};
 ghost use Rattle.cpc_native.specs.Next.{IsCounted};
 
-use cpc_acts::Change;
 use cpc_eval::Slot;
-use cpc_frames::{call_cells, slots_cells};
-use cpc_index::Index;
+use cpc_eval_index::Index;
+use cpc_native_acts::Change;
+use cpc_native_frames::{call_cells, slots_cells};
 use cpc_store::Store;
 
 /// How many cells are live after a change, where so many were before it and these are the variables of the innermost call.

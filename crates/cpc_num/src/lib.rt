@@ -11,6 +11,3 @@ pub use arithmetic::{binary, negate};
 pub use conversion::{bits, common, convert, is_of, promoted};
 pub use kinds::{Fault, Kind, Op};
 pub use laws::division_truncates;
-
-#[cfg(test)]
-mod tests;

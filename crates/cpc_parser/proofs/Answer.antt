@@ -7,11 +7,11 @@ use Rattle.cpc_tree.specs.Tokens.{Placed}
 use Rattle.cpc_tree.specs.Located.{LItem, LProgram}
 use Rattle.cpc_tree.specs.ItemGrammar.{ReadsItems}
 use Rattle.cpc_tree.specs.Grammar.{syntax_fault, deep_fault, nesting_limit, IsProgram, IsOpen, IsBegun, FaultsAt, syntax_at, syntax_at_end, deep_at, first_place, IsParseFault}
-use Rattle.cpc_reading.specs.Reading.{Reading, Read, Fault, Deep}
-use Rattle.cpc_reading.specs.Exact.{Opens}
-use Rattle.cpc_reading.specs.Answers.{whole, SyntaxAt, DeepAt, Answers}
-use Rattle.cpc_reading.proofs.Readers.{answers, complete}
-use Rattle.cpc_parse_types.specs.Views.{lexeme}
+use Rattle.cpc_parser_reading.specs.Reading.{Reading, Read, Fault, Deep}
+use Rattle.cpc_parser_reading.specs.Exact.{Opens}
+use Rattle.cpc_parser_reading.specs.Answers.{whole, SyntaxAt, DeepAt, Answers}
+use Rattle.cpc_parser_reading.proofs.Readers.{answers, complete}
+use Rattle.cpc_parser_types.specs.Views.{lexeme}
 use Rattle.cpc_parser.specs.ItemReaders.{program_at}
 use Rattle.cpc_parser.proofs.Items.{items_exact}
 

@@ -8,14 +8,14 @@ use Rattle.cpc_tree.specs.Located.{LStmt, LItem}
 use Rattle.cpc_tree.specs.TypeGrammar.{mark}
 use Rattle.cpc_tree.specs.StmtGrammar.{ReadsBlock}
 use Rattle.cpc_tree.specs.ItemGrammar.{Head}
-use Rattle.cpc_reading.specs.Phrase.{Nothing, Mapped, Made, Headed, OneOf}
-use Rattle.cpc_reading.specs.Exact.{Any, Opens, Exact, Branch}
-use Rattle.cpc_reading.proofs.Readers.{exact_as, exact_made, exact_mapped, exact_nothing, exact_one_of, headed_branch}
-use Rattle.cpc_parse_types.specs.Views.{lexeme}
-use Rattle.cpc_parse_types.proofs.Bases.{spot}
-use Rattle.cpc_parse_types.proofs.BaseWords.{at}
-use Rattle.cpc_parse_statements.proofs.Stmts.{Blocked}
-use Rattle.cpc_parse_statements.proofs.StmtExact.{block_exact}
+use Rattle.cpc_parser_reading.specs.Phrase.{Nothing, Mapped, Made, Headed, OneOf}
+use Rattle.cpc_parser_reading.specs.Exact.{Any, Opens, Exact, Branch}
+use Rattle.cpc_parser_reading.proofs.Readers.{exact_as, exact_made, exact_mapped, exact_nothing, exact_one_of, headed_branch}
+use Rattle.cpc_parser_types.specs.Views.{lexeme}
+use Rattle.cpc_parser_types.proofs.Bases.{spot}
+use Rattle.cpc_parser_types.proofs.BaseWords.{at}
+use Rattle.cpc_parser_statements.proofs.Stmts.{Blocked}
+use Rattle.cpc_parser_statements.proofs.StmtExact.{block_exact}
 use Rattle.cpc_parser.specs.ItemReaders.{Behind, Ends, Begins, behind_class, has_body, behind_low, declared, function_of, behind_part, behind_at}
 use Rattle.cpc_parser.proofs.Places.{exact_less}
 

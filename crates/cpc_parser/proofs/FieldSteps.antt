@@ -7,20 +7,20 @@ use Rattle.cpc_tree.specs.Tokens.{Placed}
 use Rattle.cpc_tree.specs.Syntax.{Ty}
 use Rattle.cpc_tree.specs.Located.{Ident, LVariable, LItem}
 use Rattle.cpc_tree.specs.TypeGrammar.{mark}
-use Rattle.cpc_reading.specs.Reading.{Reading, Read, Fault, Deep, ◌>>=◌, expect, after}
-use Rattle.cpc_reading.specs.Chain.{links}
-use Rattle.cpc_reading.specs.Lists.{several}
-use Rattle.cpc_reading.specs.Exact.{Any, Good}
-use Rattle.cpc_reading.proofs.Readers.{branch, many_on, separated_on, links_end, links_stop, starts_mapped, starts_bind}
-use Rattle.cpc_parse_types.specs.Begins.{begins}
-use Rattle.cpc_parse_types.specs.TypeReaders.{Ending, base_at, is_comma}
-use Rattle.cpc_parse_types.specs.TypeViews.{base_reader, begins_base}
-use Rattle.cpc_parse_types.specs.Declarators.{declarator_at}
-use Rattle.cpc_parse_types.specs.Views.{lexeme, Refuses}
-use Rattle.cpc_parse_types.specs.declared.refusal.Refusal.{Refusal}
-use Rattle.cpc_parse_types.specs.declared.refusal.Refusal.TheVariants as R
-use Rattle.cpc_parse_types.proofs.Giving.{read_is}
-use Rattle.cpc_parse_types.proofs.Declarators.{declarator_exact}
+use Rattle.cpc_parser_reading.specs.Reading.{Reading, Read, Fault, Deep, ◌>>=◌, expect, after}
+use Rattle.cpc_parser_reading.specs.Chain.{links}
+use Rattle.cpc_parser_reading.specs.Lists.{several}
+use Rattle.cpc_parser_reading.specs.Exact.{Any, Good}
+use Rattle.cpc_parser_reading.proofs.Readers.{branch, many_on, separated_on, links_end, links_stop, starts_mapped, starts_bind}
+use Rattle.cpc_parser_types.specs.Begins.{begins}
+use Rattle.cpc_parser_types.specs.TypeReaders.{Ending, base_at, is_comma}
+use Rattle.cpc_parser_types.specs.TypeViews.{base_reader, begins_base}
+use Rattle.cpc_parser_types.specs.Declarators.{declarator_at}
+use Rattle.cpc_parser_types.specs.Views.{lexeme, Refuses}
+use Rattle.cpc_parser_types.specs.declared.refusal.Refusal.{Refusal}
+use Rattle.cpc_parser_types.specs.declared.refusal.Refusal.TheVariants as R
+use Rattle.cpc_parser_types.proofs.Giving.{read_is}
+use Rattle.cpc_parser_types.proofs.Declarators.{declarator_exact}
 use Rattle.cpc_parser.specs.ItemReaders.{is_semicolon, is_brace, is_unbrace, second, line_at, rows, joined, fields_at, structure, structure_at}
 use Rattle.cpc_parser.specs.ItemViews.{flat, onto, field_row_at, field_left_at, InFields, line_links, InLines}
 use Rattle.cpc_parser.proofs.Marks.{commas}

@@ -8,18 +8,18 @@ use Rattle.cpc_tree.specs.Syntax.{Ty}
 use Rattle.cpc_tree.specs.Located.{Ident, LVariable, LItem}
 use Rattle.cpc_tree.specs.TypeGrammar.{mark, named, ReadsBase, ReadsStars, no_star, a_star, ReadsDeclarator, plain, array, code}
 use Rattle.cpc_tree.specs.ItemGrammar.{ReadsVariables, last_variable, more_variables, ReadsFields, last_fields, more_fields}
-use Rattle.cpc_reading.specs.Phrase.{Before, After, Mapped, Both, Bound}
-use Rattle.cpc_reading.specs.Chain.{first}
-use Rattle.cpc_reading.specs.Lists.{Many, no_more, one_more, Separated, alone, and_more}
-use Rattle.cpc_reading.specs.Exact.{Any, Stops, Opens, Exact, Starts}
-use Rattle.cpc_reading.proofs.Readers.{Over, branch, any_stops, exact_after, exact_as, exact_before, exact_bind, exact_many, exact_mapped, exact_pair, exact_separated, last_all, starts_after, starts_as, starts_bind, starts_mapped}
-use Rattle.cpc_parse_types.specs.Views.{lexeme}
-use Rattle.cpc_parse_types.specs.TypeReaders.{Ending, Done, LongWord, SignedWord, UnsignedWord, is_comma, starts_base}
-use Rattle.cpc_parse_types.specs.Declarators.{DeclaratorEnd, is_bracket}
-use Rattle.cpc_parse_types.proofs.Bases.{Words, WordsEnd, words_exact}
-use Rattle.cpc_parse_types.proofs.BaseWords.{of_base, to_base, of_typed}
-use Rattle.cpc_parse_types.proofs.Params.{starts_typed}
-use Rattle.cpc_parse_types.proofs.Declarators.{declarator_exact}
+use Rattle.cpc_parser_reading.specs.Phrase.{Before, After, Mapped, Both, Bound}
+use Rattle.cpc_parser_reading.specs.Chain.{first}
+use Rattle.cpc_parser_reading.specs.Lists.{Many, no_more, one_more, Separated, alone, and_more}
+use Rattle.cpc_parser_reading.specs.Exact.{Any, Stops, Opens, Exact, Starts}
+use Rattle.cpc_parser_reading.proofs.Readers.{Over, branch, any_stops, exact_after, exact_as, exact_before, exact_bind, exact_many, exact_mapped, exact_pair, exact_separated, last_all, starts_after, starts_as, starts_bind, starts_mapped}
+use Rattle.cpc_parser_types.specs.Views.{lexeme}
+use Rattle.cpc_parser_types.specs.TypeReaders.{Ending, Done, LongWord, SignedWord, UnsignedWord, is_comma, starts_base}
+use Rattle.cpc_parser_types.specs.Declarators.{DeclaratorEnd, is_bracket}
+use Rattle.cpc_parser_types.proofs.Bases.{Words, WordsEnd, words_exact}
+use Rattle.cpc_parser_types.proofs.BaseWords.{of_base, to_base, of_typed}
+use Rattle.cpc_parser_types.proofs.Params.{starts_typed}
+use Rattle.cpc_parser_types.proofs.Declarators.{declarator_exact}
 use Rattle.cpc_parser.specs.ItemReaders.{is_semicolon, is_brace, is_unbrace, second, line_at, rows, joined, fields_at, structure, structure_at}
 use Rattle.cpc_parser.proofs.Marks.{semicolons, commas, braces, unbraces, semicolon_is, comma_is, brace_is, unbrace_is}
 use Rattle.cpc_parser.proofs.Places.{Led}

@@ -5,13 +5,13 @@ use Rattle.cpc_tree.specs.Tokens.{Lexeme, Mark, Placed}
 use Rattle.cpc_tree.specs.Syntax.{Ty, TyArray}
 use Rattle.cpc_tree.specs.Located.{Ident, LVariable, LParameter}
 use Rattle.cpc_tree.specs.ItemGrammar.{Head}
-use Rattle.cpc_reading.specs.Reading.{Reading, Read, Fault, Deep, ◌>>=◌, one, before, either}
-use Rattle.cpc_reading.specs.Chain.{links}
-use Rattle.cpc_reading.proofs.Readers.{links_end, links_stop, links_on}
-use Rattle.cpc_parse_types.specs.Begins.{is_mark, begins}
-use Rattle.cpc_parse_types.specs.TypeReaders.{ident_of, is_left, is_unbracket, list_at}
-use Rattle.cpc_parse_types.specs.TypeViews.{array_of, array_at}
-use Rattle.cpc_parse_types.specs.Declarators.{is_bracket, length_in, stars_at, PointerShape, shape_class, code_at, pointer_of, variable_of, declared_at, declarator_at}
+use Rattle.cpc_parser_reading.specs.Reading.{Reading, Read, Fault, Deep, ◌>>=◌, one, before, either}
+use Rattle.cpc_parser_reading.specs.Chain.{links}
+use Rattle.cpc_parser_reading.proofs.Readers.{links_end, links_stop, links_on}
+use Rattle.cpc_parser_types.specs.Begins.{is_mark, begins}
+use Rattle.cpc_parser_types.specs.TypeReaders.{ident_of, is_left, is_unbracket, list_at}
+use Rattle.cpc_parser_types.specs.TypeViews.{array_of, array_at}
+use Rattle.cpc_parser_types.specs.Declarators.{is_bracket, length_in, stars_at, PointerShape, shape_class, code_at, pointer_of, variable_of, declared_at, declarator_at}
 use Rattle.cpc_parser.specs.ItemReaders.{First, Alone, Closed, Called, Going, Brackets, Parens, size_part, list_part, first_class, first_make, first_part, first_links, named_at, alone, coded, pointer_at, second, Seen, Variable, Function, seen}
 use Rattle.cpc_parser.specs.ItemViews.{flat, seen_at, signature_at, named_seen_at}
 use Rattle.cpc_parser.proofs.Firsts.{named_joint, parts}

@@ -8,20 +8,20 @@ use Rattle.cpc_tree.specs.Tokens.{Lexeme, Mark, Number, Placed}
 use Rattle.cpc_tree.specs.Syntax.{Ty, TyArray, TyCode}
 use Rattle.cpc_tree.specs.Located.{Ident, LVariable, LParameter}
 use Rattle.cpc_tree.specs.TypeGrammar.{mark, named, number, types, ReadsStars, ReadsParams, ReadsDeclarator, plain, array, code}
-use Rattle.cpc_reading.specs.Reading.{one}
-use Rattle.cpc_reading.specs.Phrase.{One, Before, After, Mapped, Headed, Bound, Either}
-use Rattle.cpc_reading.specs.Chain.{Chained, first, further, Joint}
-use Rattle.cpc_reading.specs.Exact.{Any, Stops, Exact, Branch}
-use Rattle.cpc_reading.proofs.Readers.{exact_before, exact_bind, exact_chain, exact_either, exact_mapped, exact_one, exact_stop, exact_after, branch, starts_after, starts_mapped, headed_branch}
-use Rattle.cpc_parse_types.specs.Views.{lexeme}
-use Rattle.cpc_parse_types.specs.TypeReaders.{ident_of, star_class, is_left, is_unbracket}
-use Rattle.cpc_parse_types.specs.Declarators.{StarsEnd, length_in}
-use Rattle.cpc_parse_types.proofs.Bases.{token, name_exact}
-use Rattle.cpc_parse_types.proofs.BaseWords.{at, named_is, some_is}
-use Rattle.cpc_parse_types.proofs.Params.{lefts, unbrackets}
-use Rattle.cpc_parse_types.proofs.ParamWords.{right_is, left_is, star_mark, unbracket_is}
-use Rattle.cpc_parse_types.proofs.Lists.{ListEnclosed, list_exact}
-use Rattle.cpc_parse_types.proofs.Declarators.{stars_exact, CodeRest, code_exact}
+use Rattle.cpc_parser_reading.specs.Reading.{one}
+use Rattle.cpc_parser_reading.specs.Phrase.{One, Before, After, Mapped, Headed, Bound, Either}
+use Rattle.cpc_parser_reading.specs.Chain.{Chained, first, further, Joint}
+use Rattle.cpc_parser_reading.specs.Exact.{Any, Stops, Exact, Branch}
+use Rattle.cpc_parser_reading.proofs.Readers.{exact_before, exact_bind, exact_chain, exact_either, exact_mapped, exact_one, exact_stop, exact_after, branch, starts_after, starts_mapped, headed_branch}
+use Rattle.cpc_parser_types.specs.Views.{lexeme}
+use Rattle.cpc_parser_types.specs.TypeReaders.{ident_of, star_class, is_left, is_unbracket}
+use Rattle.cpc_parser_types.specs.Declarators.{StarsEnd, length_in}
+use Rattle.cpc_parser_types.proofs.Bases.{token, name_exact}
+use Rattle.cpc_parser_types.proofs.BaseWords.{at, named_is, some_is}
+use Rattle.cpc_parser_types.proofs.Params.{lefts, unbrackets}
+use Rattle.cpc_parser_types.proofs.ParamWords.{right_is, left_is, star_mark, unbracket_is}
+use Rattle.cpc_parser_types.proofs.Lists.{ListEnclosed, list_exact}
+use Rattle.cpc_parser_types.proofs.Declarators.{stars_exact, CodeRest, code_exact}
 use Rattle.cpc_parser.specs.ItemReaders.{second, First, Alone, Closed, Called, Going, Brackets, Parens, first_class, Part, size_part, list_part, first_make, first_part, named_at, alone, coded, pointer_at, first_at, Seen, Variable, Function, seen}
 use Rattle.cpc_parser.proofs.Places.{Led}
 use Rattle.cpc_parser.proofs.Fields.{begins_behind, stars_led}

@@ -8,15 +8,15 @@ use Rattle.cpc_tree.specs.Syntax.{Ty}
 use Rattle.cpc_tree.specs.Located.{LExpr, LVariable, LItem}
 use Rattle.cpc_tree.specs.TypeGrammar.{mark, ReadsDeclarator}
 use Rattle.cpc_tree.specs.ItemGrammar.{ReadsGlobal, unset, set, ReadsGlobals, last_global, more_globals}
-use Rattle.cpc_reading.specs.Phrase.{Before, After, Mapped, Both, Optional}
-use Rattle.cpc_reading.specs.Lists.{Many, no_more, one_more}
-use Rattle.cpc_reading.specs.Operators.{Tailed, bare, tailed, Trails}
-use Rattle.cpc_reading.specs.Exact.{Any, Absent, Stops, Exact}
-use Rattle.cpc_reading.proofs.Readers.{Over, after_branch, exact_before, exact_many, exact_mapped, exact_optional, exact_pair, exact_trail, last_all, starts_after}
-use Rattle.cpc_parse_types.specs.Views.{lexeme}
-use Rattle.cpc_parse_types.specs.TypeReaders.{is_comma}
-use Rattle.cpc_parse_types.specs.Declarators.{declarator_at, DeclaratorEnd, is_bracket}
-use Rattle.cpc_parse_types.proofs.Declarators.{declarator_exact}
+use Rattle.cpc_parser_reading.specs.Phrase.{Before, After, Mapped, Both, Optional}
+use Rattle.cpc_parser_reading.specs.Lists.{Many, no_more, one_more}
+use Rattle.cpc_parser_reading.specs.Operators.{Tailed, bare, tailed, Trails}
+use Rattle.cpc_parser_reading.specs.Exact.{Any, Absent, Stops, Exact}
+use Rattle.cpc_parser_reading.proofs.Readers.{Over, after_branch, exact_before, exact_many, exact_mapped, exact_optional, exact_pair, exact_trail, last_all, starts_after}
+use Rattle.cpc_parser_types.specs.Views.{lexeme}
+use Rattle.cpc_parser_types.specs.TypeReaders.{is_comma}
+use Rattle.cpc_parser_types.specs.Declarators.{declarator_at, DeclaratorEnd, is_bracket}
+use Rattle.cpc_parser_types.proofs.Declarators.{declarator_exact}
 use Rattle.cpc_parser.specs.ItemReaders.{is_semicolon, is_equal, start_at, global_at, global_of, globals_of, globals_at, First, Alone, Closed, Called, first_class}
 use Rattle.cpc_parser.proofs.Marks.{semicolons, equals, commas, semicolon_is, equal_is, comma_is}
 use Rattle.cpc_parser.proofs.Initials.{Start, start_exact, initial_exact}

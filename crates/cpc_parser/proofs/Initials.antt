@@ -6,13 +6,13 @@ use Rattle.cpc_tree.specs.declared.token.Punctuator.TheVariants as P
 use Rattle.cpc_tree.specs.Tokens.{Lexeme, Mark, Number, Character, Quoted, Placed}
 use Rattle.cpc_tree.specs.Located.{LExpr, LInteger}
 use Rattle.cpc_tree.specs.ItemGrammar.{ReadsInitial, an_integer, a_negative, a_character, a_text}
-use Rattle.cpc_reading.specs.Reading.{one}
-use Rattle.cpc_reading.specs.Phrase.{One, After, Made, Headed, OneOf}
-use Rattle.cpc_reading.specs.Exact.{Any, Opens, Exact, Branch, Starts}
-use Rattle.cpc_reading.proofs.Readers.{branch, exact_as, exact_made, exact_one, exact_one_of, exact_after, headed_branch}
-use Rattle.cpc_parse_types.specs.Views.{lexeme}
-use Rattle.cpc_parse_types.proofs.Bases.{token, spot}
-use Rattle.cpc_parse_types.proofs.BaseWords.{at, some_is}
+use Rattle.cpc_parser_reading.specs.Reading.{one}
+use Rattle.cpc_parser_reading.specs.Phrase.{One, After, Made, Headed, OneOf}
+use Rattle.cpc_parser_reading.specs.Exact.{Any, Opens, Exact, Branch, Starts}
+use Rattle.cpc_parser_reading.proofs.Readers.{branch, exact_as, exact_made, exact_one, exact_one_of, exact_after, headed_branch}
+use Rattle.cpc_parser_types.specs.Views.{lexeme}
+use Rattle.cpc_parser_types.proofs.Bases.{token, spot}
+use Rattle.cpc_parser_types.proofs.BaseWords.{at, some_is}
 use Rattle.cpc_parser.specs.ItemReaders.{Initial, Literal, Negative, initial_class, initial_low, integer_in, literal_in, same, negative, initial_part, initial_at, start_at, is_equal}
 use Rattle.cpc_parser.proofs.Marks.{equals}
 use Rattle.cpc_parser.proofs.Places.{exact_less}

@@ -13,15 +13,15 @@ use Rattle.cpc_tree.specs.TypeGrammar.{word, mark, named, plain, no_star, ReadsK
 use Rattle.cpc_tree.specs.StmtGrammar.{begin}
 use Rattle.cpc_tree.specs.ItemGrammar.{Head, ReadsMode, native, cps, detached, ReadsPrototypeMode, extern, of_function, ReadsHead, head, all_named, defined, ReadsItem, struct, globals, prototype, ReadsGlobals, last_global, unset, ReadsItems, no_item, items}
 use Rattle.cpc_tree.specs.ItemGrammar as I
-use Rattle.cpc_reading.specs.Phrase.{One, Mapped, Bound, Either, Headed, OneOf}
-use Rattle.cpc_reading.specs.Reading.{mapped}
-use Rattle.cpc_reading.specs.Lists.{many, Many, no_more, one_more}
-use Rattle.cpc_reading.specs.Exact.{Any, Stops, Opens, Exact, Branch, Starts}
-use Rattle.cpc_reading.proofs.Readers.{any_stops, branch, exact_as, exact_bind, exact_either, exact_many, exact_mapped, last_all, exact_one_of, headed_branch, starts_as, starts_bind, starts_mapped, starts_one_of}
-use Rattle.cpc_parse_types.specs.Views.{lexeme}
-use Rattle.cpc_parse_types.specs.TypeReaders.{Ending, ident_of, starts_base}
-use Rattle.cpc_parse_types.proofs.Bases.{Words, WordsEnd, words_exact, name_exact, token, nobody, spot}
-use Rattle.cpc_parse_types.proofs.BaseWords.{at, of_base, to_base, named_is}
+use Rattle.cpc_parser_reading.specs.Phrase.{One, Mapped, Bound, Either, Headed, OneOf}
+use Rattle.cpc_parser_reading.specs.Reading.{mapped}
+use Rattle.cpc_parser_reading.specs.Lists.{many, Many, no_more, one_more}
+use Rattle.cpc_parser_reading.specs.Exact.{Any, Stops, Opens, Exact, Branch, Starts}
+use Rattle.cpc_parser_reading.proofs.Readers.{any_stops, branch, exact_as, exact_bind, exact_either, exact_many, exact_mapped, last_all, exact_one_of, headed_branch, starts_as, starts_bind, starts_mapped, starts_one_of}
+use Rattle.cpc_parser_types.specs.Views.{lexeme}
+use Rattle.cpc_parser_types.specs.TypeReaders.{Ending, ident_of, starts_base}
+use Rattle.cpc_parser_types.proofs.Bases.{Words, WordsEnd, words_exact, name_exact, token, nobody, spot}
+use Rattle.cpc_parser_types.proofs.BaseWords.{at, of_base, to_base, named_is}
 use Rattle.cpc_parser.specs.ItemReaders.{second, Class, Moded, Tagged, Based, item_class, item_part, item_at, starts_item, declared, has_body, moded_at, tagged_at, based_at, structure_at, is_brace, rows, program_at}
 use Rattle.cpc_parser.proofs.Places.{Led, Narrow, Noted, Some_token, narrow_branch, exact_noted, starts_noted}
 use Rattle.cpc_parser.proofs.Globals.{led_stops}

@@ -6,13 +6,13 @@ use Rattle.cpc_tree.specs.declared.token.Token.{Token}
 use Rattle.cpc_tree.specs.Tokens.{Placed, placed_of}
 use Rattle.cpc_tree.specs.Located.{LItem}
 use Rattle.cpc_tree.specs.ItemGrammar.{ReadsItem}
-use Rattle.cpc_reading.specs.Reading.{Reading, Read, Fault, Deep, ◌>>=◌}
-use Rattle.cpc_reading.specs.Chain.{links}
-use Rattle.cpc_reading.specs.Exact.{Any, Good}
-use Rattle.cpc_reading.proofs.Readers.{branch, many_on, links_end, links_stop}
-use Rattle.cpc_parse_types.specs.Views.{lexeme, placed, Refuses}
-use Rattle.cpc_parse_types.specs.declared.refusal.Refusal.{Refusal}
-use Rattle.cpc_parse_types.specs.declared.refusal.Refusal.TheVariants as R
+use Rattle.cpc_parser_reading.specs.Reading.{Reading, Read, Fault, Deep, ◌>>=◌}
+use Rattle.cpc_parser_reading.specs.Chain.{links}
+use Rattle.cpc_parser_reading.specs.Exact.{Any, Good}
+use Rattle.cpc_parser_reading.proofs.Readers.{branch, many_on, links_end, links_stop}
+use Rattle.cpc_parser_types.specs.Views.{lexeme, placed, Refuses}
+use Rattle.cpc_parser_types.specs.declared.refusal.Refusal.{Refusal}
+use Rattle.cpc_parser_types.specs.declared.refusal.Refusal.TheVariants as R
 use Rattle.cpc_parser.specs.ItemReaders.{rows, item_at, starts_item, program_at}
 use Rattle.cpc_parser.specs.ItemViews.{flat, onto, item_links, begins_item, InItems, program_whole}
 use Rattle.cpc_parser.proofs.Items.{item_exact, starts}

@@ -3,11 +3,11 @@ use Rattle.std.proofs.Common.{◌≡◌, true, refl, ap}
 use Rattle.cpc_tree.specs.declared.token.Punctuator.TheVariants as P
 use Rattle.cpc_tree.specs.Tokens.{Lexeme, Mark, Placed}
 use Rattle.cpc_tree.specs.TypeGrammar.{mark}
-use Rattle.cpc_reading.specs.Exact.{Sample}
-use Rattle.cpc_parse_types.specs.Views.{lexeme}
-use Rattle.cpc_parse_types.specs.TypeReaders.{is_comma}
-use Rattle.cpc_parse_types.proofs.Bases.{token}
-use Rattle.cpc_parse_types.proofs.BaseWords.{at}
+use Rattle.cpc_parser_reading.specs.Exact.{Sample}
+use Rattle.cpc_parser_types.specs.Views.{lexeme}
+use Rattle.cpc_parser_types.specs.TypeReaders.{is_comma}
+use Rattle.cpc_parser_types.proofs.Bases.{token}
+use Rattle.cpc_parser_types.proofs.BaseWords.{at}
 use Rattle.cpc_parser.specs.ItemReaders.{is_semicolon, is_equal, is_brace, is_unbrace}
 
 pub semicolons : Sample lexeme is_semicolon

@@ -5,7 +5,7 @@ use Rattle.cpc_base.specs.declared.stop.Dialect.{Dialect}
 use Rattle.cpc_tree.specs.Tokens.{Placed}
 use Rattle.cpc_tree.specs.Located.{LItem, LProgram}
 use Rattle.cpc_tree.specs.Grammar.{syntax_fault, deep_fault, nesting_limit, IsProgram, first_place, IsParseFault}
-use Rattle.cpc_reading.specs.Reading.{Reading, Read, Fault, Deep}
+use Rattle.cpc_parser_reading.specs.Reading.{Reading, Read, Fault, Deep}
 use Rattle.cpc_parser.specs.ItemViews.{flat, program_whole}
 use Rattle.cpc_parser.proofs.Answer.{AnswerIs, answer_is, program_read}
 use Rattle.cpc_parser.proofs.Loop.{same_read, onto_read, onto_fault, onto_deep}

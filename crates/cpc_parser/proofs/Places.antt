@@ -3,10 +3,10 @@ use Rattle.std.proofs.Common.{◌≡◌, ℕ, suc, ◌≤◌, List, [], ◌∷�
 use Rattle.cpc_base.specs.declared.stop.Place.{Place}
 use Rattle.cpc_tree.specs.Tokens.{Lexeme, Placed}
 use Rattle.cpc_tree.specs.StmtGrammar.{begin}
-use Rattle.cpc_reading.specs.Reading.{Reading, Read, Fault, Deep, Reader, ◌>>=◌}
-use Rattle.cpc_reading.specs.Exact.{Stops, Opens, Good, ExactAt, Exact, Starts, Branch}
-use Rattle.cpc_reading.proofs.Keeps.{keeps_on}
-use Rattle.cpc_parse_types.specs.Views.{lexeme}
+use Rattle.cpc_parser_reading.specs.Reading.{Reading, Read, Fault, Deep, Reader, ◌>>=◌}
+use Rattle.cpc_parser_reading.specs.Exact.{Stops, Opens, Good, ExactAt, Exact, Starts, Branch}
+use Rattle.cpc_parser_reading.proofs.Keeps.{keeps_on}
+use Rattle.cpc_parser_types.specs.Views.{lexeme}
 use Rattle.cpc_parser.specs.ItemReaders.{noted}
 
 -- the first token is of a class

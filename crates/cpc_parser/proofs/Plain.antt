@@ -8,19 +8,19 @@ use Rattle.cpc_tree.specs.Syntax.{Ty}
 use Rattle.cpc_tree.specs.Located.{Ident, LParameter, LItem}
 use Rattle.cpc_tree.specs.TypeGrammar.{mark, named, ReadsStars, ReadsParams}
 use Rattle.cpc_tree.specs.ItemGrammar.{Head, ReadsHead, head, ReadsGlobals}
-use Rattle.cpc_reading.specs.Phrase.{One, After, Mapped, Both, Bound}
-use Rattle.cpc_reading.specs.Exact.{Any, Stops, Exact}
-use Rattle.cpc_reading.proofs.Heads.{stops_all}
-use Rattle.cpc_reading.proofs.Readers.{any_stops, exact_after, exact_as, exact_bind, exact_mapped, exact_pair}
-use Rattle.cpc_parse_types.specs.Views.{lexeme}
-use Rattle.cpc_parse_types.specs.TypeReaders.{Ending, ident_of, is_left}
-use Rattle.cpc_parse_types.specs.Declarators.{StarsEnd}
-use Rattle.cpc_parse_types.proofs.Bases.{Words, WordsEnd, words_exact, name_exact}
-use Rattle.cpc_parse_types.proofs.BaseWords.{of_base, to_base, named_is}
-use Rattle.cpc_parse_types.proofs.Params.{lefts}
-use Rattle.cpc_parse_types.proofs.ParamWords.{left_is}
-use Rattle.cpc_parse_types.proofs.Lists.{ListEnclosed, list_exact}
-use Rattle.cpc_parse_types.proofs.Declarators.{stars_exact}
+use Rattle.cpc_parser_reading.specs.Phrase.{One, After, Mapped, Both, Bound}
+use Rattle.cpc_parser_reading.specs.Exact.{Any, Stops, Exact}
+use Rattle.cpc_parser_reading.proofs.Heads.{stops_all}
+use Rattle.cpc_parser_reading.proofs.Readers.{any_stops, exact_after, exact_as, exact_bind, exact_mapped, exact_pair}
+use Rattle.cpc_parser_types.specs.Views.{lexeme}
+use Rattle.cpc_parser_types.specs.TypeReaders.{Ending, ident_of, is_left}
+use Rattle.cpc_parser_types.specs.Declarators.{StarsEnd}
+use Rattle.cpc_parser_types.proofs.Bases.{Words, WordsEnd, words_exact, name_exact}
+use Rattle.cpc_parser_types.proofs.BaseWords.{of_base, to_base, named_is}
+use Rattle.cpc_parser_types.proofs.Params.{lefts}
+use Rattle.cpc_parser_types.proofs.ParamWords.{left_is}
+use Rattle.cpc_parser_types.proofs.Lists.{ListEnclosed, list_exact}
+use Rattle.cpc_parser_types.proofs.Declarators.{stars_exact}
 use Rattle.cpc_parser.specs.ItemReaders.{second, head_of, head_at, First, Alone, Closed, Called, Seen, Variable, Function, seen, further_at, plain_at}
 use Rattle.cpc_parser.proofs.Places.{Led}
 use Rattle.cpc_parser.proofs.Globals.{Globals, globals_led, goes_alone, led_stops, of_globals, to_globals, globals_exact}

@@ -5,18 +5,18 @@ use Rattle.cpc_tree.specs.declared.token.Punctuator.TheVariants as P
 use Rattle.cpc_tree.specs.Tokens.{Placed}
 use Rattle.cpc_tree.specs.Syntax.{Ty}
 use Rattle.cpc_tree.specs.Located.{LExpr, LVariable, LItem}
-use Rattle.cpc_reading.specs.Reading.{Reading, Read, Fault, Deep, ◌>>=◌, expect, after}
-use Rattle.cpc_reading.specs.Phrase.{After}
-use Rattle.cpc_reading.specs.Chain.{links}
-use Rattle.cpc_reading.specs.Operators.{tail_from}
-use Rattle.cpc_reading.specs.Exact.{Good}
-use Rattle.cpc_reading.proofs.Readers.{after_branch, many_on, links_end, links_stop, exact_after}
-use Rattle.cpc_parse_types.specs.Begins.{begins}
-use Rattle.cpc_parse_types.specs.TypeReaders.{is_comma}
-use Rattle.cpc_parse_types.specs.Declarators.{declarator_at}
-use Rattle.cpc_parse_types.specs.Views.{lexeme, Refuses}
-use Rattle.cpc_parse_types.specs.declared.refusal.Refusal.{Refusal}
-use Rattle.cpc_parse_types.specs.declared.refusal.Refusal.TheVariants as R
+use Rattle.cpc_parser_reading.specs.Reading.{Reading, Read, Fault, Deep, ◌>>=◌, expect, after}
+use Rattle.cpc_parser_reading.specs.Phrase.{After}
+use Rattle.cpc_parser_reading.specs.Chain.{links}
+use Rattle.cpc_parser_reading.specs.Operators.{tail_from}
+use Rattle.cpc_parser_reading.specs.Exact.{Good}
+use Rattle.cpc_parser_reading.proofs.Readers.{after_branch, many_on, links_end, links_stop, exact_after}
+use Rattle.cpc_parser_types.specs.Begins.{begins}
+use Rattle.cpc_parser_types.specs.TypeReaders.{is_comma}
+use Rattle.cpc_parser_types.specs.Declarators.{declarator_at}
+use Rattle.cpc_parser_types.specs.Views.{lexeme, Refuses}
+use Rattle.cpc_parser_types.specs.declared.refusal.Refusal.{Refusal}
+use Rattle.cpc_parser_types.specs.declared.refusal.Refusal.TheVariants as R
 use Rattle.cpc_parser.specs.ItemReaders.{is_semicolon, is_equal, start_at, global_of, global_at}
 use Rattle.cpc_parser.specs.ItemViews.{flat, onto, row_at, row_links, InRow, more_at, starting_at}
 use Rattle.cpc_parser.proofs.Marks.{commas}

@@ -9,19 +9,19 @@ use Rattle.cpc_tree.specs.Syntax.{Ty, TyStruct}
 use Rattle.cpc_tree.specs.Erase.{Names}
 use Rattle.cpc_tree.specs.declared.token.Token.{Token}
 use Rattle.cpc_tree.specs.StmtGrammar.{begin}
-use Rattle.cpc_parse_types.specs.Views.{placed, Gives}
-use Rattle.cpc_parse_types.specs.declared.refusal.Refusal.{Refusal}
+use Rattle.cpc_parser_types.specs.Views.{placed, Gives}
+use Rattle.cpc_parser_types.specs.declared.refusal.Refusal.{Refusal}
 use Rattle.cpc_tree.specs.Located.{Ident, LExpr, LVariable, LParameter, LItem, LFunctionItem, LStmt}
 use Rattle.cpc_tree.specs.ItemGrammar.{Head}
-use Rattle.cpc_reading.specs.Reading.{Reading, Read, Fault, Deep, ◌>>=◌, one, after, before, below, either}
-use Rattle.cpc_reading.specs.Lists.{many}
-use Rattle.cpc_parse_types.specs.TypeReaders.{Ending, ident_of, base_at, is_comma}
-use Rattle.cpc_parse_types.specs.TypeViews.{base_reader}
-use Rattle.cpc_parse_types.specs.Begins.{is_mark, begins}
-use Rattle.cpc_parse_statements.specs.StmtReaders.{block_at, block_of}
-use Rattle.cpc_parse_statements.proofs.Braced.{braced_is}
-use Rattle.cpc_parse_types.specs.Declarators.{stars_at}
-use Rattle.cpc_parse_statements.specs.CodeViews.{braced_at}
+use Rattle.cpc_parser_reading.specs.Reading.{Reading, Read, Fault, Deep, ◌>>=◌, one, after, before, below, either}
+use Rattle.cpc_parser_reading.specs.Lists.{many}
+use Rattle.cpc_parser_types.specs.TypeReaders.{Ending, ident_of, base_at, is_comma}
+use Rattle.cpc_parser_types.specs.TypeViews.{base_reader}
+use Rattle.cpc_parser_types.specs.Begins.{is_mark, begins}
+use Rattle.cpc_parser_statements.specs.StmtReaders.{block_at, block_of}
+use Rattle.cpc_parser_statements.proofs.Braced.{braced_is}
+use Rattle.cpc_parser_types.specs.Declarators.{stars_at}
+use Rattle.cpc_parser_statements.specs.CodeViews.{braced_at}
 use Rattle.cpc_parser.specs.ItemReaders.{head_of, head_at, Begins, behind_class, has_body, behind_at, function_of, second, moded_at, tagged_at, based_at, structure_at, plain_at, further_at, is_brace, is_semicolon, First, Seen, Function, seen, first_at, global_of, global_at, globals_of, globals_at}
 use Rattle.cpc_parser.specs.ItemViews.{flat, onto, seen_at, row_at, starting_at, signature_at}
 

@@ -12,14 +12,14 @@ use Rattle.cpc_tree.specs.Located.{Ident, LExpr, LInteger, LCharacter, LText, LU
 use Rattle.cpc_tree.specs.TypeGrammar.{types}
 use Rattle.cpc_tree.specs.StmtGrammar.{begin}
 use Rattle.cpc_tree.specs.ItemGrammar.{Head, all_named, defined}
-use Rattle.cpc_reading.specs.Reading.{Reader, Read, ◌>>=◌, below, nothing, one, before, after, bind, pair, mapped, made, headed, either, optional, one_of}
-use Rattle.cpc_reading.specs.Chain.{Linking, chain}
-use Rattle.cpc_reading.specs.Lists.{many, separated}
-use Rattle.cpc_reading.specs.Operators.{tail}
-use Rattle.cpc_parse_types.specs.Begins.{is_mark}
-use Rattle.cpc_parse_types.specs.TypeReaders.{Ending, first_word, ident_of, base_at, is_left, is_unbracket, is_comma, starts_base, list_at}
-use Rattle.cpc_parse_types.specs.Declarators.{stars_at, declarator_at, code_at, length_in}
-use Rattle.cpc_parse_statements.specs.StmtReaders.{block_at}
+use Rattle.cpc_parser_reading.specs.Reading.{Reader, Read, ◌>>=◌, below, nothing, one, before, after, bind, pair, mapped, made, headed, either, optional, one_of}
+use Rattle.cpc_parser_reading.specs.Chain.{Linking, chain}
+use Rattle.cpc_parser_reading.specs.Lists.{many, separated}
+use Rattle.cpc_parser_reading.specs.Operators.{tail}
+use Rattle.cpc_parser_types.specs.Begins.{is_mark}
+use Rattle.cpc_parser_types.specs.TypeReaders.{Ending, first_word, ident_of, base_at, is_left, is_unbracket, is_comma, starts_base, list_at}
+use Rattle.cpc_parser_types.specs.Declarators.{stars_at, declarator_at, code_at, length_in}
+use Rattle.cpc_parser_statements.specs.StmtReaders.{block_at}
 
 -- Single marks.
 abbrev pub is_semicolon : Lexeme → Bool

@@ -14,15 +14,15 @@ use Rattle.cpc_tree.specs.declared.program.Word as GWord
 use Rattle.cpc_tree.specs.declared.program.CType as GType
 use Rattle.cpc_tree.specs.declared.program.Parameter as GParameter
 use Rattle.cpc_tree.specs.ItemGrammar.{Head}
-use Rattle.cpc_parse_types.specs.TypeReaders.{is_left, is_comma, list_at, starts_base}
-use Rattle.cpc_parse_types.specs.Declarators.{declarator_at}
+use Rattle.cpc_parser_types.specs.TypeReaders.{is_left, is_comma, list_at, starts_base}
+use Rattle.cpc_parser_types.specs.Declarators.{declarator_at}
 use Rattle.cpc_tree.specs.Syntax.{Ty}
 use Rattle.cpc_parser.specs.declared.declaration.Seen as GSeen
 use Rattle.cpc_parser.specs.declared.declaration.Seen.TheVariants as V
-use Rattle.cpc_reading.specs.Reading.{Reader, Read, ◌>>=◌, after, before, mapped, optional}
-use Rattle.cpc_reading.specs.Chain.{Linking, links}
-use Rattle.cpc_reading.specs.Lists.{several, many, separated}
-use Rattle.cpc_reading.specs.Answers.{whole}
+use Rattle.cpc_parser_reading.specs.Reading.{Reader, Read, ◌>>=◌, after, before, mapped, optional}
+use Rattle.cpc_parser_reading.specs.Chain.{Linking, links}
+use Rattle.cpc_parser_reading.specs.Lists.{several, many, separated}
+use Rattle.cpc_parser_reading.specs.Answers.{whole}
 use Rattle.cpc_parser.specs.ItemReaders.{named_at, is_equal, is_semicolon, line_at, start_at, Seen, Variable, Function, seen, first_at, global_of, global_at, rows, item_at, starts_item, program_at}
 
 -- what is read, its nesting aside

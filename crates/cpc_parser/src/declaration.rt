@@ -2,8 +2,8 @@
 ghost use Rattle.std.specs.Prelude.{◌≡◌, ◌<◌, length, map, IfOk};
 ghost use Rattle.cpc_tree.specs.Erase.{Names};
 ghost use Rattle.cpc_tree.specs.Locate.{located_item};
-ghost use Rattle.cpc_parse_types.specs.TypeViews.{base_type};
-ghost use Rattle.cpc_parse_types.specs.Views.{placed, Gives};
+ghost use Rattle.cpc_parser_types.specs.TypeViews.{base_type};
+ghost use Rattle.cpc_parser_types.specs.Views.{placed, Gives};
 ghost use Rattle.cpc_parser.specs.ItemReaders.{globals_at, plain_at};
 ghost use Rattle.cpc_parser.specs.ItemViews.{flat, onto, variable_of, row_at, more_at};
 
@@ -11,7 +11,7 @@ use crate::first::first;
 use crate::function::{Head, behind};
 use crate::initial::start;
 use cpc_base::Place;
-use cpc_parse_types::{Base, Refusal, begins_mark, declarator, expect_mark};
+use cpc_parser_types::{Base, Refusal, begins_mark, declarator, expect_mark};
 use cpc_tree::program::{CType, Item, Mode, Word};
 use cpc_tree::token::{Punctuator, Token};
 use std::alloc::Global;

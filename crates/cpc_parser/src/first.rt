@@ -1,13 +1,13 @@
 //! What stands first behind the base type of a declaration (C11 6.7.6).
 ghost use Rattle.std.specs.Prelude.{◌≡◌, ◌<◌, length, IfOk};
 ghost use Rattle.cpc_tree.specs.Erase.{Names, type_of};
-ghost use Rattle.cpc_parse_types.specs.TypeViews.{base_type};
-ghost use Rattle.cpc_parse_types.specs.Views.{placed, Gives};
+ghost use Rattle.cpc_parser_types.specs.TypeViews.{base_type};
+ghost use Rattle.cpc_parser_types.specs.Views.{placed, Gives};
 ghost use Rattle.cpc_parser.specs.ItemViews.{flat, seen_view, seen_at, named_seen_at};
 
 use crate::declaration::Seen;
 use crate::function::{Head, signature};
-use cpc_parse_types::{Base, Refusal, array, begins_mark, declarator, name, stars};
+use cpc_parser_types::{Base, Refusal, array, begins_mark, declarator, name, stars};
 use cpc_tree::program::CType;
 use cpc_tree::token::{Punctuator, Token};
 use std::alloc::Global;

@@ -5,13 +5,13 @@ ghost use Rattle.cpc_tree.specs.Locate.{located_item, located_parameter};
 ghost use Rattle.cpc_tree.specs.declared.program.CType as GType;
 ghost use Rattle.cpc_tree.specs.declared.program.Word as GWord;
 ghost use Rattle.cpc_tree.specs.ItemGrammar.{all_named};
-ghost use Rattle.cpc_parse_types.specs.Views.{placed, Gives};
+ghost use Rattle.cpc_parser_types.specs.Views.{placed, Gives};
 ghost use Rattle.cpc_parser.specs.ItemReaders.{head_at, behind_at, has_body};
 ghost use Rattle.cpc_parser.specs.ItemViews.{flat, signature_at, head_view};
 
 use cpc_base::Place;
-use cpc_parse_statements::block;
-use cpc_parse_types::{
+use cpc_parser_statements::block;
+use cpc_parser_types::{
     Refusal, base_type, begins_mark, deep, expect_mark, fault, name, parameters, stars,
 };
 use cpc_tree::program::{CType, Function, Item, Mode, Parameter, Word};

@@ -3,12 +3,12 @@ ghost use Rattle.std.specs.Prelude.{◌≡◌, ◌<◌, ◌≤◌, length, IfOk}
 ghost use Rattle.std.specs.Option.{option_map};
 ghost use Rattle.cpc_tree.specs.Erase.{Names};
 ghost use Rattle.cpc_tree.specs.Locate.{located_expr};
-ghost use Rattle.cpc_reading.specs.Reading.{one};
-ghost use Rattle.cpc_parse_types.specs.Views.{placed, Gives};
+ghost use Rattle.cpc_parser_reading.specs.Reading.{one};
+ghost use Rattle.cpc_parser_types.specs.Views.{placed, Gives};
 ghost use Rattle.cpc_parser.specs.ItemReaders.{integer_in, literal_in, initial_at};
 ghost use Rattle.cpc_parser.specs.ItemViews.{flat, starting_at};
 
-use cpc_parse_types::{Refusal, begins_mark, deep, expect_mark, fault};
+use cpc_parser_types::{Refusal, begins_mark, deep, expect_mark, fault};
 use cpc_tree::program::{Expr, UnaryOp};
 use cpc_tree::token::{Punctuator, Token, TokenKind};
 use std::alloc::Global;

@@ -2,7 +2,7 @@
 ghost use Rattle.std.specs.Prelude.{◌≡◌, ◌<◌, length, map, IfOk};
 ghost use Rattle.cpc_tree.specs.Erase.{Names};
 ghost use Rattle.cpc_tree.specs.Locate.{located_item};
-ghost use Rattle.cpc_parse_types.specs.Views.{placed, Gives};
+ghost use Rattle.cpc_parser_types.specs.Views.{placed, Gives};
 ghost use Rattle.cpc_parser.specs.ItemReaders.{item_at, moded_at, tagged_at, based_at};
 ghost use Rattle.cpc_parser.specs.ItemViews.{onto, begins_item, mode_begun};
 
@@ -10,7 +10,7 @@ use crate::declaration::plain;
 use crate::function::{behind, head_of};
 use crate::structure::structure;
 use cpc_base::Place;
-use cpc_parse_types::{
+use cpc_parser_types::{
     Base, Refusal, base_type, begins_base, begins_mark, begins_word, fault, first_word, name,
 };
 use cpc_tree::program::{Item, Mode};

@@ -9,8 +9,5 @@ mod item;
 mod program;
 mod structure;
 
-pub use cpc_parse_types::ParseFault;
+pub use cpc_parser_types::ParseFault;
 pub use program::parse;
-
-#[cfg(test)]
-mod tests;

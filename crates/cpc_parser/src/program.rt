@@ -5,12 +5,12 @@ ghost use Rattle.cpc_tree.specs.Located.{LProgram};
 ghost use Rattle.cpc_tree.specs.Grammar.{nesting_limit, first_place, IsProgram, IsParseFault};
 ghost use Rattle.cpc_tree.specs.Tokens.{Placed};
 ghost use Rattle.cpc_tree.specs.Locate.{located, located_item};
-ghost use Rattle.cpc_parse_types.specs.Views.{placed, Gives};
+ghost use Rattle.cpc_parser_types.specs.Views.{placed, Gives};
 ghost use Rattle.cpc_parser.specs.ItemViews.{flat, program_whole, IfFault, IsRead};
 
 use crate::item::{begins_item, item};
 use cpc_base::{Dialect, Names, Place, Stop};
-use cpc_parse_types::{DEEP, ParseFault, Refusal, SYNTAX, fault};
+use cpc_parser_types::{DEEP, ParseFault, Refusal, SYNTAX, fault};
 use cpc_tree::program::{Item, Program};
 use cpc_tree::token::Token;
 use std::alloc::Global;

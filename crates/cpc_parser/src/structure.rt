@@ -2,12 +2,12 @@
 ghost use Rattle.std.specs.Prelude.{◌≡◌, ◌<◌, length, map, IfOk};
 ghost use Rattle.cpc_tree.specs.Erase.{Names};
 ghost use Rattle.cpc_tree.specs.Locate.{ident, located_field, located_item};
-ghost use Rattle.cpc_parse_types.specs.TypeViews.{base_type};
-ghost use Rattle.cpc_parse_types.specs.Views.{placed, Gives};
+ghost use Rattle.cpc_parser_types.specs.TypeViews.{base_type};
+ghost use Rattle.cpc_parser_types.specs.Views.{placed, Gives};
 ghost use Rattle.cpc_parser.specs.ItemReaders.{fields_at, line_at, structure_at};
 ghost use Rattle.cpc_parser.specs.ItemViews.{flat, onto, field_row_at};
 
-use cpc_parse_types::{
+use cpc_parser_types::{
     Base, Refusal, base_type, begins_base, begins_mark, declarator, expect_mark,
 };
 use cpc_tree::program::{Field, Item, Word};

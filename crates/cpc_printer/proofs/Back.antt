@@ -18,9 +18,9 @@ use Rattle.cpc_tree.specs.ItemPrint.{Printable, program_row, program_depth, lexe
 use Rattle.cpc_tree.specs.declared.program.Program as GProgram
 use Rattle.cpc_tree.proofs.Known.{AreBytes, row_spellable}
 use Rattle.cpc_tree.proofs.Places.{bare_program}
-use Rattle.cpc_printing.proofs.LeastPrograms.{prints_least}
-use Rattle.cpc_printing.proofs.FitPrograms.{read_spellable}
-use Rattle.cpc_printing.proofs.ProgramsRead.{prints_back}
+use Rattle.cpc_printer_laws.proofs.LeastPrograms.{prints_least}
+use Rattle.cpc_printer_laws.proofs.FitPrograms.{read_spellable}
+use Rattle.cpc_printer_laws.proofs.ProgramsRead.{prints_back}
 use Rattle.cpc_printer.specs.Style.{is_tight_for, IsPrint, ReadsBack}
 
 behind_both : (v w : Text) (p : Place) → place_behind p (v ++ w) ≡ place_behind (place_behind p v) w

@@ -7,14 +7,14 @@ ghost use Rattle.cpc_tree.specs.TypePrint.{type_row};
 ghost use Rattle.cpc_tree.specs.ExprPrint.{expr_row, args_row};
 ghost use Rattle.cpc_tree.specs.StmtPrint.{call_row};
 ghost use Rattle.cpc_tree.specs.declared.token.Punctuator.TheVariants as P;
-ghost use Rattle.cpc_layout.specs.Sheets.{row_of};
+ghost use Rattle.cpc_printer_layout.specs.Sheets.{row_of};
 ghost use Rattle.cpc_printer.specs.Ranks.{rank_of};
 ghost use Rattle.cpc_printer.specs.Expressions.{rank_at, infix_row, postfix_row};
 
 use crate::rank::{Rank, TOP_TIER, mark_of, tier_below, tier_of, unary_mark};
 use crate::types::type_name;
 use cpc_base::NoMemory;
-use cpc_layout::{Lexeme, Sheet};
+use cpc_printer_layout::{Lexeme, Sheet};
 use cpc_tree::program::{CType, Expr};
 use cpc_tree::token::{Keyword, Punctuator};
 use std::alloc::Global;

@@ -6,13 +6,13 @@ ghost use Rattle.cpc_tree.specs.TypePrint.{params_row};
 ghost use Rattle.cpc_tree.specs.ItemPrint.{mode_row, fields_row, head_row, body_row, item_row, program_row};
 ghost use Rattle.cpc_tree.specs.declared.token.Keyword.TheVariants as K;
 ghost use Rattle.cpc_tree.specs.declared.token.Punctuator.TheVariants as P;
-ghost use Rattle.cpc_layout.specs.Sheets.{row_of};
+ghost use Rattle.cpc_printer_layout.specs.Sheets.{row_of};
 ghost use Rattle.cpc_printer.specs.Items.{function_row, field_row};
 
 use crate::statements::{block, local};
 use crate::types::{base, parameters, stars, variable};
 use cpc_base::{Name, NoMemory};
-use cpc_layout::Sheet;
+use cpc_printer_layout::Sheet;
 use cpc_tree::program::{CType, Field, Function, Item, Mode, Parameter, Statement};
 use cpc_tree::token::{Keyword, Punctuator};
 use std::alloc::Global;

@@ -9,15 +9,15 @@ ghost use Rattle.cpc_tree.specs.ExprPrint.{expr_row};
 ghost use Rattle.cpc_tree.specs.StmtPrint.{stmt_row, block_row, simple_row, first_row, locals_row, step_row, maybe_row, local_row, section_row, assignment_mark, mark_row};
 ghost use Rattle.cpc_tree.specs.declared.token.Keyword.TheVariants as K;
 ghost use Rattle.cpc_tree.specs.declared.token.Punctuator.TheVariants as P;
-ghost use Rattle.cpc_layout.specs.Sheets.{row_of};
+ghost use Rattle.cpc_printer_layout.specs.Sheets.{row_of};
 ghost use Rattle.cpc_printer.specs.Statements.{nested_row, jump_row, place_row, further_row, for_row, parts_row};
 
 use crate::expressions::{bracketed_arguments, call, expression};
 use crate::rank::{Rank, assigning_mark};
 use crate::types::{base, variable};
 use cpc_base::{Name, NoMemory};
-use cpc_layout::Sheet;
 use cpc_num::Op;
+use cpc_printer_layout::Sheet;
 use cpc_tree::program::{CType, Expr, Statement};
 use cpc_tree::token::{Keyword, Punctuator};
 use std::alloc::Global;

@@ -10,7 +10,7 @@ ghost use Rattle.cpc_printer.specs.Style.{IsPrint, ReadsBack};
 use crate::items::items;
 use crate::nesting::fits;
 use cpc_base::NoMemory;
-use cpc_layout::{Sheet, text};
+use cpc_printer_layout::{Sheet, text};
 use cpc_tree::program::Program;
 use std::alloc::Global;
 

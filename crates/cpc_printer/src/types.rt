@@ -6,12 +6,12 @@ ghost use Rattle.cpc_tree.specs.Syntax.{TyPointer};
 ghost use Rattle.cpc_tree.specs.TypePrint.{name_row, kind_row, base_row, stars, length_kind, param_row, list_row, lone_name, params_row, declarator_row, type_row};
 ghost use Rattle.cpc_tree.specs.declared.token.Keyword.TheVariants as K;
 ghost use Rattle.cpc_tree.specs.declared.token.Punctuator.TheVariants as P;
-ghost use Rattle.cpc_layout.specs.Sheets.{lexeme_of, row_of};
+ghost use Rattle.cpc_printer_layout.specs.Sheets.{lexeme_of, row_of};
 ghost use Rattle.cpc_printer.specs.Types.{called_by, listed_types, before_row, behind_row, one_param_row};
 
 use cpc_base::{Name, NoMemory};
-use cpc_layout::{Lexeme, Sheet};
 use cpc_num::Kind;
+use cpc_printer_layout::{Lexeme, Sheet};
 use cpc_tree::program::{CType, Parameter};
 use cpc_tree::token::{Keyword, Punctuator};
 

@@ -26,9 +26,9 @@ use Rattle.cpc_agenda.specs.declared.agenda.Agenda.{Agenda}
 use Rattle.cpc_agenda.specs.Lists.{lists_of}
 use Rattle.cpc_run.specs.declared.items.Item.{Item}
 use Rattle.cpc_run.specs.declared.looped.Loop.{Loop}
-use Rattle.cpc_pointers.specs.Made.{IsMadeCode}
-use Rattle.cpc_pointers.specs.Laws.{done_with}
-use Rattle.cpc_pointers.proofs.Answered.{answered_alike}
+use Rattle.cpc_meaning_pointer_laws.specs.Made.{IsMadeCode}
+use Rattle.cpc_meaning_pointer_laws.specs.Laws.{done_with}
+use Rattle.cpc_meaning_pointer_laws.proofs.Answered.{answered_alike}
 use Rattle.cpc_run.specs.declared.outcome.Outcome.{Outcome}
 use Rattle.cpc_run.specs.declared.outcome.Outcome.TheVariants as O
 use Rattle.cpc_run.specs.Code.{store_in, stack_in}

@@ -9,7 +9,7 @@ use Rattle.cpc_tree.specs.declared.program.Program as GProgram
 use Rattle.cpc_store.specs.Codes.{map_store}
 use Rattle.cpc_store.specs.Seen.{result_with}
 use Rattle.cpc_store.specs.Store.{StoreOf}
-use Rattle.cpc_frames.specs.Frames.{frame_of}
+use Rattle.cpc_native_frames.specs.Frames.{frame_of}
 use Rattle.cpc_native.specs.Runs.{Runs as RunsOf}
 use Rattle.cpc_run.specs.declared.code.Code.{Code}
 use Rattle.cpc_base.specs.declared.stop.NoMemory.{NoMemory}
@@ -18,11 +18,11 @@ use Rattle.cpc_base.specs.declared.stop.Stop.TheVariants as W
 use Rattle.cpc_tree.specs.Points.{Point}
 use Rattle.cpc_meaning.specs.Answer.{Answer}
 use Rattle.cpc_meaning.specs.Plain as P
-use Rattle.cpc_values.specs.Meets.{Meets}
-use Rattle.cpc_values.specs.Shown.{store_of}
+use Rattle.cpc_eval_values.specs.Meets.{Meets}
+use Rattle.cpc_eval_values.specs.Shown.{store_of}
 use Rattle.cpc_native.specs.declared.machine.Stepped.{Stepped}
 use Rattle.cpc_native.specs.declared.machine.Stepped.TheVariants as X
-use Rattle.cpc_acts.specs.Stops.{MeetsOr}
+use Rattle.cpc_native_acts.specs.Stops.{MeetsOr}
 use Rattle.cpc_native.specs.Stacks.{went, done_of as native_done, TellsRunning, stack_at, stack_of}
 use Rattle.cpc_native.specs.Well.{Unchanged, EndsEmpty, IsSameBut}
 use Rattle.cpc_native.specs.declared.machine.Machine.{Machine}

@@ -16,9 +16,9 @@ use Rattle.cpc_tree.specs.Lists.{is_empty}
 use Rattle.cpc_tree.specs.Trace as T
 use Rattle.cpc_tree.specs.declared.program.Program as GProgram
 use Rattle.cpc_tree.proofs.Places.{bare_program}
-use Rattle.cpc_rules.specs.Apart.{Spells}
-use Rattle.cpc_rules.specs.Rules.{breaks}
-use Rattle.cpc_matching.specs.Systems.{NotStuck}
+use Rattle.cpc_check_rules.specs.Apart.{Spells}
+use Rattle.cpc_check_rules.specs.Rules.{breaks}
+use Rattle.cpc_meaning_matching.specs.Systems.{NotStuck}
 use Rattle.cpc_meaning.specs.Events.{CallMain, callbacks}
 use Rattle.cpc_meaning.specs.Machine.{IsStuck, try_step, unless_over}
 use Rattle.cpc_meaning.specs.Matching.{event_system}
@@ -33,7 +33,7 @@ use Rattle.cpc_run.specs.declared.outcome.Ended.TheVariants as E
 use Rattle.cpc_run.specs.declared.outcome.Limits.{Limits}
 use Rattle.cpc_run.specs.declared.outcome.Outcome.TheVariants as O
 use Rattle.cpc_run.specs.declared.outcome.RunReport.{RunReport}
-use Rattle.cpc_sound.specs.Promises.{AcceptedCallbacksNeverStuck}
+use Rattle.cpc_check_sound_laws.specs.Promises.{AcceptedCallbacksNeverStuck}
 use Rattle.cpc_meaning.specs.Agenda as A
 use Rattle.cpc_agenda.specs.declared.agenda.Agenda.{Agenda}
 use Rattle.cpc_agenda.specs.Lists.{lists_of}

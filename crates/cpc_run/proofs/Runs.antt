@@ -8,11 +8,11 @@ use Rattle.cpc_tree.specs.Erase.{Names}
 use Rattle.cpc_tree.specs.Syntax.{Program}
 use Rattle.cpc_tree.specs.Texts.{output}
 use Rattle.cpc_tree.specs.Trace as T
-use Rattle.cpc_matching.specs.Steps.{or_stay}
+use Rattle.cpc_meaning_matching.specs.Steps.{or_stay}
 use Rattle.cpc_meaning.specs.Events.{callbacks}
 use Rattle.cpc_meaning.specs.Machine.{ends, try_step, unless_over, step}
 use Rattle.cpc_meaning.specs.Runs.{live_cells}
-use Rattle.cpc_pointers.proofs.Runs.{runs_are_made}
+use Rattle.cpc_meaning_pointer_laws.proofs.Runs.{runs_are_made}
 use Rattle.cpc_run.specs.declared.looped.Loop.{Loop}
 use Rattle.cpc_run.specs.declared.made.Made.{Made}
 use Rattle.cpc_run.specs.declared.made.Made.TheVariants as M

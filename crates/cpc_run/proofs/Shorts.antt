@@ -16,8 +16,8 @@ use Rattle.cpc_meaning.specs.Machine.{settled, step_running, code_step, runs, tr
 use Rattle.cpc_meaning.specs.Plain.{Frame, make_frame, stack_of}
 use Rattle.cpc_meaning.specs.Runs.{live_cells, frames_registers}
 use Rattle.cpc_meaning.specs.Trees.{trees}
-use Rattle.cpc_cells.specs.Cells.{call_cells}
-use Rattle.cpc_cells.proofs.Steps.{taking_adds}
+use Rattle.cpc_meaning_cell_laws.specs.Cells.{call_cells}
+use Rattle.cpc_meaning_cell_laws.proofs.Steps.{taking_adds}
 use Rattle.cpc_run.specs.declared.looped.Loop.{Loop}
 use Rattle.cpc_run.specs.declared.outcome.Outcome.{Outcome}
 use Rattle.cpc_run.specs.declared.short.Short.{Short}

@@ -22,7 +22,7 @@ use Rattle.cpc_meaning.specs.Start.{before_bars}
 use Rattle.cpc_meaning.specs.Requests.{Request}
 use Rattle.cpc_meaning.specs.Trees.{trees}
 use Rattle.cpc_agenda.specs.Lists.{lists_of, due_of}
-use Rattle.cpc_values.specs.Shown.{value_of}
+use Rattle.cpc_eval_values.specs.Shown.{value_of}
 use Rattle.cpc_run.specs.declared.items.Item.{Item}
 use Rattle.cpc_run.specs.declared.looped.Loop.{Loop}
 use Rattle.cpc_run.specs.declared.outcome.Outcome.{Outcome}

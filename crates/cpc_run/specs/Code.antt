@@ -11,17 +11,17 @@ use Rattle.cpc_tree.specs.declared.program.Program as GProgram
 use Rattle.cpc_store.specs.Store.{Store}
 use Rattle.cpc_meaning.specs.Answer.{Answer}
 use Rattle.cpc_meaning.specs.Plain as P
-use Rattle.cpc_builtins.specs.Served.{is_served_program}
-use Rattle.cpc_values.specs.Meets.{Meets}
-use Rattle.cpc_values.specs.Shown.{value_of, store_of}
-use Rattle.cpc_index.specs.Indexed.{items_of}
+use Rattle.cpc_native_builtins.specs.Served.{is_served_program}
+use Rattle.cpc_eval_values.specs.Meets.{Meets}
+use Rattle.cpc_eval_values.specs.Shown.{value_of, store_of}
+use Rattle.cpc_eval_index.specs.Indexed.{items_of}
 use Rattle.cpc_eval.specs.Numbers.{ProgramNumbers}
 use Rattle.cpc_native.specs.declared.machine.Stepped.{Stepped}
 use Rattle.cpc_native.specs.declared.machine.Stepped.TheVariants as X
 use Rattle.cpc_native.specs.Runs.{Runs as RunsOf}
 use Rattle.cpc_native.specs.Stacks.{stack_of, request_of}
 use Rattle.cpc_native.specs.Well.{IsWell as IsWellMachine}
-use Rattle.cpc_numbers.specs.Laws.{IsSpelling}
+use Rattle.cpc_native_laws.specs.Laws.{IsSpelling}
 use Rattle.cpc_run.specs.declared.code.Code.{Code}
 
 -- the program whose code runs

@@ -15,8 +15,8 @@ use Rattle.cpc_meaning.specs.Machine.{State, ends, settled}
 use Rattle.cpc_meaning.specs.Plain.{running_function}
 use Rattle.cpc_meaning.specs.Runs.{live_cells}
 use Rattle.cpc_meaning.specs.Start.{before_bars, main_name}
-use Rattle.cpc_pointers.specs.Made.{IsMadeState}
-use Rattle.cpc_values.specs.Shown.{value_of}
+use Rattle.cpc_meaning_pointer_laws.specs.Made.{IsMadeState}
+use Rattle.cpc_eval_values.specs.Shown.{value_of}
 use Rattle.cpc_agenda.specs.declared.agenda.Agenda.{Agenda}
 use Rattle.cpc_agenda.specs.Lists.{lists_of}
 use Rattle.cpc_run.specs.declared.items.Item.{Item}

@@ -7,7 +7,7 @@ ghost use Rattle.cpc_store.specs.Seen.{seen, IsLawful};
 ghost use Rattle.cpc_store.specs.Store as S;
 ghost use Rattle.cpc_meaning.specs.Answer.{Gives};
 ghost use Rattle.cpc_meaning.specs.Eval.{assigned};
-ghost use Rattle.cpc_values.specs.Shown.{value_of};
+ghost use Rattle.cpc_eval_values.specs.Shown.{value_of};
 
 use cpc_base::Name;
 use cpc_num::{Kind, convert};

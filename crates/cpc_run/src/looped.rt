@@ -7,7 +7,7 @@ ghost use Rattle.cpc_store.specs.Seen.{seen, IsLawful};
 ghost use Rattle.cpc_meaning.specs.Events.{starts_callback, callbacks};
 ghost use Rattle.cpc_meaning.specs.Machine.{turns, runs, try_step, code_step, reply};
 ghost use Rattle.cpc_meaning.specs.Trees.{trees};
-ghost use Rattle.cpc_values.specs.Shown.{value_of, values_of};
+ghost use Rattle.cpc_eval_values.specs.Shown.{value_of, values_of};
 ghost use Rattle.cpc_agenda.specs.Lists.{lists_of};
 ghost use Rattle.cpc_run.specs.Code.{stack_in};
 ghost use Rattle.cpc_run.specs.Shorts.{Counts, IsBeyond};

@@ -11,7 +11,7 @@ use crate::items::Item;
 use crate::looped::Loop;
 use cpc_agenda::Agenda;
 use cpc_base::{Name, Names, NoMemory};
-use cpc_globals::globals;
+use cpc_run_globals::globals;
 use cpc_tree::program::{Item as Declared, Program};
 use std::alloc::Global;
 

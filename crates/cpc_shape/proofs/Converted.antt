@@ -3,7 +3,7 @@ use Rattle.std.proofs.Common.{◌≡◌, ℕ, ◌<◌, ◌^◌, true, false, Lis
 use Rattle.cpc_tree.specs.declared.program.Mode.{Mode}
 use Rattle.cpc_tree.specs.declared.program.Mode.TheVariants.{Native}
 use Rattle.cpc_tree.specs.Syntax.{Stmt, PrototypeItem, FunctionItem, Function, Program}
-use Rattle.cpc_rules.specs.Operators.{is_cps}
+use Rattle.cpc_check_rules.specs.Operators.{is_cps}
 use Rattle.cpc_convert.specs.First.{Line, Prints, Yields, Spawns, Routine, First, line_statement, statements, routine_item, routine_function, main_function, source}
 use Rattle.cpc_convert.specs.Converted.{respawned, piece_name, piece_function, spawner_function, function_item, prototype, made_from_all, target}
 use Rattle.cpc_convert.specs.Form.{Has, OnTop, Below}

@@ -2,8 +2,8 @@
 use Rattle.std.proofs.Common.{◌≡◌, true, false, List, [], ◌∷◌, map, refl, sym, ap, subst}
 use Rattle.cpc_tree.specs.Syntax.{FunctionItem, Function}
 use Rattle.cpc_tree.specs.Located.{LStmt, Block, Empty, Declare, Assign, Call, Detach, Spawn, If, While, DoWhile, For, Goto, Label, Break, Continue, Return, LStmts, NoLStmt, AndLStmt, MaybeLStmt, NoneLStmt, SomeLStmt, LFunction, LItem, LStruct, LGlobal, LPrototype, LFunctionItem, LProgram, bare_expr, bare_stmt, bare_stmts, bare_maybe, bare_item, bare_function, bare}
-use Rattle.cpc_rules.specs.Operators.{is_cps}
-use Rattle.cpc_rule_laws.specs.Native.{spawns_none, all_spawn_none, maybe_spawns_none, is_native_item, are_native}
+use Rattle.cpc_check_rules.specs.Operators.{is_cps}
+use Rattle.cpc_check_laws.specs.Native.{spawns_none, all_spawn_none, maybe_spawns_none, is_native_item, are_native}
 use Rattle.cpc_convert.specs.Form.{Has, OnTop, Below}
 use Rattle.cpc_convert.specs.Converted.{respawned, respawned_all, respawned_arm}
 use Rattle.cpc_convert.proofs.Apart.{both, not_true}

@@ -2,7 +2,7 @@
 use Rattle.std.specs.Prelude.{◌≡◌, true}
 use Rattle.cpc_tree.specs.Syntax.{Program}
 use Rattle.cpc_tree.specs.Located.{LProgram, bare}
-use Rattle.cpc_rule_laws.specs.Native.{are_native}
+use Rattle.cpc_check_laws.specs.Native.{are_native}
 use Rattle.cpc_convert.specs.Decided.{is_first}
 use Rattle.cpc_convert.specs.Programs.{converted}
 use Rattle.cpc_shape.specs.Shape.{Shape}

@@ -2,7 +2,7 @@
 use Rattle.std.specs.Prelude.{◌≡◌, true, false, List, [], ◌∷◌}
 use Rattle.cpc_tree.specs.declared.program.Mode.TheVariants.{Extern}
 use Rattle.cpc_tree.specs.Syntax.{Item, GlobalItem, PrototypeItem, FunctionItem, Function, Program}
-use Rattle.cpc_rules.specs.Operators.{is_cps}
+use Rattle.cpc_check_rules.specs.Operators.{is_cps}
 use Rattle.cpc_convert.specs.Form.{Has}
 use Rattle.cpc_convert.specs.Converted.{respawned, spawner_function}
 use Rattle.cpc_shape.specs.Control.{Node, IsOwner}

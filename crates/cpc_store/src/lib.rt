@@ -8,6 +8,3 @@ mod values;
 
 pub use store::Store;
 pub use values::{Block, Class, Scalar, Value};
-
-#[cfg(test)]
-mod tests;

@@ -12,18 +12,18 @@ use Rattle.cpc_printer.specs.Style.{IsPrint}
 use Rattle.cpc_printer.proofs.Back.{tree_back}
 use Rattle.cpc_meaning.specs.Runs.{SameRuns, Within}
 use Rattle.cpc_meaning.specs.Matching.{RunsNeverStuck}
-use Rattle.cpc_rule_laws.specs.Native.{are_native}
-use Rattle.cpc_rule_laws.proofs.Widened.{parses_same}
-use Rattle.cpc_rule_laws.proofs.NativeItems.{native_unbroken}
-use Rattle.cpc_rule_laws.proofs.PlacesItems.{unbroken_at_any_places}
+use Rattle.cpc_check_laws.specs.Native.{are_native}
+use Rattle.cpc_check_laws.proofs.Widened.{parses_same}
+use Rattle.cpc_check_laws.proofs.NativeItems.{native_unbroken}
+use Rattle.cpc_check_laws.proofs.PlacesItems.{unbroken_at_any_places}
 use Rattle.cpc_first_form.specs.Threads.{has_threads}
-use Rattle.cpc_builtins.specs.Served.{is_served_program}
+use Rattle.cpc_native_builtins.specs.Served.{is_served_program}
 use Rattle.cpc_shape.specs.Shape.{Shape}
 use Rattle.cpc_shape.proofs.Native.{native_shape}
-use Rattle.cpc_native_runs.specs.Plain.{is_plain}
-use Rattle.cpc_native_runs.proofs.Alike.{plain_runs_same, plain_runs_within}
-use Rattle.cpc_native_runs.proofs.Shaped.{native_text_is_plain}
-use Rattle.cpc_sound.proofs.Accepted.{accepted_threads_never_stuck}
+use Rattle.cpc_meaning_native_laws.specs.Plain.{is_plain}
+use Rattle.cpc_meaning_native_laws.proofs.Alike.{plain_runs_same, plain_runs_within}
+use Rattle.cpc_meaning_native_laws.proofs.Shaped.{native_text_is_plain}
+use Rattle.cpc_check_sound_laws.proofs.Accepted.{accepted_threads_never_stuck}
 use Rattle.cpc_check.specs.Accepted.{Accepts}
 use Rattle.cpc_built.specs.Built.{unbuilt}
 use Rattle.cpc_built.proofs.Forms as F

@@ -7,12 +7,12 @@ use Rattle.cpc_tree.specs.Tokens.{Placed}
 use Rattle.cpc_tree.specs.Cut.{IsCut, IsLexFault, Tokens, Stopped, text_start, place_behind}
 use Rattle.cpc_tree.specs.Located.{LItem, LProgram}
 use Rattle.cpc_tree.specs.Grammar.{IsProgram, Parses}
-use Rattle.cpc_reading.specs.Reading.{Reading, Read}
+use Rattle.cpc_parser_reading.specs.Reading.{Reading, Read}
 use Rattle.cpc_lexer.proofs.Rows.{one_answer}
 use Rattle.cpc_parser.proofs.Answer.{no_fault, program_read}
-use Rattle.cpc_rules.specs.Rule.{Broken, IsFirst}
-use Rattle.cpc_rules.specs.Rules.{breaks}
-use Rattle.cpc_rules.specs.declared.rule.Rule.{Rule}
+use Rattle.cpc_check_rules.specs.Rule.{Broken, IsFirst}
+use Rattle.cpc_check_rules.specs.Rules.{breaks}
+use Rattle.cpc_check_rules.specs.declared.rule.Rule.{Rule}
 use Rattle.cpc_check.specs.Accepted.{Accepts}
 use Rattle.cpc_translate.specs.declared.fault.TextFault.{TextFault}
 use Rattle.cpc_translate.specs.Refusals.{IsTextFault, uncut, unread, unruly}

@@ -10,7 +10,7 @@ use Rattle.cpc_tree.specs.Locate.{located}
 use Rattle.cpc_tree.proofs.Places.{bare_program}
 use Rattle.cpc_printer.specs.Style.{IsPrint}
 use Rattle.cpc_meaning.specs.Runs.{SameRuns, Within}
-use Rattle.cpc_builtins.specs.Served.{is_served_program}
+use Rattle.cpc_native_builtins.specs.Served.{is_served_program}
 use Rattle.cpc_convert.specs.First.{First, source}
 use Rattle.cpc_convert.specs.Accepted.{Accepted}
 use Rattle.cpc_convert.specs.Decided.{is_first, first_of}

@@ -7,7 +7,7 @@ use Rattle.cpc_tree.specs.declared.token.TokenKind.{TokenKind}
 use Rattle.cpc_tree.specs.declared.token.TokenKind.TheVariants as T
 use Rattle.cpc_tree.specs.Tokens.{Placed, Named, lexeme_of}
 use Rattle.cpc_lexer.specs.Table.{NameBelow, TokenBelow}
-use Rattle.cpc_parse_types.specs.Views.{placed}
+use Rattle.cpc_parser_types.specs.Views.{placed}
 use Rattle.cpc_base.specs.Bytes.{Text}
 use Rattle.cpc_base.specs.declared.stop.Dialect.{Dialect}
 use Rattle.cpc_base.specs.declared.stop.Stop.TheVariants.{Memory, Fault}
@@ -18,7 +18,7 @@ use Rattle.cpc_tree.specs.Cut.{IsCut, IsLexFault, text_start, place_behind}
 use Rattle.cpc_tree.specs.Grammar.{IsParseFault}
 use Rattle.cpc_lexer.specs.Faults.{IfFault}
 use Rattle.cpc_lexer.specs.declared.fault.LexFault.{LexFault}
-use Rattle.cpc_parse_types.specs.declared.refusal.ParseFault.{ParseFault}
+use Rattle.cpc_parser_types.specs.declared.refusal.ParseFault.{ParseFault}
 use Rattle.cpc_parser.specs.ItemViews as I
 use Rattle.cpc_translate.specs.declared.fault.TextFault.{TextFault}
 use Rattle.cpc_translate.specs.declared.fault.TextFault.TheVariants.{Lex, Parse}

@@ -1,7 +1,7 @@
 -- The event program of a program.
 use Rattle.std.specs.Prelude.{Bool, false, ◌||◌, [], ◌∷◌, if◌then◌else◌}
 use Rattle.cpc_tree.specs.Syntax.{Item, FunctionItem, Program}
-use Rattle.cpc_rules.specs.Operators.{is_cps}
+use Rattle.cpc_check_rules.specs.Operators.{is_cps}
 use Rattle.cpc_convert.specs.Programs.{converted}
 
 -- whether an item is a cps function

@@ -3,8 +3,8 @@ use Rattle.std.specs.Prelude.{ℕ, codes}
 use Rattle.cpc_base.specs.Bytes.{Text}
 use Rattle.cpc_base.specs.declared.stop.Place.{Place}
 use Rattle.cpc_lexer.specs.Faults as L
-use Rattle.cpc_parse_types.specs.Views as P
-use Rattle.cpc_rules.specs.Rule.{number, rule_text}
+use Rattle.cpc_parser_types.specs.Views as P
+use Rattle.cpc_check_rules.specs.Rule.{number, rule_text}
 use Rattle.cpc_translate.specs.declared.fault.TextFault.{TextFault}
 use Rattle.cpc_translate.specs.declared.fault.TextFault.TheVariants.{Lex, Parse, Check}
 

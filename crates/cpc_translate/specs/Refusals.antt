@@ -7,11 +7,11 @@ use Rattle.cpc_tree.specs.Tokens.{Placed}
 use Rattle.cpc_tree.specs.Cut.{IsCut, IsLexFault, text_start, place_behind}
 use Rattle.cpc_tree.specs.Located.{LProgram}
 use Rattle.cpc_tree.specs.Grammar.{Parses, IsParseFault}
-use Rattle.cpc_rules.specs.Rule.{IsFirst}
-use Rattle.cpc_rules.specs.Rules.{breaks}
-use Rattle.cpc_rules.specs.declared.first.Breach.{Breach}
+use Rattle.cpc_check_rules.specs.Rule.{IsFirst}
+use Rattle.cpc_check_rules.specs.Rules.{breaks}
+use Rattle.cpc_check_rules.specs.declared.first.Breach.{Breach}
 use Rattle.cpc_lexer.specs.declared.fault.LexFault.{LexFault}
-use Rattle.cpc_parse_types.specs.declared.refusal.ParseFault.{ParseFault}
+use Rattle.cpc_parser_types.specs.declared.refusal.ParseFault.{ParseFault}
 use Rattle.cpc_translate.specs.declared.fault.TextFault.{TextFault}
 use Rattle.cpc_translate.specs.declared.fault.TextFault.TheVariants.{Lex, Parse, Check}
 use Rattle.cpc_base.specs.declared.stop.Stop.{Stop}

@@ -2,9 +2,9 @@
 ghost use Rattle.std.specs.Prelude.{◌≡◌};
 
 use cpc_base::Place;
+use cpc_check_rules::Breach;
 use cpc_lexer::LexFault;
-use cpc_parse_types::ParseFault;
-use cpc_rules::Breach;
+use cpc_parser_types::ParseFault;
 
 /// Why a text is refused.
 #[derive(Clone, Copy, Debug, PartialEq, Eq)]

@@ -13,8 +13,8 @@ use crate::fault::TextFault;
 use cpc_base::{Dialect, Names, NoMemory, Stop};
 use cpc_check::{Checked, check};
 use cpc_lexer::{LexFault, end_of_text, tokens};
-use cpc_parse_types::ParseFault;
 use cpc_parser::parse;
+use cpc_parser_types::ParseFault;
 use cpc_tree::program::Program;
 use std::alloc::Global;
 

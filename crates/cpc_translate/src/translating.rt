@@ -9,7 +9,7 @@ ghost use Rattle.cpc_tree.specs.Located.{LProgram};
 ghost use Rattle.cpc_meaning.specs.Runs.{SameRuns, Within};
 ghost use Rattle.cpc_shape.specs.Shape.{Shape};
 ghost use Rattle.cpc_check.specs.Accepted.{Accepts};
-ghost use Rattle.cpc_builtins.specs.Served.{is_served_program};
+ghost use Rattle.cpc_native_builtins.specs.Served.{is_served_program};
 ghost use Rattle.cpc_built.specs.Built.{unbuilt};
 ghost use Rattle.cpc_translate.specs.Events.{event_of};
 ghost use Rattle.cpc_translate.specs.Refusals.{IsTextFault, refusal_of};

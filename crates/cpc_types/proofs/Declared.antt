@@ -5,7 +5,7 @@ use Rattle.std.proofs.lemmas.List.{length-map, map-append, take_more, take-appen
 use Rattle.std.proofs.lemmas.Option.{slice_get_within}
 use Rattle.std.proofs.Math.Seq.{take-append_seam}
 use Rattle.cpc_tree.specs.Erase.{Names, item_of}
-use Rattle.cpc_rules.specs.Apart.{AreApart}
+use Rattle.cpc_check_rules.specs.Apart.{AreApart}
 use Rattle.cpc_tree.specs.declared.program.Item.{Item}
 use Rattle.cpc_types.specs.Indexed.{IsIndex}
 use Rattle.cpc_types.specs.Counted.{name_of, tag_of, AreDeclared, declared_size}

@@ -1,13 +1,13 @@
 -- What the items in scope say of a name, by the last of them that declares it.
 use Rattle.std.proofs.Common.{◌≡◌, ℕ, ◌≤◌, true, false, List, ◌∷◌, length, map, take, reverse, Option, Some, None, option_map, refl, ap, sym, ◌∙◌}
 use Rattle.cpc_tree.specs.Erase.{Names, item_of, field_of}
-use Rattle.cpc_rules.specs.Apart.{AreApart}
+use Rattle.cpc_check_rules.specs.Apart.{AreApart}
 use Rattle.cpc_base.specs.declared.names.Name.{Name}
 use Rattle.cpc_tree.specs.Syntax.{TyStruct, Variable, Program}
 use Rattle.cpc_tree.specs.Typing as T
 use Rattle.cpc_tree.specs.declared.program.Item.{Item}
 use Rattle.cpc_tree.specs.declared.program.Item.TheVariants as I
-use Rattle.cpc_rules.specs.Scopes as R
+use Rattle.cpc_check_rules.specs.Scopes as R
 use Rattle.cpc_types.specs.Indexed.{is_name, last_below}
 use Rattle.cpc_types.specs.Counted.{capped, capped_size, count, name_of, tag_of, size_at, tag_size, AreSizes, AreDeclared, declared_size}
 use Rattle.cpc_types.specs.Declaring.{item_at, meaning, meaning_of, fields_seen, fields_of}

@@ -3,13 +3,13 @@ use Rattle.std.proofs.Common.{◌≡◌, ℕ, ◌+◌, ◌<◌, ◌==◌, true, 
 use Rattle.std.proofs.lemmas.List.{reverse-append, take_more}
 use Rattle.std.proofs.Math.Seq.{drop-cons}
 use Rattle.cpc_tree.specs.Erase.{Names, type_of}
-use Rattle.cpc_rules.specs.Apart.{AreApart}
+use Rattle.cpc_check_rules.specs.Apart.{AreApart}
 use Rattle.cpc_tree.specs.declared.program.Parameter.{Parameter}
 use Rattle.cpc_base.specs.Bytes.{Text}
 use Rattle.cpc_base.specs.declared.names.Name.{Name}
 use Rattle.cpc_tree.specs.Syntax.{Variable, Program}
 use Rattle.cpc_tree.specs.Typing.{ALocal}
-use Rattle.cpc_rules.specs.Scopes.{Scope, Block, meant, is_here, with_name, with_block}
+use Rattle.cpc_check_rules.specs.Scopes.{Scope, Block, meant, is_here, with_name, with_block}
 use Rattle.cpc_types.specs.declared.blocks.Local.{Local}
 use Rattle.cpc_types.specs.declared.blocks.Entry.{Entry}
 use Rattle.cpc_types.specs.declared.blocks.Entry.TheVariants as E

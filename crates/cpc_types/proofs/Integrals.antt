@@ -12,8 +12,8 @@ use Rattle.cpc_tree.specs.Typing.{◌>>=◌}
 use Rattle.cpc_tree.specs.declared.program.Field.{Field}
 use Rattle.cpc_tree.specs.declared.program.Item.{Item}
 use Rattle.cpc_tree.specs.declared.program.Item.TheVariants as I
-use Rattle.cpc_rules.specs.Apart.{AreApart}
-use Rattle.cpc_rules.specs.Calls as C
+use Rattle.cpc_check_rules.specs.Apart.{AreApart}
+use Rattle.cpc_check_rules.specs.Calls as C
 use Rattle.cpc_types.specs.Indexed.{is_name, last_below}
 use Rattle.cpc_types.specs.Counted.{capped, capped_size, tag_of, AreDeclared}
 use Rattle.cpc_types.specs.Integral.{have_integers, flag_at, tag_integral, AreIntegral, declared_integral, AreTold}

@@ -1,7 +1,7 @@
 -- What a scope says by what its items declare.
 use Rattle.std.proofs.Common.{◌≡◌, List, Option, reverse, ap, sym, subst, ◌∙◌}
 use Rattle.cpc_tree.specs.Erase.{Names}
-use Rattle.cpc_rules.specs.Apart.{AreApart}
+use Rattle.cpc_check_rules.specs.Apart.{AreApart}
 use Rattle.cpc_tree.specs.Syntax.{Program}
 use Rattle.cpc_base.specs.declared.names.Name.{Name}
 use Rattle.cpc_tree.specs.Typing as T

@@ -6,7 +6,7 @@ use Rattle.cpc_tree.specs.Syntax.{Ty, Variable, Program}
 use Rattle.cpc_tree.specs.Typing.{Meant, ALocal}
 use Rattle.cpc_tree.specs.declared.program.Parameter.{Parameter}
 use Rattle.cpc_tree.specs.declared.program.Word.{Word}
-use Rattle.cpc_rules.specs.Scopes.{Block, Scope, meant, with_name, with_block}
+use Rattle.cpc_check_rules.specs.Scopes.{Block, Scope, meant, with_name, with_block}
 use Rattle.cpc_types.specs.declared.blocks.Local.{Local}
 use Rattle.cpc_types.specs.declared.blocks.Entry.{Entry}
 use Rattle.cpc_types.specs.declared.blocks.Entry.TheVariants as E

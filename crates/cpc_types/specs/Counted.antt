@@ -1,14 +1,14 @@
 -- What items declare, and how many cells types have.
 use Rattle.std.specs.Prelude.{◌≡◌, ℕ, nat_le, if◌then◌else◌, List, map, take, reverse, length, get_or, slice_get, Option, Some, None, option_map}
 use Rattle.cpc_tree.specs.Erase.{Names, item_of, field_of}
-use Rattle.cpc_rules.specs.Apart.{AreApart}
+use Rattle.cpc_check_rules.specs.Apart.{AreApart}
 use Rattle.cpc_base.specs.declared.names.Name.{Name}
 use Rattle.cpc_tree.specs.Syntax.{Ty, TyStruct, Variable, Program}
 use Rattle.cpc_tree.specs.Typing as T
 use Rattle.cpc_tree.specs.Typing.{◌>>=◌}
 use Rattle.cpc_tree.specs.declared.program.Item.{Item}
 use Rattle.cpc_tree.specs.declared.program.Item.TheVariants as I
-use Rattle.cpc_rules.specs.Scopes.{cell_limit}
+use Rattle.cpc_check_rules.specs.Scopes.{cell_limit}
 use Rattle.cpc_types.specs.Indexed.{IsIndex, last_below}
 use Rattle.cpc_types.specs.declared.items.Items.{Items}
 

@@ -5,7 +5,7 @@ use Rattle.cpc_num.specs.declared.kinds.Op.{Op}
 use Rattle.cpc_tree.specs.declared.program.UnaryOp.{UnaryOp}
 use Rattle.cpc_tree.specs.declared.program.UnaryOp.TheVariants.{AddressOf}
 use Rattle.cpc_tree.specs.Syntax.{Ty, Expr, ENamed, EUnary, EBinary, EAnd, EOr, EChoose, ECast, EIndex, EMember, EArrow, Program}
-use Rattle.cpc_rules.specs.Scopes as R
+use Rattle.cpc_check_rules.specs.Scopes as R
 use Rattle.cpc_tree.specs.Typing as T
 use Rattle.cpc_tree.specs.Typing.{Typed, AValue, APlace, used, ◌>>=◌}
 

@@ -6,8 +6,8 @@ use Rattle.cpc_tree.specs.Syntax.{TyStruct, Variable, Program}
 use Rattle.cpc_tree.specs.Typing as T
 use Rattle.cpc_tree.specs.declared.program.Item.{Item}
 use Rattle.cpc_tree.specs.declared.program.Item.TheVariants as I
-use Rattle.cpc_rules.specs.Apart.{AreApart}
-use Rattle.cpc_rules.specs.Calls as C
+use Rattle.cpc_check_rules.specs.Apart.{AreApart}
+use Rattle.cpc_check_rules.specs.Calls as C
 use Rattle.cpc_types.specs.Indexed.{last_below}
 use Rattle.cpc_types.specs.declared.items.Items.{Items}
 

@@ -3,7 +3,7 @@ use Rattle.std.specs.Prelude.{ℕ, List, map, take}
 use Rattle.cpc_tree.specs.Erase.{Names, item_of}
 use Rattle.cpc_tree.specs.Syntax.{Program}
 use Rattle.cpc_tree.specs.declared.program.Item.{Item}
-use Rattle.cpc_rules.specs.Scopes as R
+use Rattle.cpc_check_rules.specs.Scopes as R
 use Rattle.cpc_types.specs.Blocks.{inside}
 use Rattle.cpc_types.specs.declared.scope.Scope.{Scope}
 

@@ -1,8 +1,8 @@
 //! What may be assigned to what.
 ghost use Rattle.std.specs.Prelude.{◌≡◌, IfOk};
 ghost use Rattle.cpc_tree.specs.Erase.{Names, type_of, expr_of};
-ghost use Rattle.cpc_rules.specs.Apart.{AreApart};
-ghost use Rattle.cpc_rules.specs.Scopes as R;
+ghost use Rattle.cpc_check_rules.specs.Apart.{AreApart};
+ghost use Rattle.cpc_check_rules.specs.Scopes as R;
 ghost use Rattle.cpc_types.specs.Scoped.{scope_of};
 
 use crate::expressions::typing;

@@ -1,9 +1,9 @@
 //! The blocks round a place, and the names declared in them.
 ghost use Rattle.std.specs.Prelude.{◌≡◌, [], OnOk, OnErr, option_map, reverse};
 ghost use Rattle.cpc_tree.specs.Erase.{Names, type_of};
-ghost use Rattle.cpc_rules.specs.Apart.{AreApart};
+ghost use Rattle.cpc_check_rules.specs.Apart.{AreApart};
 ghost use Rattle.cpc_tree.specs.Syntax.{Program};
-ghost use Rattle.cpc_rules.specs.Scopes as R;
+ghost use Rattle.cpc_check_rules.specs.Scopes as R;
 ghost use Rattle.cpc_types.specs.Blocks.{inside, without_block, with_parameter, with_parameters, local_or, outer_meant};
 
 use crate::copies::copy_of;

@@ -1,8 +1,8 @@
 //! The types of expressions.
 ghost use Rattle.std.specs.Prelude.{◌≡◌, IfOk};
 ghost use Rattle.cpc_tree.specs.Erase.{Names, expr_of};
-ghost use Rattle.cpc_rules.specs.Apart.{AreApart};
-ghost use Rattle.cpc_rules.specs.Scopes as R;
+ghost use Rattle.cpc_check_rules.specs.Apart.{AreApart};
+ghost use Rattle.cpc_check_rules.specs.Scopes as R;
 ghost use Rattle.cpc_types.specs.Found.{found_of};
 ghost use Rattle.cpc_types.specs.Forms.{narrow_typed, wide_typed, logical_typed};
 ghost use Rattle.cpc_types.specs.Scoped.{scope_of};

@@ -1,7 +1,7 @@
 //! The types of fields.
 ghost use Rattle.std.specs.Prelude.{◌≡◌, IfOk, map};
 ghost use Rattle.cpc_tree.specs.Erase.{Names, field_of};
-ghost use Rattle.cpc_rules.specs.Apart.{AreApart};
+ghost use Rattle.cpc_check_rules.specs.Apart.{AreApart};
 ghost use Rattle.cpc_types.specs.Listed.{optional_of};
 ghost use Rattle.cpc_tree.specs.Typing as T;
 ghost use Rattle.cpc_types.specs.Found.{found_of, field_place};

@@ -1,10 +1,10 @@
 //! The types of the forms of expression by those of their parts.
 ghost use Rattle.std.specs.Prelude.{◌≡◌, IfOk};
 ghost use Rattle.cpc_tree.specs.Erase.{Names, type_of, expr_of};
-ghost use Rattle.cpc_rules.specs.Apart.{AreApart};
+ghost use Rattle.cpc_check_rules.specs.Apart.{AreApart};
 ghost use Rattle.cpc_num.specs.declared.kinds.Kind.TheVariants.{ULong};
 ghost use Rattle.cpc_tree.specs.Typing as T;
-ghost use Rattle.cpc_rules.specs.Scopes as R;
+ghost use Rattle.cpc_check_rules.specs.Scopes as R;
 ghost use Rattle.cpc_tree.specs.Syntax.{ESizeOf};
 ghost use Rattle.cpc_types.specs.Found.{found_of, can_move};
 ghost use Rattle.cpc_types.specs.Forms.{is_named, unary_of, binary_of, choice_of, cast_of, index_of, member_of, arrow_of};

@@ -1,9 +1,9 @@
 //! The types of names.
 ghost use Rattle.std.specs.Prelude.{◌≡◌, IfOk, map};
 ghost use Rattle.cpc_tree.specs.Erase.{Names, type_of, parameter_of};
-ghost use Rattle.cpc_rules.specs.Apart.{AreApart};
+ghost use Rattle.cpc_check_rules.specs.Apart.{AreApart};
 ghost use Rattle.cpc_tree.specs.Typing as T;
-ghost use Rattle.cpc_rules.specs.Scopes as R;
+ghost use Rattle.cpc_check_rules.specs.Scopes as R;
 ghost use Rattle.cpc_types.specs.Found.{found_of};
 ghost use Rattle.cpc_types.specs.Meanings.{meant_of};
 ghost use Rattle.cpc_types.specs.Scoped.{scope_of};

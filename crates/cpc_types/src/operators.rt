@@ -1,7 +1,7 @@
 //! The types of operators, and of what they work on.
 ghost use Rattle.std.specs.Prelude.{◌≡◌, IfOk, is_some, if◌then◌else◌, ◌&&◌, ◌||◌, option_map};
 ghost use Rattle.cpc_tree.specs.Erase.{Names, type_of, expr_of};
-ghost use Rattle.cpc_rules.specs.Apart.{AreApart};
+ghost use Rattle.cpc_check_rules.specs.Apart.{AreApart};
 ghost use Rattle.cpc_types.specs.Listed.{optional_of};
 ghost use Rattle.cpc_tree.specs.Typing.{AValue, APlace};
 ghost use Rattle.cpc_tree.specs.Typing as T;

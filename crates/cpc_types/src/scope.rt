@@ -2,7 +2,7 @@
 ghost use Rattle.std.specs.Prelude.{◌≡◌};
 ghost use Rattle.std.proofs.Props.{props};
 ghost use Rattle.cpc_tree.specs.Erase.{Names, type_of, field_of, item_of};
-ghost use Rattle.cpc_rules.specs.Apart.{AreApart};
+ghost use Rattle.cpc_check_rules.specs.Apart.{AreApart};
 ghost use Rattle.cpc_types.specs.Counted.{AreDeclared};
 ghost use Rattle.cpc_types.specs.Integral.{AreTold};
 
@@ -27,7 +27,7 @@ pub struct Scope<'p> {
 impl<'p> Scope<'p> {
     ghost use Rattle.std.specs.Prelude.{◌≡◌, ◌≤◌, IfOk, OnOk, OnErr, [], length, map, option_map};
     ghost use Rattle.cpc_tree.specs.Typing as T;
-    ghost use Rattle.cpc_rules.specs.Scopes as R;
+    ghost use Rattle.cpc_check_rules.specs.Scopes as R;
     ghost use Rattle.cpc_types.specs.Blocks.{without_block, with_parameters};
     ghost use Rattle.cpc_types.specs.Indexed.{IsIndex};
     ghost use Rattle.cpc_types.specs.Counted.{AreSizes};

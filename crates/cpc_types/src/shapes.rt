@@ -1,7 +1,7 @@
 //! The parts of types, and whether two types are one.
 ghost use Rattle.std.specs.Prelude.{◌≡◌, ◌==◌, option_map};
 ghost use Rattle.cpc_tree.specs.Erase.{Names, type_of};
-ghost use Rattle.cpc_rules.specs.Apart.{AreApart};
+ghost use Rattle.cpc_check_rules.specs.Apart.{AreApart};
 ghost use Rattle.cpc_types.specs.Listed.{listed_of};
 ghost use Rattle.cpc_num.specs.Number as N;
 ghost use Rattle.cpc_tree.specs.Typing as T;

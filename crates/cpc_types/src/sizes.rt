@@ -1,11 +1,11 @@
 //! How many cells types have.
 ghost use Rattle.std.specs.Prelude.{◌≡◌, ℕ, ◌+◌, ◌*◌, ◌≤◌, map, option_map, is_some};
 ghost use Rattle.cpc_tree.specs.Erase.{Names, type_of, field_of};
-ghost use Rattle.cpc_rules.specs.Apart.{AreApart};
+ghost use Rattle.cpc_check_rules.specs.Apart.{AreApart};
 ghost use Rattle.cpc_tree.specs.Syntax.{Program};
 ghost use Rattle.cpc_tree.specs.Typing as T;
-ghost use Rattle.cpc_rules.specs.Scopes as R;
-ghost use Rattle.cpc_rules.specs.ItemRules as IR;
+ghost use Rattle.cpc_check_rules.specs.Scopes as R;
+ghost use Rattle.cpc_check_rules.specs.ItemRules as IR;
 ghost use Rattle.cpc_types.specs.Indexed.{IsIndex};
 ghost use Rattle.cpc_types.specs.Counted.{capped, capped_size, fields_count, AreSizes};
 ghost use Rattle.cpc_types.specs.Scoped.{scope_of};

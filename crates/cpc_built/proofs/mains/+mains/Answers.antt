@@ -2,7 +2,7 @@ use Rattle.std.proofs.Common.{◌+◌, ap, arith}
 use Rattle.std.proofs.lemmas.List.{take_rest}
 use Rattle.cpc_tree.specs.Erase.{in_table}
 use Rattle.cpc_tree.specs.Locate.{located_list}
-use Rattle.cpc_rules.specs.FunctionRules.{statements_in}
+use Rattle.cpc_check_rules.specs.FunctionRules.{statements_in}
 use Rattle.cpc_built.specs.Parts.{texts}
 use Rattle.cpc_built.proofs.Rows.{counted_row, counted_rest, counted_block, block_is}
 use Rattle.cpc_built.proofs.mains.+mains.Goals as goal

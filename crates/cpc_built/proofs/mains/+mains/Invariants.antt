@@ -1,7 +1,7 @@
 use Rattle.std.proofs.Common.{◌≡◌, ◌+◌, ◌*◌, drop}
 use Rattle.cpc_tree.specs.Erase.{in_table}
 use Rattle.cpc_tree.specs.Locate.{located_stmt, located_list}
-use Rattle.cpc_rules.specs.FunctionRules.{statements, statements_in}
+use Rattle.cpc_check_rules.specs.FunctionRules.{statements, statements_in}
 use Rattle.cpc_first_form.specs.Threads.{unbuilt_stmts}
 use Rattle.cpc_built.specs.Parts.{texts}
 use Rattle.cpc_built.proofs.mains.+mains.Given as goal

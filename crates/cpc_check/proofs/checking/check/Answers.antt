@@ -1,10 +1,10 @@
 use Rattle.std.proofs.Common.{◌≡◌, ap, sym, subst, ◌∙◌}
 use Rattle.cpc_tree.specs.Locate.{located}
-use Rattle.cpc_rules.specs.Rule.{IsFirst}
-use Rattle.cpc_rules.specs.Rules.{breaks}
-use Rattle.cpc_rules.specs.Noted.{first_of, pair_of}
+use Rattle.cpc_check_rules.specs.Rule.{IsFirst}
+use Rattle.cpc_check_rules.specs.Rules.{breaks}
+use Rattle.cpc_check_rules.specs.Noted.{first_of, pair_of}
 use Rattle.std.specs.Prelude.{option_map}
-use Rattle.cpc_rules.proofs.Firsts.{is_first, is_none}
+use Rattle.cpc_check_rules.proofs.Firsts.{is_first, is_none}
 use Rattle.cpc_check.proofs.Whole.{noted_whole, breach_is}
 use Rattle.cpc_check.proofs.checking.check.Goals as goal
 

@@ -1,8 +1,8 @@
 use Rattle.std.proofs.Common.{[], ap, subst, ◌∙◌, map}
 use Rattle.cpc_tree.specs.Erase.{item_of}
 use Rattle.cpc_tree.specs.Locate.{located_item}
-use Rattle.cpc_rules.specs.ItemRules as R
-use Rattle.cpc_rules.specs.Noted.{noted, first_of}
+use Rattle.cpc_check_rules.specs.ItemRules as R
+use Rattle.cpc_check_rules.specs.Noted.{noted, first_of}
 use Rattle.cpc_check_items.specs.Parts.{AreBodies}
 use Rattle.cpc_check.proofs.Parts.{noted_program}
 use Rattle.cpc_check.proofs.checking.first_broken.Goals as goal

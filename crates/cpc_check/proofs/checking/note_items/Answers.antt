@@ -3,8 +3,8 @@ use Rattle.std.specs.Prelude.{slice_get}
 use Rattle.std.proofs.lemmas.Option.{slice_get_read}
 use Rattle.cpc_tree.specs.Erase.{item_of}
 use Rattle.cpc_tree.specs.Locate.{located_item}
-use Rattle.cpc_rules.specs.Noted.{noted, first_of}
-use Rattle.cpc_rules.specs.ItemRules as R
+use Rattle.cpc_check_rules.specs.Noted.{noted, first_of}
+use Rattle.cpc_check_rules.specs.ItemRules as R
 use Rattle.cpc_types.specs.Scoped.{all_items, first_items}
 use Rattle.cpc_check_items.specs.Pasts.{AreEarlier}
 use Rattle.cpc_check.proofs.Parts.{next_items, noted_left, none_left}

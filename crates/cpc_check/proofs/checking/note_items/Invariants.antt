@@ -1,7 +1,7 @@
 use Rattle.std.proofs.Common.{◌≡◌, map}
 use Rattle.cpc_tree.specs.Erase.{Names, item_of}
-use Rattle.cpc_rules.specs.Apart.{AreApart, Spells}
-use Rattle.cpc_rules.specs.Noted.{noted, first_of}
+use Rattle.cpc_check_rules.specs.Apart.{AreApart, Spells}
+use Rattle.cpc_check_rules.specs.Noted.{noted, first_of}
 use Rattle.cpc_types.specs.Scoped.{all_items, first_items}
 use Rattle.cpc_check_items.specs.Pasts.{AreEarlier}
 use Rattle.cpc_check_items.specs.Parts.{AreBodies}

@@ -1,7 +1,7 @@
 use Rattle.std.proofs.Common.{◌≡◌, ap, sym, subst}
 use Rattle.cpc_tree.specs.Locate.{located_function}
-use Rattle.cpc_rules.specs.ItemRules as R
-use Rattle.cpc_rules.specs.Noted.{noted, first_of}
+use Rattle.cpc_check_rules.specs.ItemRules as R
+use Rattle.cpc_check_rules.specs.Noted.{noted, first_of}
 use Rattle.cpc_types.specs.Scoped.{all_items, first_items, scope_of, items_of}
 use Rattle.cpc_types.proofs.Scopes.{items_are}
 use Rattle.cpc_check_items.specs.Pasts.{AreEarlier}

@@ -2,8 +2,8 @@ use Rattle.std.proofs.Common.{◌≡◌, ap, sym, subst, map, ◌∙◌}
 use Rattle.cpc_tree.specs.Locate.{ident, located_field, located_expr}
 use Rattle.cpc_tree.specs.Erase.{type_of}
 use Rattle.std.specs.Prelude.{option_map}
-use Rattle.cpc_rules.specs.ItemRules as R
-use Rattle.cpc_rules.specs.Noted.{noted, first_of}
+use Rattle.cpc_check_rules.specs.ItemRules as R
+use Rattle.cpc_check_rules.specs.Noted.{noted, first_of}
 use Rattle.cpc_types.specs.Scoped.{all_items, first_items, scope_of}
 use Rattle.cpc_check_items.specs.Pasts.{AreEarlier}
 use Rattle.cpc_check_items.specs.Parts.{global_parts}

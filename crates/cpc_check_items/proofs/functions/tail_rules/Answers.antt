@@ -1,7 +1,7 @@
 use Rattle.std.proofs.Common.{◌++◌, map, sym, ap, ◌∙◌}
 use Rattle.cpc_tree.specs.Locate.{ident, located_function, located_parameter}
-use Rattle.cpc_rules.specs.Noted.{noted, first_of}
-use Rattle.cpc_rules.specs.FunctionRules as F
+use Rattle.cpc_check_rules.specs.Noted.{noted, first_of}
+use Rattle.cpc_check_rules.specs.FunctionRules as F
 use Rattle.cpc_check_items.proofs.Notes.{in_turn, reserved_both}
 use Rattle.cpc_check_items.proofs.functions.tail_rules.Goals as goal
 

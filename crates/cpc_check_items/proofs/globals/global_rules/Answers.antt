@@ -1,12 +1,12 @@
 use Rattle.std.proofs.Common.{[], ◌∷◌, ◌++◌, not, is_some, sym, ap, ◌∙◌}
 use Rattle.cpc_tree.specs.Erase.{type_of}
 use Rattle.cpc_tree.specs.Locate.{ident}
-use Rattle.cpc_rules.specs.declared.rule.Rule.TheVariants.{Twice, Incomplete}
-use Rattle.cpc_rules.specs.Rule.{at_if}
-use Rattle.cpc_rules.specs.Scopes.{is_sized}
-use Rattle.cpc_rules.specs.Noted.{noted, first_of}
-use Rattle.cpc_rules.specs.FunctionRules.{reserved_breaks}
-use Rattle.cpc_rules.specs.ItemRules as R
+use Rattle.cpc_check_rules.specs.declared.rule.Rule.TheVariants.{Twice, Incomplete}
+use Rattle.cpc_check_rules.specs.Rule.{at_if}
+use Rattle.cpc_check_rules.specs.Scopes.{is_sized}
+use Rattle.cpc_check_rules.specs.Noted.{noted, first_of}
+use Rattle.cpc_check_rules.specs.FunctionRules.{reserved_breaks}
+use Rattle.cpc_check_rules.specs.ItemRules as R
 use Rattle.cpc_types.specs.Scoped.{scope_of}
 use Rattle.cpc_check_items.proofs.Notes.{in_turn}
 use Rattle.cpc_check_items.proofs.globals.global_rules.Goals as goal

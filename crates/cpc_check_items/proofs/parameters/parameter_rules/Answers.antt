@@ -1,8 +1,8 @@
 use Rattle.std.proofs.Common.{[], map, ap, ◌∙◌}
 use Rattle.cpc_tree.specs.Locate.{ident, located_parameter}
-use Rattle.cpc_rules.specs.declared.rule.Rule.TheVariants.{Twice}
-use Rattle.cpc_rules.specs.Noted.{noted, first_of}
-use Rattle.cpc_rules.specs.FunctionRules.{repeated, reserved_breaks, parameter_names}
+use Rattle.cpc_check_rules.specs.declared.rule.Rule.TheVariants.{Twice}
+use Rattle.cpc_check_rules.specs.Noted.{noted, first_of}
+use Rattle.cpc_check_rules.specs.FunctionRules.{repeated, reserved_breaks, parameter_names}
 use Rattle.cpc_check_items.proofs.Notes.{in_turn}
 use Rattle.cpc_check_items.proofs.parameters.parameter_rules.Goals as goal
 

@@ -1,7 +1,7 @@
 use Rattle.std.proofs.Common.{List, ◌∷◌, [], ◌+◌, drop, map, arith}
 use Rattle.cpc_tree.specs.declared.program.Parameter.{Parameter}
 use Rattle.cpc_tree.specs.Locate.{located_parameter}
-use Rattle.cpc_rules.specs.ItemRules as R
+use Rattle.cpc_check_rules.specs.ItemRules as R
 use Rattle.cpc_types.specs.Scoped.{scope_of}
 use Rattle.cpc_check_items.proofs.Notes.{row_step, sized_first}
 use Rattle.cpc_check_items.proofs.parameters.size_rules.Goals as goal

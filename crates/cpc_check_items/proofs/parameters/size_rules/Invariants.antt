@@ -1,9 +1,9 @@
 use Rattle.std.proofs.Common.{◌≡◌, drop, map}
 use Rattle.cpc_tree.specs.Erase.{Names}
 use Rattle.cpc_tree.specs.Locate.{located_parameter}
-use Rattle.cpc_rules.specs.Apart.{AreApart}
-use Rattle.cpc_rules.specs.Noted.{noted, first_of}
-use Rattle.cpc_rules.specs.ItemRules as R
+use Rattle.cpc_check_rules.specs.Apart.{AreApart}
+use Rattle.cpc_check_rules.specs.Noted.{noted, first_of}
+use Rattle.cpc_check_rules.specs.ItemRules as R
 use Rattle.cpc_types.specs.Scoped.{scope_of}
 use Rattle.cpc_check_items.proofs.parameters.size_rules.Given as goal
 

@@ -1,6 +1,6 @@
 use Rattle.std.proofs.Common.{◌≡◌, drop}
 use Rattle.cpc_tree.specs.Erase.{Names}
-use Rattle.cpc_rules.specs.ItemRules as R
+use Rattle.cpc_check_rules.specs.ItemRules as R
 use Rattle.cpc_check_items.specs.Signatures.{types_of}
 use Rattle.cpc_check_items.proofs.prototypes.are_long.Given as goal
 

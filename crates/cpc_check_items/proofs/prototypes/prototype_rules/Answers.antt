@@ -1,11 +1,11 @@
 use Rattle.std.proofs.Common.{false, ◌&&◌, not, [], ◌∷◌, ◌++◌, map, ap, ◌∙◌}
 use Rattle.cpc_tree.specs.Erase.{type_of}
 use Rattle.cpc_tree.specs.Locate.{ident, located_parameter}
-use Rattle.cpc_rules.specs.declared.rule.Rule.TheVariants.{Undeclared, Disagree}
-use Rattle.cpc_rules.specs.Rule.{at_if}
-use Rattle.cpc_rules.specs.Noted.{noted, first_of}
-use Rattle.cpc_rules.specs.FunctionRules as F
-use Rattle.cpc_rules.specs.ItemRules as R
+use Rattle.cpc_check_rules.specs.declared.rule.Rule.TheVariants.{Undeclared, Disagree}
+use Rattle.cpc_check_rules.specs.Rule.{at_if}
+use Rattle.cpc_check_rules.specs.Noted.{noted, first_of}
+use Rattle.cpc_check_rules.specs.FunctionRules as F
+use Rattle.cpc_check_rules.specs.ItemRules as R
 use Rattle.cpc_check_items.specs.Signatures.{types_of}
 use Rattle.cpc_check_items.proofs.Notes.{in_turn}
 use Rattle.cpc_check_items.proofs.prototypes.prototype_rules.Goals as goal

@@ -1,7 +1,7 @@
 use Rattle.std.proofs.Common.{◌≡◌, drop}
 use Rattle.cpc_tree.specs.Erase.{Names}
-use Rattle.cpc_rules.specs.Apart.{AreApart}
-use Rattle.cpc_rules.specs.ItemRules as R
+use Rattle.cpc_check_rules.specs.Apart.{AreApart}
+use Rattle.cpc_check_rules.specs.ItemRules as R
 use Rattle.cpc_check_items.specs.Signatures.{types_of}
 use Rattle.cpc_check_items.proofs.signatures.same_parameters.Given as goal
 

@@ -2,11 +2,11 @@ use Rattle.std.proofs.Common.{List, not, map, refl, ap, ◌∙◌, arith}
 use Rattle.cpc_tree.specs.declared.program.Field.{Field}
 use Rattle.cpc_tree.specs.Erase.{type_of}
 use Rattle.cpc_tree.specs.Locate.{located_field}
-use Rattle.cpc_rules.specs.declared.rule.Rule.TheVariants.{Incomplete}
-use Rattle.cpc_rules.specs.Rule.{at_if}
-use Rattle.cpc_rules.specs.Scopes.{is_sized}
-use Rattle.cpc_rules.specs.Noted.{noted, first_of}
-use Rattle.cpc_rules.specs.ItemRules as R
+use Rattle.cpc_check_rules.specs.declared.rule.Rule.TheVariants.{Incomplete}
+use Rattle.cpc_check_rules.specs.Rule.{at_if}
+use Rattle.cpc_check_rules.specs.Scopes.{is_sized}
+use Rattle.cpc_check_rules.specs.Noted.{noted, first_of}
+use Rattle.cpc_check_rules.specs.ItemRules as R
 use Rattle.cpc_types.specs.Scoped.{scope_of}
 use Rattle.cpc_check_items.proofs.Notes.{row_step}
 use Rattle.cpc_check_items.proofs.structs.field_rules.Goals as goal

@@ -4,11 +4,11 @@ use Rattle.cpc_tree.specs.Syntax.{TyStruct}
 use Rattle.cpc_tree.specs.Typing.{size}
 use Rattle.cpc_tree.specs.Located.{bare_item, LStruct}
 use Rattle.cpc_tree.specs.Locate.{ident, located_field}
-use Rattle.cpc_rules.specs.declared.rule.Rule.TheVariants.{Twice, Incomplete}
-use Rattle.cpc_rules.specs.Rule.{at_if}
-use Rattle.cpc_rules.specs.Noted.{noted, first_of}
-use Rattle.cpc_rules.specs.FunctionRules as F
-use Rattle.cpc_rules.specs.ItemRules as R
+use Rattle.cpc_check_rules.specs.declared.rule.Rule.TheVariants.{Twice, Incomplete}
+use Rattle.cpc_check_rules.specs.Rule.{at_if}
+use Rattle.cpc_check_rules.specs.Noted.{noted, first_of}
+use Rattle.cpc_check_rules.specs.FunctionRules as F
+use Rattle.cpc_check_rules.specs.ItemRules as R
 use Rattle.cpc_types.specs.Scoped.{scope_of}
 use Rattle.cpc_check_items.proofs.Notes.{in_turn, fields_alone, tag_known, oversized_is}
 use Rattle.cpc_check_items.proofs.structs.struct_rules.Goals as goal

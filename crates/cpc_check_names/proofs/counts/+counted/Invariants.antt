@@ -1,7 +1,7 @@
 use Rattle.std.proofs.Common.{◌≡◌, ◌+◌, ◌≤◌, drop}
 use Rattle.cpc_tree.specs.Erase.{Names}
 use Rattle.cpc_tree.specs.Locate.{located_list}
-use Rattle.cpc_rules.specs.FunctionRules.{statements_in}
+use Rattle.cpc_check_rules.specs.FunctionRules.{statements_in}
 use Rattle.cpc_check_names.specs.Counts.{capped}
 use Rattle.cpc_check_names.proofs.counts.+counted.Given as goal
 

@@ -1,8 +1,8 @@
 use Rattle.std.proofs.Common.{◌≡◌, ◌≤◌, drop, map}
 use Rattle.cpc_tree.specs.Erase.{Names}
 use Rattle.cpc_tree.specs.Locate.{located_item}
-use Rattle.cpc_rules.specs.Rules.{breadth_limit, broad_breaks}
-use Rattle.cpc_rules.specs.Noted.{noted, first_of}
+use Rattle.cpc_check_rules.specs.Rules.{breadth_limit, broad_breaks}
+use Rattle.cpc_check_rules.specs.Noted.{noted, first_of}
 use Rattle.cpc_check_names.proofs.counts.broad_rules.Given as goal
 
 -- the limit is not yet exceeded, and with what is left all items are noted

@@ -1,8 +1,8 @@
 use Rattle.std.proofs.Common.{ap, ◌∙◌}
 use Rattle.std.specs.Prelude.{not}
-use Rattle.cpc_rules.specs.declared.rule.Rule.TheVariants.{NoMain}
-use Rattle.cpc_rules.specs.Rule.{at_if}
-use Rattle.cpc_rules.specs.Noted.{noted, first_of}
+use Rattle.cpc_check_rules.specs.declared.rule.Rule.TheVariants.{NoMain}
+use Rattle.cpc_check_rules.specs.Rule.{at_if}
+use Rattle.cpc_check_rules.specs.Noted.{noted, first_of}
 use Rattle.cpc_check_names.proofs.Told.{has_main_told}
 use Rattle.cpc_check_names.proofs.entry.main_rules.Goals as goal
 

@@ -3,8 +3,8 @@ use Rattle.std.specs.HashSet as set
 use Rattle.cpc_tree.specs.Erase.{Names}
 use Rattle.cpc_tree.specs.Located.{Ident}
 use Rattle.cpc_tree.specs.Locate.{ident}
-use Rattle.cpc_rules.specs.FunctionRules.{missing}
-use Rattle.cpc_rules.specs.Noted.{noted, first_of}
+use Rattle.cpc_check_rules.specs.FunctionRules.{missing}
+use Rattle.cpc_check_rules.specs.Noted.{noted, first_of}
 use Rattle.cpc_check_names.specs.Held.{AreHeld}
 use Rattle.cpc_check_names.proofs.Held.{left}
 use Rattle.cpc_check_names.proofs.labels.note_missing.Given as goal

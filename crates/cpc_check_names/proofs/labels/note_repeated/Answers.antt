@@ -1,7 +1,7 @@
 use Rattle.std.proofs.Common.{◌≡◌, ◌+◌, Bool, true, false, not, refl, ap, ◌∙◌, arith}
 use Rattle.cpc_tree.specs.declared.program.Word.{Word}
-use Rattle.cpc_rules.specs.Noted.{noted, first_of}
-use Rattle.cpc_rules.specs.FunctionRules.{repeated}
+use Rattle.cpc_check_rules.specs.Noted.{noted, first_of}
+use Rattle.cpc_check_rules.specs.FunctionRules.{repeated}
 use Rattle.cpc_check_names.proofs.Held.{held_more, told_more, so_far, left}
 use Rattle.cpc_check_names.proofs.labels.note_repeated.Goals as goal
 

@@ -2,9 +2,9 @@ use Rattle.std.proofs.Common.{◌≡◌, [], map, nat_eq}
 use Rattle.std.specs.HashSet as set
 use Rattle.cpc_tree.specs.Erase.{Names}
 use Rattle.cpc_tree.specs.Locate.{ident}
-use Rattle.cpc_rules.specs.FunctionRules.{repeated}
-use Rattle.cpc_rules.specs.Noted.{noted, first_of}
-use Rattle.cpc_rules.specs.Apart.{AreApart}
+use Rattle.cpc_check_rules.specs.FunctionRules.{repeated}
+use Rattle.cpc_check_rules.specs.Noted.{noted, first_of}
+use Rattle.cpc_check_rules.specs.Apart.{AreApart}
 use Rattle.cpc_check_names.specs.Held.{AreHeld}
 use Rattle.cpc_check_names.proofs.Held.{so_far, left}
 use Rattle.cpc_check_names.proofs.labels.note_repeated.Given as goal

@@ -1,5 +1,5 @@
 use Rattle.std.proofs.Common.{arith}
-use Rattle.cpc_rules.specs.Noted.{first_of}
+use Rattle.cpc_check_rules.specs.Noted.{first_of}
 use Rattle.cpc_check_names.proofs.Strays.{stray_block, stray_else, stray_more}
 use Rattle.cpc_check_names.proofs.loops.+strays.Goals as goal
 

@@ -1,5 +1,5 @@
 use Rattle.std.proofs.Common.{◌≡◌, drop}
-use Rattle.cpc_rules.specs.FunctionRules.{holds_bars}
+use Rattle.cpc_check_rules.specs.FunctionRules.{holds_bars}
 use Rattle.cpc_check_names.proofs.reserved.holds_bars.Given as goal
 
 -- what is left holds two where the text does

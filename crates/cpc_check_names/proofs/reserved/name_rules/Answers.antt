@@ -1,5 +1,5 @@
 use Rattle.std.proofs.Common.{ap, ◌∙◌}
-use Rattle.cpc_rules.specs.Noted.{noted, first_of}
+use Rattle.cpc_check_rules.specs.Noted.{noted, first_of}
 use Rattle.cpc_check_names.proofs.Told.{reserved_told}
 use Rattle.cpc_check_names.proofs.reserved.name_rules.Goals as goal
 

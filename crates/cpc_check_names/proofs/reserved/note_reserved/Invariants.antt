@@ -1,8 +1,8 @@
 use Rattle.std.proofs.Common.{◌≡◌, map}
 use Rattle.cpc_tree.specs.Erase.{in_table}
 use Rattle.cpc_tree.specs.Locate.{ident}
-use Rattle.cpc_rules.specs.FunctionRules.{reserved_breaks}
-use Rattle.cpc_rules.specs.Noted.{noted, first_of}
+use Rattle.cpc_check_rules.specs.FunctionRules.{reserved_breaks}
+use Rattle.cpc_check_rules.specs.Noted.{noted, first_of}
 use Rattle.cpc_check_names.proofs.Held.{left}
 use Rattle.cpc_check_names.proofs.reserved.note_reserved.Given as goal
 

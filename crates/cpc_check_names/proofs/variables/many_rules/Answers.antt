@@ -1,7 +1,7 @@
 use Rattle.std.proofs.Common.{map, drop, ap, ◌∙◌}
 use Rattle.cpc_tree.specs.Locate.{ident, located_stmt, located_parameter}
-use Rattle.cpc_rules.specs.FunctionRules as F
-use Rattle.cpc_rules.specs.Noted.{noted, first_of}
+use Rattle.cpc_check_rules.specs.FunctionRules as F
+use Rattle.cpc_check_rules.specs.Noted.{noted, first_of}
 use Rattle.cpc_check_names.proofs.Many.{too_many, not_many}
 use Rattle.cpc_check_names.proofs.variables.many_rules.Goals as goal
 use Rattle.cpc_check_names.proofs.variables.many_rules.Goals.{in-Some, in_default}

@@ -1,7 +1,7 @@
 use Rattle.std.proofs.Common.{◌≡◌, ◌++◌, drop, map}
 use Rattle.cpc_tree.specs.Erase.{Names}
 use Rattle.cpc_tree.specs.Locate.{ident, located_parameter}
-use Rattle.cpc_rules.specs.FunctionRules.{parameter_names}
+use Rattle.cpc_check_rules.specs.FunctionRules.{parameter_names}
 use Rattle.cpc_check_names.proofs.words.parameter_words.Given as goal
 
 -- with what is left, all names are there

@@ -2,7 +2,7 @@ use Rattle.std.proofs.lemmas.Result.{on_ok_weaker}
 use Rattle.cpc_tree.specs.Erase.{expr_of}
 use Rattle.cpc_tree.specs.Locate.{located_expr}
 use Rattle.cpc_tree.proofs.Places.{bare_located}
-use Rattle.cpc_rules.specs.Noted.{first_of}
+use Rattle.cpc_check_rules.specs.Noted.{first_of}
 use Rattle.cpc_check_values.specs.Stands.{where_of}
 use Rattle.cpc_check_statements.proofs.Parts.{found_set, found_update}
 use Rattle.cpc_check_statements.proofs.assigned.assign_rules.Goals as goal

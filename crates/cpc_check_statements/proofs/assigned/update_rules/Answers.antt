@@ -1,4 +1,4 @@
-use Rattle.cpc_rules.specs.Noted.{first_of}
+use Rattle.cpc_check_rules.specs.Noted.{first_of}
 use Rattle.cpc_types.specs.Scoped.{scope_of}
 use Rattle.cpc_check_statements.proofs.Parts.{found_result}
 use Rattle.cpc_check_statements.proofs.assigned.update_rules.Goals as goal

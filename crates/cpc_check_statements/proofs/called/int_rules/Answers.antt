@@ -2,7 +2,7 @@ use Rattle.std.proofs.Common.{Some}
 use Rattle.cpc_num.specs.declared.kinds.Kind.TheVariants.{Int}
 use Rattle.cpc_tree.specs.Syntax.{TyInt}
 use Rattle.cpc_tree.specs.Locate.{located_expr}
-use Rattle.cpc_rules.specs.Noted.{first_of}
+use Rattle.cpc_check_rules.specs.Noted.{first_of}
 use Rattle.cpc_check_values.specs.Stands.{where_of}
 use Rattle.cpc_check_statements.proofs.Parts.{given_noted}
 use Rattle.cpc_check_statements.proofs.called.int_rules.Goals as goal

@@ -1,6 +1,6 @@
 use Rattle.std.proofs.Common.{ap, option_map}
 use Rattle.cpc_tree.specs.Locate.{located_expr, located_exprs}
-use Rattle.cpc_rules.specs.Noted.{first_of}
+use Rattle.cpc_check_rules.specs.Noted.{first_of}
 use Rattle.cpc_check_values.specs.Stands.{where_of}
 use Rattle.cpc_check_statements.proofs.Parts.{found_performed}
 use Rattle.cpc_check_statements.proofs.called.performed_rules.Goals as goal

@@ -3,8 +3,8 @@ use Rattle.std.proofs.lemmas.Result.{on_ok_weaker}
 use Rattle.cpc_num.specs.declared.kinds.Kind.TheVariants.{Int}
 use Rattle.cpc_tree.specs.Syntax.{TyInt}
 use Rattle.cpc_tree.specs.Locate.{ident, located_expr, located_exprs}
-use Rattle.cpc_rules.specs.StmtRules.{to_breaks}
-use Rattle.cpc_rules.specs.Noted.{first_of}
+use Rattle.cpc_check_rules.specs.StmtRules.{to_breaks}
+use Rattle.cpc_check_rules.specs.Noted.{first_of}
 use Rattle.cpc_check_values.specs.Stands.{where_of}
 use Rattle.cpc_check_statements.proofs.Parts.{found_section}
 use Rattle.cpc_check_statements.proofs.called.section_rules.Goals as goal

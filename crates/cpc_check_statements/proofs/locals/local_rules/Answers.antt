@@ -2,9 +2,9 @@ use Rattle.std.proofs.Common.{◌∙◌, sym, ap, subst, option_map}
 use Rattle.std.proofs.lemmas.Result.{on_ok_weaker}
 use Rattle.cpc_tree.specs.Erase.{type_of}
 use Rattle.cpc_tree.specs.Locate.{ident, located_expr}
-use Rattle.cpc_rules.specs.Apart.{Spells}
-use Rattle.cpc_rules.specs.StmtRules.{in_scope}
-use Rattle.cpc_rules.specs.Noted.{first_of}
+use Rattle.cpc_check_rules.specs.Apart.{Spells}
+use Rattle.cpc_check_rules.specs.StmtRules.{in_scope}
+use Rattle.cpc_check_rules.specs.Noted.{first_of}
 use Rattle.cpc_check_statements.specs.Standing.{standing}
 use Rattle.cpc_check_statements.proofs.Declared.{local_noted}
 use Rattle.cpc_check_statements.proofs.locals.local_rules.Goals as goal

@@ -1,10 +1,10 @@
 use Rattle.std.proofs.Common.{◌∙◌, sym, ap, subst, option_map}
 use Rattle.cpc_tree.specs.Erase.{type_of}
 use Rattle.cpc_tree.specs.Locate.{ident, located_expr}
-use Rattle.cpc_rules.specs.Apart.{Spells}
-use Rattle.cpc_rules.specs.Scopes.{with_name}
-use Rattle.cpc_rules.specs.StmtRules.{in_scope, variable}
-use Rattle.cpc_rules.specs.Noted.{first_of}
+use Rattle.cpc_check_rules.specs.Apart.{Spells}
+use Rattle.cpc_check_rules.specs.Scopes.{with_name}
+use Rattle.cpc_check_rules.specs.StmtRules.{in_scope, variable}
+use Rattle.cpc_check_rules.specs.Noted.{first_of}
 use Rattle.cpc_types.specs.Blocks.{without_block}
 use Rattle.cpc_check_statements.specs.Standing.{standing}
 use Rattle.cpc_check_statements.proofs.Declared.{lone_noted}

@@ -1,7 +1,7 @@
 use Rattle.cpc_tree.specs.Erase.{type_of, expr_of}
 use Rattle.cpc_tree.specs.Locate.{ident, located_expr}
 use Rattle.cpc_tree.proofs.Places.{bare_located}
-use Rattle.cpc_rules.specs.Noted.{first_of}
+use Rattle.cpc_check_rules.specs.Noted.{first_of}
 use Rattle.cpc_check_values.specs.Stands.{where_of}
 use Rattle.cpc_check_statements.proofs.Parts.{start_noted}
 use Rattle.cpc_check_statements.proofs.locals.start_rules.Goals as goal

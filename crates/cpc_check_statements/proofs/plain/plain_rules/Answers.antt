@@ -1,5 +1,5 @@
 use Rattle.std.proofs.lemmas.Result.{on_ok_weaker}
-use Rattle.cpc_rules.specs.Noted.{first_of}
+use Rattle.cpc_check_rules.specs.Noted.{first_of}
 use Rattle.cpc_check_values.specs.Stands.{where_of}
 use Rattle.cpc_check_statements.proofs.Nodes.{plain_assign, plain_call, plain_section}
 use Rattle.cpc_check_statements.proofs.plain.plain_rules.Goals as goal

@@ -1,5 +1,5 @@
 use Rattle.cpc_tree.specs.Locate.{located_expr}
-use Rattle.cpc_rules.specs.Noted.{first_of}
+use Rattle.cpc_check_rules.specs.Noted.{first_of}
 use Rattle.cpc_check_values.specs.Stands.{where_of}
 use Rattle.cpc_check_statements.proofs.Parts.{returned_noted}
 use Rattle.cpc_check_statements.proofs.returned.return_rules.Goals as goal

@@ -1,9 +1,9 @@
 use Rattle.std.proofs.Common.{sym, ap, ◌∙◌, subst, arith}
 use Rattle.std.proofs.lemmas.Result.{on_ok_weaker}
 use Rattle.cpc_tree.specs.Locate.{located_list}
-use Rattle.cpc_rules.specs.Apart.{Spells}
-use Rattle.cpc_rules.specs.Noted.{noted, first_of}
-use Rattle.cpc_rules.specs.StmtRules.{in_scope, stmts_breaks}
+use Rattle.cpc_check_rules.specs.Apart.{Spells}
+use Rattle.cpc_check_rules.specs.Noted.{noted, first_of}
+use Rattle.cpc_check_rules.specs.StmtRules.{in_scope, stmts_breaks}
 use Rattle.cpc_types.specs.Blocks.{without_block}
 use Rattle.cpc_check_statements.specs.Standing.{standing}
 use Rattle.cpc_check_statements.proofs.Walk.{walk_left, walk_more, behind_more, walk_block, walk_if, walk_while, walk_do, walk_for, kept_behind}

@@ -1,9 +1,9 @@
 use Rattle.std.proofs.Common.{◌≡◌, drop}
 use Rattle.cpc_tree.specs.Erase.{Names}
 use Rattle.cpc_tree.specs.Locate.{located_list}
-use Rattle.cpc_rules.specs.Apart.{Spells}
-use Rattle.cpc_rules.specs.StmtRules.{stmts_breaks, all_behind}
-use Rattle.cpc_rules.specs.Noted.{noted, first_of}
+use Rattle.cpc_check_rules.specs.Apart.{Spells}
+use Rattle.cpc_check_rules.specs.StmtRules.{stmts_breaks, all_behind}
+use Rattle.cpc_check_rules.specs.Noted.{noted, first_of}
 use Rattle.cpc_types.specs.Scoped.{all_items}
 use Rattle.cpc_check_statements.specs.Standing.{standing}
 use Rattle.cpc_check_statements.proofs.statements.+statements.Given as goal

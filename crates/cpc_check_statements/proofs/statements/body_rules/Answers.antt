@@ -1,7 +1,7 @@
 use Rattle.std.proofs.Common.{ap, ◌∙◌}
 use Rattle.std.proofs.lemmas.Result.{on_ok_weaker}
 use Rattle.cpc_tree.specs.Locate.{located_list}
-use Rattle.cpc_rules.specs.Noted.{first_of}
+use Rattle.cpc_check_rules.specs.Noted.{first_of}
 use Rattle.cpc_types.specs.Blocks.{without_block}
 use Rattle.cpc_check_statements.specs.Standing.{standing}
 use Rattle.cpc_check_statements.proofs.Walk.{walk_body, all_left}

@@ -1,7 +1,7 @@
 use Rattle.std.proofs.Common.{◌≡◌, map, drop}
 use Rattle.cpc_tree.specs.Erase.{Names, parameter_of}
 use Rattle.cpc_tree.specs.Typing as T
-use Rattle.cpc_rules.specs.Calls as C
+use Rattle.cpc_check_rules.specs.Calls as C
 use Rattle.cpc_check_values.proofs.called.are_integers.Given as goal
 
 -- the parameters so far are integers, so those that are left decide

@@ -1,5 +1,5 @@
 use Rattle.std.proofs.Common.{sym, ap, ◌∙◌}
-use Rattle.cpc_rules.specs.Noted.{noted, first_of}
+use Rattle.cpc_check_rules.specs.Noted.{noted, first_of}
 use Rattle.cpc_check_values.specs.Named.{callee_breaks}
 use Rattle.cpc_check_values.specs.Stands.{where_of}
 use Rattle.cpc_check_values.proofs.called.named_rules.Goals as goal

@@ -1,6 +1,6 @@
 use Rattle.std.proofs.Common.{ap, ◌∙◌}
 use Rattle.cpc_tree.specs.Locate.{ident}
-use Rattle.cpc_rules.specs.Noted.{noted, first_of}
+use Rattle.cpc_check_rules.specs.Noted.{noted, first_of}
 use Rattle.cpc_types.specs.Found.{found_of}
 use Rattle.cpc_types.specs.Scoped.{scope_of}
 use Rattle.cpc_types.specs.Forms as F

@@ -5,8 +5,8 @@ use Rattle.cpc_tree.specs.Located.{bare_expr}
 use Rattle.cpc_tree.specs.Locate.{located_expr}
 use Rattle.cpc_tree.specs.Primitives as P
 use Rattle.cpc_tree.specs.Typing.{function_type}
-use Rattle.cpc_rules.specs.Scopes.{takes_typed}
-use Rattle.cpc_rules.specs.Calls as C
+use Rattle.cpc_check_rules.specs.Scopes.{takes_typed}
+use Rattle.cpc_check_rules.specs.Calls as C
 use Rattle.cpc_types.specs.Scoped.{scope_of}
 use Rattle.cpc_check_values.specs.declared.wants.Wanted.{Wanted}
 use Rattle.cpc_check_values.specs.Wants.{want_of}

@@ -1,9 +1,9 @@
 use Rattle.std.proofs.Common.{ap, option_map, ◌∙◌}
 use Rattle.std.proofs.lemmas.Result.{IfOk-weaker, on_ok_weaker}
 use Rattle.cpc_tree.specs.Locate.{located_expr}
-use Rattle.cpc_rules.specs.Calls as C
-use Rattle.cpc_rules.specs.ExprRules.{expr_breaks}
-use Rattle.cpc_rules.specs.Noted.{first_of, noted}
+use Rattle.cpc_check_rules.specs.Calls as C
+use Rattle.cpc_check_rules.specs.ExprRules.{expr_breaks}
+use Rattle.cpc_check_rules.specs.Noted.{first_of, noted}
 use Rattle.cpc_check_values.proofs.Arguments.{args_step, argument_told, inside_told, pointer_told, string_told}
 use Rattle.cpc_check_values.proofs.Pairs.{and_found, and_told, binary_found, binary_told, choose_found, choose_told, index_told, or_found, or_told}
 use Rattle.cpc_check_values.proofs.Steps.{arrow_told, cast_found, cast_told, member_told, unary_found, unary_told}

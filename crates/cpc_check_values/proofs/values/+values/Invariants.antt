@@ -1,10 +1,10 @@
 use Rattle.std.proofs.Common.{◌≡◌, drop}
 use Rattle.cpc_tree.specs.Erase.{Names}
 use Rattle.cpc_tree.specs.Locate.{located_exprs}
-use Rattle.cpc_rules.specs.Apart.{Spells}
-use Rattle.cpc_rules.specs.Calls as C
-use Rattle.cpc_rules.specs.ExprRules as E
-use Rattle.cpc_rules.specs.Noted.{noted, first_of}
+use Rattle.cpc_check_rules.specs.Apart.{Spells}
+use Rattle.cpc_check_rules.specs.Calls as C
+use Rattle.cpc_check_rules.specs.ExprRules as E
+use Rattle.cpc_check_rules.specs.Noted.{noted, first_of}
 use Rattle.cpc_check_values.specs.Wants.{callee_of}
 use Rattle.cpc_check_values.specs.Stands.{where_of}
 use Rattle.cpc_check_values.proofs.values.+values.Given as goal

@@ -1,6 +1,6 @@
 use Rattle.std.proofs.Common.{sym, refl, codes, take, []}
 use Rattle.cpc_base.proofs.Pieces.{append_known-nil}
-use Rattle.cpc_command.specs.Commands.{Check}
+use Rattle.cpc_cli_command.specs.Commands.{Check}
 use Rattle.cpc_cli.specs.Answer.{did, unwritten_in}
 use Rattle.cpc_cli.specs.declared.answer.Outcome.TheVariants.{Accepted}
 use Rattle.cpc_cli.proofs.TopLemmas.{begun_not, is_front}

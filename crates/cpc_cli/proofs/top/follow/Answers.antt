@@ -1,7 +1,7 @@
 use Rattle.std.proofs.Common.{[], ap, sym, Err, map, string_bytes}
 use Rattle.cpc_base.proofs.Pieces.{append_known-nil}
-use Rattle.cpc_command.specs.Commands.{asked}
-use Rattle.cpc_command.proofs.BoundLemmas.{bounded_is}
+use Rattle.cpc_cli_command.specs.Commands.{asked}
+use Rattle.cpc_cli_command.proofs.BoundLemmas.{bounded_is}
 use Rattle.cpc_cli.specs.Answer.{misused, starved, performed}
 use Rattle.cpc_cli.proofs.TopLemmas.{line_named}
 use Rattle.cpc_cli.proofs.top.follow.Goals as goal

@@ -3,7 +3,7 @@ use Rattle.cpc_base.proofs.Pieces.{append_known-nil}
 use Rattle.cpc_base.specs.Outside.{Rose}
 use Rattle.cpc_tree.specs.Locate.{located}
 use Rattle.cpc_tree.proofs.Places.{bare_program}
-use Rattle.cpc_command.specs.Commands.{Run}
+use Rattle.cpc_cli_command.specs.Commands.{Run}
 use Rattle.cpc_cli.specs.Answer.{RanTo}
 use Rattle.cpc_cli.proofs.TopLemmas.{begun_not, run_ended}
 use Rattle.cpc_cli.proofs.top.run_file.Goals as goal

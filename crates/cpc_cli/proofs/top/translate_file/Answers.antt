@@ -1,7 +1,7 @@
 use Rattle.std.proofs.Common.{sym, subst, refl, take, []}
 use Rattle.cpc_base.proofs.Pieces.{append_known-nil}
 use Rattle.cpc_tree.specs.Locate.{located}
-use Rattle.cpc_command.specs.Commands.{Translate}
+use Rattle.cpc_cli_command.specs.Commands.{Translate}
 use Rattle.cpc_cli.specs.Answer.{did, unwritten_in}
 use Rattle.cpc_run.specs.Reports.{IsPrefix}
 use Rattle.cpc_cli.specs.declared.answer.Outcome.TheVariants.{Translated}

@@ -1,8 +1,8 @@
 use Rattle.std.proofs.Common.{◌≡◌, subst}
 use Rattle.cpc_tree.specs.Syntax.{Ty}
 use Rattle.cpc_tree.specs.Erase.{type_of, expr_of}
-use Rattle.cpc_values.specs.Shown.{value_of, shown}
-use Rattle.cpc_values.specs.Meets.{Meets}
+use Rattle.cpc_eval_values.specs.Shown.{value_of, shown}
+use Rattle.cpc_eval_values.specs.Meets.{Meets}
 use Rattle.cpc_meaning.specs.Eval as E
 use Rattle.cpc_eval.specs.Around.{context_of}
 use Rattle.cpc_eval.specs.Shapes.{types_of}

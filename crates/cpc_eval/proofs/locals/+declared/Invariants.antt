@@ -1,7 +1,7 @@
 use Rattle.std.proofs.Common.{◌≡◌, ◌+◌, ◌≤◌, length, drop}
 use Rattle.cpc_tree.specs.Erase.{Names, list_of}
 use Rattle.cpc_tree.specs.Points.{locals_in}
-use Rattle.cpc_values.specs.Counted.{capped}
+use Rattle.cpc_eval_values.specs.Counted.{capped}
 use Rattle.cpc_eval.proofs.locals.+declared.Given as goal
 
 -- with what is left, all of the row is counted

@@ -1,6 +1,6 @@
 use Rattle.std.proofs.Common.{◌≡◌, drop}
 use Rattle.cpc_tree.specs.Erase.{Names, list_of}
-use Rattle.cpc_rules.specs.Apart.{AreApart}
+use Rattle.cpc_check_rules.specs.Apart.{AreApart}
 use Rattle.cpc_eval.specs.Held.{held_behind, count_behind}
 use Rattle.cpc_eval.specs.Locals.{held_of}
 use Rattle.cpc_eval.proofs.locals.behind.Given as goal

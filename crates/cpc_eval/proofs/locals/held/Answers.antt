@@ -1,7 +1,7 @@
 use Rattle.std.proofs.Common.{◌+◌, ◌∙◌, sym, ap, drop}
 use Rattle.std.proofs.lemmas.List.{drop_all}
 use Rattle.cpc_tree.specs.Erase.{stmt_of}
-use Rattle.cpc_points.specs.Seen.{path_of}
+use Rattle.cpc_native_points.specs.Seen.{path_of}
 use Rattle.cpc_eval.specs.Held.{held_at}
 use Rattle.cpc_eval.specs.Locals.{held_of}
 use Rattle.cpc_eval.proofs.Holding.{path_more, held_there}

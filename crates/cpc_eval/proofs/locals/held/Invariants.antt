@@ -1,7 +1,7 @@
 use Rattle.std.proofs.Common.{◌≡◌, drop}
 use Rattle.cpc_tree.specs.Erase.{Names, stmt_of}
-use Rattle.cpc_rules.specs.Apart.{AreApart}
-use Rattle.cpc_points.specs.Seen.{path_of}
+use Rattle.cpc_check_rules.specs.Apart.{AreApart}
+use Rattle.cpc_native_points.specs.Seen.{path_of}
 use Rattle.cpc_eval.specs.Held.{held_at}
 use Rattle.cpc_eval.specs.Locals.{held_of}
 use Rattle.cpc_eval.proofs.locals.held.Given as goal

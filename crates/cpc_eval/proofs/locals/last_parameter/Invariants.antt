@@ -1,7 +1,7 @@
 use Rattle.std.proofs.Common.{◌≡◌, ◌≤◌, drop, map, length}
 use Rattle.cpc_tree.specs.Erase.{Names, parameter_of}
 use Rattle.cpc_eval.specs.Held.{held_among, held_from}
-use Rattle.cpc_variables.specs.Told.{IsTold}
+use Rattle.cpc_eval_variables.specs.Told.{IsTold}
 use Rattle.cpc_eval.specs.Locals.{held_of}
 use Rattle.cpc_eval.proofs.locals.last_parameter.Given as goal
 

@@ -1,9 +1,9 @@
 use Rattle.std.proofs.Common.{◌∙◌, List, length, map, ap, sym, subst, arith}
 use Rattle.cpc_tree.specs.Erase.{parameter_of}
 use Rattle.cpc_tree.specs.declared.program.Parameter.{Parameter}
-use Rattle.cpc_points.specs.Seen.{path_of}
+use Rattle.cpc_native_points.specs.Seen.{path_of}
 use Rattle.cpc_eval.specs.Held.{held_among}
-use Rattle.cpc_variables.specs.Told.{IsTold}
+use Rattle.cpc_eval_variables.specs.Told.{IsTold}
 use Rattle.cpc_eval.proofs.Scoping.{function_is}
 use Rattle.cpc_eval.proofs.locals.local_at.Goals as goal
 

@@ -1,8 +1,8 @@
 use Rattle.std.proofs.Common.{◌∙◌, ap}
 use Rattle.cpc_tree.specs.Erase.{expr_of}
 use Rattle.cpc_meaning.specs.Eval as E
-use Rattle.cpc_index.specs.Indexed.{items_of}
-use Rattle.cpc_values.specs.Counted.{cells_counted}
+use Rattle.cpc_eval_index.specs.Indexed.{items_of}
+use Rattle.cpc_eval_values.specs.Counted.{cells_counted}
 use Rattle.cpc_eval.specs.Around.{context_of, type_in}
 use Rattle.cpc_eval.specs.Shapes.{types_of}
 use Rattle.cpc_eval.proofs.Sizing.{size_by}

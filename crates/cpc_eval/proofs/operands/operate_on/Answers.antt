@@ -1,6 +1,6 @@
 use Rattle.cpc_tree.specs.Erase.{expr_of}
 use Rattle.cpc_meaning.specs.Eval as E
-use Rattle.cpc_index.specs.Indexed.{items_of}
+use Rattle.cpc_eval_index.specs.Indexed.{items_of}
 use Rattle.cpc_eval.specs.Around.{context_of}
 use Rattle.cpc_eval.proofs.operands.operate_on.Goals as goal
 

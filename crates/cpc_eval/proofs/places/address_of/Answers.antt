@@ -1,7 +1,7 @@
 use Rattle.std.proofs.Common.{map}
 use Rattle.cpc_meaning.specs.Eval as E
-use Rattle.cpc_index.specs.Meanings.{meant_if}
-use Rattle.cpc_values.proofs.Meeting.{meets_then}
+use Rattle.cpc_eval_index.specs.Meanings.{meant_if}
+use Rattle.cpc_eval_values.proofs.Meeting.{meets_then}
 use Rattle.cpc_eval.specs.Around.{slot_of}
 use Rattle.cpc_eval.specs.Spots.{spot_of}
 use Rattle.cpc_eval.proofs.places.address_of.Goals as goal

@@ -1,8 +1,8 @@
 use Rattle.std.proofs.Common.{option_map}
 use Rattle.cpc_tree.specs.Erase.{type_of}
-use Rattle.cpc_index.specs.Indexed.{items_of}
-use Rattle.cpc_values.specs.Shown.{value_of, store_of}
-use Rattle.cpc_values.proofs.Meeting.{meets_err}
+use Rattle.cpc_eval_index.specs.Indexed.{items_of}
+use Rattle.cpc_eval_values.specs.Shown.{value_of, store_of}
+use Rattle.cpc_eval_values.proofs.Meeting.{meets_err}
 use Rattle.cpc_eval.specs.Spots.{spot_of}
 use Rattle.cpc_eval.proofs.Spotting.{field_met, field_fault}
 use Rattle.cpc_eval.proofs.places.field_spot.Goals as goal

@@ -1,6 +1,6 @@
 use Rattle.std.proofs.Common.{map}
 use Rattle.cpc_tree.specs.Erase.{type_of}
-use Rattle.cpc_values.specs.Shown.{store_of}
+use Rattle.cpc_eval_values.specs.Shown.{store_of}
 use Rattle.cpc_eval.specs.Around.{slot_of}
 use Rattle.cpc_eval.proofs.Spotting.{read_slot}
 use Rattle.cpc_eval.proofs.places.read.Goals as goal

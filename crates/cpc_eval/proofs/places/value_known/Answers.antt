@@ -1,5 +1,5 @@
 use Rattle.std.proofs.Common.{map}
-use Rattle.cpc_values.specs.Shown.{store_of}
+use Rattle.cpc_eval_values.specs.Shown.{store_of}
 use Rattle.cpc_eval.specs.Around.{slot_of}
 use Rattle.cpc_eval.specs.Spots.{spot_of}
 use Rattle.cpc_eval.proofs.Spotting.{local_read, global_read, code_read}

@@ -1,5 +1,5 @@
 use Rattle.std.proofs.Common.{◌∙◌, ap}
-use Rattle.cpc_index.specs.Indexed.{items_of}
+use Rattle.cpc_eval_index.specs.Indexed.{items_of}
 use Rattle.cpc_tree.specs.Typing as T
 use Rattle.cpc_eval.specs.Around.{context_of}
 use Rattle.cpc_eval.proofs.TypedParts.{unary_at, binary_at, index_at, choose_at, name_at, size_at, and_at, or_at, integer_at, character_at}

@@ -1,8 +1,8 @@
 use Rattle.std.proofs.Common.{◌∙◌, true, false, Ok, refl, ap, rules}
 use Rattle.cpc_tree.specs.Erase.{type_of, expr_of}
 use Rattle.cpc_tree.specs.Syntax.{EUnary}
-use Rattle.cpc_values.specs.Shown.{value_of}
-use Rattle.cpc_values.proofs.Meeting.{meets_as, meets_err, meets_then, meets_fault}
+use Rattle.cpc_eval_values.specs.Shown.{value_of}
+use Rattle.cpc_eval_values.proofs.Meeting.{meets_as, meets_err, meets_then, meets_fault}
 use Rattle.cpc_meaning.specs.Eval as E
 use Rattle.cpc_eval.specs.Around.{context_of}
 use Rattle.cpc_eval.specs.Shapes.{types_of, shapes_of}

@@ -2,9 +2,9 @@ use Rattle.std.proofs.Common.{[], ◌∷◌, map, refl, sym, ap, subst, ◌∙�
 use Rattle.std.proofs.lemmas.List.{append-nil, map-append}
 use Rattle.std.proofs.lemmas.Result.{err_from_is_err_and}
 use Rattle.cpc_tree.specs.Locate.{located_item}
-use Rattle.cpc_parse_types.specs.TypeViews.{base_type}
-use Rattle.cpc_parse_types.specs.Views.{placed}
-use Rattle.cpc_parse_types.proofs.Giving.{err_through}
+use Rattle.cpc_parser_types.specs.TypeViews.{base_type}
+use Rattle.cpc_parser_types.specs.Views.{placed}
+use Rattle.cpc_parser_types.proofs.Giving.{err_through}
 use Rattle.cpc_parser.specs.ItemViews.{InRow}
 use Rattle.cpc_parser.proofs.Steps.{onward}
 use Rattle.cpc_parser.proofs.Rows.{row_step, row_fails, row_ends}

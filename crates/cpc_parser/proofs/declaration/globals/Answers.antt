@@ -2,8 +2,8 @@ use Rattle.std.proofs.Common.{[], ◌∷◌, map, ap, sym, ◌∙◌}
 use Rattle.std.proofs.lemmas.List.{map-append}
 use Rattle.cpc_tree.specs.Locate.{located_item}
 use Rattle.cpc_tree.specs.declared.program.Item.TheVariants as I
-use Rattle.cpc_parse_types.specs.TypeViews.{base_type}
-use Rattle.cpc_parse_types.specs.Views.{placed}
+use Rattle.cpc_parser_types.specs.TypeViews.{base_type}
+use Rattle.cpc_parser_types.specs.Views.{placed}
 use Rattle.cpc_parser.specs.ItemViews.{onto, variable_of, row_at}
 use Rattle.cpc_parser.proofs.Steps.{onward, gives_as, globals_steps}
 use Rattle.cpc_parser.proofs.declaration.globals.Goals as goal

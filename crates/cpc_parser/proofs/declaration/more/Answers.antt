@@ -1,5 +1,5 @@
-use Rattle.cpc_parse_types.specs.TypeViews.{base_type}
-use Rattle.cpc_parse_types.specs.Views.{placed}
+use Rattle.cpc_parser_types.specs.TypeViews.{base_type}
+use Rattle.cpc_parser_types.specs.Views.{placed}
 use Rattle.cpc_parser.proofs.Steps.{onward}
 use Rattle.cpc_parser.proofs.Rows.{more_steps}
 use Rattle.cpc_parser.proofs.declaration.more.Goals as goal

@@ -1,9 +1,9 @@
 use Rattle.std.proofs.Common.{[], ◌∷◌, map, ap, sym, ◌∙◌}
 use Rattle.std.proofs.lemmas.List.{map-append}
 use Rattle.cpc_tree.specs.Locate.{located_item}
-use Rattle.cpc_reading.specs.Reading.{Read}
-use Rattle.cpc_parse_types.specs.TypeViews.{base_type}
-use Rattle.cpc_parse_types.specs.Views.{placed}
+use Rattle.cpc_parser_reading.specs.Reading.{Read}
+use Rattle.cpc_parser_types.specs.TypeViews.{base_type}
+use Rattle.cpc_parser_types.specs.Views.{placed}
 use Rattle.cpc_parser.specs.ItemViews.{head_view, seen_view}
 use Rattle.cpc_parser.proofs.Steps.{onward, gives_as, plain_steps, native_steps}
 use Rattle.cpc_parser.proofs.declaration.plain.Goals as goal

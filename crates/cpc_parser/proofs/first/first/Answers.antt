@@ -1,8 +1,8 @@
 use Rattle.std.proofs.Common.{sym, ◌∙◌}
 use Rattle.cpc_tree.specs.Erase.{type_of}
-use Rattle.cpc_parse_types.specs.TypeViews.{base_type}
-use Rattle.cpc_parse_types.specs.Views.{placed}
-use Rattle.cpc_parse_types.proofs.Giving.{err_through}
+use Rattle.cpc_parser_types.specs.TypeViews.{base_type}
+use Rattle.cpc_parser_types.specs.Views.{placed}
+use Rattle.cpc_parser_types.proofs.Giving.{err_through}
 use Rattle.cpc_parser.proofs.Steps.{onward, gives_as}
 use Rattle.cpc_parser.proofs.FirstSteps.{first_steps, declarator_first, named_behind}
 use Rattle.cpc_parser.proofs.first.first.Goals as goal

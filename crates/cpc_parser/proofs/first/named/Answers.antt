@@ -1,8 +1,8 @@
 use Rattle.std.proofs.Common.{sym, ◌∙◌}
 use Rattle.cpc_tree.specs.Erase.{type_of}
 use Rattle.cpc_tree.specs.Locate.{ident}
-use Rattle.cpc_parse_types.specs.Views.{placed}
-use Rattle.cpc_parse_types.proofs.Giving.{err_through}
+use Rattle.cpc_parser_types.specs.Views.{placed}
+use Rattle.cpc_parser_types.proofs.Giving.{err_through}
 use Rattle.cpc_parser.proofs.Steps.{onward}
 use Rattle.cpc_parser.proofs.FirstSteps.{name_steps, name_called, name_sized}
 use Rattle.cpc_parser.proofs.first.named.Goals as goal

@@ -1,6 +1,6 @@
 use Rattle.std.proofs.Common.{◌≡◌, ◌<◌, true, false, subst, sym, ◌∙◌, arith}
-use Rattle.cpc_parse_types.specs.Views.{placed}
-use Rattle.cpc_parse_types.proofs.Giving.{fault_here, deep_here, err_through}
+use Rattle.cpc_parser_types.specs.Views.{placed}
+use Rattle.cpc_parser_types.proofs.Giving.{fault_here, deep_here, err_through}
 use Rattle.cpc_parser.specs.ItemReaders.{has_body}
 use Rattle.cpc_parser.specs.ItemViews.{head_view}
 use Rattle.cpc_parser.proofs.Steps.{onward, no_body, no_room, with_body}

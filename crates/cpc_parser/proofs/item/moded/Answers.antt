@@ -1,9 +1,9 @@
 use Rattle.std.proofs.Common.{[], ◌∷◌, map, ap, sym, ◌∙◌}
 use Rattle.std.proofs.lemmas.List.{map-append}
 use Rattle.cpc_tree.specs.Locate.{located_item}
-use Rattle.cpc_reading.specs.Reading.{Read}
-use Rattle.cpc_parse_types.specs.Views.{placed}
-use Rattle.cpc_parse_types.proofs.Giving.{err_through}
+use Rattle.cpc_parser_reading.specs.Reading.{Read}
+use Rattle.cpc_parser_types.specs.Views.{placed}
+use Rattle.cpc_parser_types.proofs.Giving.{err_through}
 use Rattle.cpc_parser.proofs.Steps.{onward, moded_steps}
 use Rattle.cpc_parser.proofs.item.moded.Goals as goal
 

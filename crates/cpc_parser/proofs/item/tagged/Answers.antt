@@ -1,7 +1,7 @@
 use Rattle.std.proofs.Common.{map, sym, ◌∙◌}
 use Rattle.cpc_tree.specs.Locate.{ident, located_item}
-use Rattle.cpc_parse_types.specs.Views.{placed}
-use Rattle.cpc_parse_types.proofs.Giving.{err_through}
+use Rattle.cpc_parser_types.specs.Views.{placed}
+use Rattle.cpc_parser_types.proofs.Giving.{err_through}
 use Rattle.cpc_parser.proofs.Steps.{onward, gives_as, tagged_steps, brace_so, brace_not}
 use Rattle.cpc_parser.proofs.item.tagged.Goals as goal
 

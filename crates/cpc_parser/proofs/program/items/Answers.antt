@@ -1,7 +1,7 @@
 use Rattle.std.proofs.Common.{◌≡◌, ◌<◌, [], length, map, refl, sym, ap, ◌∙◌, arith}
 use Rattle.std.proofs.lemmas.Result.{err_from_is_err_and}
 use Rattle.cpc_tree.specs.Locate.{located_item}
-use Rattle.cpc_parse_types.specs.Views.{placed}
+use Rattle.cpc_parser_types.specs.Views.{placed}
 use Rattle.cpc_parser.proofs.Loop.{step, fails, faults, all_read}
 use Rattle.cpc_parser.proofs.program.items.Goals as goal
 

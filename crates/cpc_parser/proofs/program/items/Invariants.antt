@@ -1,7 +1,7 @@
 use Rattle.std.proofs.Common.{length, map}
 use Rattle.cpc_tree.specs.Erase.{Names}
 use Rattle.cpc_tree.specs.Locate.{located_item}
-use Rattle.cpc_parse_types.specs.Views.{placed}
+use Rattle.cpc_parser_types.specs.Views.{placed}
 use Rattle.cpc_parser.specs.ItemViews.{InItems}
 use Rattle.cpc_parser.proofs.program.items.Given as goal
 

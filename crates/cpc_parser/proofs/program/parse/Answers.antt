@@ -1,8 +1,8 @@
 use Rattle.std.proofs.Common.{◌≡◌, [], map, refl, ap, sym, subst, ◌∙◌}
 use Rattle.cpc_tree.specs.Erase.{in_table}
 use Rattle.cpc_tree.specs.Locate.{located_item}
-use Rattle.cpc_reading.specs.Reading.{Read, Fault, Deep}
-use Rattle.cpc_parse_types.specs.Views.{placed, Refuses}
+use Rattle.cpc_parser_reading.specs.Reading.{Read, Fault, Deep}
+use Rattle.cpc_parser_types.specs.Views.{placed, Refuses}
 use Rattle.cpc_parser.specs.ItemViews.{flat, program_whole}
 use Rattle.cpc_parser.proofs.Loop.{same_read}
 use Rattle.cpc_parser.proofs.Parsed.{read_program, is_read, syntax_place, deep_place, no_syntax, no_depth}

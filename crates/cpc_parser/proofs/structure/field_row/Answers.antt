@@ -4,10 +4,10 @@ use Rattle.std.proofs.lemmas.Result.{err_from_is_err_and}
 use Rattle.cpc_tree.specs.declared.program.Field.{Field}
 use Rattle.cpc_tree.specs.declared.token.Punctuator.TheVariants as P
 use Rattle.cpc_tree.specs.Locate.{located_field}
-use Rattle.cpc_parse_types.specs.TypeViews.{base_type}
-use Rattle.cpc_parse_types.specs.Views.{placed}
-use Rattle.cpc_parse_types.proofs.Giving.{err_through}
-use Rattle.cpc_parse_types.proofs.TokenSteps.{begun_err}
+use Rattle.cpc_parser_types.specs.TypeViews.{base_type}
+use Rattle.cpc_parser_types.specs.Views.{placed}
+use Rattle.cpc_parser_types.proofs.Giving.{err_through}
+use Rattle.cpc_parser_types.proofs.TokenSteps.{begun_err}
 use Rattle.cpc_parser.specs.ItemViews.{InFields}
 use Rattle.cpc_parser.proofs.Steps.{onward}
 use Rattle.cpc_parser.proofs.FieldSteps.{field_first, field_next, field_fails_first, field_fails, field_ends}

@@ -1,8 +1,8 @@
 use Rattle.std.proofs.Common.{length, map, ◌<◌}
 use Rattle.cpc_tree.specs.Erase.{Names}
 use Rattle.cpc_tree.specs.Locate.{located_field}
-use Rattle.cpc_parse_types.specs.TypeViews.{base_type}
-use Rattle.cpc_parse_types.specs.Views.{placed}
+use Rattle.cpc_parser_types.specs.TypeViews.{base_type}
+use Rattle.cpc_parser_types.specs.Views.{placed}
 use Rattle.cpc_parser.specs.ItemViews.{InFields}
 use Rattle.cpc_parser.proofs.structure.field_row.Given as goal
 

@@ -1,8 +1,8 @@
 use Rattle.std.proofs.Common.{◌≡◌, map, sym, subst, ◌∙◌, arith}
 use Rattle.std.proofs.lemmas.Result.{err_from_is_err_and}
 use Rattle.cpc_tree.specs.Locate.{located_field}
-use Rattle.cpc_reading.specs.Reading.{Read}
-use Rattle.cpc_parse_types.specs.Views.{placed, Refuses}
+use Rattle.cpc_parser_reading.specs.Reading.{Read}
+use Rattle.cpc_parser_types.specs.Views.{placed, Refuses}
 use Rattle.cpc_parser.specs.ItemReaders.{line_at}
 use Rattle.cpc_parser.specs.ItemViews.{onto}
 use Rattle.cpc_parser.proofs.FieldSteps.{lines_first, lines_next, lines_fail_first, lines_fail, lines_end}

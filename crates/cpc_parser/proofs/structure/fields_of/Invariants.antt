@@ -1,7 +1,7 @@
 use Rattle.std.proofs.Common.{length, map, ◌<◌}
 use Rattle.cpc_tree.specs.Erase.{Names}
 use Rattle.cpc_tree.specs.Locate.{located_field}
-use Rattle.cpc_parse_types.specs.Views.{placed}
+use Rattle.cpc_parser_types.specs.Views.{placed}
 use Rattle.cpc_parser.specs.ItemViews.{InLines}
 use Rattle.cpc_parser.proofs.structure.fields_of.Given as goal
 

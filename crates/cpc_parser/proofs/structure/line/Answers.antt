@@ -1,7 +1,7 @@
 use Rattle.std.proofs.Common.{map}
 use Rattle.cpc_tree.specs.Locate.{located_field}
-use Rattle.cpc_parse_types.specs.Views.{placed}
-use Rattle.cpc_parse_types.proofs.Giving.{err_through}
+use Rattle.cpc_parser_types.specs.Views.{placed}
+use Rattle.cpc_parser_types.proofs.Giving.{err_through}
 use Rattle.cpc_parser.proofs.Steps.{onward, gives_as}
 use Rattle.cpc_parser.proofs.FieldSteps.{line_steps}
 use Rattle.cpc_parser.proofs.structure.line.Goals as goal

@@ -1,6 +1,6 @@
 use Rattle.std.proofs.Common.{◌≡◌, ◌++◌, drop}
 use Rattle.cpc_tree.specs.Erase.{Names, exprs_of}
-use Rattle.cpc_layout.specs.Sheets.{row_of}
+use Rattle.cpc_printer_layout.specs.Sheets.{row_of}
 use Rattle.cpc_printer.specs.Expressions.{further_args}
 use Rattle.cpc_printer.proofs.expressions.+operands.Given as goal
 

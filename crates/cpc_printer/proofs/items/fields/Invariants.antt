@@ -1,7 +1,7 @@
 use Rattle.std.proofs.Common.{◌≡◌, ◌++◌, drop, map}
 use Rattle.cpc_tree.specs.Erase.{Names, field_of}
 use Rattle.cpc_tree.specs.ItemPrint.{fields_row}
-use Rattle.cpc_layout.specs.Sheets.{row_of}
+use Rattle.cpc_printer_layout.specs.Sheets.{row_of}
 use Rattle.cpc_printer.proofs.items.fields.Given as goal
 
 -- what is put and what is left to put

@@ -1,7 +1,7 @@
 use Rattle.std.proofs.Common.{◌≡◌, ◌++◌, drop}
 use Rattle.cpc_tree.specs.Erase.{Names, list_of}
 use Rattle.cpc_tree.specs.StmtPrint.{locals_row}
-use Rattle.cpc_layout.specs.Sheets.{row_of}
+use Rattle.cpc_printer_layout.specs.Sheets.{row_of}
 use Rattle.cpc_printer.proofs.statements.further_locals.Given as goal
 
 -- what is put and what is left to put

@@ -3,7 +3,7 @@ use Rattle.cpc_base.specs.declared.stop.Dialect.{Dialect}
 use Rattle.cpc_tree.specs.Erase.{program_of, in_table}
 use Rattle.cpc_tree.specs.Tokens.{Lexeme}
 use Rattle.cpc_tree.specs.Spelling.{IsSpellable, CutsTo}
-use Rattle.cpc_layout.specs.Sheets.{row_of}
+use Rattle.cpc_printer_layout.specs.Sheets.{row_of}
 use Rattle.cpc_printer.specs.Style.{is_tight_for, printed_row}
 use Rattle.cpc_printer.proofs.NestRows.{not_not}
 use Rattle.cpc_printer.proofs.Back.{answer_back}

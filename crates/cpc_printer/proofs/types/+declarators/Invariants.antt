@@ -1,7 +1,7 @@
 use Rattle.std.proofs.Common.{◌≡◌, ◌++◌, drop}
 use Rattle.cpc_tree.specs.Erase.{Names}
 use Rattle.cpc_tree.specs.TypePrint.{rest_row}
-use Rattle.cpc_layout.specs.Sheets.{row_of}
+use Rattle.cpc_printer_layout.specs.Sheets.{row_of}
 use Rattle.cpc_printer.specs.Types.{listed_types}
 use Rattle.cpc_printer.proofs.types.+declarators.Given as goal
 

@@ -1,6 +1,6 @@
 use Rattle.std.proofs.Common.{◌≡◌, ◌++◌, drop, map}
 use Rattle.cpc_tree.specs.Erase.{Names, parameter_of}
-use Rattle.cpc_layout.specs.Sheets.{row_of}
+use Rattle.cpc_printer_layout.specs.Sheets.{row_of}
 use Rattle.cpc_printer.specs.Types.{further_row}
 use Rattle.cpc_printer.proofs.types.parameters.Given as goal
 

@@ -6,7 +6,7 @@ use Rattle.cpc_tree.specs.Grammar.{IsParseFault}
 use Rattle.cpc_tree.specs.Locate.{located_item}
 use Rattle.cpc_tree.specs.declared.program.Program.{Program}
 use Rattle.cpc_parser.specs.ItemViews.{IfFault}
-use Rattle.cpc_parse_types.specs.Views.{placed}
+use Rattle.cpc_parser_types.specs.Views.{placed}
 use Rattle.cpc_translate.proofs.Within.{placed_alike, uncut_told, unread_told}
 use Rattle.cpc_translate.proofs.reading.parsed.Goals as goal
 

@@ -1,6 +1,6 @@
 use Rattle.std.proofs.Common.{◌≡◌, drop}
 use Rattle.cpc_tree.specs.Erase.{Names}
-use Rattle.cpc_rules.specs.Apart.{AreApart}
+use Rattle.cpc_check_rules.specs.Apart.{AreApart}
 use Rattle.cpc_types.specs.Listed.{listed_of}
 use Rattle.cpc_tree.specs.Typing as T
 use Rattle.cpc_types.proofs.shapes.+sameness.Given as goal

@@ -1,7 +1,7 @@
 use Rattle.std.proofs.Common.{map, ap, ◌∙◌, arith}
 use Rattle.std.proofs.lemmas.List.{take_all}
 use Rattle.cpc_tree.specs.Erase.{item_of}
-use Rattle.cpc_rules.specs.ItemRules as R
+use Rattle.cpc_check_rules.specs.ItemRules as R
 use Rattle.cpc_check_items.proofs.Notes.{function_more}
 use Rattle.cpc_check_items.proofs.bodies.Bodies.of.Goals as goal
 

@@ -3,8 +3,8 @@ use Rattle.std.specs.Prelude.{nat_eq}
 use Rattle.std.specs.HashSet as set
 use Rattle.cpc_base.specs.declared.names.Name.{Name}
 use Rattle.cpc_tree.specs.Erase.{Names, item_of}
-use Rattle.cpc_rules.specs.Apart.{AreApart}
-use Rattle.cpc_rules.specs.ItemRules as R
+use Rattle.cpc_check_rules.specs.Apart.{AreApart}
+use Rattle.cpc_check_rules.specs.ItemRules as R
 use Rattle.cpc_check_items.proofs.bodies.Bodies.of.Given as goal
 
 -- the names of those so far

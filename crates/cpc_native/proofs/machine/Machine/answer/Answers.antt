@@ -3,10 +3,10 @@ use Rattle.std.specs.Prelude.{Some}
 use Rattle.std.proofs.lemmas.List.Elements.{All-pop}
 use Rattle.cpc_meaning.specs.Plain as P
 use Rattle.cpc_meaning.specs.Trees.{trees}
-use Rattle.cpc_values.specs.Meets.{Meets}
-use Rattle.cpc_values.specs.Shown.{value_of, store_of}
-use Rattle.cpc_index.specs.Indexed.{items_of}
-use Rattle.cpc_frames.specs.Frames.{IsWellFrame}
+use Rattle.cpc_eval_values.specs.Meets.{Meets}
+use Rattle.cpc_eval_values.specs.Shown.{value_of, store_of}
+use Rattle.cpc_eval_index.specs.Indexed.{items_of}
+use Rattle.cpc_native_frames.specs.Frames.{IsWellFrame}
 use Rattle.cpc_native.specs.Stacks.{frames_of, stack_of, done_of}
 use Rattle.cpc_native.proofs.Machines.{answer_step, went_meets, faulted_meets}
 use Rattle.cpc_native.proofs.machine.Machine.answer.Goals as goal

@@ -4,8 +4,8 @@ use Rattle.cpc_tree.specs.Erase.{function_of}
 use Rattle.cpc_meaning.specs.Plain as P
 use Rattle.cpc_meaning.specs.Trees.{trees}
 use Rattle.cpc_meaning.proofs.Functions.{found_again}
-use Rattle.cpc_values.specs.Shown.{value_of, values_of, store_of}
-use Rattle.cpc_index.specs.Indexed.{items_of}
+use Rattle.cpc_eval_values.specs.Shown.{value_of, values_of, store_of}
+use Rattle.cpc_eval_index.specs.Indexed.{items_of}
 use Rattle.cpc_native.specs.Stacks.{frames_of}
 use Rattle.cpc_native.proofs.Machines.{stacks_alike}
 use Rattle.cpc_native.proofs.machine.Machine.call.Goals as goal

@@ -6,11 +6,11 @@ use Rattle.cpc_store.specs.declared.values.Value as V
 use Rattle.cpc_meaning.specs.Act as M
 use Rattle.cpc_meaning.specs.Plain as P
 use Rattle.cpc_meaning.specs.Trees.{trees}
-use Rattle.cpc_points.specs.Seen.{path_of}
-use Rattle.cpc_values.specs.Meets.{Meets}
-use Rattle.cpc_values.specs.Shown.{value_of, values_of, store_of}
-use Rattle.cpc_index.specs.Indexed.{items_of}
-use Rattle.cpc_frames.specs.Frames.{frame_of}
+use Rattle.cpc_native_points.specs.Seen.{path_of}
+use Rattle.cpc_eval_values.specs.Meets.{Meets}
+use Rattle.cpc_eval_values.specs.Shown.{value_of, values_of, store_of}
+use Rattle.cpc_eval_index.specs.Indexed.{items_of}
+use Rattle.cpc_native_frames.specs.Frames.{frame_of}
 use Rattle.cpc_native.specs.Stacks.{frames_of}
 use Rattle.cpc_native.proofs.Frames.{frames_upon}
 use Rattle.cpc_native.proofs.Machines.{at_here}

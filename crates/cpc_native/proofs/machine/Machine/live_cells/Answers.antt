@@ -2,7 +2,7 @@ use Rattle.std.proofs.Common.{◌≡◌, ◌+◌, min, sym, ◌∙◌, ap}
 use Rattle.cpc_store.specs.Store as S
 use Rattle.cpc_store.proofs.CodeLemmas.{store_cells-map}
 use Rattle.cpc_meaning.specs.Runs.{frames_registers}
-use Rattle.cpc_values.specs.Shown.{store_of}
+use Rattle.cpc_eval_values.specs.Shown.{store_of}
 use Rattle.cpc_native.specs.Stacks.{frames_of}
 use Rattle.cpc_native.proofs.Frames.{registers_counted}
 use Rattle.cpc_native.proofs.machine.Machine.live_cells.Goals as goal

@@ -2,10 +2,10 @@ use Rattle.std.proofs.Common.{◌≡◌, ◌+◌, min, Some, option_map, ap, sub
 use Rattle.std.proofs.lemmas.List.Elements.{All-pop}
 use Rattle.cpc_store.specs.Store.{store_cells}
 use Rattle.cpc_meaning.specs.Runs.{frames_registers}
-use Rattle.cpc_values.specs.Shown.{value_of, store_of}
-use Rattle.cpc_index.specs.Indexed.{items_of}
-use Rattle.cpc_frames.specs.Frames.{IsWellFrame}
-use Rattle.cpc_frames.specs.Made.{slots_of}
+use Rattle.cpc_eval_values.specs.Shown.{value_of, store_of}
+use Rattle.cpc_eval_index.specs.Indexed.{items_of}
+use Rattle.cpc_native_frames.specs.Frames.{IsWellFrame}
+use Rattle.cpc_native_frames.specs.Made.{slots_of}
 use Rattle.cpc_native.specs.Next.{IsCounted, greatest}
 use Rattle.cpc_native.specs.Stacks.{frames_of}
 use Rattle.cpc_native.proofs.Frames.{texts_in, serving_in}

@@ -2,8 +2,8 @@ use Rattle.std.proofs.Common.{◌≡◌, ◌∷◌, ◌∙◌, ap}
 use Rattle.cpc_tree.specs.Points as T
 use Rattle.cpc_store.specs.Store as S
 use Rattle.cpc_meaning.specs.Plain as P
-use Rattle.cpc_values.specs.Shown.{store_of}
-use Rattle.cpc_frames.specs.Frames.{frame_of}
+use Rattle.cpc_eval_values.specs.Shown.{store_of}
+use Rattle.cpc_native_frames.specs.Frames.{frame_of}
 use Rattle.cpc_native.specs.Stacks.{frames_of}
 use Rattle.cpc_native.proofs.Frames.{frames_upon, well_upon, told_in}
 use Rattle.cpc_native.proofs.machine.Machine.push.Goals as goal

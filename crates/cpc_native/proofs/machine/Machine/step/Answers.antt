@@ -4,10 +4,10 @@ use Rattle.std.proofs.lemmas.List.Elements.{All-pop}
 use Rattle.cpc_num.specs.declared.kinds.Fault.{Fault}
 use Rattle.cpc_meaning.specs.Plain as P
 use Rattle.cpc_meaning.specs.Trees.{trees}
-use Rattle.cpc_values.specs.Meets.{Meets}
-use Rattle.cpc_values.specs.Shown.{store_of}
-use Rattle.cpc_index.specs.Indexed.{items_of}
-use Rattle.cpc_frames.specs.Frames.{IsWellFrame}
+use Rattle.cpc_eval_values.specs.Meets.{Meets}
+use Rattle.cpc_eval_values.specs.Shown.{store_of}
+use Rattle.cpc_eval_index.specs.Indexed.{items_of}
+use Rattle.cpc_native_frames.specs.Frames.{IsWellFrame}
 use Rattle.cpc_native.specs.declared.machine.Machine.{Machine}
 use Rattle.cpc_native.specs.Stacks.{stack_of, done_of}
 use Rattle.cpc_native.specs.Well.{IsBack}

@@ -1,6 +1,6 @@
 use Rattle.std.proofs.Common.{[], sym, ap, ◌∙◌, arith}
 use Rattle.cpc_tree.specs.Erase.{Names}
-use Rattle.cpc_index.specs.Indexed.{items_of}
+use Rattle.cpc_eval_index.specs.Indexed.{items_of}
 use Rattle.cpc_store.specs.Codes.{map_store}
 use Rattle.cpc_store.specs.Store as S
 use Rattle.cpc_store.proofs.CodeLemmas.{store_cells-map, next_block-map, alloc-map, unset_cells-map}

@@ -1,8 +1,8 @@
 use Rattle.std.proofs.Common.{ap}
-use Rattle.cpc_index.specs.Indexed.{items_of}
+use Rattle.cpc_eval_index.specs.Indexed.{items_of}
 use Rattle.cpc_meaning.specs.Plain as P
 use Rattle.cpc_meaning.specs.Trees.{trees}
-use Rattle.cpc_values.specs.Shown.{value_of}
+use Rattle.cpc_eval_values.specs.Shown.{value_of}
 use Rattle.cpc_run.specs.Code.{items_in, store_in, stack_in, IsWell, Runs}
 use Rattle.cpc_run.proofs.Coded.{runs_same, answer_is}
 use Rattle.cpc_run.proofs.code.Code.answer.Goals as goal

@@ -1,5 +1,5 @@
 use Rattle.std.proofs.Common.{ap}
-use Rattle.cpc_index.specs.Indexed.{items_of}
+use Rattle.cpc_eval_index.specs.Indexed.{items_of}
 use Rattle.cpc_run.specs.Code.{items_in, store_in, stack_in, IsWell, Runs}
 use Rattle.cpc_run.proofs.Coded.{runs_same, on_ok}
 use Rattle.cpc_run.proofs.code.Code.call.Goals as goal

@@ -1,5 +1,5 @@
 use Rattle.std.proofs.Common.{sym, ap, ◌∙◌}
-use Rattle.cpc_index.specs.Indexed.{items_of}
+use Rattle.cpc_eval_index.specs.Indexed.{items_of}
 use Rattle.cpc_store.specs.Seen.{seen}
 use Rattle.cpc_store.proofs.CodeLemmas.{free-map}
 use Rattle.cpc_run.specs.Code.{items_in, store_in, stack_in, IsWell, Runs}

@@ -1,7 +1,7 @@
 use Rattle.std.proofs.Common.{ap, ◌∙◌, map}
 use Rattle.cpc_tree.specs.Erase.{item_of}
-use Rattle.cpc_index.specs.Indexed.{items_of}
-use Rattle.cpc_values.specs.Shown.{store_of}
+use Rattle.cpc_eval_index.specs.Indexed.{items_of}
+use Rattle.cpc_eval_values.specs.Shown.{store_of}
 use Rattle.cpc_run.specs.Code.{items_in, store_in, IsIdle, IsWell, Runs}
 use Rattle.cpc_run.proofs.Coded.{runs_given}
 use Rattle.cpc_run.proofs.code.Code.new.Goals as goal

@@ -1,8 +1,8 @@
 use Rattle.std.proofs.Common.{ap}
-use Rattle.cpc_index.specs.Indexed.{items_of}
+use Rattle.cpc_eval_index.specs.Indexed.{items_of}
 use Rattle.cpc_meaning.specs.Plain as P
 use Rattle.cpc_meaning.specs.Trees.{trees}
-use Rattle.cpc_values.specs.Meets.{Meets}
+use Rattle.cpc_eval_values.specs.Meets.{Meets}
 use Rattle.cpc_native.specs.Stacks.{done_of as native_done}
 use Rattle.cpc_run.specs.Code.{items_in, store_in, stack_in, IsWell, Runs}
 use Rattle.cpc_run.proofs.Coded.{runs_same, if_ok, ok_names, ends_idle, asked_in, step_is}

@@ -1,5 +1,5 @@
 use Rattle.std.proofs.Common.{refl}
-use Rattle.cpc_values.specs.Shown.{value_of}
+use Rattle.cpc_eval_values.specs.Shown.{value_of}
 use Rattle.cpc_run.proofs.Asks.{freed_answered}
 use Rattle.cpc_run.proofs.looped.Loop.frees_block.Goals as goal
 

@@ -3,8 +3,8 @@ use Rattle.cpc_meaning.specs.Plain.{plain, running_function, Asks}
 use Rattle.cpc_meaning.specs.Trees.{trees}
 use Rattle.cpc_run.specs.Code.{AskedIn, EndsIdle, Same, done_of, store_in, stack_in}
 use Rattle.cpc_native.specs.Stacks.{request_of}
-use Rattle.cpc_pointers.specs.Made.{IsMadeCode}
-use Rattle.cpc_pointers.proofs.Runs.{code_made}
+use Rattle.cpc_meaning_pointer_laws.specs.Made.{IsMadeCode}
+use Rattle.cpc_meaning_pointer_laws.proofs.Runs.{code_made}
 use Rattle.cpc_run.specs.States.{where_running, program_in}
 use Rattle.cpc_meaning.specs.Runs.{live_cells}
 use Rattle.cpc_run.specs.Shorts.{IsBeyond}

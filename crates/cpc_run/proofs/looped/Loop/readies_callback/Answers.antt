@@ -4,7 +4,7 @@ use Rattle.cpc_meaning.specs.Agenda as A
 use Rattle.cpc_meaning.specs.Events.{event_primitive}
 use Rattle.cpc_meaning.specs.Machine.{with_agenda}
 use Rattle.cpc_meaning.specs.Trees.{trees}
-use Rattle.cpc_values.specs.Shown.{value_of}
+use Rattle.cpc_eval_values.specs.Shown.{value_of}
 use Rattle.cpc_run.specs.Code.{stack_in}
 use Rattle.cpc_run.specs.States.{Did, settles, program_in, callback_of}
 use Rattle.cpc_run.specs.declared.items.Item.TheVariants as I

@@ -1,5 +1,5 @@
 use Rattle.std.proofs.Common.{◌≤◌, sym, subst}
-use Rattle.cpc_values.specs.Shown.{value_of}
+use Rattle.cpc_eval_values.specs.Shown.{value_of}
 use Rattle.cpc_meaning.specs.Events.{starts_callback}
 use Rattle.cpc_meaning.specs.Trees.{trees}
 use Rattle.cpc_run.specs.States.{Did, settles, program_in, callback_of}

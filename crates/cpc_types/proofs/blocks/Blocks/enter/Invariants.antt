@@ -1,7 +1,7 @@
 use Rattle.std.proofs.Common.{◌≡◌, [], drop}
 use Rattle.cpc_tree.specs.Erase.{Names}
 use Rattle.cpc_tree.specs.Syntax.{Program}
-use Rattle.cpc_rules.specs.Scopes.{with_block}
+use Rattle.cpc_check_rules.specs.Scopes.{with_block}
 use Rattle.cpc_types.specs.Blocks.{inside, with_parameters}
 use Rattle.cpc_types.proofs.blocks.Blocks.enter.Given as goal
 

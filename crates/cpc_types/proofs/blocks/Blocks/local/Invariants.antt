@@ -1,8 +1,8 @@
 use Rattle.std.proofs.Common.{◌≡◌, ◌≤◌, length, take, reverse}
 use Rattle.cpc_tree.specs.Erase.{Names}
-use Rattle.cpc_rules.specs.Apart.{AreApart}
+use Rattle.cpc_check_rules.specs.Apart.{AreApart}
 use Rattle.cpc_tree.specs.Syntax.{Program}
-use Rattle.cpc_rules.specs.Scopes.{meant}
+use Rattle.cpc_check_rules.specs.Scopes.{meant}
 use Rattle.cpc_types.specs.Blocks.{entered}
 use Rattle.cpc_types.proofs.blocks.Blocks.local.Given as goal
 

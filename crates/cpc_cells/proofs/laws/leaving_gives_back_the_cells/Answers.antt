@@ -1,5 +1,0 @@
-use Rattle.cpc_cells.proofs.Calls.{leaving_gives_back}
-use Rattle.cpc_cells.proofs.laws.leaving_gives_back_the_cells.Goals as goal
-
-pub returns : goal.returns
-returns c = record { law = leaving_gives_back }

@@ -1,0 +1,5 @@
+use Rattle.cpc_check_laws.proofs.Widened.{parses_same}
+use Rattle.cpc_check_laws.proofs.laws.event_reads_more.Goals as goal
+
+pub returns : goal.returns
+returns c = record { law = parses_same }

@@ -1,0 +1,17 @@
+-- Programs that are read and break no rule are never stuck.
+use Rattle.cpc_base.specs.declared.stop.Dialect.TheVariants as D
+use Rattle.cpc_tree.specs.Located.{bare}
+use Rattle.cpc_check_sound_laws.specs.Promises.{AcceptedIsTyped, AcceptedThreadsNeverStuck, AcceptedCallbacksNeverStuck}
+use Rattle.cpc_check_sound_laws.proofs.Grammar.{items_shape}
+use Rattle.cpc_check_sound_laws.proofs.Programs.{program_typed}
+use Rattle.cpc_check_sound_laws.proofs.Threads.{threads_never_stuck}
+use Rattle.cpc_check_sound_laws.proofs.Events.{callbacks_never_stuck}
+
+pub accepted_is_typed : AcceptedIsTyped
+accepted_is_typed dialect list end p read h = program_typed dialect p (items_shape list p.items read.1 read.3) h
+
+pub accepted_threads_never_stuck : AcceptedThreadsNeverStuck
+accepted_threads_never_stuck list end p read h = threads_never_stuck (bare p) (accepted_is_typed D.Cpc list end p read h)
+
+pub accepted_callbacks_never_stuck : AcceptedCallbacksNeverStuck
+accepted_callbacks_never_stuck list end p read h = callbacks_never_stuck (bare p) (accepted_is_typed D.Event list end p read h)

@@ -1,0 +1,80 @@
+-- The numbers of a command are within their bounds.
+use Rattle.std.proofs.Common.{◌≡◌, ◌≤◌, ◌&&◌, ℕ, Bool, true, false, List, [], ◌∷◌, Option, Some, None, nat_le, codes, bytes_eq, refl, sym, arith, true≢false}
+use Rattle.std.specs.Prelude.{if◌then◌else◌, option_and_then, option_map}
+use Rattle.std.specs.Option.{option_map_or}
+use Rattle.std.specs.Str.Parse.{digits_value}
+use Rattle.std.proofs.lemmas.Bool.Decides.{nat_tests}
+use Rattle.clap.specs.Kinds.{Kinds}
+use Rattle.clap.specs.Walk.{Row, first_of}
+use Rattle.clap.specs.Simple.{subcommand_of}
+use Rattle.clap.specs.Faults.{fault_of}
+use Rattle.cpc_base.specs.Bytes.{Text}
+use Rattle.cpc_cli_command.specs.Commands.{Command, Check, Translate, Run, cells_in, command_in, command_named, command_of, cpc_app, if_taken, is_given, run_in, steps_in}
+use Rattle.cpc_cli_command.specs.Number.{default_cells, default_steps, is_numeral, most_cells, most_steps, number_of}
+use Rattle.cpc_cli_command.specs.Usage.{IsBounded}
+
+-- P of what is there
+abbrev pub IfThere : {A : Type 0} → (A → Type 0) → Option A → Type 0
+IfThere P None = Unit {0}
+IfThere P (Some a) = P a
+
+abbrev Within : (most n : ℕ) → Type 0
+Within most n = (1 ≤ n) × (n ≤ most)
+
+both_true : (a b : Bool) → (a && b) ≡ true → (a ≡ true) × (b ≡ true)
+both_true true b e = (refl, e)
+both_true false b e = absurd (true≢false (sym e))
+
+number_within : (most : ℕ) (text : Text) → IfThere (Within most) (number_of most text)
+number_within most text = go (is_numeral text) (nat_le 1 n) (nat_le n most) refl refl
+  where
+    n : ℕ
+    n = digits_value 10 text
+
+    go : (a b c : Bool) → nat_le 1 n ≡ b → nat_le n most ≡ c → IfThere (Within most) (if a && (b && c) then Some n else None)
+    go false b c e f = tt
+    go true false c e f = tt
+    go true true false e f = tt
+    go true true true e f = (grind (arith, nat_tests), grind (arith, nat_tests))
+
+given_within : (most default : ℕ) → Within most default → (given : Option Text) → IfThere (Within most) (option_map_or (number_of most) given (Some default))
+given_within most default w None = w
+given_within most default w (Some text) = number_within most text
+
+run_bounded : (file : Text) (text : Bool) (steps cells : Option ℕ) → IfThere (Within most_steps) steps → IfThere (Within most_cells) cells
+    → IfThere IsBounded (option_and_then (λ s. option_map (λ c. Run file s c text) cells) steps)
+run_bounded file text None cells h g = tt
+run_bounded file text (Some s) None h g = tt
+run_bounded file text (Some s) (Some c) h g = (h.0, h.1, g.0, g.1)
+
+named_bounded : (name file : Text) (rows : List Row) → IfThere IsBounded (command_named name file rows)
+named_bounded name file rows = go (bytes_eq name (codes "check")) (bytes_eq name (codes "translate")) (bytes_eq name (codes "run"))
+  where
+    ran : IfThere IsBounded (run_in file rows)
+    ran = run_bounded file (is_given (codes "text") rows) (steps_in rows) (cells_in rows)
+        (given_within most_steps default_steps (omega arith, omega arith) (first_of (codes "steps") rows))
+        (given_within most_cells default_cells (omega arith, omega arith) (first_of (codes "cells") rows))
+
+    go : (c t r : Bool) → IfThere IsBounded (if c then Some (Check file) else (if t then Some (Translate file) else (if r then run_in file rows else None)))
+    go true t r = tt
+    go false true r = tt
+    go false false true = ran
+    go false false false = tt
+
+in_bounded : (met : Option (Text × List Row)) → IfThere IsBounded (option_and_then command_in met)
+in_bounded None = tt
+in_bounded (Some (name, rows)) = go (first_of (codes "FILE") rows)
+  where
+    go : (file : Option Text) → IfThere IsBounded (option_and_then (λ f. command_named name f rows) file)
+    go None = tt
+    go (Some file) = named_bounded name file rows
+
+taken_bounded : (kinds : Kinds) (command : Option Command) → IfThere IsBounded command → IfThere IsBounded (if_taken kinds command)
+taken_bounded [] command h = h
+taken_bounded (k ∷ kinds) command h = tt
+
+there : {A : Type 0} (P : A → Type 0) (o : Option A) (a : A) → o ≡ Some a → IfThere P o → P a
+there P o a e h = rw e at h
+
+pub bounded_is : (words : List Text) (command : Command) → command_of words ≡ Some command → IsBounded command
+bounded_is words command e = there IsBounded (command_of words) command e (taken_bounded (fault_of cpc_app words) (option_and_then command_in (subcommand_of cpc_app words)) (in_bounded (subcommand_of cpc_app words)))

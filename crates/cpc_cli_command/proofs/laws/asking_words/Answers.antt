@@ -1,0 +1,16 @@
+use Rattle.cpc_cli_command.proofs.UsageLemmas.{any_file_is, before_is, cells_is, cells_joined_is, check_is, joined_is, run_is, steps_is, text_is, translate_is, value_of}
+use Rattle.cpc_cli_command.proofs.laws.asking_words.Goals as goal
+
+pub returns : goal.returns
+returns c = record {
+  check = λ file f. check_is file (value_of file f);
+  translate = λ file f. translate_is file (value_of file f);
+  run = λ file f. run_is file (value_of file f);
+  text = λ file f. text_is file (value_of file f);
+  steps = λ file number f n. steps_is file number (value_of file f) (value_of number n);
+  joined = λ file number f. joined_is file number (value_of file f);
+  before = λ file number f n. before_is file number (value_of file f) (value_of number n);
+  cells = λ file number f n. cells_is file number (value_of file f) (value_of number n);
+  cells_joined = λ file number f. cells_joined_is file number (value_of file f);
+  any_file = any_file_is;
+}

@@ -1,0 +1,12 @@
+use Rattle.cpc_cli_command.proofs.UsageLemmas.{cells_twice_is, no_check_is, no_run_is, no_translate_is, nothing_is, twice_is, two_files_is, unnamed, value_of, verb_is}
+use Rattle.cpc_cli_command.proofs.laws.other_words.Goals as goal
+
+pub returns : goal.returns
+returns c = record {
+  nothing = nothing_is;
+  verb = λ verb rest v other. let names = unnamed verb other in verb_is verb rest (value_of verb v) names.0 names.1 names.2;
+  no_file = (no_check_is, no_translate_is, no_run_is);
+  two_files = λ one two a b. two_files_is one two (value_of one a) (value_of two b);
+  twice = twice_is;
+  cells_twice = cells_twice_is;
+}

@@ -1,0 +1,103 @@
+-- The command line of `cpc`, by clap's own words.
+use Rattle.std.specs.Prelude.{◌≡◌, ℕ, Bool, true, false, List, [], ◌∷◌, Option, None, Some, if◌then◌else◌, codes, bytes_eq}
+use Rattle.std.specs.Prelude.{fold, option_map, option_and_then}
+use Rattle.std.specs.Option.{option_map_or}
+use Rattle.clap.specs.Kinds.{Kinds}
+use Rattle.clap.specs.Walk.{Row, Rule, first_of}
+use Rattle.clap.specs.Simple.{App, new_app, new_rule, on_top, subcommand_of, with_rule, with_subcommand}
+use Rattle.clap.specs.Faults.{fault_of}
+use Rattle.clap.specs.declared.builder.command.Command.TheViews.{out-Command}
+use Rattle.clap.specs.declared.builder.command.Command.{Command as Built}
+use Rattle.clap.specs.declared.builder.action.ArgAction.TheVariants.{Set, SetTrue}
+use Rattle.cpc_base.specs.Bytes.{Text}
+use Rattle.cpc_cli_command.specs.Number.{cells_of, default_cells, default_steps, steps_of}
+use Rattle.cpc_cli_command.specs.declared.words.Command.{Command as Parsed}
+use Rattle.cpc_cli_command.specs.declared.words.Command.TheVariants as P
+
+-- ---- what the words may be
+
+-- FILE
+abbrev pub file_rule : Rule
+file_rule = record (new_rule (codes "FILE")) { required = true }
+
+-- `--NAME VALUE`
+abbrev pub option_rule : Text → Rule
+option_rule name = record (new_rule name) { long = Some name; action = Some Set }
+
+-- `--NAME`
+abbrev pub flag_rule : Text → Rule
+flag_rule name = record (new_rule name) { long = Some name; action = Some SetTrue }
+
+-- `NAME FILE`
+abbrev pub on_file : Text → App
+on_file name = with_rule (new_app name) file_rule
+
+abbrev pub run_app : App
+run_app = with_rule (with_rule (with_rule (on_file (codes "run")) (option_rule (codes "steps"))) (option_rule (codes "cells"))) (flag_rule (codes "text"))
+
+-- no help, no version, and no name of the program among the words
+abbrev pub bare_app : App
+bare_app = on_top (λ s. record s {
+  no_binary_name = true;
+  disable_help_flag = true;
+  disable_help_subcommand = true;
+  disable_version_flag = true;
+  subcommand_required = true;
+}) (new_app (codes "cpc"))
+
+-- the subcommands, in order
+abbrev pub subcommands : List App
+subcommands = on_file (codes "check") ∷ on_file (codes "translate") ∷ run_app ∷ []
+
+unfoldable pub cpc_app : App
+cpc_app = fold (λ a s. with_subcommand a s.top) bare_app subcommands
+
+-- a command as it is built has no global argument
+abbrev pub IsLocal : Built → Type 0
+IsLocal c = (out-Command c).has_globals ≡ false
+
+-- ---- what the words ask for
+
+pub data Command : Type 0 where
+  Check : (file : Text) → Command
+  Translate : (file : Text) → Command
+  Run : (file : Text) (steps cells : ℕ) (text : Bool) → Command
+
+-- clap's value of a flag is "true" where it was given, and else "false"
+abbrev pub is_given : (name : Text) → List Row → Bool
+is_given name rows = option_map_or (λ value. bytes_eq value (codes "true")) (first_of name rows) false
+
+abbrev pub steps_in : List Row → Option ℕ
+steps_in rows = option_map_or steps_of (first_of (codes "steps") rows) (Some default_steps)
+
+abbrev pub cells_in : List Row → Option ℕ
+cells_in rows = option_map_or cells_of (first_of (codes "cells") rows) (Some default_cells)
+
+-- the run that the matches ask for, unless a number breaks its rule
+abbrev pub run_in : (file : Text) → List Row → Option Command
+run_in file rows = option_and_then (λ steps. option_map (λ cells. Run file steps cells (is_given (codes "text") rows)) (cells_in rows)) (steps_in rows)
+
+-- the command of a subcommand's name, its file and its matches
+abbrev pub command_named : (name file : Text) → List Row → Option Command
+command_named name file rows = if bytes_eq name (codes "check") then Some (Check file)
+    else (if bytes_eq name (codes "translate") then Some (Translate file)
+    else (if bytes_eq name (codes "run") then run_in file rows else None))
+
+-- the command of a subcommand's name and its matches
+abbrev pub command_in : Text × List Row → Option Command
+command_in met = option_and_then (λ file. command_named met.0 file met.1) (first_of (codes "FILE") met.1)
+
+-- the command, where clap refuses nothing
+abbrev pub if_taken : Kinds → Option Command → Option Command
+if_taken [] command = command
+if_taken (_ ∷ _) command = None
+
+-- the command of the words: none where clap refuses one of them or a number breaks its rule
+abbrev pub command_of : (words : List Text) → Option Command
+command_of words = if_taken (fault_of cpc_app words) (option_and_then command_in (subcommand_of cpc_app words))
+
+-- the command that the code read
+abbrev pub asked : Parsed → Command
+asked (P.Check file) = Check file.now
+asked (P.Translate file) = Translate file.now
+asked (P.Run file steps cells text) = Run file.now steps cells text

@@ -1,0 +1,73 @@
+//! The command line of `cpc`, as it is told to clap. What each function builds is a definition of `specs/Commands.antt`.
+ghost use Rattle.std.specs.Prelude.{◌≡◌, IfOk, codes, false};
+ghost use Rattle.clap.specs.Words.{app_of, rule_of};
+ghost use Rattle.cpc_cli_command.specs.Commands.{IsLocal, bare_app, cpc_app, file_rule, flag_rule};
+ghost use Rattle.cpc_cli_command.specs.Commands.{on_file as on_file_app, option_rule, run_app};
+
+use clap::{Arg, ArgAction, Command};
+use std::alloc::{AllocError, Global};
+
+/// FILE, the one word that is no option. It must be there.
+fn file_argument<'a>(alloc: Global) -> Arg<'a>
+    ensures rule { rule_of result ≡ file_rule }
+    ensures local { result.global ≡ false }
+{
+    Arg::new(alloc, "FILE").required(true)
+}
+
+/// `--NAME VALUE` or `--NAME=VALUE`.
+fn option<'a>(alloc: Global, name: &'a str) -> Arg<'a>
+    ensures rule { rule_of result ≡ option_rule name.entry.now }
+    ensures local { result.global ≡ false }
+{
+    Arg::new(alloc, name).long(name).action(ArgAction::Set)
+}
+
+/// `--NAME`.
+fn flag<'a>(alloc: Global, name: &'a str) -> Arg<'a>
+    ensures rule { rule_of result ≡ flag_rule name.entry.now }
+    ensures local { result.global ≡ false }
+{
+    Arg::new(alloc, name).long(name).action(ArgAction::SetTrue)
+}
+
+/// The subcommand `NAME FILE`.
+fn on_file<'a>(alloc: Global, name: &'a str) -> Result<Command<'a>, AllocError>
+    ensures app { IfOk result (λ c. app_of c ≡ on_file_app name.entry.now) }
+    ensures local { IfOk result IsLocal }
+{
+    Command::new(alloc, name).arg(file_argument(alloc))
+}
+
+/// `run FILE [--steps N] [--cells N] [--text]`.
+fn run<'a>(alloc: Global) -> Result<Command<'a>, AllocError>
+    ensures app { IfOk result (λ c. app_of c ≡ run_app) }
+    ensures local { IfOk result IsLocal }
+{
+    on_file(alloc, "run")?
+        .arg(option(alloc, "steps"))?
+        .arg(option(alloc, "cells"))?
+        .arg(flag(alloc, "text"))
+}
+
+/// `cpc` with no subcommand yet. There is no help and no version, and the words do not begin with the program's name.
+fn bare<'a>(alloc: Global) -> Command<'a>
+    ensures { app_of result ≡ bare_app }
+{
+    Command::new(alloc, "cpc")
+        .no_binary_name(true)
+        .disable_help_flag(true)
+        .disable_help_subcommand(true)
+        .disable_version_flag(true)
+        .subcommand_required(true)
+}
+
+/// The whole command line.
+pub(crate) fn cpc<'a>(alloc: Global) -> Result<Command<'a>, AllocError>
+    ensures { IfOk result (λ c. app_of c ≡ cpc_app) }
+{
+    bare(alloc)
+        .subcommand(on_file(alloc, "check")?)?
+        .subcommand(on_file(alloc, "translate")?)?
+        .subcommand(run(alloc)?)
+}

@@ -1,0 +1,52 @@
+//! What the words mean, as laws that do not speak of clap.
+ghost use Rattle.clap.specs.Words.{fault_of};
+ghost use Rattle.std.specs.Prelude.{◌≡◌, false, true, List, Some, None, [], ◌∷◌, ◌++◌, codes};
+ghost use Rattle.cpc_base.specs.Bytes.{Text};
+ghost use Rattle.cpc_cli_command.specs.Commands.{Check, Command, Run, Translate, command_of, cpc_app};
+ghost use Rattle.cpc_cli_command.specs.Number.{default_cells, default_steps};
+ghost use Rattle.cpc_cli_command.specs.Usage.{BreaksNumber, EntersFile, IsBounded, IsPlain, Means, is_verb, run_for, run_within};
+
+/// The words that ask for a command, where no file or number begins with `-`.
+pub fn asking_words()
+    ensures check { (file : Text) → IsPlain file → Means (codes "check" ∷ file ∷ []) (Some (Check file)) }
+    ensures translate { (file : Text) → IsPlain file → Means (codes "translate" ∷ file ∷ []) (Some (Translate file)) }
+    ensures run { (file : Text) → IsPlain file → Means (codes "run" ∷ file ∷ []) (Some (Run file default_steps default_cells false)) }
+    ensures text { (file : Text) → IsPlain file
+        → Means (codes "run" ∷ file ∷ codes "--text" ∷ []) (Some (Run file default_steps default_cells true)) }
+    ensures steps { (file number : Text) → IsPlain file → IsPlain number
+        → Means (codes "run" ∷ file ∷ codes "--steps" ∷ number ∷ []) (run_for file number) }
+    ensures joined { (file number : Text) → IsPlain file
+        → Means (codes "run" ∷ file ∷ (codes "--steps=" ++ number) ∷ []) (run_for file number) }
+    ensures before { (file number : Text) → IsPlain file → IsPlain number
+        → Means (codes "run" ∷ codes "--steps" ∷ number ∷ file ∷ []) (run_for file number) }
+    ensures cells { (file number : Text) → IsPlain file → IsPlain number
+        → Means (codes "run" ∷ file ∷ codes "--cells" ∷ number ∷ []) (run_within file number) }
+    ensures cells_joined { (file number : Text) → IsPlain file
+        → Means (codes "run" ∷ file ∷ (codes "--cells=" ++ number) ∷ []) (run_within file number) }
+    // Behind `--` a file may begin with `-`.
+    ensures any_file { (file : Text) → Means (codes "check" ∷ codes "--" ∷ file ∷ []) (Some (Check file)) }
+{}
+
+/// Words that ask for none.
+pub fn other_words()
+    ensures nothing { Means [] None }
+    ensures verb { (verb : Text) (rest : List Text) → IsPlain verb → is_verb verb ≡ false → Means (verb ∷ rest) None }
+    ensures no_file { Means (codes "check" ∷ []) None × Means (codes "translate" ∷ []) None × Means (codes "run" ∷ []) None }
+    ensures two_files { (one two : Text) → IsPlain one → IsPlain two → Means (codes "check" ∷ one ∷ two ∷ []) None }
+    ensures twice { (one two file : Text)
+        → Means (codes "run" ∷ (codes "--steps=" ++ one) ∷ (codes "--steps=" ++ two) ∷ file ∷ []) None }
+    ensures cells_twice { (one two file : Text)
+        → Means (codes "run" ∷ (codes "--cells=" ++ one) ∷ (codes "--cells=" ++ two) ∷ file ∷ []) None }
+{}
+
+/// What words ask for that clap takes: it has entered a subcommand, and FILE has a value, so they ask for a command
+/// unless a number breaks its rule.
+pub fn taken_words()
+    ensures file { (words : List Text) → fault_of cpc_app words ≡ [] → EntersFile words }
+    ensures number { (words : List Text) → fault_of cpc_app words ≡ [] → command_of words ≡ None → BreaksNumber words }
+{}
+
+/// The numbers of the command that words ask for are within their bounds.
+pub fn bounded_words()
+    ensures { (words : List Text) (command : Command) → command_of words ≡ Some command → IsBounded command }
+{}

@@ -1,0 +1,133 @@
+//! Reads the words of a command line.
+ghost use Rattle.std.specs.Prelude.{◌≡◌, ◌≢◌, IfOk, map, option_and_then, option_map, string_bytes};
+ghost use Rattle.clap.specs.Words.{found_of, kind_of, rows_of, subcommand_rows_of};
+ghost use Rattle.cpc_cli_command.specs.Commands.{asked, command_in, command_named as named_command, command_of};
+ghost use Rattle.cpc_cli_command.specs.Commands.{cells_in as cells_given, is_given as was_given};
+ghost use Rattle.cpc_cli_command.specs.Commands.{run_in as run_given, steps_in as steps_given};
+ghost use Rattle.cpc_base.specs.declared.stop.Stop.TheVariants.{Fault};
+
+use crate::build;
+use crate::number::{DEFAULT_CELLS, DEFAULT_STEPS, MOST_CELLS, MOST_STEPS, read_number};
+use clap::ArgMatches;
+use clap::error::{Error, ErrorKind};
+use cpc_base::Stop;
+use std::alloc::Global;
+
+/// What a command line asks for. A file is named as the words name it.
+#[derive(Clone, Copy, Debug, PartialEq, Eq)]
+pub enum Command<'a> {
+    /// Reads and checks the text of the file.
+    Check {
+        /// The file that holds the text.
+        file: &'a str,
+    },
+    /// Translates the text of the file.
+    Translate {
+        /// The file that holds the text.
+        file: &'a str,
+    },
+    /// Runs the text of the file.
+    Run {
+        /// The file that holds the text.
+        file: &'a str,
+        /// The most steps that the run takes, within 1 to `MOST_STEPS`.
+        steps: u64,
+        /// The most live cells of the run, within 1 to `MOST_CELLS`.
+        cells: u64,
+        /// Whether `--text` was given.
+        text: bool,
+    },
+}
+
+/// The words are no command of `cpc`.
+#[derive(Clone, Copy, Debug, PartialEq, Eq, Drop)]
+pub struct Usage;
+
+/// The command that `words` ask for, without the program's name. `Fault(Usage)` where they ask for none, and `Memory`
+/// for want of memory.
+pub fn read_words<'a>(alloc: Global, words: &'a [String]) -> Result<Command<'a>, Stop<Usage>>
+    ensures command { IfOk result (λ c. command_of (map string_bytes words.entry.now) ≡ Some (asked c)) }
+    ensures usage { (u : Usage) → result ≡ Err (Fault u) → command_of (map string_bytes words.entry.now) ≡ None }
+{
+    let command = build::cpc(alloc)?;
+    match command.try_get_matches_from(words) {
+        Ok(matches) => subcommand_in(&matches).ok_or(Stop::Fault(Usage)),
+        Err(error) => Err(stop_of(&error)),
+    }
+}
+
+/// Want of memory, or that the words are no command.
+fn stop_of(error: &Error) -> Stop<Usage>
+    ensures { (u : Usage) → result ≡ Fault u → kind_of error.now ≢ ErrorKind.OutOfMemory }
+{
+    if error.kind() == ErrorKind::OutOfMemory {
+        Stop::Memory
+    } else {
+        Stop::Fault(Usage)
+    }
+}
+
+/// The command of the subcommand that was entered.
+fn subcommand_in<'a>(matches: &ArgMatches<'a>) -> Option<Command<'a>>
+    ensures { option_map asked result ≡ option_and_then command_in (subcommand_rows_of matches.now) }
+{
+    let (name, values) = matches.subcommand()?;
+    let file = values.get_str("FILE")?;
+    command_named(name, file, values)
+}
+
+/// The command of a subcommand's name, its file and what else was given.
+fn command_named<'a>(name: &str, file: &'a str, values: &ArgMatches<'a>) -> Option<Command<'a>>
+    ensures { option_map asked result ≡ named_command name.now file.entry.now (rows_of (found_of values.now)) }
+{
+    match name {
+        "check" => Some(Command::Check { file }),
+        "translate" => Some(Command::Translate { file }),
+        "run" => run_in(file, values),
+        _ => None,
+    }
+}
+
+/// The run that the options ask for.
+fn run_in<'a>(file: &'a str, values: &ArgMatches<'a>) -> Option<Command<'a>>
+    ensures { option_map asked result ≡ run_given file.entry.now (rows_of (found_of values.now)) }
+{
+    let steps = steps_in(values)?;
+    let cells = cells_in(values)?;
+    Some(Command::Run {
+        file,
+        steps,
+        cells,
+        text: is_given("text", values),
+    })
+}
+
+/// The number of `--steps`, or the default where it was not given.
+fn steps_in(values: &ArgMatches<'_>) -> Option<u64>
+    ensures { result ≡ steps_given (rows_of (found_of values.now)) }
+{
+    match values.get_str("steps") {
+        Some(text) => read_number(text, MOST_STEPS),
+        None => Some(DEFAULT_STEPS),
+    }
+}
+
+/// The number of `--cells`, or the default where it was not given.
+fn cells_in(values: &ArgMatches<'_>) -> Option<u64>
+    ensures { result ≡ cells_given (rows_of (found_of values.now)) }
+{
+    match values.get_str("cells") {
+        Some(text) => read_number(text, MOST_CELLS),
+        None => Some(DEFAULT_CELLS),
+    }
+}
+
+/// Whether the flag `name` was given: clap's value of a flag is "true" then, and else "false".
+fn is_given(name: &str, values: &ArgMatches<'_>) -> bool
+    ensures { result ≡ was_given name.now (rows_of (found_of values.now)) }
+{
+    match values.get_str(name) {
+        Some(value) => value == "true",
+        None => false,
+    }
+}

@@ -1,5 +1,0 @@
-use Rattle.cpc_command.proofs.BoundLemmas.{bounded_is}
-use Rattle.cpc_command.proofs.laws.bounded_words.Goals as goal
-
-pub returns : goal.returns
-returns c = bounded_is

@@ -1,5 +1,0 @@
-use Rattle.cpc_command.proofs.FileGiven.{breaks_number, enters_file}
-use Rattle.cpc_command.proofs.laws.taken_words.Goals as goal
-
-pub returns : goal.returns
-returns c = record { file = enters_file; number = breaks_number }

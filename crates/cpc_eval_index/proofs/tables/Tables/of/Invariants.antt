@@ -1,0 +1,7 @@
+use Rattle.std.proofs.Common.{take}
+use Rattle.cpc_eval_index.specs.Tabled.{AreTables}
+use Rattle.cpc_eval_index.proofs.tables.Tables.of.Given as goal
+
+-- the tables of the items so far
+abbrev pub invariant-loop-i : goal.invariant-loop-i
+invariant-loop-i l = AreTables (take l.i l.list) l.tables

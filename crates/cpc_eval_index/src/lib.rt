@@ -1,0 +1,12 @@
+//! What the names of a program stand for, found without going through its items.
+#![tactic(auto)]
+
+mod index;
+mod items;
+mod meant;
+mod places;
+mod sizes;
+mod tables;
+
+pub use index::Index;
+pub use meant::Meant;

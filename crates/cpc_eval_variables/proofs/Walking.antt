@@ -1,0 +1,118 @@
+-- What a walk comes to, statement by statement.
+use Rattle.std.proofs.Common.{◌≡◌, ℕ, ◌+◌, ◌-◌, ◌<◌, ◌≤◌, List, [], ◌++◌, length, get_or, map, take, drop, refl, sym, ap, subst, ◌∙◌, append_assoc, length-append, arith, Vec, Box, Global, Option, option_map}
+use Rattle.std.proofs.lemmas.List.{length-take, take-take, length-map, map-append}
+use Rattle.std.specs.Borrow.{Bor}
+use Rattle.cpc_base.specs.declared.stop.Place.{Place}
+use Rattle.cpc_tree.specs.declared.program.CType.{CType}
+use Rattle.cpc_tree.specs.declared.program.Parameter.{Parameter}
+use Rattle.cpc_tree.specs.declared.program.Expr as GExpr
+use Rattle.cpc_tree.specs.declared.program.Statement.{Statement}
+use Rattle.cpc_tree.specs.declared.program.Statement.TheVariants as T
+use Rattle.cpc_tree.specs.Syntax.{Ty, Variable, For}
+use Rattle.cpc_tree.specs.Erase.{Names, type_of, expr_of, stmt_of, list_of, maybe_at, parameter_of}
+use Rattle.cpc_tree.specs.Typing as Y
+use Rattle.cpc_tree.specs.Points.{locals, locals_in, declared, extended, extended_all}
+use Rattle.cpc_tree.specs.Registers.{addresses_by, addresses_in, parameter_scope}
+use Rattle.cpc_eval_variables.specs.declared.scope.Scope.{Scope}
+use Rattle.cpc_eval_variables.specs.Told.{IsTold}
+use Rattle.cpc_eval_variables.specs.Scoped.{scope_of, scope_over}
+use Rattle.cpc_eval_variables.specs.Typed.{types_in, types_of}
+use Rattle.cpc_eval_variables.proofs.Addressing.{both_added}
+use Rattle.cpc_eval_variables.proofs.Nodes.{block_seen, for_seen, row_more}
+
+-- ---- lists that grow
+
+pub kept_longer : {A : Type 0} (xs ys : List A) → take (length ys) xs ≡ ys → length ys ≤ length xs
+kept_longer xs ys e = let h = length-take (length ys) xs in let k = ap length e in omega arith
+
+-- what a `for` adds: for its first part and its test, for its step, and for its body
+pub header_added : {A : Type 0} (x h c d y v w : List A) → y ≡ x ++ h → v ≡ y ++ c → w ≡ v ++ d → w ≡ x ++ ((h ++ c) ++ d)
+header_added x h c d y v w p r s = both_added x (h ++ c) d ((h ++ c) ++ d) v w (both_added x h c (h ++ c) y v p r refl) s refl
+
+-- the types of two lists of variables
+pub both_types : (x : List Ty) (a b : List Variable) (y z : List Ty) → y ≡ x ++ types_in a → z ≡ y ++ types_in b → z ≡ x ++ types_in (a ++ b)
+both_types x a b y z p q = q ∙ (ap (λ l. l ++ types_in b) p ∙ (append_assoc x (types_in a) (types_in b) ∙ ap (λ l. x ++ l) (sym (map-append (λ (v : Variable). v.type) a b))))
+
+-- how many variables were declared
+pub counted : (names : Names) (ts us : List (Bor CType)) (xs : List Variable) → types_of names us ≡ types_of names ts ++ types_in xs → length us ≡ length ts + length xs
+counted names ts us xs e =
+    sym (length-map us (λ (t : Bor CType). type_of names t.now))
+    ∙ (ap length e ∙ (length-append (types_of names ts) (types_in xs)
+    ∙ (ap (λ n. n + length (types_in xs)) (length-map ts (λ (t : Bor CType). type_of names t.now))
+    ∙ ap (λ n. length ts + n) (length-map xs (λ (x : Variable). x.type)))))
+
+-- ---- scopes
+
+pub told_same : (names : Names) (ps qs : List Parameter) → ps ≡ qs → IsTold names qs → IsTold names ps
+told_same names ps qs e told = let P : List Parameter → Type 0 = IsTold names in subst P (sym e) told
+
+-- ---- forms of statements
+
+module _ (names : Names) (e : Statement) where
+  pub block_locals : (place : Place) (inner : Vec Statement Global) (row : List Statement) → e ≡ T.Block place inner → row ≡ inner.items → locals_in (list_of names row) ≡ locals (stmt_of names e)
+  block_locals place inner row is rows = ap (λ r. locals_in (list_of names r)) rows ∙ ap locals (sym (block_seen names e place inner is))
+
+  pub block_addresses : (scope : Y.Scope) (n : ℕ) (place : Place) (inner : Vec Statement Global) (row : List Statement) → e ≡ T.Block place inner → row ≡ inner.items
+      → addresses_in scope n (list_of names row) ≡ addresses_by scope n (stmt_of names e)
+  block_addresses scope n place inner row is rows = ap (λ r. addresses_in scope n (list_of names r)) rows ∙ ap (addresses_by scope n) (sym (block_seen names e place inner is))
+
+  pub for_locals : (place : Place) (first : Vec Statement Global) (test : Option GExpr.Expr) (step : Option (Box Statement Global)) (body : Box Statement Global) (row : List Statement) (b : Statement)
+      → e ≡ T.For place first test step body → row ≡ first.items → b ≡ body.value → locals_in (list_of names row) ++ locals (stmt_of names b) ≡ locals (stmt_of names e)
+  for_locals place first test step body row b is rows bs =
+      ap (λ r. locals_in (list_of names r) ++ locals (stmt_of names b)) rows
+      ∙ (ap (λ (s : Statement). locals_in (list_of names first.items) ++ locals (stmt_of names s)) bs
+      ∙ ap locals (sym (for_seen names e place first test step body is)))
+
+  pub for_addresses : (scope : Y.Scope) (n : ℕ) (place : Place) (first : Vec Statement Global) (test : Option GExpr.Expr) (step : Option (Box Statement Global)) (body : Box Statement Global) (row : List Statement) (b : Statement)
+      → e ≡ T.For place first test step body → row ≡ first.items → b ≡ body.value
+      → addresses_by scope n (For (list_of names row) (option_map (expr_of names) test) (maybe_at names step) (stmt_of names b)) ≡ addresses_by scope n (stmt_of names e)
+  for_addresses scope n place first test step body row b is rows bs =
+      ap (λ r. addresses_by scope n (For (list_of names r) (option_map (expr_of names) test) (maybe_at names step) (stmt_of names b))) rows
+      ∙ (ap (λ (s : Statement). addresses_by scope n (For (list_of names first.items) (option_map (expr_of names) test) (maybe_at names step) (stmt_of names s))) bs
+      ∙ ap (addresses_by scope n) (sym (for_seen names e place first test step body is)))
+
+-- the number of variables behind a statement
+pub later_count : (names : Names) (ts us : List (Bor CType)) (xs : List Variable) (n a b : ℕ) → types_of names us ≡ types_of names ts ++ types_in xs → a ≡ length us → b ≡ length ts → n + (a - b) ≡ n + length xs
+later_count names ts us xs n a b e p q = let h = counted names ts us xs e in omega arith
+
+-- types of a row
+pub types_more : (names : Names) (row : List Statement) (i : ℕ) (s : Statement) (ts us : List (Bor CType)) → i < length row → s ≡ get_or row i s → types_of names us ≡ types_of names ts ++ types_in (locals (stmt_of names s))
+    → types_of names us ++ types_in (locals_in (list_of names (drop (i + 1) row))) ≡ types_of names ts ++ types_in (locals_in (list_of names (drop i row)))
+types_more names row i s ts us h e k =
+    let rest = list_of names (drop (i + 1) row) in
+    ap (λ l. l ++ types_in (locals_in rest)) k
+    ∙ (append_assoc (types_of names ts) (types_in (locals (stmt_of names s))) (types_in (locals_in rest))
+    ∙ (ap (λ l. types_of names ts ++ l) (sym (map-append (λ (x : Variable). x.type) (locals (stmt_of names s)) (locals_in rest)))
+    ∙ ap (λ ss. types_of names ts ++ types_in (locals_in ss)) (sym (row_more names row i s h e))))
+
+-- scopes along a row
+pub scope_more : (names : Names) (row : List Statement) (i n m : ℕ) (s : Statement) (before after : Y.Scope) → i < length row → s ≡ get_or row i s → m ≡ n + declared (stmt_of names s) → after ≡ extended before n (stmt_of names s)
+    → extended_all after m (list_of names (drop (i + 1) row)) ≡ extended_all before n (list_of names (drop i row))
+scope_more names row i n m s before after h e c k =
+    let rest = list_of names (drop (i + 1) row) in
+    ap (λ l. extended_all l m rest) k ∙ (ap (λ j. extended_all (extended before n (stmt_of names s)) j rest) c ∙ ap (extended_all before n) (sym (row_more names row i s h e)))
+
+-- the addressed along a row
+pub addressed_more : (names : Names) (row : List Statement) (i n m : ℕ) (s : Statement) (before after : Y.Scope) (xs ys : List ℕ) → i < length row → s ≡ get_or row i s → m ≡ n + declared (stmt_of names s) → after ≡ extended before n (stmt_of names s)
+    → ys ≡ xs ++ addresses_by before n (stmt_of names s)
+    → ys ++ addresses_in after m (list_of names (drop (i + 1) row)) ≡ xs ++ addresses_in before n (list_of names (drop i row))
+addressed_more names row i n m s before after xs ys h e c k p =
+    let rest = list_of names (drop (i + 1) row) in
+    ap (λ l. l ++ addresses_in after m rest) p
+    ∙ (append_assoc xs (addresses_by before n (stmt_of names s)) (addresses_in after m rest)
+    ∙ (ap (λ l. xs ++ (addresses_by before n (stmt_of names s) ++ addresses_in l m rest)) k
+    ∙ (ap (λ j. xs ++ (addresses_by before n (stmt_of names s) ++ addresses_in (extended before n (stmt_of names s)) j rest)) c
+    ∙ ap (λ ss. xs ++ addresses_in before n ss) (sym (row_more names row i s h e)))))
+
+-- what was kept is kept on
+pub kept_on : {A : Type 0} (xs ys zs : List A) → take (length ys) zs ≡ ys → take (length xs) ys ≡ xs → take (length xs) zs ≡ xs
+kept_on xs ys zs p q =
+    let h = kept_longer ys xs q in
+    sym (take-take (length xs) (length ys) zs h) ∙ (ap (take (length xs)) p ∙ q)
+
+-- ---- scopes of the code
+
+pub scope_same : (names : Names) (a b : Scope) → a.parameters.now ≡ b.parameters.now → a.locals.items ≡ b.locals.items → scope_of names a ≡ scope_of names b
+scope_same names a b p q =
+    ap (λ ps. scope_over names (parameter_scope 0 (map (parameter_of names) ps) []) a.locals.items) p
+    ∙ ap (λ ls. scope_over names (parameter_scope 0 (map (parameter_of names) b.parameters.now) []) ls) q

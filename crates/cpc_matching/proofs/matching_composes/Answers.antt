@@ -1,5 +1,0 @@
-use Rattle.cpc_matching.proofs.Systems.{matches_compose}
-use Rattle.cpc_matching.proofs.matching_composes.Goals as goal
-
-pub returns : goal.returns
-returns g c = λ A B C wa wb wc p q. matches_compose p q

@@ -1,0 +1,127 @@
+-- Statements by their parts: what is evaluated, and what is done then.
+use Rattle.std.proofs.Common.{◌≡◌, true, List, [], Option, Some, None, Result, refl, sym, ap, subst, ◌∙◌}
+use Rattle.cpc_base.specs.Bytes.{Text}
+use Rattle.cpc_base.specs.declared.stop.Stop.{Stop}
+use Rattle.cpc_num.specs.declared.kinds.Fault.{Fault}
+use Rattle.cpc_num.specs.declared.kinds.Op.{Op}
+use Rattle.cpc_eval.specs.Around.{operate_in}
+use Rattle.cpc_eval.specs.Values.{assigned_at}
+use Rattle.cpc_tree.specs.Erase.{Names}
+use Rattle.cpc_tree.specs.Syntax.{Ty, Expr, ENamed, Exprs, Function, Program}
+use Rattle.cpc_tree.specs.Typing.{NotMeant, function_named, Scope}
+use Rattle.cpc_tree.specs.Primitives.{Primitive, primitive_named, takes_first}
+use Rattle.cpc_tree.specs.Points as P
+use Rattle.cpc_tree.specs.Registers.{scope_in_function}
+use Rattle.cpc_store.specs.Store as S
+use Rattle.cpc_store.specs.Store.{Value}
+use Rattle.cpc_meaning.specs.Answer.{Answer, Gives, ◌>>=◌, needed}
+use Rattle.cpc_meaning.specs.Eval as E
+use Rattle.cpc_meaning.specs.Requests as R
+use Rattle.cpc_meaning.specs.Act as M
+use Rattle.cpc_meaning.specs.Trees.{scope_from, stood_at}
+use Rattle.cpc_native_points.specs.declared.parts.Phase.{Phase}
+use Rattle.cpc_native_points.specs.declared.parts.Phase.TheVariants as F
+use Rattle.cpc_native_points.specs.Seen.{point_at}
+use Rattle.cpc_native_builtins.specs.declared.builtins.Builtin.{Builtin}
+use Rattle.cpc_native_builtins.specs.declared.builtins.Builtin.TheVariants as B
+use Rattle.cpc_native_builtins.specs.Builtins.{primitive_of}
+use Rattle.cpc_native_builtins.specs.Served.{is_served}
+use Rattle.cpc_native_acts.specs.Rows.{asked_with}
+use Rattle.cpc_native_acts.specs.Calls.{calls_unmeant}
+use Rattle.cpc_native_acts.specs.Deeds.{goes_on, aimed, returned, test_held, Plans}
+use Rattle.cpc_native_acts.specs.declared.deeds.Deed.{Deed}
+use Rattle.cpc_native_acts.proofs.Calling.{chain, then_same}
+
+-- ---- assignments
+
+-- the right side of an assignment with an operator
+pub right_is : (c : E.Context) (x v : Expr) (op : Op) (o : Option Op) → o ≡ Some op → E.value c (M.right_side o x v) ≡ (E.value c x >>= (λ a. E.value c v >>= (λ b. operate_in c op x v a b)))
+right_is c x v op o e = ap (λ q. E.value c (M.right_side q x v)) e
+
+-- a place, and then what is assigned to it
+pub aimed_by : (c : E.Context) (e : Expr) (v : Value) → aimed c e v ≡ (E.place c e >>= (λ spot. assigned_at c e v >>= (λ w. Gives (spot, w))))
+aimed_by c e v = then_same (E.place c e) _ _ (λ spot. chain (needed (E.place_type c e)) (λ t. E.assigned t v) (λ w. Gives (spot, w)))
+
+-- what is written, and control goes on
+abbrev pub wrote : E.Context → E.Spot × Value → Answer M.Act
+wrote c q = goes_on (M.write c q.0 q.1)
+
+module _ (c : E.Context) where
+  assign_aimed : (e : Expr) (v : Value) → M.assign c e v ≡ (aimed c e v >>= (λ q. M.write c q.0 q.1))
+  assign_aimed e v =
+      then_same (E.place c e) _ _ (λ spot.
+      then_same (needed (E.place_type c e)) _ _ (λ t. chain (E.assigned t v) (λ w. Gives (spot, w)) (λ q. M.write c q.0 q.1))
+      ∙ chain (needed (E.place_type c e)) _ (λ q. M.write c q.0 q.1))
+      ∙ chain (E.place c e) _ (λ q. M.write c q.0 q.1)
+
+  pub aim_goes : (e : Expr) (v : Value) → goes_on (M.assign c e v) ≡ (aimed c e v >>= wrote c)
+  aim_goes e v = ap goes_on (assign_aimed e v) ∙ sym (chain (aimed c e v) (λ q. M.write c q.0 q.1) (λ p. Gives (M.GoesOn true p.1 p.0)))
+
+  pub assigns_parts : (x v : Expr) → M.assigns c x v ≡ (E.value c v >>= (λ w. aimed c x w >>= wrote c))
+  assigns_parts x v = then_same (E.value c v) _ _ (λ w. aim_goes x w)
+
+  -- ---- tests and returns
+
+  pub test_parts : (o : Option Expr) → M.test_act c o ≡ (test_held c o >>= M.passes c)
+  test_parts None = refl
+  test_parts (Some t) = chain (E.value c t) E.holds (M.passes c)
+
+  pub returns_parts : (result : Ty) (o : Option Expr) → M.returns c result o ≡ (returned c result o >>= M.leaves c)
+  returns_parts result None = refl
+  returns_parts result (Some x) = chain (E.value c x) (E.assigned result) (M.leaves c)
+
+  -- ---- requests
+
+  takes_served : (b : Builtin) (p : Program) (vs : List Value) → is_served (primitive_of b) ≡ true → R.takes p (primitive_of b) vs ≡ takes_first (primitive_of b)
+  takes_served B.RtDetach p vs e = absurd cc
+  takes_served B.Print p vs e = refl
+  takes_served B.Putc p vs e = refl
+  takes_served B.Puts p vs e = refl
+  takes_served B.Exit p vs e = refl
+  takes_served B.Malloc p vs e = refl
+  takes_served B.Free p vs e = refl
+  takes_served B.RtFrame p vs e = refl
+  takes_served B.RtBox p vs e = refl
+  takes_served B.RtFrameFree p vs e = refl
+  takes_served B.RtUnbox p vs e = refl
+  takes_served B.RtReady p vs e = refl
+  takes_served _ p vs e = refl
+
+  pub asks_parts : (b : Builtin) (es : Exprs) (o : Option Text) → is_served (primitive_of b) ≡ true
+      → M.asks_with c (primitive_of b) es o ≡ (asked_with c (primitive_of b) es o >>= M.asks (R.Builtin (primitive_of b)))
+  asks_parts b es (Some bytes) e = refl
+  asks_parts b es None e =
+      then_same (E.values c es) _ _ (λ vs. ap (λ ts. R.all_taken ts vs >>= M.asks (R.Builtin (primitive_of b))) (takes_served b c.program vs e))
+      ∙ chain (E.values c es) (λ vs. R.all_taken (takes_first (primitive_of b)) vs) (M.asks (R.Builtin (primitive_of b)))
+
+  pub unmeant_asks : (x : Text) (es : Exprs) (prim : Primitive) → Some prim ≡ primitive_named x → M.asks_with c prim es (M.puts_text prim es) ≡ calls_unmeant c x es
+  unmeant_asks x es prim e = ap (λ o. M.calls_named c x es NotMeant o (function_named c.program x)) e
+
+  pub unmeant_calls : (x : Text) (es : Exprs) → None ≡ primitive_named x → M.calls_value c (ENamed x) es ≡ calls_unmeant c x es
+  unmeant_calls x es e = ap (λ o. M.calls_named c x es NotMeant o (function_named c.program x)) e
+
+-- ---- where a frame stands
+
+module _ (names : Names) (p : Program) (x : Text) (f : Function) (path : P.Path) (slots : List E.Slot) (s : S.Store) (result : Ty) (o : Option Value) (r : Result Deed (Stop Fault)) where
+  abbrev pub within : Scope → E.Context
+  within scope = record { program = p; scope = scope; slots = slots; store = s }
+
+  -- what is planned at a point
+  abbrev pub PlansAt : Option Function → Phase → Type 0
+  PlansAt g ph = Plans names (within (scope_from g (point_at ph path))) r (M.act (within (scope_from g (point_at ph path))) result o (stood_at (Some f) (point_at ph path)))
+
+  at_phase : (ph is : Phase) → ph ≡ is → function_named p x ≡ Some f → PlansAt (Some f) is → PlansAt (function_named p x) ph
+  at_phase ph is e own h =
+      let A : Option Function → Type 0 = λ g. PlansAt g is in
+      let B : Phase → Type 0 = λ q. PlansAt (function_named p x) q in
+      subst B (sym e) (subst A (sym own) h)
+
+  pub at_statement : (ph : Phase) → ph ≡ F.Here → function_named p x ≡ Some f → Plans names (within (scope_in_function f path)) r (M.found_act (within (scope_in_function f path)) result (P.found f.body path)) → PlansAt (function_named p x) ph
+  at_statement ph e own h = at_phase ph F.Here e own h
+
+  pub at_arrival : (ph : Phase) → ph ≡ F.Arrival → function_named p x ≡ Some f → Plans names (within (scope_in_function f path)) r (M.arrives (within (scope_in_function f path)) (P.found f.body path) o) → PlansAt (function_named p x) ph
+  at_arrival ph e own h = at_phase ph F.Arrival e own h
+
+pub at_end : (names : Names) (p : Program) (x : Text) (f : Function) (path : P.Path) (slots : List E.Slot) (s : S.Store) (result : Ty) (o : Option Value) (r : Result Deed (Stop Fault)) (ph : Phase) → ph ≡ F.End → function_named p x ≡ Some f
+    → Plans names (within names p x f path slots s result o r []) r (M.leaves (within names p x f path slots s result o r []) S.Unset) → PlansAt names p x f path slots s result o r (function_named p x) ph
+at_end names p x f path slots s result o r ph e own h = at_phase names p x f path slots s result o r ph F.End e own h

@@ -1,0 +1,114 @@
+-- What a step does to the live cells, by the parts that are looked at.
+use Rattle.std.proofs.Common.{◌≡◌, ℕ, true, List, map, Option, Some, None, option_map, refl, sym, ap, subst, ◌∙◌}
+use Rattle.std.specs.Option.{IfSome}
+use Rattle.std.specs.Borrow.{Bor}
+use Rattle.cpc_base.specs.Bytes.{Text}
+use Rattle.cpc_base.specs.declared.names.Name.{Name}
+use Rattle.cpc_tree.specs.Erase.{Names, function_of, type_of, parameter_of}
+use Rattle.cpc_tree.specs.declared.program.Function as G
+use Rattle.cpc_tree.specs.declared.program.CType.{CType}
+use Rattle.cpc_tree.specs.declared.program.Mode.{Mode}
+use Rattle.cpc_tree.specs.declared.program.Parameter.{Parameter}
+use Rattle.cpc_tree.specs.Syntax.{Expr, ENamed, Exprs, Function, Program}
+use Rattle.cpc_tree.specs.Typing.{function_named, parameter_type}
+use Rattle.cpc_check_rules.specs.Apart.{AreApart}
+use Rattle.cpc_store.specs.Store.{Value, Store}
+use Rattle.cpc_meaning.specs.Answer.{Answer, Gives, Faults, NoAnswer, ◌>>=◌, needed}
+use Rattle.cpc_meaning.specs.Eval as E
+use Rattle.cpc_meaning.specs.Act as M
+use Rattle.cpc_meaning.specs.Slots.{free_slots}
+use Rattle.cpc_eval_index.specs.declared.index.Index.{Index}
+use Rattle.cpc_eval_index.specs.Indexed.{items_of}
+use Rattle.cpc_eval_index.specs.Meanings.{meant_of}
+use Rattle.cpc_eval_index.specs.declared.meant.Meant as W
+use Rattle.cpc_eval_index.specs.declared.meant.Meant.TheVariants as V
+use Rattle.cpc_eval.specs.Around.{meant_in}
+use Rattle.cpc_eval.specs.Numbers.{HasNumbers}
+use Rattle.cpc_native_builtins.specs.Served.{is_served_program}
+use Rattle.cpc_native_frames.specs.Frames.{IsOwn}
+use Rattle.cpc_native_frames.specs.Living.{CanLeave}
+use Rattle.cpc_native_acts.specs.Calls.{calls_if, calls_known, IsNamed}
+use Rattle.cpc_native_acts.specs.Foreseen.{Foresees}
+use Rattle.cpc_native_acts.specs.declared.changes.Change.{Change}
+use Rattle.cpc_native_acts.specs.declared.changes.Change.TheVariants as C
+use Rattle.cpc_native_acts.proofs.Calling.{entering, local_calls, global_calls, functions_call}
+use Rattle.cpc_native_acts.proofs.Performing.{found_own}
+
+-- a function that is found by a name is its own
+pub own_found : (index : Index) (name : Name) (o : Option (Bor G.Function)) → ((names : Names) → AreApart names → option_map (λ (f : Bor G.Function). function_of names f.now) o ≡ function_named (items_of names index) (names name))
+    → IfSome o (λ f. IsOwn index f.now)
+own_found index name None h = tt
+own_found index name (Some f) h = λ names apart. found_own (items_of names index) (names name) (function_of names f.now) (sym (h names apart))
+
+module _ (names : Names) (c : E.Context) (stood : M.Stood) where
+  pub by_same : (change : Change) (a b : Answer M.Act) → a ≡ b → Foresees names c stood change a → Foresees names c stood change b
+  by_same change a b e h = let Q : Answer M.Act → Type 0 = Foresees names c stood change in subst Q e h
+
+  -- ---- calls that are left
+
+  leaves_some : (n : ℕ) (v : Value) (a : Answer Store) → CanLeave (Some n) a → Foresees names c stood C.Leaves (a >>= (λ s. Gives (M.Leaves v s)))
+  leaves_some n v (Gives s) h = refl
+  leaves_some n v (Faults e) h = absurd h
+  leaves_some n v NoAnswer h = tt
+
+  leaves_none : (v : Value) (a : Answer Store) → CanLeave None a → Foresees names c stood C.Stays (a >>= (λ s. Gives (M.Leaves v s)))
+  leaves_none v (Gives s) h = absurd h
+  leaves_none v (Faults e) h = refl
+  leaves_none v NoAnswer h = tt
+
+  module _ (v : Value) (slots : List E.Slot) (s : Store) (slots_are : c.slots ≡ slots) (store_is : c.store ≡ s) where
+    same_freed : free_slots slots s ≡ free_slots c.slots c.store
+    same_freed = ap (λ l. free_slots l s) (sym slots_are) ∙ ap (free_slots c.slots) (sym store_is)
+
+    pub left_some : (n : ℕ) → CanLeave (Some n) (free_slots slots s) → Foresees names c stood C.Leaves (M.leaves c v)
+    left_some n h = let Q : Answer Store → Type 0 = CanLeave (Some n) in leaves_some n v (free_slots c.slots c.store) (subst Q same_freed h)
+
+    pub left_none : CanLeave None (free_slots slots s) → Foresees names c stood C.Stays (M.leaves c v)
+    left_none h = let Q : Answer Store → Type 0 = CanLeave None in leaves_none v (free_slots c.slots c.store) (subst Q same_freed h)
+
+  -- ---- calls
+
+  found_enters : (o : Option Function) (g : Bor G.Function) (ws : List Value) → Some (function_of names g.now) ≡ o → Foresees names c stood (C.Enters g) (needed o >>= (λ f. Gives (M.Enters f ws)))
+  found_enters None g ws e = absurd cc
+  found_enters (Some f) g ws e = cc
+
+  pub named_enters : (x : Text) (a : Answer (Text × List Value)) (g : Bor G.Function) → IsNamed (Some x) a → Some (function_of names g.now) ≡ function_named c.program x → Foresees names c stood (C.Enters g) (a >>= entering c)
+  named_enters x (Gives q) g h e = let is : x ≡ q.0 = cc in found_enters (function_named c.program q.0) g q.1 (e ∙ ap (function_named c.program) is)
+  named_enters x (Faults d) g h e = absurd cc
+  named_enters x NoAnswer g h e = tt
+
+  not_found : (o : Option Function) (ws : List Value) → None ≡ o → Foresees names c stood C.Stays (needed o >>= (λ f. Gives (M.Enters f ws)))
+  not_found None ws e = tt
+  not_found (Some f) ws e = absurd cc
+
+  pub named_not : (x : Text) (a : Answer (Text × List Value)) → IsNamed (Some x) a → None ≡ function_named c.program x → Foresees names c stood C.Stays (a >>= entering c)
+  named_not x (Gives q) h e = let is : x ≡ q.0 = cc in not_found (function_named c.program q.0) q.1 (e ∙ ap (function_named c.program) is)
+  named_not x (Faults d) h e = refl
+  named_not x NoAnswer h e = tt
+
+  pub unnamed : (a : Answer (Text × List Value)) → IsNamed None a → Foresees names c stood C.Stays (a >>= entering c)
+  unnamed (Gives q) h = absurd cc
+  unnamed (Faults d) h = refl
+  unnamed NoAnswer h = tt
+
+-- a call of the value of a name
+module _ (P : Answer M.Act → Type 0) (k : E.Context) where
+  pub value_of_name : (p : Program) (f : Expr) (x : Text) (es : Exprs) → f ≡ ENamed x → (HasNumbers p f → P (M.calls_value k f es)) → P (M.calls_value k (ENamed x) es)
+  value_of_name p f x es e h =
+      let Q : Expr → Type 0 = λ g. P (M.calls_value k g es) in
+      let N : Expr → Type 0 = HasNumbers p in
+      subst Q e (h (subst N (sym e) tt))
+
+  pub unknown_calls : (x : Text) (es : Exprs) → None ≡ function_named k.program x → P (M.calls_value k (ENamed x) es) → P (calls_if k x es (function_named k.program x))
+  unknown_calls x es e h = let Q : Option Function → Type 0 = λ o. P (calls_if k x es o) in subst Q e h
+
+  module _ (x : Text) (es : Exprs) (names : Names) (m : W.Meant) where
+    pub local_called : (n : ℕ) (t : Bor CType) → m ≡ V.Local n t → meant_of names m ≡ meant_in k x → P (M.calls_value k (ENamed x) es) → P (M.calls_expr k (ENamed x) es)
+    local_called n t i e h = subst P (local_calls k x es n (type_of names t.now) (ap (meant_of names) (sym i) ∙ e)) h
+
+    pub global_called : (n : ℕ) (t : Bor CType) → m ≡ V.Global n t → meant_of names m ≡ meant_in k x → P (M.calls_value k (ENamed x) es) → P (M.calls_expr k (ENamed x) es)
+    global_called n t i e h = subst P (global_calls k x es n (type_of names t.now) (ap (meant_of names) (sym i) ∙ e)) h
+
+    pub function_called : (mode : Mode) (t : Bor CType) (ps : Bor (List Parameter)) → m ≡ V.Function mode t ps → meant_of names m ≡ meant_in k x → is_served_program k.program ≡ true → P (calls_known k x es) → P (M.calls_expr k (ENamed x) es)
+    function_called mode t ps i e served h =
+        subst P (functions_call k x es mode (type_of names t.now) (map parameter_type (map (parameter_of names) ps.now)) served (ap (meant_of names) (sym i) ∙ e)) h

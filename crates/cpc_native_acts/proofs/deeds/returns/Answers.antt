@@ -1,0 +1,19 @@
+use Rattle.std.proofs.Common.{Ok, refl, sym, option_map}
+use Rattle.cpc_tree.specs.Erase.{type_of, expr_of}
+use Rattle.cpc_meaning.specs.Answer.{◌>>=◌}
+use Rattle.cpc_meaning.specs.Act as M
+use Rattle.cpc_eval_values.specs.Shown.{value_of}
+use Rattle.cpc_eval.specs.Around.{context_of}
+use Rattle.cpc_native_acts.specs.Deeds.{returned}
+use Rattle.cpc_native_acts.specs.declared.deeds.Deed.TheVariants as D
+use Rattle.cpc_native_acts.proofs.Stopping.{plans_by, plans_then}
+use Rattle.cpc_native_acts.proofs.Doing.{returns_parts}
+use Rattle.cpc_native_acts.proofs.deeds.returns.Goals as goal
+
+pub returns-clause-value : goal.returns-clause-value
+returns-clause-value c = λ names told h.
+    let k = context_of names c.args.around.now in
+    let t = type_of names c.args.of.now in
+    let o = option_map (expr_of names) c.args.given.now in
+    plans_by names k (Ok (D.Leaves c.in_ok-value.value)) (returned k t o >>= M.leaves k) (M.returns k t o) (sym (returns_parts k t o))
+    (plans_then names k (value_of names c.in_ok-value.value) (returned k t o) (M.leaves k) (D.Leaves c.in_ok-value.value) (c.in_ok-value.ensures.value names told h) refl)

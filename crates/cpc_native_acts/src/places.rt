@@ -1,0 +1,167 @@
+//! Assignments: what is written, where, and the writing.
+ghost use Rattle.std.specs.Prelude.{◌≡◌, ◌≤◌, ℕ, Option, IfOk, OnErr, option_map};
+ghost use Rattle.std.specs.Result.{result_map_both};
+ghost use Rattle.cpc_tree.specs.Erase.{Names, type_of, expr_of};
+ghost use Rattle.cpc_tree.specs.Syntax.{ENamed};
+ghost use Rattle.cpc_store.specs.Seen.{seen, IsLawful};
+ghost use Rattle.cpc_meaning.specs.Act as M;
+ghost use Rattle.cpc_meaning.specs.Eval as E;
+ghost use Rattle.cpc_eval_values.specs.Meets.{Meets};
+ghost use Rattle.cpc_eval_values.specs.Shown.{value_of, store_of};
+ghost use Rattle.cpc_eval_index.specs.Indexed.{items_of};
+ghost use Rattle.cpc_eval.specs.Around.{context_of, IsToldIn};
+ghost use Rattle.cpc_eval.specs.Numbers.{HasNumbers, MaybeNumbers};
+ghost use Rattle.cpc_eval.specs.Spots.{spot_of, AreLawful};
+ghost use Rattle.cpc_native_frames.specs.Frames.{RiseFrom};
+ghost use Rattle.cpc_native_frames.specs.Made.{slots_of};
+ghost use Rattle.cpc_native_acts.specs.Stops.{MeetsOr, value_shown};
+ghost use Rattle.cpc_native_acts.specs.Deeds.{aimed, aim_seen, aim_shown, returned, test_held};
+
+use crate::below::{place, stopped, value};
+use cpc_base::{Name, Stop};
+use cpc_eval::{Around, Slot, Spot, assigned_at, name_type, operate_on, place_of, spot_named};
+use cpc_eval_values::{assigned, holds};
+use cpc_num::{Fault, Op};
+use cpc_store::{Store, Value};
+use cpc_tree::program::{CType, Expr};
+
+/// The right side of an assignment with or without an operator.
+///
+/// The faults are those of `cpc_eval`.
+pub(crate) fn right_value<'a>(
+    op: Option<Op>,
+    target: &'a Expr,
+    right: &'a Expr,
+    around: &Around<'a>,
+) -> Result<Value, Stop<Fault>>
+    requires { AreLawful around.now.slots.now }
+    ensures value { (names : Names) → IsToldIn names around.now → HasNumbers (items_of names around.now.index.now) (expr_of names target.now) → HasNumbers (items_of names around.now.index.now) (expr_of names right.now)
+        → MeetsOr (value_shown names result) (E.value (context_of names around.now) (M.right_side op (expr_of names target.now) (expr_of names right.now))) }
+    ensures lawful { IfOk result (λ v. IsLawful (seen v)) }
+{
+    match op {
+        None => value(right, around),
+        Some(op) => {
+            let first = value(target, around)?;
+            let second = value(right, around)?;
+            stopped(operate_on(op, target, right, (first, second), around))
+        }
+    }
+}
+
+/// A place, and a value converted to its type.
+///
+/// The faults are those of `cpc_eval`.
+pub(crate) fn aimed<'a>(
+    target: &'a Expr,
+    given: Value,
+    around: &Around<'a>,
+) -> Result<(Spot, Value), Stop<Fault>>
+    requires slots { AreLawful around.now.slots.now }
+    requires given { IsLawful (seen given) }
+    ensures value { (names : Names) → IsToldIn names around.now → HasNumbers (items_of names around.now.index.now) (expr_of names target.now)
+        → MeetsOr (aim_shown names result) (aimed (context_of names around.now) (expr_of names target.now) (value_of names given)) }
+    ensures lawful { IfOk result (λ q. IsLawful (seen q.1)) }
+{
+    let spot = place(target, around)?;
+    let written = stopped(assigned_at(target, around, given))?;
+    Ok((spot, written))
+}
+
+/// The place of a name, and a value converted to its type.
+pub(crate) fn aimed_at(
+    name: Name,
+    given: Value,
+    around: &Around<'_>,
+) -> Result<(Spot, Value), Fault>
+    requires slots { AreLawful around.now.slots.now }
+    requires given { IsLawful (seen given) }
+    ensures value { (names : Names) → IsToldIn names around.now
+        → Meets (aim_seen names result) (aimed (context_of names around.now) (ENamed (names name)) (value_of names given)) }
+    ensures lawful { IfOk result (λ q. IsLawful (seen q.1)) }
+{
+    let meant = around.meant(name);
+    let spot = spot_named(around.slots, meant)?;
+    match place_of(name_type(meant)) {
+        Some(of) => {
+            let written = assigned(of, given)?;
+            Ok((spot, written))
+        }
+        None => Err(Fault::Kind),
+    }
+}
+
+/// The value of a return, converted to the type of the result; without an expression it is unset.
+///
+/// The faults are those of `cpc_eval`.
+pub(crate) fn returned<'a>(
+    of: &CType,
+    given: &'a Option<Expr>,
+    around: &Around<'a>,
+) -> Result<Value, Stop<Fault>>
+    requires { AreLawful around.now.slots.now }
+    ensures value { (names : Names) → IsToldIn names around.now → MaybeNumbers (items_of names around.now.index.now) (option_map (expr_of names) given.now)
+        → MeetsOr (value_shown names result) (returned (context_of names around.now) (type_of names of.now) (option_map (expr_of names) given.now)) }
+    ensures lawful { IfOk result (λ v. IsLawful (seen v)) }
+{
+    match given {
+        Some(given) => {
+            let value = value(given, around)?;
+            stopped(assigned(of, value))
+        }
+        None => Ok(Value::Unset),
+    }
+}
+
+/// Whether a test holds; an absent one does.
+///
+/// `Unset`: its value is unset. The other faults are those of `cpc_eval`.
+pub(crate) fn test_held<'a>(
+    test: Option<&'a Expr>,
+    around: &Around<'a>,
+) -> Result<bool, Stop<Fault>>
+    requires { AreLawful around.now.slots.now }
+    ensures { (names : Names) → IsToldIn names around.now → MaybeNumbers (items_of names around.now.index.now) (option_map (λ e. expr_of names e.now) test.entry)
+        → MeetsOr result (test_held (context_of names around.now) (option_map (λ e. expr_of names e.now) test.entry)) }
+{
+    match test {
+        Some(test) => {
+            let value = value(test, around)?;
+            stopped(holds(value))
+        }
+        None => Ok(true),
+    }
+}
+
+/// Writes a value to a place.
+///
+/// - `Freed`: its block is not live.
+/// - `Bounds`: it is behind the end of its block.
+///
+/// A fault leaves the slots and the store as they were.
+pub(crate) fn write(
+    slots: &mut [Slot],
+    store: &mut Store,
+    spot: Spot,
+    value: Value,
+) -> Result<(), Fault>
+    requires value { IsLawful (seen value) }
+    requires slots { AreLawful slots.old }
+    ensures value { (names : Names) (c : E.Context) → c.slots ≡ slots_of names slots.old → c.store ≡ store_of names store.old
+        → Meets (result_map_both (λ _. (slots_of names slots.new, store_of names store.new)) (λ fault. fault) result) (M.write c (spot_of spot) (value_of names value)) }
+    ensures lawful { AreLawful slots.new }
+    ensures rise { (n : ℕ) → RiseFrom n slots.old → RiseFrom n slots.new }
+    ensures slots { OnErr result (slots.new ≡ slots.old) }
+    ensures store { OnErr result (store.new ≡ store.old) }
+{
+    match spot {
+        Spot::Slot(number) => {
+            let k = number as usize;
+            if k < slots.len() {
+                slots[k] = Slot::Register(value);
+            }
+            Ok(())
+        }
+        Spot::Cell(block, offset) => store.save(block, offset, value),
+    }
+}

@@ -1,0 +1,238 @@
+//! The arguments of calls: evaluated from left to right, and then converted.
+ghost use Rattle.std.specs.Prelude.{◌≡◌, IfOk, Some, List, map, option_map, slice_get, length, true};
+ghost use Rattle.std.specs.List.{All};
+ghost use Rattle.std.specs.Result.{result_map_both};
+ghost use Rattle.cpc_tree.specs.Erase.{Names, type_of, expr_of, exprs_of};
+ghost use Rattle.cpc_tree.specs.Primitives as P;
+ghost use Rattle.cpc_store.specs.Seen.{seen, IsLawful};
+ghost use Rattle.cpc_meaning.specs.Act as M;
+ghost use Rattle.cpc_meaning.specs.Eval as E;
+ghost use Rattle.cpc_meaning.specs.Requests as R;
+ghost use Rattle.cpc_eval_values.specs.Meets.{Meets};
+ghost use Rattle.cpc_eval_values.specs.Shown.{value_of, values_of, shown};
+ghost use Rattle.cpc_eval_values.specs.Takes.{taken_of};
+ghost use Rattle.cpc_eval_index.specs.Indexed.{items_of};
+ghost use Rattle.cpc_eval.specs.Around.{context_of, IsToldIn};
+ghost use Rattle.cpc_eval.specs.Numbers.{AllNumbers};
+ghost use Rattle.cpc_eval.specs.Spots.{AreLawful};
+ghost use Rattle.cpc_native_builtins.specs.Builtins.{primitive_of};
+ghost use Rattle.cpc_native_builtins.specs.Served.{is_served};
+ghost use Rattle.cpc_native_acts.specs.Stops.{MeetsOr, row_shown};
+ghost use Rattle.cpc_native_acts.specs.Rows.{row_types, parameter_list, by_nth, passed, taken, asked_with, text_in};
+
+use crate::below::{stopped, value};
+use cpc_base::{NoMemory, Stop};
+use cpc_eval::Around;
+use cpc_eval_values::{Taken, assigned, taken_as};
+use cpc_native_builtins::{Builtin, takes};
+use cpc_num::{Fault, Kind};
+use cpc_store::Value;
+use cpc_tree::program::{CType, Expr, Parameter};
+use std::alloc::Global;
+
+/// The types of parameters: of a type of a code, or of a function.
+#[derive(Clone, Copy)]
+pub(crate) enum Row<'a> {
+    Types(&'a [CType]),
+    Parameters(&'a [Parameter]),
+}
+
+// The parameter of a number.
+fn parameter_of(parameters: &[Parameter], i: usize) -> Option<&Parameter>
+    ensures { option_map (λ p. p.now) result ≡ slice_get parameters.now i }
+{
+    parameters.get(i)
+}
+
+// The type of a parameter.
+fn parameter_at(parameters: &[Parameter], i: usize) -> Option<&CType>
+    ensures { (names : Names) → option_map (λ t. type_of names t.now) result ≡ slice_get (parameter_list names parameters.now) i }
+{
+    match parameter_of(parameters, i) {
+        Some(parameter) => Some(&parameter.of),
+        None => None,
+    }
+}
+
+/// The type of the parameter of a number.
+pub(crate) fn type_at(row: Row, i: usize) -> Option<&CType>
+    ensures { (names : Names) → option_map (λ t. type_of names t.now) result ≡ slice_get (row_types names row.entry) i }
+{
+    match row {
+        Row::Types(types) => types.get(i),
+        Row::Parameters(parameters) => parameter_at(parameters, i),
+    }
+}
+
+// The values of arguments, from left to right.
+fn values<'a>(
+    alloc: Global,
+    arguments: &'a [Expr],
+    around: &Around<'a>,
+) -> Result<Vec<Value>, Stop<Fault>>
+    requires { AreLawful around.now.slots.now }
+    ensures value { (names : Names) → IsToldIn names around.now → AllNumbers (items_of names around.now.index.now) (exprs_of names arguments.now)
+        → MeetsOr (row_shown names result) (E.values (context_of names around.now) (exprs_of names arguments.now)) }
+    ensures lawful { IfOk result (λ vs. All (λ v. IsLawful (seen v)) vs.items) }
+{
+    let mut row = Vec::new(alloc);
+    for argument in arguments {
+        let value = value(argument, around)?;
+        row.push(value)?;
+    }
+    Ok(row)
+}
+
+/// A value as the argument for the parameter of a number.
+pub(crate) fn argument_at(row: Row, i: usize, value: Value) -> Result<Value, Fault>
+    requires { IsLawful (seen value) }
+    ensures value { (names : Names) → Meets (shown names result) (by_nth E.assigned (row_types names row.entry) i (value_of names value)) }
+    ensures lawful { IfOk result (λ v. IsLawful (seen v)) }
+{
+    match type_at(row, i) {
+        Some(of) => assigned(of, value),
+        None => Err(Fault::Kind),
+    }
+}
+
+// Converts arguments to the types of parameters.
+fn convert(row: Row, values: &mut [Value]) -> Result<(), Fault>
+    requires { All (λ v. IsLawful (seen v)) values.old }
+    ensures value { (names : Names) → Meets (result_map_both (λ _. values_of names values.new) (λ fault. fault) result) (R.arguments (row_types names row.entry) (values_of names values.old)) }
+    ensures lawful { All (λ v. IsLawful (seen v)) values.new }
+{
+    for i in 0..values.len() {
+        values[i] = argument_at(row, i, values[i])?;
+    }
+    Ok(())
+}
+
+/// The values of arguments for parameters of these types.
+///
+/// The faults are those of `cpc_eval`, from left to right.
+pub(crate) fn passed<'a>(
+    alloc: Global,
+    types: Row,
+    arguments: &'a [Expr],
+    around: &Around<'a>,
+) -> Result<Vec<Value>, Stop<Fault>>
+    requires { AreLawful around.now.slots.now }
+    ensures value { (names : Names) → IsToldIn names around.now → AllNumbers (items_of names around.now.index.now) (exprs_of names arguments.now)
+        → MeetsOr (row_shown names result) (passed (context_of names around.now) (row_types names types.entry) (exprs_of names arguments.now)) }
+    ensures lawful { IfOk result (λ vs. All (λ v. IsLawful (seen v)) vs.items) }
+{
+    let mut row = values(alloc, arguments, around)?;
+    stopped(convert(types, &mut row))?;
+    Ok(row)
+}
+
+// How the argument of a number is taken.
+fn take_at(takes: &[Taken], i: usize) -> Option<Taken>
+    ensures { result ≡ slice_get takes.now i }
+{
+    takes.get(i).copied()
+}
+
+// A value as the argument of a number is taken.
+fn taken_at(takes: &[Taken], i: usize, value: Value) -> Result<Value, Fault>
+    requires { IsLawful (seen value) }
+    ensures value { (names : Names) (ts : List P.Taken) → map Some takes.now ≡ map taken_of ts → Meets (shown names result) (by_nth R.taken_as ts i (value_of names value)) }
+    ensures lawful { IfOk result (λ v. IsLawful (seen v)) }
+{
+    match take_at(takes, i) {
+        Some(taken) => taken_as(taken, value),
+        None => Err(Fault::Kind),
+    }
+}
+
+// Makes of arguments what a primitive takes.
+fn take_all(takes: &[Taken], values: &mut [Value]) -> Result<(), Fault>
+    requires { All (λ v. IsLawful (seen v)) values.old }
+    ensures value { (names : Names) (ts : List P.Taken) → map Some takes.now ≡ map taken_of ts → Meets (result_map_both (λ _. values_of names values.new) (λ fault. fault) result) (R.all_taken ts (values_of names values.old)) }
+    ensures lawful { All (λ v. IsLawful (seen v)) values.new }
+{
+    for i in 0..values.len() {
+        values[i] = taken_at(takes, i, values[i])?;
+    }
+    Ok(())
+}
+
+// The values of arguments as they are taken.
+fn taken<'a>(
+    alloc: Global,
+    takes: &[Taken],
+    arguments: &'a [Expr],
+    around: &Around<'a>,
+) -> Result<Vec<Value>, Stop<Fault>>
+    requires { AreLawful around.now.slots.now }
+    ensures value { (names : Names) (ts : List P.Taken) → map Some takes.now ≡ map taken_of ts → IsToldIn names around.now → AllNumbers (items_of names around.now.index.now) (exprs_of names arguments.now)
+        → MeetsOr (row_shown names result) (taken (context_of names around.now) ts (exprs_of names arguments.now)) }
+    ensures lawful { IfOk result (λ vs. All (λ v. IsLawful (seen v)) vs.items) }
+{
+    let mut row = values(alloc, arguments, around)?;
+    stopped(take_all(takes, &mut row))?;
+    Ok(row)
+}
+
+// Bytes, as values of unsigned char.
+fn byte_values(alloc: Global, bytes: &[u8]) -> Result<Vec<Value>, NoMemory>
+    ensures value { IfOk result (λ vs. (names : Names) → values_of names vs.items ≡ R.byte_values bytes.now) }
+    ensures lawful { IfOk result (λ vs. All (λ v. IsLawful (seen v)) vs.items) }
+{
+    let mut row = Vec::new(alloc);
+    for byte in bytes {
+        row.push(Value::Int(Kind::UChar, i128::from(*byte)))?;
+    }
+    Ok(row)
+}
+
+// The bytes of a string.
+fn text_of(e: &Expr) -> Option<&[u8]>
+    ensures { (names : Names) → option_map (λ bytes. bytes.now) result ≡ text_in (expr_of names e.now) }
+{
+    match e {
+        Expr::Text { bytes, .. } => Some(bytes),
+        _ => None,
+    }
+}
+
+// The bytes of a string that is the one argument.
+fn text_in(arguments: &[Expr]) -> Option<&[u8]>
+    ensures { (names : Names) → option_map (λ bytes. bytes.now) result ≡ M.puts_text P.Puts (exprs_of names arguments.now) }
+{
+    if arguments.len() == 1 {
+        text_of(&arguments[0])
+    } else {
+        None
+    }
+}
+
+// The bytes of the string of `cpc_puts`.
+fn puts_text(builtin: Builtin, arguments: &[Expr]) -> Option<&[u8]>
+    ensures { (names : Names) → option_map (λ bytes. bytes.now) result ≡ M.puts_text (primitive_of builtin) (exprs_of names arguments.now) }
+{
+    match builtin {
+        Builtin::Puts => text_in(arguments),
+        _ => None,
+    }
+}
+
+/// What a primitive is asked with.
+///
+/// The faults are those of `cpc_eval`, from left to right, and then `Unset` of the first that is to be set.
+pub(crate) fn asked_with<'a>(
+    alloc: Global,
+    builtin: Builtin,
+    arguments: &'a [Expr],
+    around: &Around<'a>,
+) -> Result<Vec<Value>, Stop<Fault>>
+    requires { AreLawful around.now.slots.now }
+    ensures value { (names : Names) → IsToldIn names around.now → AllNumbers (items_of names around.now.index.now) (exprs_of names arguments.now)
+        → MeetsOr (row_shown names result) (asked_with (context_of names around.now) (primitive_of builtin) (exprs_of names arguments.now) (M.puts_text (primitive_of builtin) (exprs_of names arguments.now))) }
+    ensures lawful { IfOk result (λ vs. All (λ v. IsLawful (seen v)) vs.items) }
+{
+    match puts_text(builtin, arguments) {
+        Some(bytes) => Ok(byte_values(alloc, bytes)?),
+        None => taken(alloc, takes(builtin), arguments, around),
+    }
+}

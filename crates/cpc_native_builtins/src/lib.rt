@@ -1,0 +1,8 @@
+//! The primitives of the language: their names, what they take, and which of them the loop answers.
+#![tactic(auto)]
+
+mod builtins;
+mod taking;
+
+pub use builtins::{Builtin, builtin_named};
+pub use taking::takes;

@@ -1,0 +1,35 @@
+-- The frames of calls, as the definitions have them.
+use Rattle.std.specs.Prelude.{◌≡◌, ℕ, ◌+◌, ◌≤◌, List, [], ◌∷◌, Some}
+use Rattle.cpc_tree.specs.Erase.{Names, function_of}
+use Rattle.cpc_tree.specs.Points as T
+use Rattle.cpc_tree.specs.Typing.{function_named}
+use Rattle.cpc_tree.specs.declared.program.Function.{Function}
+use Rattle.cpc_check_rules.specs.Apart.{AreApart}
+use Rattle.cpc_meaning.specs.Plain as P
+use Rattle.cpc_native_points.specs.Seen.{point_of}
+use Rattle.cpc_eval_index.specs.declared.index.Index.{Index}
+use Rattle.cpc_eval_index.specs.Indexed.{items_of}
+use Rattle.cpc_eval.specs.declared.around.Slot.{Slot}
+use Rattle.cpc_eval.specs.declared.around.Slot.TheVariants as S
+use Rattle.cpc_eval.specs.Spots.{AreLawful}
+use Rattle.cpc_native_frames.specs.declared.frame.Frame.{Frame}
+use Rattle.cpc_native_frames.specs.Made.{slots_of}
+
+abbrev pub frame_of : Names → Frame → P.Frame T.Point
+frame_of names f = record { function = names f.function.now.word.name; point = point_of f.point; slots = slots_of names f.slots.items }
+
+-- a function is the one that is meant by its name
+abbrev pub IsOwn : Index → Function → Type 0
+IsOwn index f = (names : Names) → AreApart names → function_named (items_of names index) (names f.word.name) ≡ Some (function_of names f)
+
+-- the numbers of the blocks among these slots rise, the first from this one on
+abbrev pub RiseFrom : ℕ → List Slot → Type 0
+RiseFrom n [] = Unit {0}
+RiseFrom n (S.Register v ∷ slots) = RiseFrom n slots
+RiseFrom n (S.Boxed k ∷ slots) = (n ≤ k) × RiseFrom (k + 1) slots
+
+-- a call of a function of the program: its registers are lawful, and its blocks are told from each other
+pub record IsWellFrame (index : Index) (frame : Frame) : Type 0 where
+  pub own : IsOwn index frame.function.now
+  pub lawful : AreLawful frame.slots.items
+  pub rise : RiseFrom 0 frame.slots.items

@@ -1,0 +1,65 @@
+//! The frame of a call: its function, where it stands, and its variables.
+ghost use Rattle.std.specs.Prelude.{◌≡◌, IfOk};
+ghost use Rattle.std.specs.List.{All};
+ghost use Rattle.cpc_tree.specs.Erase.{Names, function_of};
+ghost use Rattle.cpc_tree.specs.Points as T;
+ghost use Rattle.cpc_store.specs.Store as S;
+ghost use Rattle.cpc_store.specs.Seen.{seen, IsLawful};
+ghost use Rattle.cpc_meaning.specs.Answer as A;
+ghost use Rattle.cpc_meaning.specs.Plain as P;
+ghost use Rattle.cpc_meaning.specs.Trees.{trees};
+ghost use Rattle.cpc_eval_values.specs.Shown.{values_of, store_of};
+ghost use Rattle.cpc_eval_index.specs.Indexed.{items_of};
+ghost use Rattle.cpc_eval_variables.specs.Told.{IsTold};
+ghost use Rattle.cpc_native_frames.specs.Frames.{frame_of, IsOwn, IsWellFrame};
+
+use crate::making::make_slots;
+use cpc_base::NoMemory;
+use cpc_eval::Slot;
+use cpc_eval_index::Index;
+use cpc_eval_variables::variables;
+use cpc_native_points::{Point, begin};
+use cpc_store::{Store, Value};
+use cpc_tree::program::Function;
+use std::alloc::Global;
+
+// How many parts of a path there is room for before a frame takes more memory.
+const DEPTH: usize = 8;
+
+/// A call of a function: where it stands in the body, and its variables.
+#[derive(Drop)]
+pub struct Frame<'p> {
+    pub function: &'p Function,
+    pub point: Point,
+    pub slots: Vec<Slot>,
+}
+
+/// The frame of a call with these arguments, at the beginning of the body, and its blocks in the store. Where the size of
+/// a type is not known nothing is said.
+///
+/// `NoMemory` is want of memory, or of numbers for so many cells; the blocks that were made are dropped.
+pub fn enter<'p>(
+    alloc: Global,
+    index: &Index<'p>,
+    function: &'p Function,
+    arguments: &[Value],
+    store: &mut Store,
+) -> Result<Frame<'p>, NoMemory>
+    requires arguments { All (λ v. IsLawful (seen v)) arguments.now }
+    requires own { IsOwn index.now function.now }
+    ensures made { IfOk result (λ frame. (names : Names) → IsTold names function.now.parameters.items
+        → (a : P.Frame T.Point × S.Store) → P.make_frame (trees (items_of names index.now)) (function_of names function.now) (values_of names arguments.now) (store_of names store.old) ≡ A.Gives a
+        → (frame_of names frame, store_of names store.new) ≡ a) }
+    ensures well { IfOk result (λ frame. IsWellFrame index.now frame) }
+    ensures function { IfOk result (λ frame. frame.function.now ≡ function.now) }
+{
+    let variables = variables(alloc, function)?;
+    let mut point = Point::with_depth(alloc, DEPTH)?;
+    begin(&function.body, &mut point)?;
+    let slots = make_slots(alloc, index, &variables, arguments, store)?;
+    Ok(Frame {
+        function,
+        point,
+        slots,
+    })
+}

@@ -1,0 +1,27 @@
+-- What is known of the numbers of programs that are accepted, and of the texts of their names.
+use Rattle.std.specs.Prelude.{◌≡◌, ℕ, false, [], map, slice_get, Some, None, bytes_eq}
+use Rattle.cpc_base.specs.Bytes.{Text}
+use Rattle.cpc_base.specs.declared.names.Name.{Name}
+use Rattle.cpc_base.specs.declared.stop.Dialect.{Dialect}
+use Rattle.cpc_check_rules.specs.Apart.{Spells}
+use Rattle.cpc_tree.specs.Erase.{Names, item_of, program_of}
+use Rattle.cpc_tree.specs.Syntax as S
+use Rattle.cpc_tree.specs.Typing.{function_named}
+use Rattle.cpc_tree.specs.Located.{LProgram, bare}
+use Rattle.cpc_tree.specs.declared.program.Function.{Function}
+use Rattle.cpc_tree.specs.declared.program.Item.TheVariants as I
+use Rattle.cpc_tree.specs.declared.program.Program as GProgram
+use Rattle.cpc_check.specs.Accepted.{Accepts}
+use Rattle.cpc_eval.specs.Numbers.{ProgramNumbers}
+use Rattle.cpc_eval_variables.specs.Told.{IsTold}
+
+-- The literals of a program that is accepted are numbers of their kinds, and no size in it is too great.
+abbrev pub AcceptedHasNumbers : Type 0
+AcceptedHasNumbers = (dialect : Dialect) (text : Text) (p : LProgram) → Accepts dialect text p → ProgramNumbers (bare p)
+
+-- The texts tell the names of a program, as those of its table do, and no name has the text of a function's parameter without a name.
+pub record IsSpelling (names : Names) (p : GProgram.Program) : Type 0 where
+  pub spells : Spells p.names names
+  pub same : map (item_of names) p.items.items ≡ program_of p
+  pub told : (k : ℕ) (f : Function) → slice_get p.items.items k ≡ Some (I.Function f) → IsTold names f.parameters.items
+  pub unnamed : (x : Text) (f : S.Function) → function_named (program_of p) x ≡ Some f → (k : ℕ) (q : S.Parameter) → slice_get f.parameters k ≡ Some q → q.called ≡ None → (n : Name) → bytes_eq [] (names n) ≡ false

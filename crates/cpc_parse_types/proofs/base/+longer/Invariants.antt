@@ -1,5 +1,0 @@
-use Rattle.std.proofs.Common.{length}
-use Rattle.cpc_parse_types.proofs.base.+longer.Given as goal
-
-abbrev pub decreases-longer : goal.decreases-longer
-decreases-longer l = length l.tokens.now

@@ -1,5 +1,0 @@
-use Rattle.cpc_rule_laws.proofs.Widened.{parses_same}
-use Rattle.cpc_rule_laws.proofs.laws.event_reads_more.Goals as goal
-
-pub returns : goal.returns
-returns c = record { law = parses_same }

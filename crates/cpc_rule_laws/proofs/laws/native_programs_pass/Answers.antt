@@ -1,5 +1,0 @@
-use Rattle.cpc_rule_laws.proofs.NativeItems.{native_unbroken}
-use Rattle.cpc_rule_laws.proofs.laws.native_programs_pass.Goals as goal
-
-pub returns : goal.returns
-returns c = record { law = native_unbroken }

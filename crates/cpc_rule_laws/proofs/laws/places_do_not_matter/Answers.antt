@@ -1,5 +1,0 @@
-use Rattle.cpc_rule_laws.proofs.PlacesItems.{places_do_not_matter, unbroken_at_any_places}
-use Rattle.cpc_rule_laws.proofs.laws.places_do_not_matter.Goals as goal
-
-pub returns : goal.returns
-returns c = record { law = places_do_not_matter; unbroken = unbroken_at_any_places }

@@ -1,0 +1,10 @@
+//! The store at the start: a block for each global.
+#![tactic(auto)]
+
+mod counts;
+mod layouts;
+mod making;
+mod starts;
+
+pub use counts::global_cells;
+pub use making::globals;
