@@ -3,3 +3,4 @@ pub mod Texts
 pub mod Plan
 pub mod Outside
 pub mod Memory
+pub mod Waiting

@@ -1,7 +1,7 @@
 //! What a poll of the outside tells.
 
 /// What a descriptor is ready for.
-#[derive(Clone, Copy, Debug, PartialEq, Eq)]
+#[derive(Clone, Copy, Debug, PartialEq, Eq, PartialOrd, Ord)]
 pub enum Direction {
     /// A read would not wait.
     Read,

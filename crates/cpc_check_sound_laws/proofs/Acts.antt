@@ -277,11 +277,11 @@ module _ (d : Dialect) (p : Program) (f : Function) (scope : Scope) (ts : List T
   call_comes : (found : Found) (g : Expr) (es : Exprs) (r : Ty) → Calls d p f.mode scope g es r → boxes g → AllBoxed slots (addresses_all scope es) → Awaits p scope found r → Comes (ActOk d p f scope ts slots s found) (calls_expr c g es)
   call_comes found _ _ _ (CallsHost x r ps es apart is_x gets) bg b awaits =
       subst (λ m. Comes (ActOk d p f scope ts slots s found) (calls_named c x es m (primitive_named x) (function_named p x))) (sym is_x) (host_comes found x es apart gets b awaits r ps (primitive_named x) (function_named p x))
-  call_comes found _ _ _ (CallsFunction x mode r ps g es own is_x is_g closed gets) bg b awaits =
+  call_comes found _ _ _ (CallsFunction x mode r ps g es own is_x is_g closed cps gets) bg b awaits =
       subst (λ m. Comes (ActOk d p f scope ts slots s found) (calls_named c x es m (primitive_named x) (function_named p x))) (sym is_x)
       (subst (λ o. Comes (ActOk d p f scope ts slots s found) (calls_named c x es (AFunction mode r ps) (primitive_named x) o)) (sym is_g)
       (named_comes found x es mode r ps (primitive_named x) g own (calls_come found g es (found_again p x g is_g) closed gets b awaits)))
-  call_comes found _ _ _ (CallsPrimitive x prim es is_x is_prim is_d closed gets) bg b awaits =
+  call_comes found _ _ _ (CallsPrimitive x prim es is_x is_prim is_d closed cps gets) bg b awaits =
       subst (λ m. Comes (ActOk d p f scope ts slots s found) (calls_named c x es m (primitive_named x) (function_named p x))) (sym is_x)
       (subst (λ o. Comes (ActOk d p f scope ts slots s found) (calls_named c x es NotMeant o (function_named p x))) (sym is_prim) (asks_come found prim es gets is_d closed b awaits))
   call_comes found _ _ _ (CallsPointer g t r ps es apart is_pointer is_t is_u gets) bg b awaits =

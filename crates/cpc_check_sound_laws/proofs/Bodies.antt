@@ -195,7 +195,7 @@ module _ (d : Dialect) (p : Program) (facts : Facts p) (f : Function) where
           λ ps r e. args_here d p facts f w scope at ps es (number_here d p facts f w scope at c (map (λ t. Of t) ps) r es x.place e l.0) (subst (λ c. args_breaks w (wanted c) es ≡ []) e l.1),
         )
 
-    section_here : (k : Place) (x : Ident) (es : LExprs) → section_breaks w k x es ≡ [] → IsOpen d f.mode × Detaches p scope x.text (bare_exprs es)
+    section_here : (k : Place) (x : Ident) (es : LExprs) → section_breaks w k x es ≡ [] → IsOpen d f.mode × Detaches p scope x.text (bare_exprs es) × (is_cps f.mode ≡ true)
     section_here k x es h =
         let h1 = split (at_if (not (is_cps w.mode)) k CpsInNative) _ h in
         let h2 = split (at_if (is_event w.dialect) k CpsForm) _ h1.1 in
@@ -204,6 +204,7 @@ module _ (d : Dialect) (p : Program) (facts : Facts p) (f : Function) where
         let e : section_callee w.scope (meant w.scope x.text) ≡ Takes (map (λ t. Of t) m.0) (TyInt Int) = ap (section_callee w.scope) m.1 ∙ ap (λ b. cond b (Takes (map (λ t. Of t) m.0) (TyInt Int)) NoCallee) m.2 in (
           record { dialect = sym at.dialect ∙ cpc_is w.dialect (holds_not (is_event w.dialect) k CpsForm h2.0); not_detached = ap is_detached (sym at.mode) ∙ cps_is w.mode (holds_then (is_cps w.mode) k CpsInNative h1.0) },
           detaches_here d p facts f w scope at x.text m.0 es m.1 m.2 (s.1 m.0 (TyInt Int) e),
+          ap is_cps (sym at.mode) ∙ holds_then (is_cps w.mode) k CpsInNative h1.0,
         )
 
     spawn_meant : (m : Meant) → is_callee (spawn_callee m) ≡ true → (r : Ty) × (ps : List Ty) × (m ≡ AFunction Cps r ps)
@@ -215,7 +216,7 @@ module _ (d : Dialect) (p : Program) (facts : Facts p) (f : Function) where
     spawn_meant (ALocal k t) h = not_true h
     spawn_meant (AGlobal k t) h = not_true h
 
-    spawn_here : (q : Place) (x : Ident) (es : LExprs) → spawn_breaks w q x es ≡ [] → IsOpen d f.mode × ((h : Function) × (function_named p x.text ≡ Some h) × AllGet p scope (parameter_types h) (bare_exprs es))
+    spawn_here : (q : Place) (x : Ident) (es : LExprs) → spawn_breaks w q x es ≡ [] → IsOpen d f.mode × ((h : Function) × (function_named p x.text ≡ Some h) × AllGet p scope (parameter_types h) (bare_exprs es) × (is_cps h.mode ≡ true))
     spawn_here q x es h =
         let h1 = split (at_if (is_event w.dialect) q CpsForm) _ h in
         let h2 = split (at_if (is_detached w.mode) x.place NotClosed) _ h1.1 in
@@ -224,7 +225,7 @@ module _ (d : Dialect) (p : Program) (facts : Facts p) (f : Function) where
         let is_m : named p scope x.text ≡ AFunction Cps m.0 m.1 = subst (λ m. Matches x.text m (named p scope x.text)) m.2 (at.names x.text) in
         let g = facts.function x.text Cps m.0 m.1 (item_of p scope x.text Cps m.0 m.1 is_m) refl in (
           record { dialect = sym at.dialect ∙ cpc_is w.dialect (holds_not (is_event w.dialect) q CpsForm h1.0); not_detached = ap is_detached (sym at.mode) ∙ holds_not (is_detached w.mode) x.place NotClosed h2.0 },
-          (g.0, g.1, subst (λ us. AllGet p scope us (bare_exprs es)) (sym g.4) (s.1 m.1 m.0 (ap spawn_callee m.2))),
+          (g.0, g.1, subst (λ us. AllGet p scope us (bare_exprs es)) (sym g.4) (s.1 m.1 m.0 (ap spawn_callee m.2)), ap is_cps g.2),
         )
 
     return_here : (q : Place) (e : LExpr) → return_breaks w q (Some e) ≡ [] → Gets p scope f.result (bare_expr e)
@@ -262,7 +263,7 @@ module _ (d : Dialect) (p : Program) (facts : Facts p) (f : Function) where
   step_here w scope at (SomeLStmt (Detach q o k to x es)) s h =
       let l = split (to_breaks w to o (Some (TyInt Int))) _ h in
       let c = section_here w scope at k x es l.1 in
-      (c.0, c.1, deliver_here w scope at to o (Some (TyInt Int)) (TyInt Int) refl l.0)
+      (c.0, c.1, deliver_here w scope at to o (Some (TyInt Int)) (TyInt Int) refl l.0, c.2)
   step_here w scope at (SomeLStmt _) s h = absurd s
 
   mutual

@@ -142,13 +142,13 @@ module _ (d : Dialect) (p : Program) (facts : Facts p) (f : Function) (w : Where
       let long = facts.extern x r ps (item_of p scope x Extern r ps is_m) in
       subst (Calls d p f.mode scope (ENamed x) (bare_exprs es)) (sym long.0) (CallsHost x r ps (bare_exprs es) (sym around ∙ closed) is_m (long.1 (bare_exprs es) scope gets))
 
-  own_call : (x : Text) (mode : Mode) (r : Ty) (ps : List Ty) (es : LExprs) → is_own mode ≡ true → meant w.scope x ≡ AFunction mode r ps → (is_detached w.mode ≡ true → is_detached mode ≡ true) → AllGet p scope ps (bare_exprs es)
+  own_call : (x : Text) (mode : Mode) (r : Ty) (ps : List Ty) (es : LExprs) → is_own mode ≡ true → meant w.scope x ≡ AFunction mode r ps → (is_detached w.mode ≡ true → is_detached mode ≡ true) → (is_cps mode ≡ true → is_cps w.mode ≡ true) → AllGet p scope ps (bare_exprs es)
       → Calls d p f.mode scope (ENamed x) (bare_exprs es) r
-  own_call x mode r ps es own e closed gets =
+  own_call x mode r ps es own e closed cps gets =
       let is_m : named p scope x ≡ AFunction mode r ps = subst (λ m. Matches x m (named p scope x)) e (at.names x) in
       let g = facts.function x mode r ps (item_of p scope x mode r ps is_m) own in
       subst (Calls d p f.mode scope (ENamed x) (bare_exprs es)) g.3
-      (CallsFunction x mode r ps g.0 (bare_exprs es) own is_m g.1 (λ k. ap is_detached g.2 ∙ closed (around ∙ k)) (subst (λ us. AllGet p scope us (bare_exprs es)) (sym g.4) gets))
+      (CallsFunction x mode r ps g.0 (bare_exprs es) own is_m g.1 (λ k. ap is_detached g.2 ∙ closed (around ∙ k)) (λ k. ap is_cps (sym at.mode) ∙ cps (ap is_cps (sym g.2) ∙ k)) (subst (λ us. AllGet p scope us (bare_exprs es)) (sym g.4) gets))
 
   no_detached : (a : Bool) → (a && true) ≡ false → a ≡ false
   no_detached true h = not_true (sym h)
@@ -156,13 +156,15 @@ module _ (d : Dialect) (p : Program) (facts : Facts p) (f : Function) (w : Where
 
   function_call : (x : Text) (q : Place) (mode : Mode) (r : Ty) (ps : List Ty) (es : LExprs) → meant w.scope x ≡ AFunction mode r ps → function_breaks w q mode ≡ [] → AllGet p scope ps (bare_exprs es)
       → Calls d p f.mode scope (ENamed x) (bare_exprs es) r
-  function_call x q mode r ps es e h gets = go mode e (holds_not (is_detached w.mode && not (is_detached mode)) q NotClosed (split (at_if (is_cps mode && not (is_cps w.mode)) q CpsInNative) (at_if (is_detached w.mode && not (is_detached mode)) q NotClosed) h).1)
+  function_call x q mode r ps es e h gets =
+      let k = split (at_if (is_cps mode && not (is_cps w.mode)) q CpsInNative) (at_if (is_detached w.mode && not (is_detached mode)) q NotClosed) h in
+      go mode e (holds_not (is_detached w.mode && not (is_detached mode)) q NotClosed k.1) (closes (is_cps mode) (is_cps w.mode) (holds_not (is_cps mode && not (is_cps w.mode)) q CpsInNative k.0))
     where
-      go : (mode : Mode) → meant w.scope x ≡ AFunction mode r ps → (is_detached w.mode && not (is_detached mode)) ≡ false → Calls d p f.mode scope (ENamed x) (bare_exprs es) r
-      go Extern e i = host_call x r ps es e (no_detached (is_detached w.mode) i) gets
-      go Native e i = own_call x Native r ps es refl e (closes (is_detached w.mode) false i) gets
-      go Cps e i = own_call x Cps r ps es refl e (closes (is_detached w.mode) false i) gets
-      go Detached e i = own_call x Detached r ps es refl e (λ k. refl) gets
+      go : (mode : Mode) → meant w.scope x ≡ AFunction mode r ps → (is_detached w.mode && not (is_detached mode)) ≡ false → (is_cps mode ≡ true → is_cps w.mode ≡ true) → Calls d p f.mode scope (ENamed x) (bare_exprs es) r
+      go Extern e i cps = host_call x r ps es e (no_detached (is_detached w.mode) i) gets
+      go Native e i cps = own_call x Native r ps es refl e (closes (is_detached w.mode) false i) cps gets
+      go Cps e i cps = own_call x Cps r ps es refl e (closes (is_detached w.mode) false i) cps gets
+      go Detached e i cps = own_call x Detached r ps es refl e (λ k. refl) cps gets
 
   primitive_call : (x : Text) (q : Place) (prim : Primitive) (es : LExprs) → meant w.scope x ≡ NotMeant → primitive_named x ≡ Some prim → primitive_breaks w q prim ≡ [] → TakesArguments p scope prim (bare_exprs es)
       → Calls d p f.mode scope (ENamed x) (bare_exprs es) (gives prim)
@@ -171,7 +173,8 @@ module _ (d : Dialect) (p : Program) (facts : Facts p) (f : Function) (w : Where
       let h1 = split (at_if (gives_up prim && not (is_cps w.mode)) q CpsInNative) _ h in
       let h2 = split (at_if (is_detached w.mode && not (is_closed prim)) q NotClosed) _ h1.1 in
       CallsPrimitive x prim (bare_exprs es) is_m is_prim (subst (λ d. is_for d prim ≡ true) at.dialect (primitive_for w.dialect prim q h2.1))
-      (λ k. closes (is_detached w.mode) (is_closed prim) (holds_not (is_detached w.mode && not (is_closed prim)) q NotClosed h2.0) (around ∙ k)) gets
+      (λ k. closes (is_detached w.mode) (is_closed prim) (holds_not (is_detached w.mode && not (is_closed prim)) q NotClosed h2.0) (around ∙ k))
+      (λ k. ap is_cps (sym at.mode) ∙ closes (gives_up prim) (is_cps w.mode) (holds_not (gives_up prim && not (is_cps w.mode)) q CpsInNative h1.0) k) gets
 
   code_of : (o : Option Ty) → is_code o ≡ true → (r : Ty) × (ps : Tys) × (o ≡ Some (TyCode r ps))
   code_of (Some (TyCode r ps)) h = (r, ps, refl)

@@ -296,3 +296,9 @@ program_typed dialect p s h =
     let typed = items_typed dialect (bare p) [] p.items s refl k.0 (nothing_known (bare p)) known in
     let main = main_found p.items (holds_then (has_main p.items) p.end NoMain l.0) in
     record { functions = λ x g e. found_typed dialect (bare p) p.items x g typed e; main = main.0; is_main = main.1 }
+
+-- what is known of its items
+pub program_facts : (dialect : Dialect) (p : LProgram) → Each ItemShape p.items → breaks dialect p ≡ [] → Facts (bare p)
+program_facts dialect p s h =
+    let k = split (items_breaks dialect (bare p) [] p.items) _ h in
+    facts_of (bare p) (known_all dialect (bare p) [] p.items s refl k.0 (nothing_known (bare p)))

@@ -16,7 +16,7 @@ use Rattle.cpc_meaning.specs.Start.{main_name}
 use Rattle.cpc_store.specs.declared.values.Scalar.{Scalar}
 use Rattle.cpc_meaning.specs.Layout.{layout}
 use Rattle.cpc_meaning.specs.Requests.{section_takes}
-use Rattle.cpc_check_rules.specs.Operators.{is_detached}
+use Rattle.cpc_check_rules.specs.Operators.{is_detached, is_cps}
 use Rattle.cpc_check_rules.specs.Calls.{gives, gives_up, is_rt, is_closed}
 use Rattle.cpc_check_sound_laws.specs.Suits.{converts}
 use Rattle.cpc_check_sound_laws.specs.Control.{StaysIn}
@@ -137,14 +137,15 @@ abbrev pub is_pointer_call : Program → Scope → Expr → Bool
 is_pointer_call p scope (ENamed x) = is_variable (named p scope x)
 is_pointer_call p scope f = true
 
--- a call in a function of this mode, and the type of its value; a detached function calls detached ones, `malloc` and `free` alone
+-- a call in a function of this mode, and the type of its value; a detached function calls detached ones, `malloc` and `free` alone, and a cps
+-- function is called by cps functions alone, as what gives up the processor is
 pub data Calls (d : Dialect) (p : Program) (around : Mode) (scope : Scope) : Expr → Exprs → Ty → Type 0 where
   CallsHost : (x : Text) (r : Ty) (ps : List Ty) (es : Exprs) → is_detached around ≡ false → named p scope x ≡ AFunction Extern r ps → EachGets p scope (TyInt Long) es
       → Calls d p around scope (ENamed x) es (TyInt Long)
   CallsFunction : (x : Text) (mode : Mode) (r : Ty) (ps : List Ty) (f : Function) (es : Exprs) → is_own mode ≡ true → named p scope x ≡ AFunction mode r ps → function_named p x ≡ Some f
-      → (is_detached around ≡ true → is_detached f.mode ≡ true) → AllGet p scope (parameter_types f) es → Calls d p around scope (ENamed x) es f.result
+      → (is_detached around ≡ true → is_detached f.mode ≡ true) → (is_cps f.mode ≡ true → is_cps around ≡ true) → AllGet p scope (parameter_types f) es → Calls d p around scope (ENamed x) es f.result
   CallsPrimitive : (x : Text) (prim : Primitive) (es : Exprs) → named p scope x ≡ NotMeant → primitive_named x ≡ Some prim → is_for d prim ≡ true
-      → (is_detached around ≡ true → is_closed prim ≡ true) → TakesArguments p scope prim es → Calls d p around scope (ENamed x) es (gives prim)
+      → (is_detached around ≡ true → is_closed prim ≡ true) → (gives_up prim ≡ true → is_cps around ≡ true) → TakesArguments p scope prim es → Calls d p around scope (ENamed x) es (gives prim)
   CallsPointer : (f : Expr) (typed : Typed) (r : Ty) (ps : Tys) (es : Exprs) → is_detached around ≡ false → is_pointer_call p scope f ≡ true → typing p scope f ≡ Some typed → used typed ≡ Some (TyCode r ps)
       → AllGet p scope (list_of_tys ps) es → Calls d p around scope f es r
 
@@ -160,8 +161,8 @@ abbrev pub IsTyped : Dialect → Program → Function → Scope → Stmt → Typ
 IsTyped d p f scope (Declare x t (Some e)) = Assigns p scope (ENamed x) e
 IsTyped d p f scope (Assign x op e) = Assigns p scope x (right_side op x e)
 IsTyped d p f scope (Call x g es) = (r : Ty) × Calls d p f.mode scope g es r × Delivers p scope r x
-IsTyped d p f scope (Detach x g es) = IsOpen d f.mode × Detaches p scope g es × Delivers p scope (TyInt Int) x
-IsTyped d p f scope (Spawn g es) = IsOpen d f.mode × ((h : Function) × (function_named p g ≡ Some h) × AllGet p scope (parameter_types h) es)
+IsTyped d p f scope (Detach x g es) = IsOpen d f.mode × Detaches p scope g es × Delivers p scope (TyInt Int) x × (is_cps f.mode ≡ true)
+IsTyped d p f scope (Spawn g es) = IsOpen d f.mode × ((h : Function) × (function_named p g ≡ Some h) × AllGet p scope (parameter_types h) es × (is_cps h.mode ≡ true))
 IsTyped d p f scope (Return (Some e)) = Gets p scope f.result e
 IsTyped d p f scope s = Unit {0}
 

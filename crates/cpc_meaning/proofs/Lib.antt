@@ -20,3 +20,6 @@ pub mod Histories
 pub mod SameActs
 pub mod SamePlain
 pub mod Ways
+pub mod Stacks
+pub mod Follow
+pub mod Positions

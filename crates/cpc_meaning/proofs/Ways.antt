@@ -17,7 +17,7 @@ use Rattle.cpc_meaning.specs.Ways.{Manner, InPlace, ByFrame, AsCps, primitive_ma
 use Rattle.cpc_meaning.proofs.Functions.{gives_then}
 use Rattle.cpc_meaning.proofs.Meeting.{suspends_at, BothSome, SomeBoth, NoneBoth, GoesFrom, ByAct, ByAnswer, WaitsFrom, ByCall, ByWait, done_there, CodesMeet}
 use Rattle.cpc_meaning.specs.Promises.{WaysSuffice}
-use Rattle.cpc_meaning.proofs.CodesMatch.{codes_follow}
+use Rattle.cpc_meaning.proofs.Positions.{positions_follow}
 
 -- ---- what acts can be
 
@@ -338,4 +338,4 @@ ways_meet p = record {
 }
 
 pub ways_suffice : WaysSuffice
-ways_suffice p = codes_follow (AtWay p) p (tree_code p) (way_code p) (ways_meet p)
+ways_suffice p = positions_follow (AtWay p) p (tree_code p) (way_code p) (ways_meet p)

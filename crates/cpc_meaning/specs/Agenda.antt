@@ -7,31 +7,14 @@ use Rattle.cpc_tree.specs.Lists.{is_empty, holds_number}
 use Rattle.cpc_base.specs.declared.poll.Direction.{Direction}
 use Rattle.cpc_base.specs.declared.poll.Event.{Event}
 use Rattle.cpc_base.specs.declared.poll.Event.TheVariants.{Done, Ready}
-use Rattle.cpc_tree.specs.Trace.{Told, same_direction}
+use Rattle.cpc_tree.specs.Trace.{Told}
 use Rattle.cpc_store.specs.Store.{Value, Whole}
-use Rattle.cpc_num.specs.Number.{is_zero}
+pub use Rattle.cpc_base.specs.Waiting.{OnCondition, OnDescriptor, Timer, first_passing, without_first, without, put_timer, is_due, waits_on, waits_for}
 
 -- an item with the result of its wait
 pub record Due (T : Type 0) : Type 0 where
   pub item : T
   pub result : Value
-
--- an item that waits on a condition
-pub record OnCondition (T : Type 0) : Type 0 where
-  pub item : T
-  pub condition : ℕ
-
--- an item that waits for a descriptor
-pub record OnDescriptor (T : Type 0) : Type 0 where
-  pub item : T
-  pub descriptor : ℤ
-  pub direction : Direction
-
--- an item that waits for a time; timers are numbered in order of making
-pub record Timer (T : Type 0) : Type 0 where
-  pub item : T
-  pub deadline : ℕ
-  pub number : ℕ
 
 -- an item that waits for a section
 pub record OnSection (T : Type 0) : Type 0 where
@@ -90,25 +73,7 @@ ready_one item a = ready_all (item ∷ []) a
 abbrev pub begin_round : {T : Type 0} → Agenda T → Agenda T
 begin_round a = record a { ready = []; round = a.ready }
 
--- the first element that passes, in a list with no or one element
-abbrev pub first_passing : {X : Type 0} → (X → Bool) → List X → List X
-first_passing test [] = []
-first_passing test (x ∷ xs) = if test x then x ∷ [] else first_passing test xs
-
--- a list without its first element that passes
-abbrev pub without_first : {X : Type 0} → (X → Bool) → List X → List X
-without_first test [] = []
-without_first test (x ∷ xs) = if test x then xs else x ∷ without_first test xs
-
--- the elements that do not pass
-abbrev pub without : {X : Type 0} → (X → Bool) → List X → List X
-without test xs = filter (λ x. not (test x)) xs
-
 -- ---- conditions
-
--- whether an item waits on the condition
-abbrev pub waits_on : {T : Type 0} → ℕ → OnCondition T → Bool
-waits_on c w = w.condition == c
 
 -- a new condition
 abbrev pub cond_new : {T : Type 0} → Agenda T → Agenda T
@@ -144,11 +109,6 @@ signal_all c a = where_live c a
     (ready_all (map waiter (filter (waits_on c) a.waiters)) (record a { waiters = without (waits_on c) a.waiters }))
 
 -- ---- timers and descriptors
-
--- timers stand in order of deadline, and of making among those of one deadline
-abbrev pub put_timer : {T : Type 0} → Timer T → List (Timer T) → List (Timer T)
-put_timer t [] = t ∷ []
-put_timer t (u ∷ us) = if nat_lt t.deadline u.deadline then t ∷ u ∷ us else u ∷ put_timer t us
 
 -- the item waits for a time from now
 abbrev pub sleep : {T : Type 0} → ℤ → T → Agenda T → Result (Agenda T) Fault
@@ -207,10 +167,6 @@ finish_sections [] vs a = a
 finish_sections (n ∷ ns) [] a = a
 finish_sections (n ∷ ns) (v ∷ vs) a = finish_sections ns vs (finish_section n v a)
 
--- whether an item waits for the descriptor
-abbrev pub waits_for : {T : Type 0} → ℤ → Direction → OnDescriptor T → Bool
-waits_for fd way w = is_zero (w.descriptor -ℤ fd) && same_direction w.direction way
-
 -- the item of a descriptor's waiter
 abbrev pub descriptor_waiter : {T : Type 0} → OnDescriptor T → T
 descriptor_waiter w = w.item
@@ -225,10 +181,6 @@ wake (Ready fd way) a =
 abbrev pub wake_all : {T : Type 0} → List Event → Agenda T → Agenda T
 wake_all [] a = a
 wake_all (e ∷ es) a = wake_all es (wake e a)
-
--- whether a deadline is over
-abbrev pub is_due : {T : Type 0} → ℕ → Timer T → Bool
-is_due now t = nat_le t.deadline now
 
 -- the item of a timer
 abbrev pub sleeper : {T : Type 0} → Timer T → T

@@ -1,5 +1,5 @@
 -- What a step does hands over values that were made.
-use Rattle.std.proofs.Common.{◌≡◌, ℕ, zero, suc, Bool, true, false, List, [], ◌∷◌, replicate, Option, Some, None}
+use Rattle.std.proofs.Common.{ℕ, zero, suc, Bool, true, false, List, [], ◌∷◌, replicate, Option, Some, None}
 use Rattle.std.specs.List.{All}
 use Rattle.std.proofs.lemmas.List.Elements.{All-nil, All-cons, All-head, All-tail, All-set}
 use Rattle.cpc_base.specs.Bytes.{Text}
@@ -11,7 +11,7 @@ use Rattle.cpc_tree.specs.Points.{Found, Simple, Test, Nothing}
 use Rattle.cpc_tree.specs.Primitives.{Primitive, Taken, AnyInteger, SetOf, FreeOf, primitive_named}
 use Rattle.cpc_tree.specs.Registers.{is_register}
 use Rattle.cpc_tree.specs.Typing.{Scope, Meant, AFunction, NotMeant, named, size, function_named, parameter_types, code_parameters}
-use Rattle.cpc_store.specs.declared.values.Class.TheVariants.{Static, Auto}
+use Rattle.cpc_store.specs.declared.values.Class.TheVariants.{Auto}
 use Rattle.cpc_store.specs.Store.{Value, Unset, Whole, At, Store, alloc, next_block, free, save}
 use Rattle.cpc_meaning.specs.Answer.{Answer, Gives, ◌>>=◌, of_result, needed}
 use Rattle.cpc_meaning.specs.Eval.{Slot, Register, Boxed, Context, Spot, InSlot, InCell, place, place_type, used_type, value, values, holds, assigned, at_type}
@@ -21,7 +21,7 @@ use Rattle.cpc_meaning.specs.Act.{Stood, AtStatement, AtArrival, AtEnd, Act, Goe
 use Rattle.cpc_meaning.proofs.SameValues.{at}
 use Rattle.cpc_meaning_pointer_laws.specs.Made.{IsMade, IsMadeIf, IsMadeSlot, IsMadeStore}
 use Rattle.cpc_meaning_pointer_laws.proofs.Blocks.{Only, only_then, any_then, only_as, only_given}
-use Rattle.cpc_meaning_pointer_laws.proofs.Values.{IsMadeSpot, assigned_made, at_type_made, places, same_values}
+use Rattle.cpc_meaning_pointer_laws.proofs.Values.{IsMadeSpot, assigned_made, at_type_made, same_itself, places, same_values}
 use Rattle.cpc_meaning_pointer_laws.proofs.Stores.{later_made, later_values, later_slots, Onward, onward_self, onward_then, IsMadeCells, cells_none, cells_more, cells_unset, next_made, alloc_onward, free_onward, save_onward}
 
 -- ---- the variables of a call
@@ -124,15 +124,11 @@ module _ (p : Program) (scope : Scope) (slots : List Slot) (s : Store) (made : I
   abbrev Acts : Answer Act → Type 0
   Acts a = Only (ActMade s) a
 
-  -- another class than that of the globals
-  auto_apart : ¬ (Auto ≡ Static)
-  auto_apart e = absurd (cc)
-
   value_made : (e : Expr) → Only (IsMade s) (value c e)
-  value_made e = only_given (IsMade s) (λ x. x) _ _ (same_values Auto [] auto_apart s made p scope slots slots_made e)
+  value_made e = only_given (IsMade s) (λ x. x) _ _ (same_values s s (same_itself s) made p scope slots slots_made e)
 
   place_made : (e : Expr) → Only (IsMadeSpot s) (place c e)
-  place_made e = only_given (IsMadeSpot s) (λ x. x) _ _ (places Auto [] auto_apart s made p scope slots slots_made e)
+  place_made e = only_given (IsMadeSpot s) (λ x. x) _ _ (places s s (same_itself s) made p scope slots slots_made e)
 
   values_made : (es : Exprs) → Only (All (IsMade s)) (values c es)
   values_made NoExpr = All-nil (IsMade s)

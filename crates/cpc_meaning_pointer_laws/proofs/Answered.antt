@@ -13,7 +13,7 @@ use Rattle.cpc_meaning.specs.Plain.{Form, Frame as Call, Stack, perform, context
 use Rattle.cpc_meaning_pointer_laws.specs.Made.{IsMadeStore, IsMadeSlot, IsMadeFrame, IsMadeCode}
 use Rattle.cpc_meaning_pointer_laws.specs.Laws.{done_with, AnsweredAlike}
 use Rattle.cpc_meaning_pointer_laws.proofs.Blocks.{Any, Alike, Given, Broken, Neither, then_alike, then_keeps, same_then, given_alike, saves}
-use Rattle.cpc_meaning_pointer_laws.proofs.Values.{IsMadeSpot, places}
+use Rattle.cpc_meaning_pointer_laws.proofs.Values.{IsMadeSpot, same_grown, places}
 
 module _ {P : Type 0} (p : Form P) (class : Class) (more : List Value) (apart : ¬ (class ≡ Static)) (s : Store) (made : IsMadeStore s) where
   -- the same slots, and a store that has the block too
@@ -27,7 +27,7 @@ module _ {P : Type 0} (p : Form P) (class : Class) (more : List Value) (apart : 
 
     assigns_so : (e : Expr) (v : Value) → Alike Any with_block (assign (context p s frame) e v) (assign (context p (alloc class more s) frame) e v)
     assigns_so e v =
-        then_keeps (IsMadeSpot s) Any with_block _ _ _ _ (places class more apart s made p.program (p.code.scope frame.function frame.point) frame.slots slots_made e) λ spot h.
+        then_keeps (IsMadeSpot s) Any with_block _ _ _ _ (places s (alloc class more s) (same_grown class more s apart) made p.program (p.code.scope frame.function frame.point) frame.slots slots_made e) λ spot h.
         same_then Any with_block (needed (place_type (context p s frame) e)) _ _ λ t.
         same_then Any with_block (assigned t v) _ _ λ w. writes spot w h
 

@@ -38,7 +38,7 @@ use Rattle.cpc_meaning_pointer_laws.proofs.Agendas.{later_agenda, ready_one_made
 abbrev pub Handed : Store → Store × Value → Type 0
 Handed s r = Onward s r.0 × IsMade r.0 r.1
 
-allocated_made : (c : Class) (v : Value) (s : Store) → IsMadeStore s → Only (Handed s) (allocated c v s)
+pub allocated_made : (c : Class) (v : Value) (s : Store) → IsMadeStore s → Only (Handed s) (allocated c v s)
 allocated_made c (Whole kind n) s made =
     only_if (Handed s) (int_lt n (pos 0)) (Faults F.Length) (Gives (alloc c (replicate (unsigned_abs n) Unset) s, At c (next_block c s) 0)) tt
     (alloc_onward c (replicate (unsigned_abs n) Unset) s made (cells_unset s (unsigned_abs n)), next_made c (replicate (unsigned_abs n) Unset) s)
@@ -48,7 +48,7 @@ allocated_made c (At d n k) s made = tt
 allocated_made c (Code f) s made = tt
 allocated_made c (Cond n) s made = tt
 
-freed_made : (c : Class) (v : Value) (s : Store) → IsMadeStore s → Only (Handed s) (freed c v s)
+pub freed_made : (c : Class) (v : Value) (s : Store) → IsMadeStore s → Only (Handed s) (freed c v s)
 freed_made c v s made = only_then (Onward s) (Handed s) (of_result (free c v s)) _ (free_onward c v s made) λ t on. (on, tt)
 
 -- ---- states

@@ -57,7 +57,7 @@ module _ (s : Store) where
   start_made (Some (EText bs)) scalars = text_made bs (map zero_of scalars) (zeros_made scalars)
   start_made _ scalars = zeros_made scalars
 
-globals_come : (p : Program) (items : List Item) (s : Store) → IsMadeStore s → Only IsMadeStore (make_globals p items s)
+pub globals_come : (p : Program) (items : List Item) (s : Store) → IsMadeStore s → Only IsMadeStore (make_globals p items s)
 globals_come p [] s made = made
 globals_come p (GlobalItem x t start ∷ items) s made =
     any_then IsMadeStore (needed (layout p t)) _ λ scalars.
@@ -67,7 +67,7 @@ globals_come p (PrototypeItem mode f r ps ∷ items) s made = globals_come p ite
 globals_come p (FunctionItem f ∷ items) s made = globals_come p items s made
 
 -- no block, no cell
-empty_made : IsMadeStore empty_store
+pub empty_made : IsMadeStore empty_store
 empty_made c n k cells v e g = no_cells c n e
   where
     no_cells : (c : Class) (n : ℕ) → cells_of c n empty_store ≡ Some cells → IsMade empty_store v
@@ -76,7 +76,7 @@ empty_made c n k cells v e g = no_cells c n e
     no_cells Heap n e = absurd (cc)
     no_cells Frame n e = absurd (cc)
 
-globals_made : (a : Answer Store) → Only IsMadeStore a → IsMadeStore (globals a)
+pub globals_made : (a : Answer Store) → Only IsMadeStore a → IsMadeStore (globals a)
 globals_made (Gives s) h = h
 globals_made (Faults fault) h = empty_made
 globals_made NoAnswer h = empty_made

@@ -83,7 +83,7 @@ cells_set s (x ∷ cells) (suc k) v h i = cells_more s x (slice_set cells k v) (
 
 -- ---- blocks
 
-class_cases : (c d : Class) → (c ≡ d) ⊎ ¬ (c ≡ d)
+pub class_cases : (c d : Class) → (c ≡ d) ⊎ ¬ (c ≡ d)
 class_cases Static Static = inl refl
 class_cases Auto Auto = inl refl
 class_cases Heap Heap = inl refl
@@ -95,6 +95,15 @@ set_live : (bs : Blocks) (n : ℕ) (b : Option (List Value)) (cells : List Value
 set_live [] n b cells e = absurd (cc)
 set_live (x ∷ bs) zero b cells e = e
 set_live (x ∷ bs) (suc n) b cells e = set_live bs n b cells e
+
+-- so are those of the block of its number and class
+pub set_same : (c : Class) (n : ℕ) (b : Option (List Value)) (s : Store) (d : Class) (m : ℕ) → d ≡ c → m ≡ n → (cells : List Value) → cells_of d m (with_blocks c (slice_set (blocks c s) n b) s) ≡ Some cells → b ≡ Some cells
+set_same c n b s d m i j cells e =
+    set_live (blocks c s) n b cells
+    (ap (λ bs. live (slice_get bs n)) (sym (blocks_with c (slice_set (blocks c s) n b) s))
+    ∙ ap (λ q. live (slice_get (blocks c (with_blocks c (slice_set (blocks c s) n b) s)) q)) (sym j)
+    ∙ ap (λ q. live (slice_get (blocks q (with_blocks c (slice_set (blocks c s) n b) s)) m)) (sym i)
+    ∙ e)
 
 later_set : (c : Class) (n : ℕ) (b : Option (List Value)) (s : Store) → Later s (with_blocks c (slice_set (blocks c s) n b) s)
 later_set c n b s Static m h = tt
@@ -110,19 +119,11 @@ set_onward c n b s made h = record { later = later_set c n b s; made = λ d m k 
     after : Store
     after = with_blocks c (slice_set (blocks c s) n b) s
 
-    same : (d : Class) (m : ℕ) → d ≡ c → m ≡ n → (cells : List Value) → cells_of d m (with_blocks c (slice_set (blocks c s) n b) s) ≡ Some cells → b ≡ Some cells
-    same d m i j cells e =
-        set_live (blocks c s) n b cells
-        (ap (λ bs. live (slice_get bs n)) (sym (blocks_with c (slice_set (blocks c s) n b) s))
-        ∙ ap (λ q. live (slice_get (blocks c (with_blocks c (slice_set (blocks c s) n b) s)) q)) (sym j)
-        ∙ ap (λ q. live (slice_get (blocks q (with_blocks c (slice_set (blocks c s) n b) s)) m)) (sym i)
-        ∙ e)
-
     other : (d : Class) (m k : ℕ) (cells : List Value) (v : Value) → (d ≡ c → ¬ (m ≡ n)) → cells_of d m (with_blocks c (slice_set (blocks c s) n b) s) ≡ Some cells → slice_get cells k ≡ Some v → IsMade s v
     other d m k cells v apart e g = made d m k cells v (sym (cells_of-set_other c n b s d m apart) ∙ e) g
 
     by : (d : Class) (m k : ℕ) (cells : List Value) (v : Value) → (d ≡ c) ⊎ ¬ (d ≡ c) → (m ≡ n) ⊎ ¬ (m ≡ n) → cells_of d m (with_blocks c (slice_set (blocks c s) n b) s) ≡ Some cells → slice_get cells k ≡ Some v → IsMade s v
-    by d m k cells v (inl i) (inl j) e g = h cells (same d m i j cells e) k v g
+    by d m k cells v (inl i) (inl j) e g = h cells (set_same c n b s d m i j cells e) k v g
     by d m k cells v (inr apart) o e g = other d m k cells v (λ i. absurd (apart i)) e g
     by d m k cells v (inl i) (inr apart) e g = other d m k cells v (λ i. apart) e g
 
@@ -148,24 +149,21 @@ next_made Auto cells s = last_one s.auto (Some cells)
 next_made Heap cells s = last_one s.heap (Some cells)
 next_made Frame cells s = last_one s.frames (Some cells)
 
+-- the cells of the block that was made
+pub alloc_same : (c : Class) (more : List Value) (s : Store) (d : Class) (m : ℕ) → d ≡ c → m ≡ next_block c s → (cells : List Value) → cells_of d m (alloc c more s) ≡ Some cells → more ≡ cells
+alloc_same c more s d m i j cells e =
+    let here : cells_of c (next_block c s) (alloc c more s) ≡ Some cells = ap (λ q. cells_of c q (alloc c more s)) (sym j) ∙ ap (λ q. cells_of q m (alloc c more s)) (sym i) ∙ e in
+    let k : Some more ≡ Some cells = sym (cells_of-alloc_same c more s) ∙ here in
+    cc
+
 pub alloc_onward : (c : Class) (more : List Value) (s : Store) → IsMadeStore s → IsMadeCells s more → Onward s (alloc c more s)
 alloc_onward c more s made h = record { later = later_alloc c more s; made = λ d m k cells v e g. later_made s (alloc c more s) (later_alloc c more s) v (by d m k cells v (class_cases d c) (cases_eq m (next_block c s)) e g) }
   where
-    new : (cells : List Value) → cells_of c (next_block c s) (alloc c more s) ≡ Some cells → more ≡ cells
-    new cells e = let i : Some more ≡ Some cells = sym (cells_of-alloc_same c more s) ∙ e in cc
-
-    same : (d : Class) (m : ℕ) → d ≡ c → m ≡ next_block c s → (cells : List Value) → cells_of d m (alloc c more s) ≡ Some cells → more ≡ cells
-    same d m i j cells e =
-        new cells
-        (ap (λ q. cells_of c q (alloc c more s)) (sym j)
-        ∙ ap (λ q. cells_of q m (alloc c more s)) (sym i)
-        ∙ e)
-
     other : (d : Class) (m k : ℕ) (cells : List Value) (v : Value) → (d ≡ c → ¬ (m ≡ next_block c s)) → cells_of d m (alloc c more s) ≡ Some cells → slice_get cells k ≡ Some v → IsMade s v
     other d m k cells v apart e g = made d m k cells v (sym (cells_of-alloc_other c more s d m apart) ∙ e) g
 
     by : (d : Class) (m k : ℕ) (cells : List Value) (v : Value) → (d ≡ c) ⊎ ¬ (d ≡ c) → (m ≡ next_block c s) ⊎ ¬ (m ≡ next_block c s) → cells_of d m (alloc c more s) ≡ Some cells → slice_get cells k ≡ Some v → IsMade s v
-    by d m k cells v (inl i) (inl j) e g = h k v (ap (λ xs. slice_get xs k) (same d m i j cells e) ∙ g)
+    by d m k cells v (inl i) (inl j) e g = h k v (ap (λ xs. slice_get xs k) (alloc_same c more s d m i j cells e) ∙ g)
     by d m k cells v (inr apart) o e g = other d m k cells v (λ i. absurd (apart i)) e g
     by d m k cells v (inl i) (inr apart) e g = other d m k cells v (λ i. apart) e g
 

@@ -1,4 +1,4 @@
--- What expressions give leads into blocks that were made, and is the same with one more block in the store.
+-- What expressions give leads into blocks that were made, and is the same in a store where these have the same cells, as with one more block.
 use Rattle.std.proofs.Common.{◌≡◌, ℕ, ℤ, ◌+ℤ◌, pos, Bool, true, false, ◌&&◌, ◌==◌, not, List, Option, Some, None, Result, Ok, Err, slice_get, length, cond, refl, sym, subst}
 use Rattle.std.specs.Prelude.{int_lt, int_le, unsigned_abs}
 use Rattle.std.specs.List.{All}
@@ -57,7 +57,7 @@ module _ (s : Store) where
   at_type_made t Unset h = tt
   at_type_made t v h = assigned_made t v h
 
-  applied_made : (op : UnaryOp) (v : Value) → Only (IsMade s) (apply op v)
+  pub applied_made : (op : UnaryOp) (v : Value) → Only (IsMade s) (apply op v)
   applied_made Minus (Whole kind z) = number_made _ _
   applied_made Plus (Whole kind z) = tt
   applied_made Complement (Whole kind z) = tt
@@ -68,7 +68,7 @@ module _ (s : Store) where
   applied_made Dereference v = tt
   applied_made AddressOf v = tt
 
-  pointed_made : (v : Value) → IsMade s v → Only (IsMadeSpot s) (pointed v)
+  pub pointed_made : (v : Value) → IsMade s v → Only (IsMadeSpot s) (pointed v)
   pointed_made (At c n k) h = h
   pointed_made Unset h = tt
   pointed_made (Whole kind z) h = tt
@@ -76,12 +76,12 @@ module _ (s : Store) where
   pointed_made (Code f) h = tt
   pointed_made (Cond n) h = tt
 
-  pointer_made : (spot : Spot) → IsMadeSpot s spot → Only (IsMade s) (pointer_to spot)
+  pub pointer_made : (spot : Spot) → IsMadeSpot s spot → Only (IsMade s) (pointer_to spot)
   pointer_made (InSlot k) h = tt
   pointer_made (InCell c n k) h = h
 
   -- what is loaded stands in a live block
-  loaded_made : (wanted : Scalar) (c : Class) (n k : ℕ) → IsMadeStore s → Only (IsMade s) (of_result (load wanted c n k s))
+  pub loaded_made : (wanted : Scalar) (c : Class) (n k : ℕ) → IsMadeStore s → Only (IsMade s) (of_result (load wanted c n k s))
   loaded_made wanted c n k made = go (cells_of c n s) refl
     where
       cell : (cells : List Value) → cells_of c n s ≡ Some cells → (o : Option Value) → slice_get cells k ≡ o → Only (IsMade s) (of_result (load_cell wanted o))
@@ -96,20 +96,27 @@ module _ (s : Store) where
       go None e = tt
       go (Some cells) e = cell cells e (slice_get cells k) refl
 
--- ---- the same with one more block
+-- ---- the same in another store, where the blocks that were made have the same cells
 
-module _ (class : Class) (more : List Value) (apart : ¬ (class ≡ Static)) (s : Store) (made : IsMadeStore s) where
-  -- the store with the block
-  abbrev pub grown : Store
-  grown = alloc class more s
+-- what was made in s has the same cells in t
+abbrev pub SameCells : Store → Store → Type 0
+SameCells s t = (c : Class) (n : ℕ) → IsBlock s c n → cells_of c n t ≡ cells_of c n s
 
+-- the store itself, and the store with one more block
+pub same_itself : (s : Store) → SameCells s s
+same_itself s c n h = refl
+
+pub same_grown : (class : Class) (more : List Value) (s : Store) → ¬ (class ≡ Static) → SameCells s (alloc class more s)
+same_grown class more s apart c n h = kept class more s c n apart h
+
+module _ (s grown : Store) (same_cells : SameCells s grown) (made : IsMadeStore s) where
   -- what depends on the cells of one block that was made
   by_cells : {A : Type 0} (Good : A → Type 0) (f : Option (List Value) → Answer A) (c : Class) (n : ℕ) → IsBlock s c n → Only Good (f (cells_of c n s)) → Keeps Good (f (cells_of c n s)) (f (cells_of c n grown))
-  by_cells Good f c n h g = subst (λ o. Keeps Good (f (cells_of c n s)) (f o)) (sym (kept class more s c n apart h)) (itself Good _ g)
+  by_cells Good f c n h g = subst (λ o. Keeps Good (f (cells_of c n s)) (f o)) (sym (same_cells c n h)) (itself Good _ g)
 
   -- ---- operators
 
-  moves : (v : Value) (d : ℤ) → IsMade s v → Keeps (IsMade s) (moved s v d) (moved grown v d)
+  pub moves : (v : Value) (d : ℤ) → IsMade s v → Keeps (IsMade s) (moved s v d) (moved grown v d)
   moves (At c n k) d h = by_cells (IsMade s) (λ o. moved_within o c n (pos k +ℤ d)) c n h (within_made s (cells_of c n s) c n (pos k +ℤ d) h)
   moves Unset d h = Broken F.Unset
   moves (Whole kind z) d h = Neither
@@ -123,7 +130,7 @@ module _ (class : Class) (more : List Value) (apart : ¬ (class ≡ Static)) (s 
   both_offsets : (v w : Value) → IsMade s v → IsMade s w → Keeps Any (offsets s v w) (offsets grown v w)
   both_offsets (At c m j) (At d n k) h i =
       let same : Bool = same_class c d && (m == n) in
-      subst (λ o. Keeps Any (offsets s (At c m j) (At d n k)) (offsets_in o (cells_of d n grown) same j k)) (sym (kept class more s c m apart h))
+      subst (λ o. Keeps Any (offsets s (At c m j) (At d n k)) (offsets_in o (cells_of d n grown) same j k)) (sym (same_cells c m h))
       (by_cells Any (λ o. offsets_in (cells_of c m s) o same j k) d n i (only_any (offsets_in (cells_of c m s) (cells_of d n s) same j k)))
   both_offsets v w h i = as_is _
 
@@ -147,7 +154,7 @@ module _ (class : Class) (more : List Value) (apart : ¬ (class ≡ Static)) (s 
   mixed p Add t z w h = moves_by p t w z h
   mixed p _ t z w h = itself (IsMade s) _ tt
 
-  operates : (p : Program) (op : Op) (t u : Option Ty) (v w : Value) → IsMade s v → IsMade s w → Keeps (IsMade s) (operate p s op t u v w) (operate p grown op t u v w)
+  pub operates : (p : Program) (op : Op) (t u : Option Ty) (v w : Value) → IsMade s v → IsMade s w → Keeps (IsMade s) (operate p s op t u v w) (operate p grown op t u v w)
   operates p op t u Unset w h i = Broken F.Unset
   operates p op t u v Unset h i = itself (IsMade s) _ tt
   operates p op t u (Whole j x) (Whole k y) h i = itself (IsMade s) _ (number_made s _ _)
@@ -157,7 +164,7 @@ module _ (class : Class) (more : List Value) (apart : ¬ (class ≡ Static)) (s 
   -- ---- places and values
 
   module _ (p : Program) (scope : Scope) (slots : List Slot) (slots_made : All (IsMadeSlot s) slots) where
-    -- what an expression is evaluated in, without the block and with it
+    -- what an expression is evaluated in, in either store
     abbrev pub here : Context
     here = at p scope slots s
 
@@ -181,12 +188,12 @@ module _ (class : Class) (more : List Value) (apart : ¬ (class ≡ Static)) (s 
     slot_there k (Some (Register v)) e = tt
     slot_there k (Some (Boxed n)) e = element (IsMadeSlot s) slots k (Boxed n) slots_made e
 
-    spot_made : (m : Meant) → Only (IsMadeSpot s) (spot_named slots m)
+    pub spot_made : (m : Meant) → Only (IsMadeSpot s) (spot_named slots m)
     spot_made (ALocal k t) = slot_there k (slice_get slots k) refl
     spot_made (AGlobal n t) = tt
     spot_made _ = tt
 
-    reads : (t : Option Ty) (spot : Spot) → IsMadeSpot s spot → Same (read slots s t spot) (read slots grown t spot)
+    pub reads : (t : Option Ty) (spot : Spot) → IsMadeSpot s spot → Same (read slots s t spot) (read slots grown t spot)
     reads None spot h = Neither
     reads (Some t) (InSlot k) h = itself (IsMade s) _ (slot_held k (slice_get slots k) refl)
     reads (Some (TyArray t m)) (InCell c n k) h = Given (At c n k) h
@@ -194,7 +201,7 @@ module _ (class : Class) (more : List Value) (apart : ¬ (class ≡ Static)) (s 
         same_then (IsMade s) (λ x. x) (needed (scalar_of t)) _ _ λ wanted.
         by_cells (IsMade s) (λ o. of_result (load_block wanted o k)) c n h (loaded_made s wanted c n k made)
 
-    fields : (t : Option Ty) (x : Text) (v : Value) → IsMade s v → SamePlace (field_spot p s t x v) (field_spot p grown t x v)
+    pub fields : (t : Option Ty) (x : Text) (v : Value) → IsMade s v → SamePlace (field_spot p s t x v) (field_spot p grown t x v)
     fields t x v h =
         same_then (IsMadeSpot s) (λ x. x) (needed t) _ _ λ u.
         same_then (IsMadeSpot s) (λ x. x) (needed (struct_tag u)) _ _ λ tag.
@@ -211,7 +218,7 @@ module _ (class : Class) (more : List Value) (apart : ¬ (class ≡ Static)) (s 
     addresses : (a b : Answer Spot) → SamePlace a b → Same (address a) (address b)
     addresses a b h = then_keeps (IsMadeSpot s) (IsMade s) (λ x. x) a b pointer_to pointer_to h λ spot i. itself (IsMade s) (pointer_to spot) (pointer_made s spot i)
 
-    address_made : (x : Text) (m : Meant) → Only (IsMade s) (address_named slots x m)
+    pub address_made : (x : Text) (m : Meant) → Only (IsMade s) (address_named slots x m)
     address_made x (AFunction Native r ps) = tt
     address_made x (AFunction Detached r ps) = tt
     address_made x m = only_then (IsMadeSpot s) (IsMade s) (spot_named slots m) pointer_to (spot_made m) (pointer_made s)

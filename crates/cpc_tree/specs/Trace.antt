@@ -2,15 +2,8 @@
 use Rattle.std.specs.Prelude.{ℕ, ◌-◌, ◌^◌, Bool, true, false, ℤ, List}
 use Rattle.cpc_base.specs.Bytes.{Text}
 use Rattle.cpc_base.specs.declared.poll.Direction.{Direction}
-use Rattle.cpc_base.specs.declared.poll.Direction.TheVariants.{Read, Write}
 use Rattle.cpc_base.specs.declared.poll.Event.{Event}
 use Rattle.cpc_num.specs.declared.kinds.Fault.{Fault}
-
--- whether two directions are one
-abbrev pub same_direction : Direction → Direction → Bool
-same_direction Read Read = true
-same_direction Write Write = true
-same_direction _ _ = false
 
 -- a poll: a clock, and events in order
 pub record Told : Type 0 where

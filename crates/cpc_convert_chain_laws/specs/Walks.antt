@@ -1,0 +1,81 @@
+-- Some steps of the event machine that leave no mark and do not end the run.
+use Rattle.std.specs.Prelude.{◌≡◌, ℕ, zero, suc, List, ◌∷◌, Option, Some, None}
+use Rattle.cpc_base.specs.Bytes.{Text}
+use Rattle.cpc_tree.specs.Syntax.{Stmt, Stmts, Program}
+use Rattle.cpc_tree.specs.Points.{Nth, Point, Arrival, enter}
+use Rattle.cpc_tree.specs.Points as P
+use Rattle.cpc_tree.specs.Trace.{Mark, Going, Failed}
+use Rattle.cpc_store.specs.Store.{Value, Store}
+use Rattle.cpc_meaning.specs.Agenda.{Agenda}
+use Rattle.cpc_meaning.specs.Eval.{Slot}
+use Rattle.cpc_meaning.specs.Plain.{Frame, Stack}
+use Rattle.cpc_meaning.specs.History.{History}
+use Rattle.cpc_meaning.specs.Section.{Job}
+use Rattle.cpc_meaning.specs.Machine.{State, next, ends}
+use Rattle.cpc_meaning.specs.Start.{before_bars}
+use Rattle.cpc_num.specs.declared.kinds.Fault.{Fault}
+use Rattle.cpc_convert_chain_laws.specs.Flat.{point_at}
+use Rattle.cpc_meaning.specs.Events.{Callback, callbacks}
+
+-- what a state has besides its store and what runs
+pub record World : Type 0 where
+  pub agenda : Agenda Callback
+  pub jobs : List Job
+  pub history : History
+  pub trace : List Mark
+
+-- a state of the event machine
+abbrev pub Here : Type 0
+Here = State Point Callback
+
+-- these frames run, and this value is arriving at the first
+abbrev pub running : World → Store → List (Frame Point) → (arriving : Option Value) → Here
+running w s frames o = record {
+  store = s;
+  running = Some (record { frames = frames; arriving = o });
+  agenda = w.agenda;
+  jobs = w.jobs;
+  history = w.history;
+  trace = w.trace;
+  outcome = Going;
+}
+
+-- nothing runs
+abbrev pub idle : World → Store → Here
+idle w s = record { store = s; running = None; agenda = w.agenda; jobs = w.jobs; history = w.history; trace = w.trace; outcome = Going }
+
+-- a frame of a function
+abbrev pub frame_at : Text → Point → List Slot → Frame Point
+frame_at f point slots = record { function = f; point = point; slots = slots }
+
+-- a function runs above these frames
+abbrev pub in_function : World → Text → (below : List (Frame Point)) → Point → List Slot → Store → Here
+in_function w f below point slots s = running w s (frame_at f point slots ∷ below) None
+
+-- a function runs before these statements of its block, the first of which is the k-th one
+abbrev pub at_line : World → Text → (below : List (Frame Point)) → ℕ → Stmts → List Slot → Store → Here
+at_line w f below k left slots s = in_function w f below (point_at k left) slots s
+
+-- the stack of a function before the k-th statement of its block, and its frame where a value arrives at that
+abbrev pub line_stack : Text → (below : List (Frame Point)) → ℕ → Stmt → List Slot → Stack Point
+line_stack f below k s slots = record { frames = frame_at f (P.Here (Nth k ∷ enter s)) slots ∷ below; arriving = None }
+
+abbrev pub arriving_at : Text → ℕ → Stmt → List Slot → Frame Point
+arriving_at f k s slots = frame_at f (Arrival (Nth k ∷ enter s)) slots
+
+-- a state with this trace, which goes on
+pub record Quiet (trace : List Mark) (s : Here) : Type 0 where
+  pub is_trace : s.trace ≡ trace
+  pub goes : s.outcome ≡ Going
+
+-- so many steps lead from a state to another, over quiet ones
+pub data Walk (q : Program) (trace : List Mark) : ℕ → Here → Here → Type 0 where
+  Stay : (s : Here) → Walk q trace zero s s
+  Step : (n : ℕ) (s t u : Here) → next (callbacks q) s ≡ Some t → Quiet trace t → Walk q trace n t u → Walk q trace (suc n) s u
+
+-- so many steps lead to a state whose next step is this fault, in this function
+pub record FaultsAfter (q : Program) (trace : List Mark) (f : Text) (fault : Fault) (s : Here) : Type 0 where
+  pub steps : ℕ
+  pub last : Here
+  pub leads : Walk q trace steps s last
+  pub faults : next (callbacks q) last ≡ Some (ends (Failed fault (before_bars f)) last)

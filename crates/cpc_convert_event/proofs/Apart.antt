@@ -1,0 +1,65 @@
+-- Names that are made are apart: from those of the source, and from each other.
+use Rattle.std.proofs.Common.{◌≡◌, ℕ, ◌<◌, ◌^◌, [], ◌++◌, get_or, decimal, refl, ap, codes, arith}
+use Rattle.cpc_base.specs.Bytes.{Text}
+use Rattle.cpc_convert.specs.Converted.{marked, spawner_name}
+use Rattle.cpc_convert.proofs.Marks.{NoBar, decimal_is}
+use Rattle.cpc_forms.specs.Flow.{Place, Start, At}
+use Rattle.cpc_convert_chain_laws.specs.Driver.{drive_name}
+use Rattle.cpc_convert_event.specs.Names.{start_name, leader_name, piece_name}
+
+-- what stands behind the bars of a piece's name
+abbrev pub behind : Place → Text
+behind Start = codes "start"
+behind (At n) = codes "at" ++ decimal n
+
+pub piece_is : (f : Text) (l : Place) → piece_name f l ≡ marked f (behind l)
+unfolding start_name leader_name
+piece_is f Start = refl
+piece_is f (At n) = refl
+
+pub spawner_is : (f : Text) → spawner_name f ≡ marked f (codes "spawn")
+unfolding spawner_name
+spawner_is f = refl
+
+pub driver_is : drive_name ≡ marked (codes "drive") (codes "")
+driver_is = refl
+
+pub no_bar : (d : Text) → (get_or d 0 0 ≡ 95 → ⊥) → NoBar d
+no_bar d h = record { none = λ e k. h (ap (λ x. get_or x 0 0) k) }
+
+pub no_bar_behind : (l : Place) → NoBar (behind l)
+no_bar_behind Start = no_bar _ (λ k. absurd (omega arith))
+no_bar_behind (At n) = no_bar _ (λ k. absurd (omega arith))
+
+pub no_bar_spawn : NoBar (codes "spawn")
+no_bar_spawn = no_bar _ (λ k. absurd (omega arith))
+
+pub no_bar_nothing : NoBar (codes "")
+no_bar_nothing = no_bar _ (λ k. absurd (omega arith))
+
+-- texts with different bytes at one place are apart
+pub differ_at : (i : ℕ) (x y : Text) → (get_or x i 0 ≡ get_or y i 0 → ⊥) → x ≡ y → ⊥
+differ_at i x y h k = h (ap (λ z. get_or z i 0) k)
+
+-- the texts behind the bars are apart
+pub piece_spawn : (l : Place) → behind l ≡ codes "spawn" → ⊥
+piece_spawn Start k = differ_at 1 (codes "start") (codes "spawn") (λ e. absurd (omega arith)) k
+piece_spawn (At n) k = differ_at 0 (codes "at" ++ decimal n) (codes "spawn") (λ e. absurd (omega arith)) k
+
+pub piece_nothing : (l : Place) → behind l ≡ codes "" → ⊥
+piece_nothing Start k = differ_at 0 (codes "start") [] (λ e. absurd (omega arith)) k
+piece_nothing (At n) k = differ_at 0 (codes "at" ++ decimal n) [] (λ e. absurd (omega arith)) k
+
+pub spawn_nothing : codes "spawn" ≡ codes "" → ⊥
+spawn_nothing k = differ_at 0 (codes "spawn") [] (λ e. absurd (omega arith)) k
+
+-- a place whose number can be told apart
+pub data Small : Place → Type 0 where
+  StartIsSmall : Small Start
+  NumberIsSmall : (n : ℕ) → n < 2 ^ 63 → Small (At n)
+
+pub behind_is : (a b : Place) → Small a → Small b → behind a ≡ behind b → a ≡ b
+behind_is _ _ StartIsSmall StartIsSmall k = refl
+behind_is _ _ StartIsSmall (NumberIsSmall n h) k = absurd (differ_at 0 (codes "start") (codes "at" ++ decimal n) (λ e. absurd (omega arith)) k)
+behind_is _ _ (NumberIsSmall n h) StartIsSmall k = absurd (differ_at 0 (codes "at" ++ decimal n) (codes "start") (λ e. absurd (omega arith)) k)
+behind_is _ _ (NumberIsSmall m h) (NumberIsSmall n g) k = let e : decimal m ≡ decimal n = cc in ap At (decimal_is m n h g e)

@@ -1,0 +1,160 @@
+-- Which structs are made of the cps functions of a program, and that their tags are apart.
+use Rattle.std.proofs.Common.{◌≡◌, ℕ, ⊎_elim, Bool, true, false, List, [], ◌∷◌, ◌++◌, map, decimal, Some, refl, sym, ◌∙◌, ap, subst, codes, arith}
+use Rattle.cpc_base.specs.Bytes.{Text}
+use Rattle.cpc_tree.specs.Syntax.{Function, Item, StructItem, GlobalItem, PrototypeItem, FunctionItem, Program}
+use Rattle.cpc_tree.specs.Typing.{is_scalar, function_named}
+use Rattle.cpc_meaning.specs.Threads.{is_cps_mode}
+use Rattle.cpc_convert.specs.Accepted.{has_marks}
+use Rattle.cpc_convert.specs.Converted.{marked}
+use Rattle.cpc_convert.specs.Form.{Has, OnTop, Below}
+use Rattle.cpc_convert.proofs.Marks.{NoBar, marked_is}
+use Rattle.cpc_convert.proofs.Made.{has_left, has_right, has_either}
+use Rattle.cpc_forms.specs.Flow.{Place, Start, At}
+use Rattle.cpc_convert_chain_laws.specs.Driver.{frame_tag}
+use Rattle.cpc_convert_event.specs.Names.{piece_name, value_tag}
+use Rattle.cpc_convert_event.specs.Routines.{routine_of}
+use Rattle.cpc_convert_event.specs.Frames.{any_frame, value_struct, value_struct_if, start_struct, leader_struct, structs_of}
+use Rattle.cpc_convert_event.specs.Converted.{routine_if, routines_in, all_structs}
+use Rattle.cpc_convert_event.specs.NameLaws.{IsNamed}
+use Rattle.cpc_convert_event.proofs.Apart.{behind, piece_is, no_bar, differ_at, no_bar_behind, no_bar_nothing, piece_nothing, Small, StartIsSmall, NumberIsSmall, behind_is}
+use Rattle.cpc_convert_event.proofs.Made.{Mapped, OfNumber, map_has, has_map}
+
+-- a struct that is made
+pub data Framed (p : Program) (items : List Item) : Item → Type 0 where
+  AnyFrame : Framed p items any_frame
+  AValue : (f : Function) → Has (FunctionItem f) items → is_cps_mode f.mode ≡ true → Framed p items (value_struct f.called f.result)
+  AStart : (f : Function) → Has (FunctionItem f) items → is_cps_mode f.mode ≡ true → Framed p items (start_struct f)
+  OfLeader : (f : Function) (n : ℕ) → Has (FunctionItem f) items → is_cps_mode f.mode ≡ true → Has n (routine_of p f).split.leaders → Framed p items (leader_struct p (routine_of p f) n)
+
+framed_later : (p : Program) (item : Item) (items : List Item) (x : Item) → Framed p items x → Framed p (item ∷ items) x
+framed_later p item items _ AnyFrame = AnyFrame
+framed_later p item items _ (AValue f h c) = AValue f (Below _ item items h) c
+framed_later p item items _ (AStart f h c) = AStart f (Below _ item items h) c
+framed_later p item items _ (OfLeader f n h c k) = OfLeader f n (Below _ item items h) c k
+
+module _ (p : Program) where
+  framed_leader : (f : Function) (items : List Item) → is_cps_mode f.mode ≡ true → (x : Item) → Mapped (leader_struct p (routine_of p f)) (routine_of p f).split.leaders x → Framed p (FunctionItem f ∷ items) x
+  framed_leader f items c _ (OfNumber n k) = OfLeader f n (OnTop _ items) c k
+
+  framed_rest : (f : Function) (items : List Item) → is_cps_mode f.mode ≡ true → (x : Item) → Has x (start_struct f ∷ map (leader_struct p (routine_of p f)) (routine_of p f).split.leaders) → Framed p (FunctionItem f ∷ items) x
+  framed_rest f items c _ (OnTop _ _) = AStart f (OnTop _ items) c
+  framed_rest f items c x (Below _ _ _ h) = framed_leader f items c x (map_has (leader_struct p (routine_of p f)) x (routine_of p f).split.leaders h)
+
+  framed_value : (b : Bool) (f : Function) (items : List Item) → is_cps_mode f.mode ≡ true → (x : Item) → Has x (value_struct_if b f.called f.result) → Framed p (FunctionItem f ∷ items) x
+  framed_value true f items c _ (OnTop _ _) = AValue f (OnTop _ items) c
+  framed_value true f items c x (Below _ _ _ h) = elim h [ ]
+  framed_value false f items c x h = elim h [ ]
+
+  framed_one : (f : Function) (items : List Item) → is_cps_mode f.mode ≡ true → (x : Item) → Has x (structs_of p (routine_of p f)) → Framed p (FunctionItem f ∷ items) x
+  framed_one f items c x h = ⊎_elim (λ a. framed_value (is_scalar f.result) f items c x a) (λ a. framed_rest f items c x a) (has_either x (value_struct_if (is_scalar f.result) f.called f.result) _ h)
+
+  framed_either : (f : Function) (items : List Item) (x : Item) → (Has x (all_structs p (routines_in p items)) → Framed p items x) → (b : Bool) → is_cps_mode f.mode ≡ b → Has x (all_structs p (routine_if b p f (routines_in p items)))
+      → Framed p (FunctionItem f ∷ items) x
+  framed_either f items x rest true e k = ⊎_elim (λ a. framed_one f items e x a) (λ a. framed_later p (FunctionItem f) items x (rest a)) (has_either x (structs_of p (routine_of p f)) (all_structs p (routines_in p items)) k)
+  framed_either f items x rest false e k = framed_later p (FunctionItem f) items x (rest k)
+
+  pub framed_is : (items : List Item) (x : Item) → Has x (all_structs p (routines_in p items)) → Framed p items x
+  framed_is [] x h = elim h [ ]
+  framed_is (StructItem t fs ∷ items) x h = framed_later p _ items x (framed_is items x h)
+  framed_is (GlobalItem y t s ∷ items) x h = framed_later p _ items x (framed_is items x h)
+  framed_is (PrototypeItem m y r ps ∷ items) x h = framed_later p _ items x (framed_is items x h)
+  framed_is (FunctionItem f ∷ items) x h = framed_either f items x (λ a. framed_is items x a) (is_cps_mode f.mode) refl h
+
+  framed_if : (e : Function) (items : List Item) (x : Item) → Has x (all_structs p (routines_in p items)) → (b : Bool) → Has x (all_structs p (routine_if b p e (routines_in p items)))
+  framed_if e items x h true = has_right x (structs_of p (routine_of p e)) (all_structs p (routines_in p items)) h
+  framed_if e items x h false = h
+
+  pub framed_has : (items : List Item) (f : Function) (x : Item) → Has (FunctionItem f) items → is_cps_mode f.mode ≡ true → Has x (structs_of p (routine_of p f)) → Has x (all_structs p (routines_in p items))
+  framed_has [] f x h c k = elim h [ ]
+  framed_has (StructItem t fs ∷ items) f x (Below _ _ _ h) c k = framed_has items f x h c k
+  framed_has (GlobalItem y t s ∷ items) f x (Below _ _ _ h) c k = framed_has items f x h c k
+  framed_has (PrototypeItem m y r ps ∷ items) f x (Below _ _ _ h) c k = framed_has items f x h c k
+  framed_has (FunctionItem e ∷ items) f x (OnTop _ _) c k = subst (λ b. Has x (all_structs p (routine_if b p f (routines_in p items)))) (sym c) (has_left x (structs_of p (routine_of p f)) _ k)
+  framed_has (FunctionItem e ∷ items) f x (Below _ _ _ h) c k = framed_if e items x (framed_has items f x h c k) (is_cps_mode e.mode)
+
+  -- the structs of a function
+  pub has_value : (f : Function) → is_scalar f.result ≡ true → Has (value_struct f.called f.result) (structs_of p (routine_of p f))
+  has_value f s = has_left _ (value_struct_if (is_scalar f.result) f.called f.result) _ (subst (λ b. Has (value_struct f.called f.result) (value_struct_if b f.called f.result)) (sym s) (OnTop _ _))
+
+  pub has_start : (f : Function) → Has (start_struct f) (structs_of p (routine_of p f))
+  has_start f = has_right _ (value_struct_if (is_scalar f.result) f.called f.result) _ (OnTop _ _)
+
+  pub has_leader : (f : Function) (n : ℕ) → Has n (routine_of p f).split.leaders → Has (leader_struct p (routine_of p f) n) (structs_of p (routine_of p f))
+  has_leader f n k = has_right _ (value_struct_if (is_scalar f.result) f.called f.result) _ (Below _ _ _ (has_map (leader_struct p (routine_of p f)) n _ k))
+
+-- ---- tags
+
+-- the tag of a struct
+abbrev pub tag_of : Item → Text
+tag_of (StructItem tag fs) = tag
+tag_of item = []
+
+pub value_is : (f : Text) → value_tag f ≡ marked f (codes "value")
+unfolding value_tag
+value_is f = refl
+
+pub frame_is : frame_tag ≡ marked (codes "frame") (codes "")
+frame_is = refl
+
+no_bar_value : NoBar (codes "value")
+no_bar_value = no_bar _ (λ k. absurd (omega arith))
+
+value_nothing : codes "value" ≡ codes "" → ⊥
+value_nothing k = differ_at 0 (codes "value") [] (λ e. absurd (omega arith)) k
+
+value_piece : (l : Place) → codes "value" ≡ behind l → ⊥
+value_piece Start k = differ_at 0 (codes "value") (codes "start") (λ e. absurd (omega arith)) k
+value_piece (At n) k = differ_at 0 (codes "value") (codes "at" ++ decimal n) (λ e. absurd (omega arith)) k
+
+module _ (p : Program) (ok : IsNamed p) where
+  unmarked : (f : Function) → Has (FunctionItem f) p → has_marks f.called ≡ false
+  unmarked f h = ok.unmarked (FunctionItem f) h
+
+  small : (f : Function) → Has (FunctionItem f) p → (n : ℕ) → Has n (routine_of p f).split.leaders → Small (At n)
+  small f h n k = NumberIsSmall n (ok.small f h n k)
+
+  one_function : (f g : Function) → Has (FunctionItem f) p → Has (FunctionItem g) p → f.called ≡ g.called → f ≡ g
+  one_function f g h k e = let z : Some f ≡ Some g = sym (ok.found f h) ∙ ap (function_named p) e ∙ ok.found g k in cc
+
+  -- tags of a word or a function with different texts behind them
+  differ : (f g d e : Text) → has_marks f ≡ false → has_marks g ≡ false → NoBar d → NoBar e → (d ≡ e → ⊥) → (t u : Text) → t ≡ marked f d → u ≡ marked g e → t ≡ u → ⊥
+  differ f g d e hf hg nd ne h t u i j k = h (marked_is f g d e hf hg nd ne (sym i ∙ k ∙ j)).1
+
+  value_start : (f g : Function) (l : Place) → Has (FunctionItem f) p → Has (FunctionItem g) p → value_tag f.called ≡ piece_name g.called l → ⊥
+  value_start f g l h k e = differ f.called g.called (codes "value") (behind l) (unmarked f h) (unmarked g k) no_bar_value (no_bar_behind l) (value_piece l) _ _ (value_is f.called) (piece_is g.called l) e
+
+  value_any : (f : Function) → Has (FunctionItem f) p → value_tag f.called ≡ frame_tag → ⊥
+  value_any f h e = differ f.called (codes "frame") (codes "value") (codes "") (unmarked f h) refl no_bar_value no_bar_nothing value_nothing _ _ (value_is f.called) frame_is e
+
+  piece_any : (f : Function) (l : Place) → Has (FunctionItem f) p → piece_name f.called l ≡ frame_tag → ⊥
+  piece_any f l h e = differ f.called (codes "frame") (behind l) (codes "") (unmarked f h) refl (no_bar_behind l) no_bar_nothing (piece_nothing l) _ _ (piece_is f.called l) frame_is e
+
+  -- pieces of one name
+  pieces_same : (f g : Function) (a b : Place) → Has (FunctionItem f) p → Has (FunctionItem g) p → Small a → Small b → piece_name f.called a ≡ piece_name g.called b → (f ≡ g) × (a ≡ b)
+  pieces_same f g a b h k sa sb e =
+      let m = marked_is f.called g.called (behind a) (behind b) (unmarked f h) (unmarked g k) (no_bar_behind a) (no_bar_behind b) (sym (piece_is f.called a) ∙ e ∙ piece_is g.called b) in
+      (one_function f g h k m.0, behind_is a b sa sb m.1)
+
+  -- structs of one tag are one
+  pub framed_once : (x y : Item) → Framed p p x → Framed p p y → tag_of y ≡ tag_of x → y ≡ x
+  framed_once _ _ AnyFrame AnyFrame e = refl
+  framed_once _ _ AnyFrame (AValue g k d) e = absurd (value_any g k e)
+  framed_once _ _ AnyFrame (AStart g k d) e = absurd (piece_any g Start k e)
+  framed_once _ _ AnyFrame (OfLeader g m k d j) e = absurd (piece_any g (At m) k e)
+  framed_once _ _ (AValue f h c) AnyFrame e = absurd (value_any f h (sym e))
+  framed_once _ _ (AValue f h c) (AValue g k d) e =
+      let m = marked_is g.called f.called (codes "value") (codes "value") (unmarked g k) (unmarked f h) no_bar_value no_bar_value (sym (value_is g.called) ∙ e ∙ value_is f.called) in
+      ap (λ z. value_struct z.called z.result) (one_function g f k h m.0)
+  framed_once _ _ (AValue f h c) (AStart g k d) e = absurd (value_start f g Start h k (sym e))
+  framed_once _ _ (AValue f h c) (OfLeader g m k d j) e = absurd (value_start f g (At m) h k (sym e))
+  framed_once _ _ (AStart f h c) AnyFrame e = absurd (piece_any f Start h (sym e))
+  framed_once _ _ (AStart f h c) (AValue g k d) e = absurd (value_start g f Start k h e)
+  framed_once _ _ (AStart f h c) (AStart g k d) e = ap start_struct (pieces_same g f Start Start k h StartIsSmall StartIsSmall e).0
+  framed_once _ _ (AStart f h c) (OfLeader g m k d j) e = absurd (let s = (pieces_same g f (At m) Start k h (small g k m j) StartIsSmall e).1 in cc)
+  framed_once _ _ (OfLeader f n h c i) AnyFrame e = absurd (piece_any f (At n) h (sym e))
+  framed_once _ _ (OfLeader f n h c i) (AValue g k d) e = absurd (value_start g f (At n) k h e)
+  framed_once _ _ (OfLeader f n h c i) (AStart g k d) e = absurd (let s = (pieces_same g f Start (At n) k h StartIsSmall (small f h n i) e).1 in cc)
+  framed_once _ _ (OfLeader f n h c i) (OfLeader g m k d j) e =
+      let s = pieces_same g f (At m) (At n) k h (small g k m j) (small f h n i) e in
+      let numbers : m ≡ n = cc in
+      ap (λ z. leader_struct p (routine_of p z) m) s.0 ∙ ap (leader_struct p (routine_of p f)) numbers

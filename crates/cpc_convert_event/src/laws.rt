@@ -1,0 +1,60 @@
+//! The laws, each as the contract of a function that does nothing.
+ghost use Rattle.cpc_convert_event.specs.FlatLaws.{PiecesAreFlat, StatementsStand};
+ghost use Rattle.cpc_convert_event.specs.NameLaws.{FunctionsAreFound, ItemsAreMeant};
+ghost use Rattle.cpc_convert_event.specs.StructLaws.{StructsAreThere};
+ghost use Rattle.cpc_convert_event.specs.ClosureLaws.{ClosuresAreLifted};
+ghost use Rattle.cpc_convert_event.specs.ScopeLaws.{NothingIsHidden};
+ghost use Rattle.cpc_convert_event.specs.Mixed.{MixedRunsAlike};
+ghost use Rattle.cpc_convert_event.specs.WrittenBoxes.{ProgramsAreWritten};
+ghost use Rattle.cpc_convert_event.specs.Worked.{CallsRunAlike, WaitsRunAlike};
+
+/// Event programs of programs that call run as these do.
+pub fn calls_run_alike()
+    ensures law { CallsRunAlike }
+{}
+
+/// Event programs of programs with boxes, waits and sections run as these do.
+pub fn waits_run_alike()
+    ensures law { WaitsRunAlike }
+{}
+
+/// The event programs of two programs, written out.
+pub fn programs_are_written()
+    ensures law { ProgramsAreWritten }
+{}
+
+/// Each piece is a flat body, and its lines stand behind its opening.
+pub fn pieces_are_flat()
+    ensures flat { PiecesAreFlat }
+    ensures stand { StatementsStand }
+{}
+
+/// Each name that is made finds what is made, and each native function is found.
+pub fn functions_are_found()
+    ensures law { FunctionsAreFound }
+{}
+
+/// Each name that is made stands for what is made, and each name of the source but those of cps functions for what it stood for.
+pub fn items_are_meant()
+    ensures law { ItemsAreMeant }
+{}
+
+/// The structs of frames are there, with a cell for each field.
+pub fn structs_are_there()
+    ensures law { StructsAreThere }
+{}
+
+/// What the frames of an owner keep is what the lifted machine keeps.
+pub fn closures_are_lifted()
+    ensures law { ClosuresAreLifted }
+{}
+
+/// No local of a piece hides a name of the source.
+pub fn nothing_is_hidden()
+    ensures law { NothingIsHidden }
+{}
+
+/// The event program of a program with a little of everything runs as it does.
+pub fn mixed_runs_alike()
+    ensures law { MixedRunsAlike }
+{}

@@ -1,0 +1,5 @@
+use Rattle.cpc_convert_image_laws.proofs.Theorems as theorems
+use Rattle.cpc_convert_image_laws.proofs.laws.variables_stand.Goals as goal
+
+pub returns : goal.returns
+returns c = record { law = theorems.variables_stand }

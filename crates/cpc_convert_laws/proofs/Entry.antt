@@ -1,0 +1,49 @@
+-- What the rows ask of the beginning of a piece: from its entry some steps lead to where it stands for the frame of the source.
+use Rattle.std.proofs.Common.{◌≡◌, ℕ, ◌≤◌, List, [], ◌∷◌, slice_set, Option, Some, None}
+use Rattle.cpc_base.specs.Bytes.{Text}
+use Rattle.cpc_store.specs.declared.values.Class.TheVariants.{Frame}
+use Rattle.cpc_store.specs.Store.{Value, At as Pointer, Blocks, Store}
+use Rattle.cpc_tree.specs.Syntax.{Function}
+use Rattle.cpc_tree.specs.Points.{Point}
+use Rattle.cpc_tree.specs.Typing.{function_named}
+use Rattle.cpc_meaning.specs.Answer.{Gives}
+use Rattle.cpc_meaning.specs.Eval.{Slot}
+use Rattle.cpc_meaning.specs.Plain.{Frame as CallFrame}
+use Rattle.cpc_meaning.specs.Slots.{call_slots}
+use Rattle.cpc_forms.specs.Flow.{Place, At}
+use Rattle.cpc_forms.specs.Split.{InGraph}
+use Rattle.cpc_lift_laws.specs.Lifted.{tidy_slots}
+use Rattle.cpc_convert_image_laws.specs.Held.{beside}
+use Rattle.cpc_convert_image_laws.specs.Stacks.{frame_of}
+use Rattle.cpc_convert_chain_laws.specs.Chains.{Saved, Top}
+use Rattle.cpc_convert_chain_laws.specs.Driver.{DriverFacts, IsPiece, driving, entered}
+use Rattle.cpc_convert_chain_laws.specs.Walks.{World, Walk, running}
+use Rattle.cpc_convert_laws.specs.Items.{saved_at, first_saved}
+use Rattle.cpc_convert_laws.proofs.Setting.{Setting, from_form}
+
+-- The piece of this name is entered with the pointer to block b, over these frame blocks and the store s. Some steps, at most so many, lead
+-- to where it stands for a frame of f at node n of owner l, with these variables and the store t; block b is then free.
+pub record Opens (z : Setting) (bound : ℕ) (name : Text) (w : World) (bs : Blocks) (s : Store) (b : ℕ) (f : Text) (l : Place) (n : ℕ) (slots : List Slot) (o : Option Value) (next : Value) (t : Store) : Type 0 where
+  pub function : Function
+  pub is_piece : IsPiece z.target name function
+  pub locals : List Slot
+  pub called : call_slots z.target function (Pointer Frame b 0 ∷ []) (beside bs s) ≡ Gives (locals, beside bs s)
+  pub steps : ℕ
+  pub within : steps ≤ bound
+  pub piece : CallFrame Point
+  pub leads : (pointer result frame : Value) → Walk z.target w.trace steps (entered z.target w (beside bs s) function locals pointer result frame)
+      (running w (beside (slice_set bs b None) t) (piece ∷ driving pointer result frame ∷ []) None)
+  pub stands : z.there f l n slots o next piece None
+
+-- what is known of the driver, and of the beginning of pieces, whose steps are at most so many
+pub record EntryFacts (z : Setting) (bound : ℕ) : Type 0 where
+  pub driver : DriverFacts z.target
+  -- a leader takes up a frame that waits, with the value that arrives
+  pub resumes : (w : World) (bs : Blocks) (s : Store) (f : Text) (n : ℕ) (slots : List Slot) (v : Value) (below : List Saved) (b : ℕ) (next : Value) (owned : List ℕ)
+      → z.fine (frame_of f (InGraph (At n) n) slots) (Some v) → Top bs (saved_at z.cut f slots n) below b next v owned
+      → Opens z bound (z.cut.piece f (At n)) w bs s b f (At n) n slots (Some v) next s
+  -- the start takes up the first frame of a call, and makes its variables as the source does
+  pub begins : (w : World) (bs : Blocks) (s t : Store) (f : Text) (g : Function) (vs : List Value) (slots : List Slot) (v : Value) (below : List Saved) (b : ℕ) (next : Value) (owned : List ℕ)
+      → function_named z.source f ≡ Some g → z.given f vs → call_slots z.source g vs s ≡ Gives (slots, t)
+      → Top bs (first_saved z.cut f vs) below b next v owned
+      → (l : Place) × (n : ℕ) × (g.called ≡ f) × ((from_form z).code.first f ≡ InGraph l n) × Opens z bound (first_saved z.cut f vs).piece w bs s b f l n (tidy_slots (z.kept f (InGraph l n)) slots) None next t

@@ -1,0 +1,88 @@
+-- Rows made of walks: to a state that stands for the next one of the source, and to a fault of both; and the row of a spawn in native code.
+use Rattle.std.proofs.Common.{◌≡◌, ◌⊎◌, inl, ℕ, suc, ◌+◌, true, List, [], ◌∷◌, ◌++◌, length, Option, Some, None, option_map, refl, sym, ◌∙◌, ap, subst, arith}
+use Rattle.std.specs.List.{All}
+use Rattle.cpc_base.specs.Bytes.{Text}
+use Rattle.cpc_num.specs.declared.kinds.Fault.{Fault}
+use Rattle.cpc_store.specs.declared.values.Class.TheVariants.{Frame}
+use Rattle.cpc_store.specs.Store.{Value, Null, Unset, At as Pointer, Blocks}
+use Rattle.cpc_tree.specs.Syntax.{Program}
+use Rattle.cpc_tree.specs.Points.{Point}
+use Rattle.cpc_tree.specs.Trace.{Mark, Going, Failed}
+use Rattle.cpc_meaning_matching.specs.Simulation.{Last}
+use Rattle.cpc_meaning.specs.Agenda.{Agenda, ready_one}
+use Rattle.cpc_meaning.specs.Eval.{Slot}
+use Rattle.cpc_meaning.specs.Machine.{ends, next}
+use Rattle.cpc_meaning.specs.Plain.{Frame as CallFrame}
+use Rattle.cpc_meaning.specs.Start.{before_bars}
+use Rattle.cpc_meaning.specs.Threads.{Thread, Pending, threads_of}
+use Rattle.cpc_meaning.specs.Events.{Callback, CallWith}
+use Rattle.cpc_forms.specs.Split.{Position, InTree}
+use Rattle.cpc_lift_laws.specs.Lifted.{tidy}
+use Rattle.cpc_convert_image_laws.specs.Held.{IsHeldSlot}
+use Rattle.cpc_convert_image_laws.specs.Stacks.{frame_of, Native, OneMore}
+use Rattle.cpc_convert_chain_laws.specs.Chains.{Owns, frame_cells}
+use Rattle.cpc_convert_chain_laws.specs.Driver.{drive_name}
+use Rattle.cpc_convert_chain_laws.specs.Walks.{Here, Quiet, Walk, Stay, Step, FaultsAfter}
+use Rattle.cpc_convert_chain_laws.proofs.Walks.{walk_then, walk_ends}
+use Rattle.cpc_convert_laws.specs.Items.{first_saved, Tagged, driven, owned_in}
+use Rattle.cpc_convert_laws.specs.Running.{SamePoint, Under, NativeRuns}
+use Rattle.cpc_convert_laws.proofs.Relation.{Source, Target, Shared, AgendaFor, source_state, target_state, Related, Goes, IsOver}
+use Rattle.cpc_convert_laws.proofs.Setting.{Setting, from_form, NativeFacts, KeepsFacts}
+use Rattle.cpc_convert_laws.proofs.Tidy.{related_tidied}
+use Rattle.cpc_convert_laws.proofs.Idle.{RowFor, Shows}
+use Rattle.cpc_convert_laws.proofs.Putting.{agenda_alloc, agenda_ready, owns_ready, pending_put, stacks_alloc}
+
+-- a walk leads from a quiet state to a quiet one
+pub walk_quiet : (q : Program) (trace : List Mark) (n : ℕ) (s t : Here) → Quiet trace s → Walk q trace n s t → Quiet trace t
+walk_quiet q trace _ s _ h (Stay _) = h
+walk_quiet q trace _ s t h (Step n _ r _ e quiet more) = walk_quiet q trace n r t quiet more
+
+-- a walk to a state that stands for the one to which the source steps
+pub walk_row : (z : Setting) → NativeFacts z → KeepsFacts z → (x s x' : Source) (y t : Target) (n : ℕ) → x.outcome ≡ Going → next (threads_of (from_form z)) x ≡ Some s → Related z.codes z.cut z.there s t
+    → option_map (tidy z.kept) (next (threads_of (from_form z)) x) ≡ Some x' → Walk z.target x.trace (suc n) y t → RowFor z x x' (suc n) y
+walk_row z native keeps x s x' y t n going i r e walk =
+    let e' : Some (tidy z.kept s) ≡ Some x' = sym (ap (option_map (tidy z.kept)) i) ∙ e in
+    let j : tidy z.kept s ≡ x' = cc in
+    walk_ends {q = z.target} {trace = x.trace} (Related z.codes z.cut z.there x') (λ u. Shows x u ⊎ Shows x' u) (λ u q. inl (record { trace = sym q.is_trace; outcome = going ∙ sym q.goes })) n y t walk
+    (subst (λ s. Related z.codes z.cut z.there s t) j (related_tidied z native keeps s t r))
+
+-- some steps to a fault that the source has in this step
+pub fault_row : (z : Setting) (x x' : Source) (y : Target) (f : Text) (fault : Fault) → x.outcome ≡ Going → Quiet x.trace y → x' ≡ ends (Failed fault (before_bars f)) x
+    → (a : FaultsAfter z.target x.trace f fault y) → RowFor z x x' (a.steps + 1) y
+fault_row z x x' y f fault going quiet e a =
+    let last = walk_quiet z.target x.trace a.steps y a.last quiet a.leads in
+    walk_then {q = z.target} {trace = x.trace} (Related z.codes z.cut z.there x') (λ u. Shows x u ⊎ Shows x' u) (λ u q. inl (record { trace = sym q.is_trace; outcome = going ∙ sym q.goes })) a.steps 1 y a.last a.leads
+    (Last 1 a.last (ends (Failed fault (before_bars f)) a.last) a.faults (omega arith)
+    (subst (λ s. Related z.codes z.cut z.there s (ends (Failed fault (before_bars f)) a.last)) (sym e)
+    (IsOver (ends (Failed fault (before_bars f)) x) (ends (Failed fault (before_bars f)) a.last) refl last.is_trace refl)))
+
+-- ---- spawns
+
+-- A spawn of native code at this state: the source makes the call ready and goes on, and some steps of the target put the call's first
+-- frame into a new block, make it ready, and come to the same point.
+pub record Spawns (z : Setting) (f : Text) (b : Point) (slots : List Slot) (xs : List (CallFrame Position)) (ys : List (CallFrame Point)) (o : Option Value) (w : Shared) (bs : Blocks) (a : Agenda (Thread Position)) (c : Agenda Callback) : Type 0 where
+  pub spawned : Text
+  pub arguments : List Value
+  pub onwards : Point
+  pub steps : ℕ
+  pub source : next (threads_of (from_form z)) (source_state w (Some (record { frames = frame_of f (InTree b) slots ∷ xs; arriving = o })) a)
+      ≡ Some (source_state w (Some (record { frames = frame_of f (InTree onwards) slots ∷ xs; arriving = None })) (ready_one (Pending spawned arguments) a))
+  pub leads : Walk z.target w.trace (suc steps) (target_state w bs (Some (record { frames = frame_of f b slots ∷ ys; arriving = o })) c)
+      (target_state w (bs ++ Some (frame_cells (first_saved z.cut spawned arguments) Null Unset) ∷ []) (Some (record { frames = frame_of f onwards slots ∷ ys; arriving = None })) (ready_one (CallWith drive_name (Pointer Frame (length bs) 0)) c))
+
+-- so both come to states that stand for each other
+pub spawn_row : (z : Setting) → NativeFacts z → KeepsFacts z → (f : Text) (b : Point) (slots : List Slot) (xs : List (CallFrame Position)) (ys : List (CallFrame Point)) (o : Option Value) (w : Shared) (bs : Blocks) (owned : List ℕ) (a : Agenda (Thread Position)) (tags : Agenda Tagged) (c : Agenda Callback)
+    → (h : Spawns z f b slots xs ys o w bs a c) → z.cut.whole f ≡ true → All (IsHeldSlot z.codes) slots → Native z.codes (SamePoint z.cut) (Under z.codes z.cut z.there bs owned) xs ys → AgendaFor z.cut bs a tags c → Owns bs (owned ++ owned_in tags)
+    → (x' : Source) → option_map (tidy z.kept) (next (threads_of (from_form z)) (source_state w (Some (record { frames = frame_of f (InTree b) slots ∷ xs; arriving = o })) a)) ≡ Some x'
+    → RowFor z (source_state w (Some (record { frames = frame_of f (InTree b) slots ∷ xs; arriving = o })) a) x' (suc h.steps) (target_state w bs (Some (record { frames = frame_of f b slots ∷ ys; arriving = o })) c)
+spawn_row z native keeps f b slots xs ys o w bs owned a tags c h same held stacks g owns x' e =
+    let cells = frame_cells (first_saved z.cut h.spawned h.arguments) Null Unset in
+    let more : Blocks = bs ++ Some cells ∷ [] in
+    let item = driven (Pointer Frame (length bs) 0) (length bs ∷ []) in
+    walk_row z native keeps _ _ x' _ _ h.steps refl h.source
+    (Goes w more _ _ owned (ready_one (Pending h.spawned h.arguments) a) (ready_one item tags) (ready_one item.callback c)
+    (NativeRuns (frame_of f (InTree h.onwards) slots ∷ xs) (frame_of f h.onwards slots ∷ ys) None owned
+    (OneMore f (InTree h.onwards) h.onwards slots xs ys (refl, same) held (stacks_alloc z.codes z.cut z.there bs (Some cells) owned xs ys stacks)) tt)
+    (agenda_ready z.cut more (Pending h.spawned h.arguments) item a tags c (pending_put z.cut bs h.spawned h.arguments) (agenda_alloc z.cut bs (Some cells) a tags c g))
+    (owns_ready bs cells owned item.callback tags owns))
+    e h.leads

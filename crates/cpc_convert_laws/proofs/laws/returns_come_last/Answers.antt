@@ -1,0 +1,5 @@
+use Rattle.cpc_convert_laws.proofs.Native as L
+use Rattle.cpc_convert_laws.proofs.laws.returns_come_last.Goals as goal
+
+pub returns : goal.returns
+returns g c = record { law = L.step_last }

@@ -1,0 +1,5 @@
+use Rattle.cpc_graph_laws.proofs.Spreads as L
+use Rattle.cpc_graph_laws.proofs.laws.spread_begins.Goals as goal
+
+pub returns : goal.returns
+returns c = record { law = L.spread_begins }

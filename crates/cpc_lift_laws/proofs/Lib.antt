@@ -1,0 +1,17 @@
+pub mod Slots
+pub mod Kept
+pub mod Values
+pub mod Acts
+pub mod Boxes
+pub mod Frames
+pub mod Lifting
+pub mod Closures
+pub mod Standing
+pub mod Search
+pub mod Computed
+pub mod Refused
+pub mod Along
+pub mod Below
+pub mod Nodes
+pub mod Lift
+pub mod Scopes
