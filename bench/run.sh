@@ -4,13 +4,13 @@
 # over that of the first row of its group, which says what a step pays for the length of a run, or for the store.
 set -eu
 top=$(cd "$(dirname "${BASH_SOURCE[0]}")/.." && pwd)
-"$top/cpc" check "$top/examples/seven.c" >/dev/null
+"$top/cpc" check "$top/crates/examples/data/seven.c" >/dev/null
 program=$top/crates/cpc/out/cpc
 room=$(mktemp -d)
 trap 'rm -rf "$room"' EXIT
 
 quickest() {
-  local best= from took
+  local best="" from took
   for _ in 1 2 3; do
     from=$(date +%s%N)
     "$program" run "$1" --steps 1000000000 --cells 50000000 >/dev/null

@@ -9,7 +9,7 @@ program=$top/crates/bench_store/out/bench_store
 acts=${1:-4000000}
 
 quickest() {
-  local best= from took
+  local best="" from took
   for _ in 1 2 3; do
     from=$(date +%s%N)
     "$program" "$@" >/dev/null
