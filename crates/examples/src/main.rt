@@ -1,4 +1,4 @@
-//! Runs each example by the top call and shows what it writes: its output, the line on `err`, and its status.
+//! Runs the examples by the top call and shows what each writes: its output, the line on `err`, and its status.
 #![tactic(auto)]
 
 use anyhow::Context;
@@ -7,23 +7,29 @@ use cpc_cli::cpc_main;
 use std::alloc::Global;
 use std::fs;
 
-/// The examples, in the order in which they are run.
-const EXAMPLES: [&str; 6] = [
+/// The examples that run, in the order in which they are run.
+const RUN: [&str; 8] = [
     "seven.c",
     "calculator.c",
     "list.c",
     "matrix.c",
     "machine.c",
     "factorial.c",
+    "turns.c",
+    "relay.c",
 ];
+
+/// The examples that are read and checked, and have forms that no command runs yet.
+const CHECKED: [&str; 1] = ["server.c"];
 
 fn never(alloc: Global) -> Calls {
     Calls::new(Vec::new(alloc))
 }
 
-// Runs one text, which stands in a file of that name.
-fn show(rt: &HostRuntime, name: &str, text: Vec<u8>) -> anyhow::Result<()> {
+// Does what the command of this word does with one text, which stands in a file of that name.
+fn show(rt: &HostRuntime, word: &str, name: &str) -> anyhow::Result<()> {
     let alloc = rt.alloc();
+    let text = fs::read(rt, name)?;
     let file = MemFile {
         name: String::from_str(alloc, name)?,
         bytes: text,
@@ -32,7 +38,7 @@ fn show(rt: &HostRuntime, name: &str, text: Vec<u8>) -> anyhow::Result<()> {
     let mut out = MemSink::new(alloc, 4096, never(alloc));
     let mut err = MemSink::new(alloc, 4096, never(alloc));
     let words = vec![in alloc;
-        String::from_str(alloc, "run")?,
+        String::from_str(alloc, word)?,
         String::from_str(alloc, name)?,
     ]?;
     let report = cpc_main(alloc, words.as_slice(), &mut shelf, &mut out, &mut err);
@@ -45,9 +51,11 @@ fn show(rt: &HostRuntime, name: &str, text: Vec<u8>) -> anyhow::Result<()> {
 }
 
 fn main(rt: HostRuntime) -> anyhow::Result<()> {
-    for name in EXAMPLES {
-        let text = fs::read(&rt, name)?;
-        show(&rt, name, text)?;
+    for name in RUN {
+        show(&rt, "run", name)?;
+    }
+    for name in CHECKED {
+        show(&rt, "check", name)?;
     }
     Ok(())
 }
