@@ -1,42 +1,102 @@
 #!/usr/bin/env bash
-# page.sh: gives each text of docs/ERRORS.md to the built program, and compares the line that comes with the one below it there.
-# Ends with status 1 where one does not hold. What the page says is `LINE`, of `run a.c`, or With `WORDS`: `LINE`.
+# page.sh [--unproved]: gives the texts of docs/ERRORS.md and docs/LANGUAGE.md to the built program, and compares what it says with the
+# page. With --unproved it compiles the program without proofs, once, and runs that. Ends with status 1 where something does not hold.
+# In ERRORS.md a text stands in a block, or in the file that a line `The text is [FILE](..)` names; what the page says of it stands
+# below: `LINE`, for the words `run a.c`, or With `WORDS`: `LINE`. In LANGUAGE.md each block with a `main` is to be accepted, and one
+# that begins as a file of crates/examples/data is to be that file.
+# shellcheck disable=SC2016  # backquotes are those of the page
 set -u
 top=$(cd "$(dirname "${BASH_SOURCE[0]}")/.." && pwd)
 cpc=$top/crates/cpc/out/cpc
-[ -x "$cpc" ] || { echo 'page.sh: build the program first (./cpc, or rt ci)' >&2; exit 126; }
+if [ "${1:-}" != --unproved ] && [ ! -x "$cpc" ]; then
+  echo 'page.sh: build the program first (./cpc), or give the word --unproved' >&2
+  exit 126
+fi
 room=$(mktemp -d)
 trap 'rm -rf "$room"' EXIT
-cd "$room" || exit 126
-
+mkdir "$room/cases" || exit 126
 texts=0
 wrong=0
+
+# case_of TEXT WORDS SAID: a text in a file of its own, with its words (a.c is {}) and what the page says in two files beside it
+case_of() {
+  local name
+  texts=$((texts + 1))
+  name=$(printf 't%03d' "$texts")
+  printf %s "$1" >"$room/cases/$name"
+  tr ' ' '\n' <<<"${2//a.c/\{\}}" >"$room/cases/$name.args"
+  printf %s "$3" >"$room/$name.said"
+}
+
+# the texts of ERRORS.md, each with what stands below it
 state=outside
 while IFS= read -r line; do
   case $state in
     outside)
-      if [ "$line" = '```c' ]; then state=inside; text=; fi ;;
+      case $line in
+        '```c') state=inside text= ;;
+        'The text is ['*)
+          file=${line#*\[}
+          text=$(cat "$top/docs/${file%%]*}")
+          state=below ;;
+      esac ;;
     inside)
-      if [ "$line" = '```' ]; then
-        state=below
-        printf %s "$text" >a.c
-      else
-        text=${text:+$text$'\n'}$line
-      fi ;;
+      if [ "$line" = '```' ]; then state=below; else text=${text:+$text$'\n'}$line; fi ;;
     below)
       [ -n "$line" ] || continue
       state=outside
-      texts=$((texts + 1))
-      IFS='`' read -r before first between second _ <<<"$line"
-      if [ "$before" = 'With ' ]; then words=$first said=$second; else words='run a.c' said=$first; fi
-      # the words of a command stand apart
-      # shellcheck disable=SC2086
-      told=$("$cpc" $words 2>&1)
-      if [ "$told" != "$said" ]; then
-        wrong=$((wrong + 1))
-        echo "$words: the page says '$said', and the program '$told'"
-      fi ;;
+      IFS='`' read -r before first _ second _ <<<"$line"
+      if [ "$before" = 'With ' ]; then case_of "$text" "$first" "$second"; else case_of "$text" 'run a.c' "$first"; fi ;;
   esac
 done <"$top/docs/ERRORS.md"
+
+# the programs of LANGUAGE.md
+state=outside
+while IFS= read -r line; do
+  case $state in
+    outside)
+      if [ "$line" = '```c' ]; then state=inside text=; fi ;;
+    inside)
+      if [ "$line" != '```' ]; then
+        text=${text:+$text$'\n'}$line
+        continue
+      fi
+      state=outside
+      case $text in *' main('*) case_of "$text" 'check a.c' accepted ;; esac
+      for file in "$top"/crates/examples/data/*.c; do
+        if [ "$(head -n 1 "$file")" = "${text%%$'\n'*}" ] && [ "$(cat "$file")" != "$text" ]; then
+          wrong=$((wrong + 1))
+          echo "LANGUAGE.md has another ${file##*/} than crates/examples/data"
+        fi
+      done ;;
+  esac
+done <"$top/docs/LANGUAGE.md"
+
+# what the program says of each: all of its output
+if [ "${1:-}" = --unproved ]; then
+  (cd "$top/crates/cpc" && rt try --cases "$room/cases" </dev/null) >"$room/all" 2>&1
+  awk -v room="$room" '
+    /^case=/ { file = room "/" substr($1, 6) ".told"; printf "%s", text >file; close(file); text = ""; next }
+    /^== t[0-9]+$/ { next }
+    { text = text $0 "\n" }' "$room/all"
+else
+  for file in "$room"/cases/*.args; do
+    name=$(basename "$file" .args)
+    mapfile -t words <"$file"
+    "$cpc" "${words[@]//\{\}/$room/cases/$name}" >"$room/$name.told" 2>&1
+  done
+fi
+
+for file in "$room"/*.said; do
+  name=$(basename "$file" .said)
+  said=$(cat "$file")
+  told=$(cat "$room/$name.told" 2>/dev/null)
+  if [ "$told" != "$said" ]; then
+    wrong=$((wrong + 1))
+    echo "$(tr '\n' ' ' <"$room/cases/$name.args"): the page says '$said', and the program '$told', of"
+    head -c 300 "$room/cases/$name"
+    echo
+  fi
+done
 echo "$texts texts, $wrong wrong"
 [ "$texts" -gt 0 ] && [ "$wrong" -eq 0 ]
