@@ -1,5 +1,6 @@
 #!/usr/bin/env bash
-# crates.sh: compares the list of crates in docs/ARCHITECTURE.md with crates.txt and with the crates themselves.
+# crates.sh: compares the list of crates in docs/ARCHITECTURE.md with crates.txt and with the crates themselves; and looks whether the
+# files that the pages name and link to are there.
 # Each crate of crates.txt has one line there: its name, the first sentence of the head of its root file, and, behind `Contract:`, names
 # that stand in its sources. No crate stands there before one that it uses, nor in crates.txt. Names what differs, and ends then with
 # status 1.
@@ -74,6 +75,16 @@ for name in "${!used[@]}"; do
   for word in $(grep -o '`[A-Za-z_0-9/]*`' <<<"${rest#"$said"}" | tr -d '`'); do
     [ -n "${used[$word]+is a crate}" ] || stands_in "$name" "$word" || differs "$page: $name has no $word"
   done
+done
+# what the pages name: files of crates, and the targets of links
+pages=("$top/README.md" "$top"/docs/*.md "$top"/bench/*.md)
+while IFS= read -r path; do
+  [ -e "$top/crates/$path.antt" ] || [ -e "$top/crates/$path.rt" ] || differs "a page names crates/$path, which is not there"
+done < <(grep -oh '[a-z_0-9]*/\(src\|specs\|proofs\)/[A-Za-z_]*' "${pages[@]}" | sort -u)
+for page in "${pages[@]}"; do
+  while IFS= read -r link; do
+    [ -e "$(dirname "$page")/$link" ] || differs "$page: a link to $link, which is not there"
+  done < <(grep -o '](\([^)#:]*\)' "$page" | sed 's/](//' | grep . | sort -u)
 done
 echo "${#used[@]} crates, $wrong differences"
 [ "$wrong" -eq 0 ]
