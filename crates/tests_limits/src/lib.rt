@@ -1,5 +1,9 @@
-//! Tests alone: texts at the limits of the language, and just above them.
+//! Tests alone: texts that are as long or as deep as they may be, and those that are more.
 #![tactic(auto)]
 
 #[cfg(test)]
-mod tests;
+mod answers;
+#[cfg(test)]
+mod deep;
+#[cfg(test)]
+mod long;

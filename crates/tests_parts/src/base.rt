@@ -1,7 +1,6 @@
-//! What no clause says: that each call answers with memory at hand, and where a planned fault ends a run of calls.
+//! What no clause says: that each call answers with memory at hand. Files that fail are tested where the command runs.
 use cpc_base::{
-    Calls, Failed, MemFile, MemShelf, MemSink, Name, Names, Place, ReadFault, Shelf, Sink,
-    SteadyShelf, Stop, read_file, read_held, write_all,
+    Failed, MemFile, Name, Names, Place, Shelf, Sink, SteadyShelf, read_held, write_all,
 };
 use std::alloc::{AllocError, Global};
 use std::test::Fail;
@@ -20,15 +19,6 @@ fn files(alloc: Global) -> Result<Vec<MemFile>, AllocError> {
     files.push(file(alloc, "a", b"behind")?)?;
     files.push(file(alloc, "empty", b"")?)?;
     Ok(files)
-}
-
-fn calls(alloc: Global, failing: &[u64]) -> Result<Calls, AllocError> {
-    Ok(Calls::new(failing.to_vec(alloc)?))
-}
-
-// A shelf that gives one byte a call.
-fn shelf(alloc: Global, failing: &[u64]) -> Result<MemShelf, AllocError> {
-    Ok(MemShelf::new(files(alloc)?, 1, calls(alloc, failing)?))
 }
 
 #[test]
@@ -50,29 +40,6 @@ fn names_come_in_order_of_first_use(rt: HostRuntime) -> Result<(), Fail> {
 }
 
 #[test]
-fn calls_fail_as_planned(rt: HostRuntime) -> Result<(), Fail> {
-    let mut calls = calls(rt.alloc(), &[2, 4])?;
-    for fails in [false, true, false, true, false] {
-        assert_eq!(rt; calls.fails_next(), fails);
-    }
-    Ok(())
-}
-
-#[test]
-fn a_file_is_read_a_byte_a_call(rt: HostRuntime) -> Result<(), Fail> {
-    let alloc = rt.alloc();
-    let whole = read_file(alloc, &mut shelf(alloc, &[])?, "a", 7)?;
-    assert_eq!(rt; whole.as_slice(), b"one two".as_slice());
-    let empty = read_file(alloc, &mut shelf(alloc, &[])?, "empty", 0)?;
-    assert_eq!(rt; empty.len(), 0);
-    for (name, limit, fault) in [("a", 6, ReadFault::TooLong), ("b", 7, ReadFault::Unread)] {
-        let refused = read_file(alloc, &mut shelf(alloc, &[])?, name, limit);
-        assert_eq!(rt; refused.err(), Some(Stop::Fault(fault)), "{name}");
-    }
-    Ok(())
-}
-
-#[test]
 fn a_held_file_is_read(rt: HostRuntime) -> Result<(), Fail> {
     let alloc = rt.alloc();
     let mut steady = SteadyShelf::new(files(alloc)?);
@@ -85,35 +52,6 @@ fn a_held_file_is_read(rt: HostRuntime) -> Result<(), Fail> {
         read_held(alloc, &mut steady, "a", 7)?.as_slice(),
         b"one two".as_slice()
     );
-    Ok(())
-}
-
-// Seven bytes a byte a call, and the call that finds the end.
-#[test]
-fn any_read_may_fail(rt: HostRuntime) -> Result<(), Fail> {
-    let alloc = rt.alloc();
-    for k in 1..=8 {
-        let refused = read_file(alloc, &mut shelf(alloc, &[k])?, "a", 7);
-        assert_eq!(rt; refused.err(), Some(Stop::Fault(ReadFault::Unread)), "{k}");
-    }
-    let whole = read_file(alloc, &mut shelf(alloc, &[9])?, "a", 7)?;
-    assert_eq!(rt; whole.as_slice(), b"one two".as_slice());
-    Ok(())
-}
-
-// Five bytes, two a call.
-#[test]
-fn any_put_may_fail(rt: HostRuntime) -> Result<(), Fail> {
-    let alloc = rt.alloc();
-    for (k, taken) in [(1, "".as_bytes()), (2, b"he"), (3, b"hell")] {
-        let mut sink = MemSink::new(alloc, 2, calls(alloc, &[k])?);
-        assert_eq!(rt; write_all(&mut sink, b"hello"), Err(Failed), "{k}");
-        assert_eq!(rt; sink.bytes(), taken, "{k}");
-        assert!(rt; !sink.is_starved(), "{k}");
-    }
-    let mut sink = MemSink::new(alloc, 2, calls(alloc, &[4])?);
-    assert_eq!(rt; write_all(&mut sink, b"hello"), Ok(()));
-    assert_eq!(rt; sink.bytes(), b"hello".as_slice());
     Ok(())
 }
 
@@ -147,6 +85,7 @@ fn nothing_taken_is_a_failure(rt: HostRuntime) {
 
 #[test]
 fn places_follow_the_text(rt: HostRuntime) {
-    let places = [(1, 1), (1, 80), (2, 1), (10, 2)].map(|(line, column)| Place { line, column });
-    assert!(rt; places.is_sorted());
+    let place = |line: u64, column: u64| Place { line, column };
+    assert!(rt; place(1, 80) < place(2, 1) && place(2, 1) < place(10, 2));
+    assert!(rt; place(1, 1) < place(1, 80));
 }

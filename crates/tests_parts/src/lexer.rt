@@ -372,48 +372,22 @@ fn check_all(rt: &impl Abort, alloc: Global, rows: &[(&[u8], &str)]) -> Result<(
 }
 
 #[test]
-fn faults(rt: HostRuntime) -> Result<(), Fail> {
-    check_all(&rt, rt.alloc(), &FAULTS)
-}
-
-#[test]
-fn words(rt: HostRuntime) -> Result<(), Fail> {
-    check_all(&rt, rt.alloc(), &WORDS)
-}
-
-#[test]
-fn integers(rt: HostRuntime) -> Result<(), Fail> {
-    check_all(&rt, rt.alloc(), &INTEGERS)
-}
-
-#[test]
-fn bad_integers(rt: HostRuntime) -> Result<(), Fail> {
-    check_all(&rt, rt.alloc(), &BAD_INTEGERS)
-}
-
-#[test]
-fn characters(rt: HostRuntime) -> Result<(), Fail> {
-    check_all(&rt, rt.alloc(), &CHARACTERS)
-}
-
-#[test]
-fn bad_characters(rt: HostRuntime) -> Result<(), Fail> {
-    check_all(&rt, rt.alloc(), &BAD_CHARACTERS)
-}
-
-#[test]
-fn strings(rt: HostRuntime) -> Result<(), Fail> {
-    check_all(&rt, rt.alloc(), &STRINGS)
-}
-
-#[test]
-fn comments(rt: HostRuntime) -> Result<(), Fail> {
-    check_all(&rt, rt.alloc(), &COMMENTS)
-}
-
-#[test]
-fn marks(rt: HostRuntime) -> Result<(), Fail> {
-    check_all(&rt, rt.alloc(), &MARKS)
+fn texts_and_their_tokens(rt: HostRuntime) -> Result<(), Fail> {
+    let tables: [&[(&[u8], &str)]; 9] = [
+        &FAULTS,
+        &WORDS,
+        &INTEGERS,
+        &BAD_INTEGERS,
+        &CHARACTERS,
+        &BAD_CHARACTERS,
+        &STRINGS,
+        &COMMENTS,
+        &MARKS,
+    ];
+    for rows in tables {
+        check_all(&rt, rt.alloc(), rows)?;
+    }
+    Ok(())
 }
 
 fn repeated(alloc: Global, unit: &[u8], count: usize) -> Result<Vec<u8>, AllocError> {

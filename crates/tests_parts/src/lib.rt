@@ -2,19 +2,11 @@
 #![tactic(auto)]
 
 #[cfg(test)]
-mod agenda;
-#[cfg(test)]
 mod base;
 #[cfg(test)]
 mod builtins;
 #[cfg(test)]
-mod convert_first;
-#[cfg(test)]
-mod eval;
-#[cfg(test)]
-mod globals;
-#[cfg(test)]
-mod index;
+mod closures;
 #[cfg(test)]
 mod layout;
 #[cfg(test)]
@@ -22,12 +14,4 @@ mod lexer;
 #[cfg(test)]
 mod num;
 #[cfg(test)]
-mod parser;
-#[cfg(test)]
-mod points;
-#[cfg(test)]
 mod reading;
-#[cfg(test)]
-mod store;
-#[cfg(test)]
-mod variables;

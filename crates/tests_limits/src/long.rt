@@ -1,10 +1,7 @@
 //! A program of many forms with all its fronts, and long texts of one shape.
-use cpc_base::{Dialect, Names};
-use cpc_lexer::{end_of_text, tokens};
-use cpc_parser::parse;
-use cpc_printer::print;
+use crate::answers::{Answer, found, printed};
+use cpc_base::Dialect;
 use std::alloc::Global;
-use std::process::Abort;
 use std::test::Fail;
 
 /// A server of connections, each with a limit of time.
@@ -47,31 +44,6 @@ cps void accept(void) {
 int main(void) { cpc_spawn accept(); return 0; }
 "#;
 
-/// What a text is.
-#[derive(Clone, Copy, Debug, PartialEq, Eq)]
-enum What {
-    Program,
-    Refused,
-    NotCut,
-}
-
-fn found(alloc: Global, text: &[u8]) -> What {
-    let mut names = Names::new(alloc);
-    let Ok(list) = tokens(alloc, text, Dialect::Cpc, &mut names) else {
-        return What::NotCut;
-    };
-    match parse(
-        alloc,
-        list.as_slice(),
-        end_of_text(text),
-        Dialect::Cpc,
-        names,
-    ) {
-        Ok(_) => What::Program,
-        Err(_) => What::Refused,
-    }
-}
-
 /// Whether a front of the text ends behind an item: outside of braces, behind a semicolon or behind the brace of a
 /// function, which no semicolon follows.
 fn ends_item(front: &[u8], rest: &[u8]) -> bool {
@@ -90,13 +62,13 @@ fn ends_item(front: &[u8], rest: &[u8]) -> bool {
     depth == 0 && (last == b';' || last == b'}' && rest.first() != Some(&b';'))
 }
 
-/// The text is a program, and of its fronts exactly those are that end behind an item.
+// The text is a program, and of its fronts exactly those are that end behind an item.
 #[test]
 fn fronts_of_a_program(rt: HostRuntime) {
     let alloc = rt.alloc();
     for length in 0..RELAY.len() + 1 {
         let (front, rest) = RELAY.split_at(length);
-        let is_program = found(alloc, front) == What::Program;
+        let is_program = found(alloc, front, Dialect::Cpc) == Answer::Program;
         assert!(rt; is_program == ends_item(front, rest), "{length}");
     }
 }
@@ -113,49 +85,52 @@ fn repeated(alloc: Global, front: &[u8], part: &[u8], back: &[u8]) -> Result<Vec
     Ok(out)
 }
 
-/// A front, what is repeated behind it up to 262,144 bytes, and a back.
-static LONG: [(&[u8], &[u8], &[u8], What); 12] = [
-    (b"", b"(", b"", What::Refused),
-    (b"int x; int main(void){ x = ", b"(", b"", What::Refused),
-    (b"int x; int main(void){ x = ", b"-", b"1;}", What::Refused),
-    (b"int x; int main(void){ x = 1", b"+1", b";}", What::Refused),
+/// A front, what is repeated behind it up to 262,144 bytes, a back, and whether it is a program.
+static LONG: [(&[u8], &[u8], &[u8], bool); 12] = [
+    (b"", b"(", b"", false),
+    (b"int x; int main(void){ x = ", b"(", b"", false),
+    (b"int x; int main(void){ x = ", b"-", b"1;}", false),
+    (b"int x; int main(void){ x = 1", b"+1", b";}", false),
     (
         b"int x; int main(void){ x = f(1",
         b",1",
         b");}",
-        What::Program,
+        true,
     ),
     (
         b"int x; int main(void){",
         b"if(x);else ",
         b";}",
-        What::Refused,
+        false,
     ),
-    (b"int x; int main(void){", b"{", b"", What::Refused),
-    (b"int x; int main(void){", b"x=1;", b"}", What::Program),
-    (b"int ", b"*", b"x;", What::Refused),
-    (b"int a", b",a", b";", What::Program),
-    (b"", b"int f(void){return 1;}", b"", What::Program),
+    (b"int x; int main(void){", b"{", b"", false),
+    (b"int x; int main(void){", b"x=1;", b"}", true),
+    (b"int ", b"*", b"x;", false),
+    (b"int a", b",a", b";", true),
+    (b"", b"int f(void){return 1;}", b"", true),
     (
         b"int x; int main(void){ x = 1",
         b"?1:1",
         b";}",
-        What::Refused,
+        false,
     ),
 ];
 
 #[test]
 fn long_texts(rt: HostRuntime) -> Result<(), Fail> {
     let alloc = rt.alloc();
-    for (front, part, back, wanted) in LONG {
+    for (front, part, back, is_program) in LONG {
         let text = repeated(alloc, front, part, back)?;
-        let what = found(alloc, text.as_slice());
-        assert!(rt; what == wanted, "{part:?}: {what:?}");
+        match found(alloc, text.as_slice(), Dialect::Cpc) {
+            Answer::Program => assert!(rt; is_program, "{part:?}"),
+            Answer::Refused(_, _) => assert!(rt; !is_program, "{part:?}"),
+            Answer::Other => assert!(rt; false, "{part:?}"),
+        }
     }
     Ok(())
 }
 
-/// Ten thousand small functions are read and printed, and what is printed is printed again as it is.
+// Ten thousand small functions are read and printed, and what is printed is printed again as it is.
 #[test]
 fn many_functions(rt: HostRuntime) -> Result<(), Fail> {
     let alloc = rt.alloc();
@@ -164,25 +139,4 @@ fn many_functions(rt: HostRuntime) -> Result<(), Fail> {
     let twice = printed(alloc, once.as_slice());
     assert!(rt; once.len() > 300000 && once == twice);
     Ok(())
-}
-
-/// The print of a text, or nothing where it is no program.
-fn printed(alloc: Global, text: &[u8]) -> Vec<u8> {
-    let mut names = Names::new(alloc);
-    let Ok(list) = tokens(alloc, text, Dialect::Cpc, &mut names) else {
-        return Vec::new(alloc);
-    };
-    let Ok(program) = parse(
-        alloc,
-        list.as_slice(),
-        end_of_text(text),
-        Dialect::Cpc,
-        names,
-    ) else {
-        return Vec::new(alloc);
-    };
-    match print(alloc, &program) {
-        Ok(bytes) => bytes,
-        Err(_) => Vec::new(alloc),
-    }
 }

@@ -1,0 +1,161 @@
+//! The calls: the command over objects in memory, and the stages of reading that it has no words for.
+use cpc_base::{Calls, Dialect, MemFile, MemShelf, MemSink, Names, Stop};
+use cpc_cli::cpc_main;
+use cpc_lexer::{end_of_text, tokens};
+use cpc_parser::parse;
+use cpc_printer::print;
+use cpc_translate::{TextFault, read};
+use std::alloc::{AllocError, Global};
+use std::mem::forget;
+
+/// How the objects behave: the most bytes of a call, and the number of the read, the put on `out` and the put on `err`
+/// that fails, or 0.
+#[derive(Clone, Copy)]
+pub struct Setting {
+    /// The most bytes of a call.
+    pub most: u64,
+    /// The read that fails.
+    pub read: u64,
+    /// The put on `out` that fails.
+    pub put: u64,
+    /// The put on `err` that fails.
+    pub said: u64,
+}
+
+/// What a call left.
+#[derive(Drop)]
+pub struct Left {
+    /// What it wrote on `out`.
+    pub out: Vec<u8>,
+    /// What it wrote on `err`.
+    pub err: Vec<u8>,
+    /// Its status.
+    pub status: u8,
+    /// The event steps that were made.
+    pub steps: u64,
+    /// The live cells behind them.
+    pub cells: u64,
+}
+
+fn failing(alloc: Global, call: u64) -> Result<Calls, AllocError> {
+    let mut calls = Vec::new(alloc);
+    if call > 0 {
+        calls.push(call)?;
+    }
+    Ok(Calls::new(calls))
+}
+
+fn shelf(alloc: Global, text: &[u8], setting: Setting) -> Result<MemShelf, AllocError> {
+    let mut files = Vec::new(alloc);
+    files.push(MemFile {
+        name: String::from_str(alloc, "a.c")?,
+        bytes: text.to_vec(alloc)?,
+    })?;
+    Ok(MemShelf::new(files, setting.most as usize, failing(alloc, setting.read)?))
+}
+
+// The words of a line; '' is an empty one.
+fn words_of(alloc: Global, line: &str) -> Result<Vec<String>, AllocError> {
+    let mut words = Vec::new(alloc);
+    for word in line.split_whitespace() {
+        words.push(String::from_str(alloc, if word == "''" { "" } else { word })?)?;
+    }
+    Ok(words)
+}
+
+fn command(alloc: Global, line: &str, text: &[u8], setting: Setting) -> Result<Left, AllocError> {
+    let mut shelf = shelf(alloc, text, setting)?;
+    let most = setting.most as usize;
+    let mut out = MemSink::new(alloc, most, failing(alloc, setting.put)?);
+    let mut err = MemSink::new(alloc, most, failing(alloc, setting.said)?);
+    let words = words_of(alloc, line)?;
+    let report = cpc_main(alloc, words.as_slice(), &mut shelf, &mut out, &mut err);
+    Ok(Left {
+        out: out.bytes().to_vec(alloc)?,
+        err: err.bytes().to_vec(alloc)?,
+        status: report.status,
+        steps: report.steps,
+        cells: report.cells,
+    })
+}
+
+// What is left where a stage of reading ends with these bytes.
+fn left(status: u8, out: Vec<u8>, err: Vec<u8>) -> Left {
+    Left {
+        out,
+        err,
+        status,
+        steps: 0,
+        cells: 0,
+    }
+}
+
+fn refused(alloc: Global, fault: TextFault) -> Result<Left, AllocError> {
+    let line = fault.place().line;
+    let column = fault.place().column;
+    let stage = fault.stage();
+    let number = fault.number();
+    let name = fault.name();
+    let told = format!(in alloc; "refused {line}:{column} {stage} {number} {name}\n")?;
+    Ok(left(3, Vec::new(alloc), told.into_bytes()))
+}
+
+// The print of a text, whatever rules it breaks.
+fn printed(alloc: Global, text: &[u8]) -> Result<Vec<u8>, Stop<TextFault>> {
+    let mut names = Names::new(alloc);
+    let list = match tokens(alloc, text, Dialect::Cpc, &mut names) {
+        Ok(list) => list,
+        Err(Stop::Memory) => return Err(Stop::Memory),
+        Err(Stop::Fault(fault)) => return Err(Stop::Fault(TextFault::Lex(fault))),
+    };
+    match parse(alloc, &list, end_of_text(text), Dialect::Cpc, names) {
+        Ok(program) => {
+            let made = print(alloc, &program);
+            // (a destructor of trees would be proved for this line alone)
+            forget(program);
+            match made {
+                Ok(bytes) => Ok(bytes),
+                Err(_) => Err(Stop::Memory),
+            }
+        }
+        Err(Stop::Memory) => Err(Stop::Memory),
+        Err(Stop::Fault(fault)) => Err(Stop::Fault(TextFault::Parse(fault))),
+    }
+}
+
+// A text is printed, and what is printed is printed as itself.
+fn print_twice(alloc: Global, text: &[u8]) -> Result<Left, AllocError> {
+    match printed(alloc, text) {
+        Ok(once) => match printed(alloc, &once) {
+            Ok(twice) if twice == once => Ok(left(0, once, Vec::new(alloc))),
+            _ => Ok(left(1, once, Vec::new(alloc))),
+        },
+        Err(Stop::Memory) => Err(AllocError),
+        Err(Stop::Fault(fault)) => refused(alloc, fault),
+    }
+}
+
+// A text is read as an event program.
+fn read_event(alloc: Global, text: &[u8]) -> Result<Left, AllocError> {
+    match read(alloc, text, Dialect::Event) {
+        Ok(checked) => {
+            forget(checked);
+            Ok(left(0, Vec::new(alloc), Vec::new(alloc)))
+        }
+        Err(Stop::Memory) => Err(AllocError),
+        Err(Stop::Fault(fault)) => refused(alloc, fault),
+    }
+}
+
+/// Makes a call with these words: `:print` prints the text, `:event` reads it as an event program, and all others are
+/// the command's, where the file `a.c` has the text.
+///
+/// # Errors
+/// Where memory is wanting.
+pub fn make(alloc: Global, line: &str, text: &[u8], setting: Setting) -> Result<Left, AllocError> {
+    match line {
+        ":print" => print_twice(alloc, text),
+        ":event" => read_event(alloc, text),
+        _ => command(alloc, line, text, setting),
+    }
+}
