@@ -8,8 +8,6 @@ mod laws;
 mod mains;
 mod routines;
 mod statements;
-#[cfg(test)]
-mod tests;
 mod threads;
 mod types;
 

@@ -6,8 +6,6 @@ mod checking;
 mod ground;
 mod items;
 mod starts;
-#[cfg(test)]
-mod tests;
 
 pub use checked::Checked;
 pub use checking::check;

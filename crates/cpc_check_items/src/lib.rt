@@ -11,8 +11,6 @@ mod parameters;
 mod prototypes;
 mod signatures;
 mod structs;
-#[cfg(test)]
-mod tests;
 mod wholes;
 
 pub use bodies::Bodies;

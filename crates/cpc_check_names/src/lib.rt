@@ -6,8 +6,6 @@ mod entry;
 mod labels;
 mod loops;
 mod reserved;
-#[cfg(test)]
-mod tests;
 mod variables;
 mod words;
 

@@ -11,8 +11,6 @@ mod plain;
 mod returned;
 mod statements;
 mod tested;
-#[cfg(test)]
-mod tests;
 
 pub use around::Around;
 pub use locals::start_rules;

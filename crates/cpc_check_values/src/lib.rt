@@ -10,8 +10,6 @@ mod places;
 mod primitives;
 mod started;
 mod suits;
-#[cfg(test)]
-mod tests;
 mod values;
 mod wants;
 mod wheres;

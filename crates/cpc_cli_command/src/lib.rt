@@ -4,8 +4,6 @@
 mod build;
 mod laws;
 mod number;
-#[cfg(test)]
-mod tests;
 mod words;
 
 pub use laws::{asking_words, bounded_words, other_words, taken_words};

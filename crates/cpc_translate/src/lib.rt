@@ -9,10 +9,3 @@ mod translating;
 pub use fault::TextFault;
 pub use reading::read;
 pub use translating::{Refusal, Translated, translate};
-
-#[cfg(test)]
-mod tests;
-#[cfg(test)]
-mod thread_tests;
-#[cfg(test)]
-mod translated_tests;

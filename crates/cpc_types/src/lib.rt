@@ -16,8 +16,6 @@ mod operators;
 mod scope;
 mod shapes;
 mod sizes;
-#[cfg(test)]
-mod tests;
 
 pub use assignment::{assignable, takes_value};
 pub use copies::copy_of;
