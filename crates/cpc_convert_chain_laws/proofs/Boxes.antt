@@ -1,10 +1,9 @@
 -- The boxes of a call are made, one statement for each: the blocks and their numbers are those of the call.
 use Rattle.std.proofs.Common.{◌≡◌, ℕ, zero, suc, ◌+◌, ◌<◌, List, [], ◌∷◌, length, slice_get, slice_set, replicate, Option, Some, is_some, refl, sym, ◌∙◌, ap, subst, codes, arith}
 use Rattle.cpc_base.specs.Bytes.{Text}
-use Rattle.cpc_tree.specs.declared.program.UnaryOp.TheVariants.{Dereference}
-use Rattle.cpc_tree.specs.Syntax.{Ty, TyPointer, TyStruct, ENamed, EUnary, Stmt, Stmts, AndStmt, Variable, Function, Program}
+use Rattle.cpc_tree.specs.Syntax.{Ty, TyPointer, TyStruct, ENamed, EArrow, Stmt, Stmts, AndStmt, Variable, Function, Program}
 use Rattle.cpc_tree.specs.Lists.{first_or, rest_of}
-use Rattle.cpc_tree.specs.Typing.{Scope, NotMeant, ALocal, named, function_named}
+use Rattle.cpc_tree.specs.Typing.{Scope, NotMeant, ALocal, named, function_named, field}
 use Rattle.cpc_tree.specs.Points.{Point}
 use Rattle.cpc_store.specs.declared.values.Class.TheVariants.{Auto, Frame}
 use Rattle.cpc_store.specs.Store.{Value, Unset, At, Store, blocks, with_blocks, next_block, alloc, cells_of}
@@ -18,7 +17,7 @@ use Rattle.cpc_convert_chain_laws.specs.Flat.{before, Stands, LineAt}
 use Rattle.cpc_convert_chain_laws.specs.Walks.{World, at_line, Walk, Stay}
 use Rattle.cpc_convert_chain_laws.specs.Frames.{Holds, at}
 use Rattle.cpc_convert_chain_laws.specs.Boxes.{boxes_one, fills_box, AllRegisters, NoSlot, AndSlot, with_boxes, Boxing, NoBoxing, PassRegister, BoxLocal, BoxParameter, Made}
-use Rattle.cpc_convert_chain_laws.proofs.Fields.{named_pointer, field_value}
+use Rattle.cpc_convert_chain_laws.proofs.Fields.{named_pointer, within, field_value}
 use Rattle.cpc_convert_chain_laws.proofs.Walks.{walk_cons}
 use Rattle.cpc_convert_chain_laws.proofs.AtLine.{line_passed}
 use Rattle.cpc_convert_chain_laws.proofs.LineSteps.{line_step, box_step}
@@ -58,15 +57,17 @@ set_box : (cells cells' : List Value) (s : Store) → with_blocks Auto (slice_se
 set_box cells cells' s = ap (λ bs. with_blocks Auto bs s) (set_last (blocks Auto s) (Some cells) (Some cells'))
 
 module _ (q : Program) (scope : Scope) (slots : List Slot) (s : Store) where
-  -- a value is written through a pointer to the first cell of the newest box
-  box_assign : (y : Text) (t : Ty) (m : ℕ) (u v : Value) → Holds q scope slots y (TyPointer t) (At Auto (next_block Auto s) 0) → assigned t u ≡ Gives v
-      → assign (at q scope slots (alloc Auto (replicate (suc m) Unset) s)) (EUnary Dereference (ENamed y)) u ≡ Gives (slots, alloc Auto (first_cells (suc m) v) s)
-  box_assign y t m u v h fits =
+  -- a value is written to the first field of the newest box
+  box_assign : (y a box : Text) (t : Ty) (m : ℕ) (u v : Value) → Holds q scope slots y (TyPointer (TyStruct box)) (At Auto (next_block Auto s) 0) → field q box a ≡ Some (0, t) → assigned t u ≡ Gives v
+      → assign (at q scope slots (alloc Auto (replicate (suc m) Unset) s)) (EArrow (ENamed y) a) u ≡ Gives (slots, alloc Auto (first_cells (suc m) v) s)
+  box_assign y a box t m u v h is_field fits =
       let cells = replicate (suc m) Unset in
       let made = alloc Auto cells s in
-      let saves = save_there Auto (next_block Auto s) 0 v made cells (alloc_cells Auto cells s) refl in
+      let is_live = alloc_cells Auto cells s in
+      let first = within cells Auto (next_block Auto s) 0 (let z : 0 < suc (length (replicate m Unset)) = omega arith in z) in
+      let saves = save_there Auto (next_block Auto s) 0 v made cells is_live refl in
       let same = set_box cells (first_cells (suc m) v) s in
-      simp (h.is_local, h.is_slot, fits, saves) (ap (λ r. Gives (slots, r)) same)
+      simp (h.is_local, h.is_slot, is_field, is_live, first, fits, saves) (ap (λ r. Gives (slots, r)) same)
 
 -- ---- all boxes
 
@@ -109,31 +110,31 @@ module _ (p : Program) (f : Function) (q : Program) (w : World) (fn : Text) (g :
         is_made = let e = m'.is_made in let same : first_cells m (first_or Unset vs) ≡ replicate m Unset = ap (first_cells m) unset ∙ sym (unset_cells m) in simp (is_size, no_reg, same, e) refl;
         leads = more_boxes k (boxes_one y amount) ss slots slots1 (with_boxes places m'.made slots1) s s1 m'.store first m'.leads;
       }
-  boxes_walk k n _ _ _ _ slots s (BoxParameter _ m i j x xs v vs places ss y z t amount no_reg is_size small is_y inside apart is_amount is_field sc is_cell fits more) all len is_slot live st =
+  boxes_walk k n _ _ _ _ slots s (BoxParameter _ m i j x xs v vs places ss y a box z t amount no_reg is_size small is_y is_first inside apart is_amount is_field sc is_cell fits more) all len is_slot live st =
       let left = before ss rest in
-      let left1 = AndStmt (fills_box y e z) left in
+      let left1 = AndStmt (fills_box y a e z) left in
       let old = register_at slots i all (let z : i < length slots = omega (arith, inside, len) in z) in
-      let h : Holds q scope slots y (TyPointer t) old.0 = record { slot = i; is_local = is_y; is_slot = old.1 } in
+      let h : Holds q scope slots y (TyPointer (TyStruct box)) old.0 = record { slot = i; is_local = is_y; is_slot = old.1 } in
       let l : LineAt g body k scope c (boxes_one y amount) left1 = record { statement = boxes_one y amount; stands = st; is_bare = refl; is_line = refl } in
       let new = Register (At Auto (next_block Auto s) 0) in
       let s1 = alloc Auto (replicate (suc m) Unset) s in
       let s2 = alloc Auto (first_cells (suc m) v) s in
       let slots1 = slice_set slots i new in
-      let first = box_step q w fn g body below is_g k scope c left1 slots s y amount l is_box (suc m) (is_amount slots s) small t old.0 h in
+      let first = box_step q w fn g body below is_g k scope c left1 slots s y amount l is_box (suc m) (is_amount slots s) small (TyStruct box) old.0 h in
       let st1 = line_passed g body k scope c (boxes_one y amount) left1 l in
-      let l1 : LineAt g body (suc k) scope c (fills_box y e z) left = record { statement = fills_box y e z; stands = st1; is_bare = refl; is_line = refl } in
-      let h1 : Holds q scope slots1 y (TyPointer t) (At Auto (next_block Auto s) 0) = record { slot = i; is_local = is_y; is_slot = get_set slots i new (ap is_some old.1) } in
+      let l1 : LineAt g body (suc k) scope c (fills_box y a e z) left = record { statement = fills_box y a e z; stands = st1; is_bare = refl; is_line = refl } in
+      let h1 : Holds q scope slots1 y (TyPointer (TyStruct box)) (At Auto (next_block Auto s) 0) = record { slot = i; is_local = is_y; is_slot = get_set slots i new (ap is_some old.1) } in
       let is_slot1 = get_other slots i frame new apart ∙ is_slot in
       let he : Holds q scope slots1 e (TyPointer (TyStruct tag)) (At Frame b 0) = record { slot = frame; is_local = is_frame; is_slot = is_slot1 } in
       let is_value = field_value q scope slots1 s1 (ENamed e) tag b (named_pointer q scope slots1 s1 e tag b he) cells live z j t is_field v sc is_cell fits in
-      let is_assign = box_assign q scope slots1 s y t m v v h1 fits in
-      let second = line_step q w fn g body below is_g (suc k) scope c left slots1 s1 (fills_box y e z) l1 refl refl refl s2 slots1 (simp (is_value, is_assign) refl) in
-      let m' = boxes_walk (suc (suc k)) (suc n) xs vs places ss slots1 s2 more (registers_set slots i _ all) (slots_length slots i _ ∙ len) is_slot1 live (line_passed g body (suc k) scope c (fills_box y e z) left l1) in
+      let is_assign = box_assign q scope slots1 s y a box t m v v h1 is_first fits in
+      let second = line_step q w fn g body below is_g (suc k) scope c left slots1 s1 (fills_box y a e z) l1 refl refl refl s2 slots1 (simp (is_value, is_assign) refl) in
+      let m' = boxes_walk (suc (suc k)) (suc n) xs vs places ss slots1 s2 more (registers_set slots i _ all) (slots_length slots i _ ∙ len) is_slot1 live (line_passed g body (suc k) scope c (fills_box y a e z) left l1) in
       let slots2 = with_boxes places m'.made slots1 in
       record {
         made = Boxed (next_block Auto s) ∷ m'.made;
         store = m'.store;
         is_made = let e = m'.is_made in simp (is_size, no_reg, e) refl;
-        leads = more_boxes k (boxes_one y amount) (fills_box y e z ∷ ss) slots slots1 slots2 s s1 m'.store first
-            (more_boxes (suc k) (fills_box y e z) ss slots1 slots1 slots2 s1 s2 m'.store second m'.leads);
+        leads = more_boxes k (boxes_one y amount) (fills_box y a e z ∷ ss) slots slots1 slots2 s s1 m'.store first
+            (more_boxes (suc k) (fills_box y a e z) ss slots1 slots1 slots2 s1 s2 m'.store second m'.leads);
       }

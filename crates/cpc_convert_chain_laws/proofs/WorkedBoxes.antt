@@ -5,7 +5,7 @@ use Rattle.std.specs.Fmt.{digits}
 use Rattle.cpc_num.specs.Number.{settle, divided}
 use Rattle.cpc_tree.specs.declared.program.Mode.TheVariants.{Cps}
 use Rattle.cpc_tree.specs.declared.program.UnaryOp.TheVariants.{AddressOf}
-use Rattle.cpc_tree.specs.Syntax.{TyVoid, TyPointer, ENamed, EUnary, ESizeOf, Block, Declare, Assign, NoStmt, AndStmt, FunctionItem, Function, Program}
+use Rattle.cpc_tree.specs.Syntax.{TyVoid, TyPointer, TyStruct, ENamed, EUnary, ESizeOf, Block, Declare, Assign, NoStmt, AndStmt, FunctionItem, Function, Program}
 use Rattle.cpc_tree.specs.Typing.{Scope}
 use Rattle.cpc_tree.specs.Registers.{variables}
 use Rattle.cpc_store.specs.Store.{Null, Code, Unset}
@@ -14,7 +14,7 @@ use Rattle.cpc_convert_chain_laws.specs.Driver.{any_pointer}
 use Rattle.cpc_convert_chain_laws.specs.Frames.{taken_scope}
 use Rattle.cpc_convert_chain_laws.specs.Worked.{int, field_of, load_of, n, to}
 use Rattle.cpc_convert_chain_laws.specs.Driver.{next_field}
-use Rattle.cpc_convert_chain_laws.specs.WorkedBoxes.{p, boxed_program, BoxedProgramRuns}
+use Rattle.cpc_convert_chain_laws.specs.WorkedBoxes.{p, box, to_box, boxed_program, BoxedProgramRuns}
 
 pub boxed_runs : BoxedProgramRuns
 unfolding digits settle divided
@@ -34,10 +34,10 @@ abbrev source : Program
 source = FunctionItem source_function ∷ []
 
 abbrev piece_scope : Scope
-piece_scope = taken_scope (record { called = codes "k__"; type = any_pointer; slot = 0 } ∷ []) 1 (codes "e__") (codes "f__start") (load_of next_field any_pointer ∷ []) (field_of n (TyPointer int) ∷ field_of p (TyPointer int) ∷ field_of to any_pointer ∷ [])
+piece_scope = taken_scope (record { called = codes "k__"; type = any_pointer; slot = 0 } ∷ []) 1 (codes "e__") (codes "f__start") (load_of next_field any_pointer ∷ []) (field_of n to_box ∷ field_of p (TyPointer int) ∷ field_of to any_pointer ∷ [])
 
 -- its boxes are made as the laws have it
-pub boxed_boxing : Boxing source source_function boxed_program piece_scope 6 1 (codes "f__start") (codes "e__") (Code (codes "f__start") ∷ Null ∷ Unset ∷ Unset ∷ []) 0 (variables source_function) (Unset ∷ []) (Some 3 ∷ None ∷ []) (boxes_one n (ESizeOf int) ∷ fills_box n (codes "e__") n ∷ [])
+pub boxed_boxing : Boxing source source_function boxed_program piece_scope 6 1 (codes "f__start") (codes "e__") (Code (codes "f__start") ∷ Null ∷ Unset ∷ Unset ∷ []) 0 (variables source_function) (Unset ∷ []) (Some 3 ∷ None ∷ []) (boxes_one n (ESizeOf (TyStruct box)) ∷ fills_box n (codes "n") (codes "e__") n ∷ [])
 boxed_boxing =
-    BoxParameter 0 0 3 3 _ _ Unset [] (None ∷ []) [] n n int (ESizeOf int) refl refl (omega arith) refl (omega arith) (λ e. absurd (omega (arith, e))) (λ slots s. refl) refl refl refl refl
+    BoxParameter 0 0 3 3 _ _ Unset [] (None ∷ []) [] n (codes "n") box n int (ESizeOf (TyStruct box)) refl refl (omega arith) refl refl (omega arith) (λ e. absurd (omega (arith, e))) (λ slots s. refl) refl refl refl refl
     (PassRegister 1 1 _ _ [] [] [] refl refl (NoBoxing 2 []))

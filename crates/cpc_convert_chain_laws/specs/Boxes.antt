@@ -2,8 +2,7 @@
 use Rattle.std.specs.Prelude.{◌≡◌, ℕ, suc, ◌<◌, ◌^◌, true, false, List, [], ◌∷◌, slice_get, slice_set, pos, Option, Some, None, codes}
 use Rattle.cpc_base.specs.Bytes.{Text}
 use Rattle.cpc_num.specs.declared.kinds.Kind.TheVariants.{ULong}
-use Rattle.cpc_tree.specs.declared.program.UnaryOp.TheVariants.{Dereference}
-use Rattle.cpc_tree.specs.Syntax.{Ty, TyPointer, Expr, ENamed, EUnary, EArrow, NoExpr, AndExpr, Stmt, Assign, Call, Variable, Function, Program}
+use Rattle.cpc_tree.specs.Syntax.{Ty, TyPointer, TyStruct, Expr, ENamed, EArrow, NoExpr, AndExpr, Stmt, Assign, Call, Variable, Function, Program}
 use Rattle.cpc_tree.specs.Lists.{first_or, rest_of}
 use Rattle.cpc_tree.specs.Typing.{Scope, ALocal, named, field, size, is_scalar}
 use Rattle.cpc_tree.specs.Registers.{is_register}
@@ -19,9 +18,9 @@ use Rattle.cpc_convert_chain_laws.specs.Frames.{Holds, at}
 abbrev pub boxes_one : (variable : Text) → (size : Expr) → Stmt
 boxes_one x size = Call (Some (ENamed x)) (ENamed (codes "rt_box")) (AndExpr size NoExpr)
 
--- `*x = frame->y;`
-abbrev pub fills_box : (variable frame field : Text) → Stmt
-fills_box x e y = Assign (EUnary Dereference (ENamed x)) None (EArrow (ENamed e) y)
+-- `x->y = frame->z;`
+abbrev pub fills_box : (variable field frame argument : Text) → Stmt
+fills_box x y e z = Assign (EArrow (ENamed x) y) None (EArrow (ENamed e) z)
 
 -- `rt_unbox(x);`
 abbrev pub unboxes_one : (variable : Text) → Stmt
@@ -39,7 +38,7 @@ with_boxes (o ∷ places) (x ∷ variables) slots = with_boxes places variables 
 with_boxes _ _ slots = slots
 
 -- the statements that make the boxes of these variables, the first of which is the n-th: each box has a pointer in a register of the piece,
--- of which there are so many; the frame with the arguments is in another
+-- of which there are so many; the frame with the arguments is in another. The box of a parameter is a struct that begins with a field of its type
 pub data Boxing (p : Program) (f : Function) (q : Program) (scope : Scope) (count frame : ℕ) (tag e : Text) (cells : List Value) : ℕ → List Variable → List Value → List (Option ℕ) → List Stmt → Type 0 where
   NoBoxing : (n : ℕ) (vs : List Value) → Boxing p f q scope count frame tag e cells n [] vs [] []
   PassRegister : (n m : ℕ) (x : Variable) (xs : List Variable) (vs : List Value) (places : List (Option ℕ)) (ss : List Stmt) → is_register f n x ≡ true → size p x.type ≡ Some m
@@ -47,10 +46,10 @@ pub data Boxing (p : Program) (f : Function) (q : Program) (scope : Scope) (coun
   BoxLocal : (n m i : ℕ) (x : Variable) (xs : List Variable) (vs : List Value) (places : List (Option ℕ)) (ss : List Stmt) (y : Text) (t : Ty) (amount : Expr) → is_register f n x ≡ false → size p x.type ≡ Some m → m < 2 ^ 63
       → named q scope y ≡ ALocal i (TyPointer t) → i < count → ¬ (i ≡ frame) → ((slots : List Slot) (s : Store) → value (at q scope slots s) amount ≡ Gives (Whole ULong (pos m))) → first_or Unset vs ≡ Unset
       → Boxing p f q scope count frame tag e cells (suc n) xs (rest_of vs) places ss → Boxing p f q scope count frame tag e cells n (x ∷ xs) vs (Some i ∷ places) (boxes_one y amount ∷ ss)
-  BoxParameter : (n m i j : ℕ) (x : Variable) (xs : List Variable) (v : Value) (vs : List Value) (places : List (Option ℕ)) (ss : List Stmt) (y z : Text) (t : Ty) (amount : Expr) → is_register f n x ≡ false → size p x.type ≡ Some (suc m) → suc m < 2 ^ 63
-      → named q scope y ≡ ALocal i (TyPointer t) → i < count → ¬ (i ≡ frame) → ((slots : List Slot) (s : Store) → value (at q scope slots s) amount ≡ Gives (Whole ULong (pos (suc m))))
+  BoxParameter : (n m i j : ℕ) (x : Variable) (xs : List Variable) (v : Value) (vs : List Value) (places : List (Option ℕ)) (ss : List Stmt) (y a box z : Text) (t : Ty) (amount : Expr) → is_register f n x ≡ false → size p x.type ≡ Some (suc m) → suc m < 2 ^ 63
+      → named q scope y ≡ ALocal i (TyPointer (TyStruct box)) → field q box a ≡ Some (0, t) → i < count → ¬ (i ≡ frame) → ((slots : List Slot) (s : Store) → value (at q scope slots s) amount ≡ Gives (Whole ULong (pos (suc m))))
       → field q tag z ≡ Some (j, t) → is_scalar t ≡ true → slice_get cells j ≡ Some v → Fits t v
-      → Boxing p f q scope count frame tag e cells (suc n) xs vs places ss → Boxing p f q scope count frame tag e cells n (x ∷ xs) (v ∷ vs) (Some i ∷ places) (boxes_one y amount ∷ fills_box y e z ∷ ss)
+      → Boxing p f q scope count frame tag e cells (suc n) xs vs places ss → Boxing p f q scope count frame tag e cells n (x ∷ xs) (v ∷ vs) (Some i ∷ places) (boxes_one y amount ∷ fills_box y a e z ∷ ss)
 
 -- the slots of the call, and a walk that leads to its store and to pointers to its boxes
 pub record Made (p : Program) (f : Function) (n : ℕ) (xs : List Variable) (vs : List Value) (places : List (Option ℕ)) (slots : List Slot) (s : Store) (Leads : List Slot → Store → Type 0) : Type 0 where

@@ -4,8 +4,8 @@ use Rattle.cpc_base.specs.Bytes.{Text}
 use Rattle.cpc_num.specs.declared.kinds.Kind.TheVariants.{Int}
 use Rattle.cpc_num.specs.declared.kinds.Op.TheVariants.{Add}
 use Rattle.cpc_tree.specs.declared.program.Mode.TheVariants.{Native}
-use Rattle.cpc_tree.specs.declared.program.UnaryOp.TheVariants.{Dereference}
-use Rattle.cpc_tree.specs.Syntax.{TyVoid, TyPointer, ENamed, EInteger, EUnary, EBinary, ESizeOf, NoExpr, AndExpr, Block, Empty, Assign, Call, Return, NoStmt, AndStmt, StructItem, FunctionItem, Program}
+use Rattle.cpc_tree.specs.declared.program.UnaryOp.TheVariants.{Dereference, AddressOf}
+use Rattle.cpc_tree.specs.Syntax.{Ty, TyVoid, TyPointer, TyStruct, ENamed, EInteger, EUnary, EBinary, EArrow, ESizeOf, NoExpr, AndExpr, Block, Empty, Assign, Call, Return, NoStmt, AndStmt, StructItem, FunctionItem, Program}
 use Rattle.cpc_tree.specs.Trace.{Output, Ended}
 use Rattle.cpc_meaning.specs.Events.{event}
 use Rattle.cpc_convert_chain_laws.specs.Frames.{opens_frame, frees_frame}
@@ -19,12 +19,21 @@ use Rattle.cpc_convert_chain_laws.specs.Worked.{int, field_of, load_of, save_of,
 abbrev pub p : Text
 p = codes "p__1"
 
+-- the tag of the box of n
+abbrev pub box : Text
+box = codes "f__box0"
+
+-- a pointer to it
+abbrev pub to_box : Ty
+to_box = TyPointer (TyStruct box)
+
 abbrev pub boxed_program : Program
 boxed_program =
     StructItem frame_tag (head_fields int [])
     ∷ StructItem (codes "f__start") (head_fields int (field_of n int ∷ []))
-    ∷ StructItem (codes "f__at1") (head_fields int (field_of n (TyPointer int) ∷ field_of p (TyPointer int) ∷ []))
+    ∷ StructItem (codes "f__at1") (head_fields int (field_of n to_box ∷ field_of p (TyPointer int) ∷ []))
     ∷ FunctionItem drive_function
+    ∷ StructItem box (field_of (codes "n") int ∷ [])
     ∷ FunctionItem (record {
       mode = Native;
       called = codes "f__spawn";
@@ -37,15 +46,15 @@ boxed_program =
       called = codes "f__start";
       result = any_pointer;
       parameters = record { called = Some (codes "k__"); type = any_pointer } ∷ [];
-      body = Block (opens_frame (codes "k__") (codes "e__") (codes "f__start") (load_of next_field any_pointer ∷ []) (field_of n (TyPointer int) ∷ field_of p (TyPointer int) ∷ field_of to any_pointer ∷ [])
-          (AndStmt (boxes_one n (ESizeOf int)) (AndStmt (fills_box n (codes "e__") n) (AndStmt (frees_frame (codes "k__"))
-          (AndStmt (Assign (ENamed p) None (ENamed n))
+      body = Block (opens_frame (codes "k__") (codes "e__") (codes "f__start") (load_of next_field any_pointer ∷ []) (field_of n to_box ∷ field_of p (TyPointer int) ∷ field_of to any_pointer ∷ [])
+          (AndStmt (boxes_one n (ESizeOf (TyStruct box))) (AndStmt (fills_box n (codes "n") (codes "e__") n) (AndStmt (frees_frame (codes "k__"))
+          (AndStmt (Assign (ENamed p) None (EUnary AddressOf (EArrow (ENamed n) (codes "n"))))
           (frame_lines to (codes "f__at1") (codes "f__at1") (ENamed next_field) (save_of n ∷ save_of p ∷ []) (AndStmt (readies to) (AndStmt (Return (Some (EInteger Int (pos 0)))) NoStmt))))))));
     })
-    ∷ piece_of (codes "f__at1") (load_of next_field any_pointer ∷ load_of n (TyPointer int) ∷ load_of p (TyPointer int) ∷ []) []
+    ∷ piece_of (codes "f__at1") (load_of next_field any_pointer ∷ load_of n to_box ∷ load_of p (TyPointer int) ∷ []) []
     (AndStmt Empty
     (AndStmt (Assign (EUnary Dereference (ENamed p)) None (EBinary Add (EUnary Dereference (ENamed p)) (EInteger Int (pos 1))))
-    (AndStmt (Call None (ENamed (codes "cpc_print")) (AndExpr (EUnary Dereference (ENamed n)) NoExpr))
+    (AndStmt (Call None (ENamed (codes "cpc_print")) (AndExpr (EArrow (ENamed n) (codes "n")) NoExpr))
     (AndStmt (unboxes_one n) (AndStmt (Return (Some (ENamed next_field))) NoStmt)))))
     ∷ FunctionItem (record {
       mode = Native;

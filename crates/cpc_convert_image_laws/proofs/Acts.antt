@@ -5,10 +5,10 @@ use Rattle.std.proofs.lemmas.List.Elements.{All-nil, All-cons, All-set}
 use Rattle.cpc_base.specs.Bytes.{Text}
 use Rattle.cpc_tree.specs.Syntax.{Ty, Expr, Exprs, NoExpr, AndExpr, Function, Program}
 use Rattle.cpc_tree.specs.Primitives.{Taken}
-use Rattle.cpc_tree.specs.Typing.{Scope, Typed, named, typed_place, parameter_types, code_parameters}
+use Rattle.cpc_tree.specs.Typing.{Scope, named, parameter_types, code_parameters}
 use Rattle.cpc_store.specs.Store.{Value, Store, Blocks}
 use Rattle.cpc_meaning.specs.Answer.{Answer, Gives, Faults, NoAnswer, ◌>>=◌, needed}
-use Rattle.cpc_meaning.specs.Eval.{Slot, Register, Context, Spot, and_then, place_type, used_type, value, values, holds, assigned}
+use Rattle.cpc_meaning.specs.Eval.{Slot, Register, Context, Spot, place_type, used_type, value, values, holds, assigned}
 use Rattle.cpc_meaning.specs.Requests.{all_taken, arguments}
 use Rattle.cpc_meaning.specs.Act.{Act, GoesOn, Enters, passes, write, assign, deliver, assigns, calls, calls_value, test_act}
 use Rattle.cpc_meaning.proofs.SameValues.{at}
@@ -17,22 +17,15 @@ use Rattle.cpc_meaning_pointer_laws.proofs.Blocks.{Only}
 use Rattle.cpc_convert_image_laws.specs.Images.{Readings, image, images, image_if}
 use Rattle.cpc_convert_image_laws.specs.InPlace.{is_array, IsWritten, IsWrittenIf}
 use Rattle.cpc_convert_image_laws.specs.Held.{IsHeld, IsHeldSlot, IsHeldStore, beside}
-use Rattle.cpc_convert_image_laws.specs.Relations.{Less, AsIs, Untold, SameHead, Common, Meets, BothGive, BothFault, Stuck, Same, It, Means, NoneChanged, BothChanged, StoreBeside, InBoth, After, Afterwards, SameAct, BothGo, BothEnter, SpotAlike, TheSlot, TheCell, TheArray}
+use Rattle.cpc_convert_image_laws.specs.Relations.{Less, AsIs, Untold, SameHead, Common, Meets, BothGive, BothFault, Stuck, Same, It, Means, NoneChanged, BothChanged, StoreBeside, InBoth, After, Afterwards, SameAct, BothGo, BothEnter, SpotAlike, TheSlot, TheCell}
+use Rattle.cpc_convert_image_laws.proofs.Live.{IsReadLive}
 use Rattle.cpc_convert_image_laws.proofs.Answers.{meets_then, same_then, itself, self_then, needed_then}
-use Rattle.cpc_convert_image_laws.proofs.Types.{TypedAlike, ItsType, AnArray, AnAddress, typed}
 use Rattle.cpc_convert_image_laws.proofs.Operators.{assigned_held}
-use Rattle.cpc_convert_image_laws.proofs.Values.{places, same_values, used_less}
+use Rattle.cpc_convert_image_laws.proofs.Values.{places, same_values, used_less, place_less}
 use Rattle.cpc_convert_image_laws.proofs.Beside.{saves}
 use Rattle.cpc_convert_image_laws.proofs.Arguments.{FunctionAlike, InPlace, arguments_held, all_taken_held, same_parameters, callees}
 
--- the type of a place that is no array
-pub written_alike : (e : Expr) (a b : Option Typed) → is_array (and_then a typed_place) ≡ false → TypedAlike e a b → Less (and_then a typed_place) (and_then b typed_place)
-written_alike _ _ _ h (ItsType e _ _ (AsIs o)) = AsIs (and_then o typed_place)
-written_alike _ _ _ h (ItsType e _ _ (Untold o)) = Untold (and_then o typed_place)
-written_alike _ _ _ h (AnArray x t n) = absurd (cc)
-written_alike _ _ _ h (AnAddress x t) = Untold _
-
-module _ (C : Text → Type 0) (R : Function → Function → Type 0) (P : ℕ → Ty → ℕ → Type 0) (p q : Program) (common : Common C R p q) (L : Text → Type 0) (r : Readings) (scope scope' : Scope) (slots slots' : List Slot) (names : (x : Text) → L x → Means C P q scope' slots slots' x (r x) (named p scope x)) (s : Store) (source : IsHeldStore C s) (held : All (IsHeldSlot C) slots) (frames : Blocks) where
+module _ (C : Text → Type 0) (R : Function → Function → Type 0) (P : ℕ → Ty → ℕ → Type 0) (p q : Program) (common : Common C R p q) (L : Text → Type 0) (r : Readings) (scope scope' : Scope) (slots slots' : List Slot) (names : (x : Text) → L x → Means C P q scope' slots slots' x (r x) (named p scope x)) (s : Store) (source : IsHeldStore C s) (held : All (IsHeldSlot C) slots) (live : (x : Text) → IsReadLive s slots (r x)) (frames : Blocks) where
   abbrev pub here : Context
   here = at p scope slots s
 
@@ -57,10 +50,10 @@ module _ (C : Text → Type 0) (R : Function → Function → Type 0) (P : ℕ �
   Act' = SameAct C R P frames slots slots'
 
   pub value_alike : (e : Expr) → AllNames L e → Both (value here e) (value there (image r e))
-  value_alike e l = same_values C P p q common.types L r scope scope' slots slots' names s source held frames e l
+  value_alike e l = same_values C P p q common.types L r scope scope' slots slots' names s source held live frames e l
 
   pub type_alike : (e : Expr) → AllNames L e → Less (used_type here e) (used_type there (image r e))
-  type_alike e l = used_less C P p q common.types L r scope scope' slots slots' names s source held frames e l
+  type_alike e l = used_less C P p q common.types L r scope scope' slots slots' names s source held live frames e l
 
   pub values_alike : (es : Exprs) → AllNamesAmong L es → BothAll (values here es) (values there (images r es))
   values_alike NoExpr l = BothGive _ _ (It [] (All-nil (IsHeld C)))
@@ -83,35 +76,34 @@ module _ (C : Text → Type 0) (R : Function → Function → Type 0) (P : ℕ �
   -- ---- assignments
 
   pub written_less : (e : Expr) → IsWritten here e → AllNames L e → Less (place_type here e) (place_type there (image r e))
-  written_less e a l = written_alike e _ _ a (typed C P p q common.types L r scope scope' slots slots' names e l)
+  written_less e a l = place_less C P p q common.types L r scope scope' slots slots' names s source held live frames e l
 
-  writes : (e : Expr) (t : Ty) (a b : Spot) (v w : Value) → is_array (Some t) ≡ false → assigned t v ≡ Gives w → IsHeld C w → SpotAlike P slots slots' e (Some t) a b → BothAfter (write here a w) (write there b w)
-  writes _ _ _ _ v w n e h (TheSlot x k k' t u i f g) =
+  writes : (t : Ty) (a b : Spot) (v w : Value) → is_array (Some t) ≡ false → assigned t v ≡ Gives w → IsHeld C w → SpotAlike P slots slots' (Some t) a b → BothAfter (write here a w) (write there b w)
+  writes _ _ _ v w n e h (TheSlot k k' t u i f g) =
       BothGive _ _ (Afterwards s _ _ source (All-set (IsHeldSlot C) slots k (Register w) h held) (BothChanged k k' t u v w i f g e))
-  writes _ t _ _ v w n e h (TheCell x _ c b k i) = saved _ _ (saves C frames s source c b k w i h)
+  writes t _ _ v w n e h (TheCell _ c b k i) = saved _ _ (saves C frames s source c b k w i h)
     where
       saved : (x y : Answer Store) → Meets (StoreBeside C frames) x y → BothAfter (x >>= λ t. Gives (slots, t)) (y >>= λ t. Gives (slots', t))
       saved _ _ (BothGive _ _ (InBoth t on)) = BothGive _ _ (Afterwards t slots slots' on held NoneChanged)
       saved _ _ (BothFault fault) = BothFault fault
       saved _ _ (Stuck y) = Stuck _
-  writes _ _ _ _ v w n e h (TheArray x t m b k') = absurd (cc)
 
   -- what is written at a place of this type
-  puts : (e : Expr) (o u : Option Ty) (a b : Spot) (v : Value) → is_array o ≡ false → IsHeld C v → Less o u → SpotAlike P slots slots' e o a b
+  puts : (o u : Option Ty) (a b : Spot) (v : Value) → is_array o ≡ false → IsHeld C v → Less o u → SpotAlike P slots slots' o a b
       → BothAfter (needed o >>= λ t. assigned t v >>= λ w. write here a w) (needed u >>= λ t. assigned t v >>= λ w. write there b w)
-  puts e _ _ a b v n h (AsIs None) i = Stuck _
-  puts e _ _ a b v n h (AsIs (Some t)) i = go (assigned t v) refl (assigned_held C t v h)
+  puts _ _ a b v n h (AsIs None) i = Stuck _
+  puts _ _ a b v n h (AsIs (Some t)) i = go (assigned t v) refl (assigned_held C t v h)
     where
       go : (x : Answer Value) → assigned t v ≡ x → Only (IsHeld C) x → BothAfter (x >>= λ w. write here a w) (x >>= λ w. write there b w)
-      go (Gives w) e j = writes _ t a b v w n e j i
+      go (Gives w) e j = writes t a b v w n e j i
       go (Faults fault) e j = BothFault fault
       go NoAnswer e j = Stuck _
-  puts e _ _ a b v n h (Untold u) i = Stuck _
+  puts _ _ a b v n h (Untold u) i = Stuck _
 
   pub assign_alike : (e : Expr) (v : Value) → IsWritten here e → AllNames L e → IsHeld C v → BothAfter (assign here e v) (assign there (image r e) v)
   assign_alike e v n l h =
-      meets_then (SpotAlike P slots slots' e (place_type here e)) (After C P frames slots slots') _ _ _ _ (places C P p q common.types L r scope scope' slots slots' names s source held frames e l) λ a b i.
-      puts e _ _ a b v n h (written_less e n l) i
+      meets_then (SpotAlike P slots slots' (place_type here e)) (After C P frames slots slots') _ _ _ _ (places C P p q common.types L r scope scope' slots slots' names s source held live frames e l) λ a b i.
+      puts _ _ a b v n h (written_less e n l) i
 
   pub deliver_alike : (o : Option Expr) (v : Value) → IsWrittenIf here o → AllNamesIf L o → IsHeld C v → BothAfter (deliver here o v) (deliver there (image_if r o) v)
   deliver_alike None v n l h = BothGive _ _ (Afterwards s slots slots' source held NoneChanged)

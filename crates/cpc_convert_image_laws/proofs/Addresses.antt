@@ -5,10 +5,10 @@ use Rattle.std.proofs.lemmas.List.Elements.{All-nil, All-cons, All-head, All-tai
 use Rattle.cpc_base.specs.Bytes.{Text}
 use Rattle.cpc_tree.specs.declared.program.UnaryOp.{UnaryOp}
 use Rattle.cpc_tree.specs.declared.program.UnaryOp.TheVariants.{Minus, Plus, Not, Complement, Dereference, AddressOf}
-use Rattle.cpc_tree.specs.Syntax.{Ty, TyVoid, TyInt, TyCondvar, TyPointer, TyCode, TyStruct, TyArray, Expr, ENamed, EInteger, ECharacter, EText, EUnary, EBinary, EAnd, EOr, EChoose, ECast, ESizeOf, EIndex, EMember, EArrow, ECall, Program}
+use Rattle.cpc_tree.specs.Syntax.{Ty, Expr, ENamed, EInteger, ECharacter, EText, EUnary, EBinary, EAnd, EOr, EChoose, ECast, ESizeOf, EIndex, EMember, EArrow, ECall, Program}
 use Rattle.cpc_tree.specs.Registers.{slot_of, addresses}
 use Rattle.cpc_tree.specs.Typing.{◌>>=◌, Scope, Typed, used, typing, sign_type, test_type, tested_type}
-use Rattle.cpc_convert_image_laws.specs.Images.{Reading, AsLocal, AsPointed, AsElements, Readings, image_named, image_address, image}
+use Rattle.cpc_convert_image_laws.specs.Images.{Reading, AsLocal, AsField, Readings, image_named, image}
 use Rattle.cpc_convert_image_laws.specs.Names.{AllNames}
 use Rattle.cpc_convert_image_laws.specs.Locals.{reading_of, readings_in}
 use Rattle.cpc_convert_image_laws.proofs.Types.{no_place}
@@ -70,31 +70,24 @@ module _ (p : Program) (marks : ℕ → Bool) (spelled : ℕ → Text → Text) 
   abbrev IsBox : ℕ → Type 0
   IsBox k = marks k ≡ false
 
-  box_address : (mark : Bool) (t : Ty) (x y : Text) → mark ≡ false → addresses scope' (image_address (Some (reading_of mark t y)) x) ≡ []
-  box_address true t x y e = absurd (cc)
-  box_address false (TyArray t n) x y e = refl
-  box_address false TyVoid x y e = refl
-  box_address false (TyInt kind) x y e = refl
-  box_address false TyCondvar x y e = refl
-  box_address false (TyPointer t) x y e = refl
-  box_address false (TyCode t ts) x y e = refl
-  box_address false (TyStruct tag) x y e = refl
+  box_address : (mark : Bool) (x y : Text) → mark ≡ false → addresses scope' (EUnary AddressOf (image_named (Some (reading_of mark y x)) x)) ≡ []
+  box_address true x y e = absurd (cc)
+  box_address false x y e = refl
 
-  name_address : (inner : Scope) (x : Text) → slot_of scope' x ≡ [] → All IsBox (slot_of inner x) → addresses scope' (image_address (readings_in marks spelled inner x) x) ≡ []
+  name_address : (inner : Scope) (x : Text) → slot_of scope' x ≡ [] → All IsBox (slot_of inner x) → addresses scope' (EUnary AddressOf (image_named (readings_in marks spelled inner x) x)) ≡ []
   name_address [] x e h = e
   name_address (l ∷ inner) x e h = go (bytes_eq l.called x) h (λ i. name_address inner x e i)
     where
-      go : (b : Bool) → All IsBox (cond b (l.slot ∷ []) (slot_of inner x)) → (All IsBox (slot_of inner x) → addresses scope' (image_address (readings_in marks spelled inner x) x) ≡ [])
-          → addresses scope' (image_address (cond b (Some (reading_of (marks l.slot) l.type (spelled l.slot x))) (readings_in marks spelled inner x)) x) ≡ []
-      go true h rest = box_address (marks l.slot) l.type x (spelled l.slot x) (All-head IsBox l.slot [] h)
+      go : (b : Bool) → All IsBox (cond b (l.slot ∷ []) (slot_of inner x)) → (All IsBox (slot_of inner x) → addresses scope' (EUnary AddressOf (image_named (readings_in marks spelled inner x) x)) ≡ [])
+          → addresses scope' (EUnary AddressOf (image_named (cond b (Some (reading_of (marks l.slot) (spelled l.slot x) x)) (readings_in marks spelled inner x)) x)) ≡ []
+      go true h rest = box_address (marks l.slot) x (spelled l.slot x) (All-head IsBox l.slot [] h)
       go false h rest = rest h
 
   -- a name alone takes no address, nor does what it is read as
   no_address : (o : Option Reading) (x : Text) → addresses scope' (image_named o x) ≡ []
   no_address None x = refl
   no_address (Some (AsLocal y)) x = refl
-  no_address (Some (AsPointed y)) x = refl
-  no_address (Some (AsElements y)) x = refl
+  no_address (Some (AsField y f)) x = refl
 
   two : (a b : Expr) → (All IsBox (addresses scope a) → addresses scope' (image r a) ≡ []) → (All IsBox (addresses scope b) → addresses scope' (image r b) ≡ [])
       → All IsBox (addresses scope a ++ addresses scope b) → (addresses scope' (image r a) ++ addresses scope' (image r b)) ≡ []

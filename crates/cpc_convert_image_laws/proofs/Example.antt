@@ -5,29 +5,22 @@ use Rattle.std.specs.List.{All}
 use Rattle.std.proofs.lemmas.List.Elements.{All-nil, All-cons}
 use Rattle.cpc_base.specs.Bytes.{Text}
 use Rattle.cpc_tree.specs.Syntax.{Ty, TyVoid, TyInt, TyCondvar, TyPointer, TyCode, TyStruct, TyArray, Function}
-use Rattle.cpc_tree.specs.Typing.{◌>>=◌, Cells, field_from, named, item_named, cells, field, function_named}
+use Rattle.cpc_tree.specs.Typing.{◌>>=◌, field_from, named, item_named, cells, field, function_named}
 use Rattle.cpc_store.specs.declared.values.Class.TheVariants.{Static, Auto, Heap, Frame}
-use Rattle.cpc_store.specs.Store.{Unset, Store, empty_store}
-use Rattle.cpc_meaning.specs.Answer.{Gives}
-use Rattle.cpc_meaning.specs.Eval.{Slot, Register, Boxed}
-use Rattle.cpc_meaning.specs.Act.{assign}
+use Rattle.cpc_store.specs.Store.{empty_store}
+use Rattle.cpc_meaning.specs.Eval.{Register, Boxed}
 use Rattle.cpc_meaning.proofs.Functions.{same_text}
-use Rattle.cpc_convert_image_laws.specs.Images.{image}
-use Rattle.cpc_convert_image_laws.specs.Held.{IsHeldSlot, IsHeldStore}
-use Rattle.cpc_convert_image_laws.specs.Relations.{Less, AsIs, Untold, Found, BothFound, Means, Meets, BothGive, After, Afterwards}
+use Rattle.cpc_convert_image_laws.specs.Held.{IsHeldSlot, IsLiveSlot, IsHeldStore, BoxesLive}
+use Rattle.cpc_convert_image_laws.specs.Relations.{Less, AsIs, Untold, Found, BothFound, Means}
 use Rattle.cpc_convert_image_laws.specs.Native.{KeptItem, KeptGlobal, KeptFunction, KeptNothing}
 use Rattle.cpc_convert_image_laws.specs.Locals.{AsValue, AsBlock, StandsFor}
 use Rattle.cpc_convert_image_laws.specs.Frames.{IsIn, AreIn, StandsIn, TwoPrograms, TwoFrames}
-use Rattle.cpc_convert_image_laws.specs.Example.{field_of, native_function, small, larger, small_scope, larger_scope, marks, spelled, small_readings, an_int, small_store, small_slots, larger_slots, small_context, larger_context, is_small, array, ThereAreFrames, NotOfImages}
+use Rattle.cpc_convert_image_laws.specs.Example.{int, field_of, native_function, small, boxes, larger, small_scope, larger_scope, marks, spelled, small_readings, an_int, small_store, small_slots, larger_slots, is_small, ThereAreFrames, NotOfImages}
 use Rattle.cpc_convert_image_laws.proofs.Options.{less_then}
 use Rattle.cpc_convert_image_laws.proofs.Stores.{IsHeldCells, cells_none, cells_more, alloc_holds}
 use Rattle.cpc_convert_image_laws.proofs.Locals.{scope_means}
 
 -- ---- types
-
-struct_more : (test : Bool) (a rest : Cells) → Less (cond test a None) (cond test a rest)
-struct_more true a rest = AsIs a
-struct_more false a rest = Untold rest
 
 cells_more_there : (t : Ty) → Less (cells small t) (cells larger t)
 cells_more_there TyVoid = AsIs _
@@ -35,15 +28,19 @@ cells_more_there (TyInt kind) = AsIs _
 cells_more_there TyCondvar = AsIs _
 cells_more_there (TyPointer t) = AsIs _
 cells_more_there (TyCode r ps) = AsIs _
-cells_more_there (TyStruct tag) = struct_more (bytes_eq (codes "s") tag) _ _
+cells_more_there (TyStruct tag) = go (bytes_eq (codes "s") tag) refl
+  where
+    go : (b : Bool) → bytes_eq (codes "s") tag ≡ b → Less (cells small (TyStruct tag)) (cells larger (TyStruct tag))
+    go true e = subst (λ tag. Less (cells small (TyStruct tag)) (cells larger (TyStruct tag))) (same_text (codes "s") tag e) (AsIs _)
+    go false e = subst (λ b. Less (cond b (Some (int ∷ [])) None) (cells larger (TyStruct tag))) (sym e) (Untold _)
 cells_more_there (TyArray t n) = less_then _ _ _ _ (cells_more_there t) λ xs. AsIs _
 
 fields_more_there : (tag x : Text) → Less (field small tag x) (field larger tag x)
-fields_more_there tag x = go (bytes_eq (codes "s") tag)
+fields_more_there tag x = go (bytes_eq (codes "s") tag) refl
   where
-    go : (b : Bool) → Less (cond b (Some (field_of (codes "f") ∷ [])) None >>= λ fs. field_from small 0 fs x) (cond b (Some (field_of (codes "f") ∷ [])) (cond (bytes_eq (codes "frame__") tag) (Some (field_of (codes "n") ∷ [])) None) >>= λ fs. field_from larger 0 fs x)
-    go true = AsIs _
-    go false = Untold _
+    go : (b : Bool) → bytes_eq (codes "s") tag ≡ b → Less (field small tag x) (field larger tag x)
+    go true e = subst (λ tag. Less (field small tag x) (field larger tag x)) (same_text (codes "s") tag e) (AsIs _)
+    go false e = subst (λ b. Less (cond b (Some (field_of (codes "f") ∷ [])) None >>= λ fs. field_from small 0 fs x) (field larger tag x)) (sym e) (Untold _)
 
 -- ---- programs
 
@@ -74,8 +71,8 @@ same_number k t k' = k == k'
 abbrev IsMeant : Text → Type 0
 IsMeant x = Means (IsIn is_code) (StandsIn same_number) larger larger_scope small_slots larger_slots x (small_readings x) (named small small_scope x)
 
-means_by : (x : Text) → StandsFor (StandsIn same_number) marks spelled larger larger_scope small_slots larger_slots x (named small small_scope x) → KeptItem (IsIn is_code) x (item_named 0 small x) (named larger larger_scope x) → IsMeant x
-means_by x h i = scope_means (IsIn is_code) (StandsIn same_number) small larger marks spelled small_scope larger_scope small_slots larger_slots x h i
+means_by : (x : Text) → StandsFor (StandsIn same_number) marks spelled boxes larger larger_scope small_slots larger_slots x (named small small_scope x) → KeptItem (IsIn is_code) x (item_named 0 small x) (named larger larger_scope x) → IsMeant x
+means_by x h i = scope_means (IsIn is_code) (StandsIn same_number) small larger marks spelled boxes small_scope larger_scope small_slots larger_slots x h i
 
 -- one of two
 either_name : (a b : Bool) (A : Type 0) → (a || b) ≡ true → (a ≡ true → A) → (b ≡ true → A) → A
@@ -87,10 +84,10 @@ at_name x y e h = subst IsMeant (sym (same_text x y e)) h
 
 each_meant : (x : Text) → is_small x ≡ true → IsMeant x
 each_meant x e =
-    either_name (bytes_eq x (codes "x")) _ (IsMeant x) e (λ h. at_name x (codes "x") h (means_by (codes "x") (0, refl, AsValue 0 0 (an_int 5) refl refl, refl) KeptNothing)) λ e.
-    either_name (bytes_eq x (codes "b")) _ (IsMeant x) e (λ h. at_name x (codes "b") h (means_by (codes "b") (1, refl, AsBlock 1 1 0 refl refl, refl) KeptNothing)) λ e.
-    either_name (bytes_eq x (codes "a")) _ (IsMeant x) e (λ h. at_name x (codes "a") h (means_by (codes "a") (2, refl, AsBlock 2 2 1 refl refl, refl) KeptNothing)) λ e.
-    either_name (bytes_eq x (codes "v")) _ (IsMeant x) e (λ h. at_name x (codes "v") h (means_by (codes "v") (3, refl, AsBlock 3 3 2 refl refl, refl) KeptNothing)) λ e.
+    either_name (bytes_eq x (codes "x")) _ (IsMeant x) e (λ h. at_name x (codes "x") h (means_by (codes "x") (0, refl, AsValue 0 0 (an_int 5) refl refl, refl, tt) KeptNothing)) λ e.
+    either_name (bytes_eq x (codes "b")) _ (IsMeant x) e (λ h. at_name x (codes "b") h (means_by (codes "b") (1, refl, AsBlock 1 1 0 refl refl, refl, refl) KeptNothing)) λ e.
+    either_name (bytes_eq x (codes "a")) _ (IsMeant x) e (λ h. at_name x (codes "a") h (means_by (codes "a") (2, refl, AsBlock 2 2 1 refl refl, refl, refl) KeptNothing)) λ e.
+    either_name (bytes_eq x (codes "v")) _ (IsMeant x) e (λ h. at_name x (codes "v") h (means_by (codes "v") (3, refl, AsBlock 3 3 2 refl refl, refl, refl) KeptNothing)) λ e.
     either_name (bytes_eq x (codes "g")) _ (IsMeant x) e (λ h. at_name x (codes "g") h (means_by (codes "g") tt (KeptGlobal 0 _))) λ e.
     at_name x (codes "h") e (means_by (codes "h") tt (KeptFunction _ _ _ refl))
 
@@ -120,6 +117,13 @@ slots_held C =
     (All-cons (IsHeldSlot C) (Boxed 1) (Boxed 2 ∷ []) tt
     (All-cons (IsHeldSlot C) (Boxed 2) [] tt (All-nil (IsHeldSlot C)))))
 
+slots_live : BoxesLive small_store small_slots
+slots_live =
+    All-cons (IsLiveSlot small_store) (Register (an_int 5)) (Boxed 0 ∷ Boxed 1 ∷ Boxed 2 ∷ []) tt
+    (All-cons (IsLiveSlot small_store) (Boxed 0) (Boxed 1 ∷ Boxed 2 ∷ []) refl
+    (All-cons (IsLiveSlot small_store) (Boxed 1) (Boxed 2 ∷ []) refl
+    (All-cons (IsLiveSlot small_store) (Boxed 2) [] refl (All-nil (IsLiveSlot small_store)))))
+
 abbrev two_frames : TwoFrames
 two_frames = record {
   programs = two_programs;
@@ -134,6 +138,7 @@ two_frames = record {
   frames = [];
   is_source = small_held (IsIn is_code);
   held = slots_held (IsIn is_code);
+  live = slots_live;
   names = each_meant;
 }
 
@@ -142,18 +147,5 @@ there_are_frames = (two_frames, refl, refl, refl, refl)
 
 -- ---- what does not hold
 
-given_both : {A B : Type 0} (R : A → B → Type 0) (x : A) (y : B) → Meets R (Gives x) (Gives y) → R x y
-given_both R _ _ (BothGive x y h) = h
-
--- the store of the source was changed, and that of the target was not
-same_autos : (C : Text → Type 0) (P : ℕ → Ty → ℕ → Type 0) (xs ys : List Slot) (a b : List Slot × Store) → After C P [] xs ys a b → a.1.auto ≡ b.1.auto
-same_autos C P xs ys _ _ (Afterwards t a b h k c) = refl
-
-abbrev Both : Type 0
-Both = Meets (After (IsIn (λ x. true)) (StandsIn (λ k t k'. k == k')) [] small_slots larger_slots) (assign small_context array Unset) (assign larger_context (image small_readings array) Unset)
-
-not_written : ¬ Both
-not_written h = let e = same_autos _ _ _ _ _ _ (given_both _ _ _ h) in absurd (cc)
-
 pub not_of_images : NotOfImages
-not_of_images = record { not_there = refl; there = refl; untyped = refl; typed = refl; written = not_written }
+not_of_images = record { not_there = refl; there = refl; known = refl; not_found = refl }

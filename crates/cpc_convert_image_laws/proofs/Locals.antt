@@ -2,15 +2,15 @@
 use Rattle.std.proofs.Common.{◌≡◌, ◌⊎◌, inl, inr, ℕ, Bool, true, false, cond, List, [], ◌∷◌, Some, slice_set, bytes_eq, refl, sym, ◌∙◌, subst}
 use Rattle.std.proofs.lemmas.Bool.{cases_eq}
 use Rattle.cpc_base.specs.Bytes.{Text}
-use Rattle.cpc_tree.specs.Syntax.{Ty, TyVoid, TyInt, TyCondvar, TyPointer, TyCode, TyStruct, TyArray, Program}
+use Rattle.cpc_tree.specs.Syntax.{Ty, Program}
 use Rattle.cpc_tree.specs.Typing.{Scope, ALocal, named, item_named}
 use Rattle.cpc_store.specs.Store.{Value}
 use Rattle.cpc_meaning.specs.Answer.{Answer, Gives, ◌>>=◌}
 use Rattle.cpc_meaning.specs.Eval.{Slot, Register, assigned}
 use Rattle.cpc_meaning.specs.Requests.{arguments}
 use Rattle.cpc_convert_image_laws.specs.Native.{KeptItem}
-use Rattle.cpc_convert_image_laws.specs.Locals.{reading_of, local_type, readings_in, Stands, AsValue, AsBlock, Fits, FitsAt, StandsFor}
-use Rattle.cpc_convert_image_laws.specs.Relations.{Means, InLocal, InBox, InArray, Changed, NoneChanged, BothChanged, OneToOne}
+use Rattle.cpc_convert_image_laws.specs.Locals.{reading_of, local_type, HasField, readings_in, Stands, AsValue, AsBlock, Fits, FitsAt, StandsFor}
+use Rattle.cpc_convert_image_laws.specs.Relations.{Means, InLocal, InBox, Changed, NoneChanged, BothChanged, OneToOne}
 use Rattle.cpc_convert_image_laws.proofs.Slots.{assigned_fits, got_set, got_other, register_kept, box_kept}
 use Rattle.cpc_convert_image_laws.proofs.Natives.{item_means}
 
@@ -37,19 +37,10 @@ arguments_fit (t ∷ ts) [] ws e = absurd (cc)
 
 module _ (P : ℕ → Ty → ℕ → Type 0) (slots slots' : List Slot) where
   -- a variable that stands in a local is read there
-  pub stands_means : (C : Text → Type 0) (q : Program) (scope : Scope) (x y : Text) (mark : Bool) (k k' : ℕ) (t : Ty) → P k t k' → Stands slots slots' mark k k' → named q scope y ≡ ALocal k' (local_type mark t)
-      → Means C P q scope slots slots' x (Some (reading_of mark t y)) (ALocal k t)
-  stands_means C q scope x y _ _ _ t h (AsValue k k' v e f) n = InLocal y k k' t v h e n f
-  stands_means C q scope x y _ _ _ t h (AsBlock k k' b e f) n = boxed t h n
-    where
-      boxed : (t : Ty) → P k t k' → named q scope y ≡ ALocal k' (local_type false t) → Means C P q scope slots slots' x (Some (reading_of false t y)) (ALocal k t)
-      boxed (TyArray u m) h n = InArray y k k' u m b h e n f
-      boxed TyVoid h n = InBox y k k' TyVoid b h e n f
-      boxed (TyInt kind) h n = InBox y k k' (TyInt kind) b h e n f
-      boxed TyCondvar h n = InBox y k k' TyCondvar b h e n f
-      boxed (TyPointer u) h n = InBox y k k' (TyPointer u) b h e n f
-      boxed (TyCode r ps) h n = InBox y k k' (TyCode r ps) b h e n f
-      boxed (TyStruct tag) h n = InBox y k k' (TyStruct tag) b h e n f
+  pub stands_means : (C : Text → Type 0) (q : Program) (scope : Scope) (x y tag : Text) (mark : Bool) (k k' : ℕ) (t : Ty) → P k t k' → Stands slots slots' mark k k' → named q scope y ≡ ALocal k' (local_type mark t tag) → HasField mark q tag x t
+      → Means C P q scope slots slots' x (Some (reading_of mark y x)) (ALocal k t)
+  stands_means C q scope x y tag _ _ _ t h (AsValue k k' v e f) n g = InLocal y k k' t v h e n f
+  stands_means C q scope x y tag _ _ _ t h (AsBlock k k' b e f) n g = InBox y x tag k k' t b h e n g f
 
   -- it stands there after an act of both
   pub stands_kept : OneToOne P → (a b : List Slot) (mark : Bool) (k k' : ℕ) (t : Ty) → Changed P slots slots' a b → P k t k' → Stands slots slots' mark k k' → Stands a b mark k k'
@@ -76,12 +67,12 @@ module _ (P : ℕ → Ty → ℕ → Type 0) (slots slots' : List Slot) where
 -- ---- scopes
 
 -- where the variables of a scope stand in locals, each name means what it should
-pub scope_means : (C : Text → Type 0) (P : ℕ → Ty → ℕ → Type 0) (p q : Program) (marks : ℕ → Bool) (spelled : ℕ → Text → Text) (scope scope' : Scope) (slots slots' : List Slot) (x : Text)
-    → StandsFor P marks spelled q scope' slots slots' x (named p scope x) → KeptItem C x (item_named 0 p x) (named q scope' x) → Means C P q scope' slots slots' x (readings_in marks spelled scope x) (named p scope x)
-scope_means C P p q marks spelled [] scope' slots slots' x h i = item_means C P q scope' slots slots' x _ _ i refl
-scope_means C P p q marks spelled (l ∷ scope) scope' slots slots' x h i = go (bytes_eq l.called x) h (λ j. scope_means C P p q marks spelled scope scope' slots slots' x j i)
+pub scope_means : (C : Text → Type 0) (P : ℕ → Ty → ℕ → Type 0) (p q : Program) (marks : ℕ → Bool) (spelled : ℕ → Text → Text) (boxes : ℕ → Text) (scope scope' : Scope) (slots slots' : List Slot) (x : Text)
+    → StandsFor P marks spelled boxes q scope' slots slots' x (named p scope x) → KeptItem C x (item_named 0 p x) (named q scope' x) → Means C P q scope' slots slots' x (readings_in marks spelled scope x) (named p scope x)
+scope_means C P p q marks spelled boxes [] scope' slots slots' x h i = item_means C P q scope' slots slots' x _ _ i refl
+scope_means C P p q marks spelled boxes (l ∷ scope) scope' slots slots' x h i = go (bytes_eq l.called x) h (λ j. scope_means C P p q marks spelled boxes scope scope' slots slots' x j i)
   where
-    go : (b : Bool) → StandsFor P marks spelled q scope' slots slots' x (cond b (ALocal l.slot l.type) (named p scope x)) → (StandsFor P marks spelled q scope' slots slots' x (named p scope x) → Means C P q scope' slots slots' x (readings_in marks spelled scope x) (named p scope x))
-        → Means C P q scope' slots slots' x (cond b (Some (reading_of (marks l.slot) l.type (spelled l.slot x))) (readings_in marks spelled scope x)) (cond b (ALocal l.slot l.type) (named p scope x))
-    go true h rest = stands_means P slots slots' C q scope' x (spelled l.slot x) (marks l.slot) l.slot h.0 l.type h.1 h.2 h.3
+    go : (b : Bool) → StandsFor P marks spelled boxes q scope' slots slots' x (cond b (ALocal l.slot l.type) (named p scope x)) → (StandsFor P marks spelled boxes q scope' slots slots' x (named p scope x) → Means C P q scope' slots slots' x (readings_in marks spelled scope x) (named p scope x))
+        → Means C P q scope' slots slots' x (cond b (Some (reading_of (marks l.slot) (spelled l.slot x) x)) (readings_in marks spelled scope x)) (cond b (ALocal l.slot l.type) (named p scope x))
+    go true h rest = stands_means P slots slots' C q scope' x (spelled l.slot x) (boxes l.slot) (marks l.slot) l.slot h.0 l.type h.1 h.2 h.3 h.4
     go false h rest = rest h

@@ -90,23 +90,23 @@ module _ (C : Text → Type 0) (R : Function → Function → Type 0) (p q : Pro
   means x l = kept_means C q scope slots x _ _ (names x l) refl
 
   native_passes : BothAct (simple_act here TyVoid Empty) (simple_act there TyVoid Empty)
-  native_passes = passes_alike C R IsSelf p q common L stays scope scope slots slots means s source held frames true
+  native_passes = passes_alike C R IsSelf p q common L stays scope scope slots slots means s source held (λ x. tt) frames true
 
   native_assigns : (x e : Expr) → IsWritten here x → AllNames L x → AllNames L e → BothAct (assigns here x e) (assigns there x e)
   native_assigns x e h l m =
       subst (λ y. BothAct (assigns here x e) (assigns there y e)) (same_image x)
-      (subst (λ y. BothAct (assigns here x e) (assigns there (image stays x) y)) (same_image e) (assigns_alike C R IsSelf p q common L stays scope scope slots slots means s source held frames x e h l m))
+      (subst (λ y. BothAct (assigns here x e) (assigns there (image stays x) y)) (same_image e) (assigns_alike C R IsSelf p q common L stays scope scope slots slots means s source held (λ x. tt) frames x e h l m))
 
   native_calls : (f : Expr) (es : Exprs) → IsCalledInPlace here f → AllNames L f → AllNamesAmong L es → BothAct (calls_expr here f es) (calls_expr there f es)
   native_calls f es h l m =
       subst (λ y. BothAct (calls_expr here f es) (calls_expr there y es)) (same_image f)
-      (subst (λ ys. BothAct (calls_expr here f es) (calls_expr there (image stays f) ys)) (same_images es) (calls_expr_alike C R IsSelf p q common L stays scope scope slots slots means s source held frames f es h l m))
+      (subst (λ ys. BothAct (calls_expr here f es) (calls_expr there (image stays f) ys)) (same_images es) (calls_expr_alike C R IsSelf p q common L stays scope scope slots slots means s source held (λ x. tt) frames f es h l m))
 
   native_test : (o : Option Expr) → AllNamesIf L o → BothAct (test_act here o) (test_act there o)
-  native_test o l = subst (λ y. BothAct (test_act here o) (test_act there y)) (same_if o) (test_alike C R IsSelf p q common L stays scope scope slots slots means s source held frames o l)
+  native_test o l = subst (λ y. BothAct (test_act here o) (test_act there y)) (same_if o) (test_alike C R IsSelf p q common L stays scope scope slots slots means s source held (λ x. tt) frames o l)
 
   native_value : (t : Ty) (e : Expr) → AllNames L e → Meets (Same (IsHeld C)) (value here e >>= assigned t) (value there e >>= assigned t)
-  native_value t e l = subst (λ y. Meets (Same (IsHeld C)) (value here e >>= assigned t) (value there y >>= assigned t)) (same_image e) (assigned_alike C R IsSelf p q common L stays scope scope slots slots means s source held frames t e l)
+  native_value t e l = subst (λ y. Meets (Same (IsHeld C)) (value here e >>= assigned t) (value there y >>= assigned t)) (same_image e) (assigned_alike C R IsSelf p q common L stays scope scope slots slots means s source held (λ x. tt) frames t e l)
 
   native_leaves : (v : Value) → IsHeld C v → BothAct (leaves here v) (leaves there v)
   native_leaves v h = meets_then (StoreBeside C frames) Act' _ _ _ _ (slots_free C frames slots s source) left
@@ -139,7 +139,7 @@ module _ (C : Text → Type 0) (R : Function → Function → Type 0) (p q : Pro
       → BothAct (deliver here o v >>= λ w. Gives (GoesOn true w.1 w.0)) (deliver there o v >>= λ w. Gives (GoesOn true w.1 w.0))
   native_delivers o v h l i =
       subst (λ y. BothAct (deliver here o v >>= λ w. Gives (GoesOn true w.1 w.0)) (deliver there y v >>= λ w. Gives (GoesOn true w.1 w.0))) (same_if o)
-      (arrives_alike C R IsSelf p q common L stays scope scope slots slots means s source held frames o v h l i)
+      (arrives_alike C R IsSelf p q common L stays scope scope slots slots means s source held (λ x. tt) frames o v h l i)
 
   pub native_arrives : (f : Standing) (o : Option Value) → IsArrival here f → IsHeldIf C o → AllNamesFound L f → BothAct (arrives here f o) (arrives there f o)
   native_arrives f None h i l = Stuck _
@@ -160,4 +160,4 @@ module _ (C : Text → Type 0) (R : Function → Function → Type 0) (p q : Pro
   pub native_spawn : (f x : Text) (es : Exprs) (g : Function) (t : Ty) (ts : List Ty) → named q scope x ≡ AFunction Native t ts → function_named q x ≡ Some g
       → ((h : Function) → function_named p f ≡ Some h → parameter_types h ≡ parameter_types g) → AllNamesAmong L es → Meets (SpawnAct C f g) (spawns here f es) (calls_expr there (ENamed x) es)
   native_spawn f x es g t ts n e h l =
-      subst (λ ys. Meets (SpawnAct C f g) (spawns here f es) (calls_expr there (ENamed x) ys)) (same_images es) (spawn_alike C R IsSelf p q common L stays scope scope slots slots means s source held frames f x es g t ts n e h l)
+      subst (λ ys. Meets (SpawnAct C f g) (spawns here f es) (calls_expr there (ENamed x) ys)) (same_images es) (spawn_alike C R IsSelf p q common L stays scope scope slots slots means s source held (λ x. tt) frames f x es g t ts n e h l)

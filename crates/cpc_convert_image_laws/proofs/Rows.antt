@@ -18,6 +18,7 @@ use Rattle.cpc_convert_image_laws.specs.InPlace.{is_array, IsWritten}
 use Rattle.cpc_convert_image_laws.specs.Held.{IsHeld, IsHeldSlot, IsHeldStore, beside}
 use Rattle.cpc_convert_image_laws.specs.Relations.{Found, BothFound, NoneFound, SameHead, Common, Meets, BothGive, BothFault, Stuck, Same, It, Means, SameAct, WaitAct, Waited, SectionAct, Detached, StoredAct, Stored}
 use Rattle.cpc_meaning_pointer_laws.proofs.Blocks.{Only}
+use Rattle.cpc_convert_image_laws.proofs.Live.{IsReadLive}
 use Rattle.cpc_convert_image_laws.proofs.Answers.{meets_then, self_then, then_assoc}
 use Rattle.cpc_convert_image_laws.proofs.Arguments.{all_taken_held, same_parameters}
 use Rattle.cpc_convert_image_laws.proofs.Acts.{values_alike, value_alike, arrives_alike}
@@ -67,7 +68,7 @@ taken_before : (q : Program) (f d : Text) (k : Value) (g : Function) (vs : List 
     → all_taken (takes q RtDetach (Code d ∷ k ∷ Code f ∷ vs)) (Code d ∷ k ∷ Code f ∷ vs) ≡ (all_taken (section_takes (parameter_types g)) vs >>= λ ws. Gives (Code d ∷ k ∷ Code f ∷ ws))
 taken_before q f d k g vs e h = rw (e, h) (joined_three (all_taken (section_takes (parameter_types g)) vs) (Code f) k (Code d))
 
-module _ (C : Text → Type 0) (R : Function → Function → Type 0) (P : ℕ → Ty → ℕ → Type 0) (p q : Program) (common : Common C R p q) (L : Text → Type 0) (r : Readings) (scope scope' : Scope) (slots slots' : List Slot) (names : (x : Text) → L x → Means C P q scope' slots slots' x (r x) (named p scope x)) (s : Store) (source : IsHeldStore C s) (held : All (IsHeldSlot C) slots) (frames : Blocks) where
+module _ (C : Text → Type 0) (R : Function → Function → Type 0) (P : ℕ → Ty → ℕ → Type 0) (p q : Program) (common : Common C R p q) (L : Text → Type 0) (r : Readings) (scope scope' : Scope) (slots slots' : List Slot) (names : (x : Text) → L x → Means C P q scope' slots slots' x (r x) (named p scope x)) (s : Store) (source : IsHeldStore C s) (held : All (IsHeldSlot C) slots) (live : (x : Text) → IsReadLive s slots (r x)) (frames : Blocks) where
   abbrev here : Context
   here = at p scope slots s
 
@@ -80,7 +81,7 @@ module _ (C : Text → Type 0) (R : Function → Function → Type 0) (P : ℕ �
       → value there a ≡ Gives (Code d) → value there b ≡ Gives k → assigned any_pointer k ≡ Gives k → AllNamesAmong L es
       → Meets (WaitAct C prim prim' d k) (asks_with here prim es None) (asks_with there prim' (followed (images r es) a b) None)
   wait_alike prim prim' es a b d k h i j e f g l =
-      rw (values_followed there (images r es) a b (Code d) k e f) (behind (values here es) (values there (images r es)) (values_alike C R P p q common L r scope scope' slots slots' names s source held frames es l))
+      rw (values_followed there (images r es) a b (Code d) k e f) (behind (values here es) (values there (images r es)) (values_alike C R P p q common L r scope scope' slots slots' names s source held live frames es l))
     where
       asked : (us xs ys : List Value) → All (IsHeld C) xs → Longer (Code d ∷ k ∷ []) xs ys → Meets (WaitAct C prim prim' d k) (asks (Builtin prim) xs) (asks (Builtin prim') ys)
       asked us _ _ m (Further vs) = BothGive _ _ (Waited vs m)
@@ -107,7 +108,7 @@ module _ (C : Text → Type 0) (R : Function → Function → Type 0) (P : ℕ �
       → Meets (SectionAct C f d k) (detaches here f es) (asks_with there RtDetach (AndExpr a (AndExpr b (AndExpr c (images r es)))) None)
   section_alike f es a b c d k code e g h i l =
       rw (values_before there a b c (images r es) (Code f) k (Code d) e g h)
-      (found (function_named p f) (function_named q f) refl (common.codes f code) (values here es) (values there (images r es)) (values_alike C R P p q common L r scope scope' slots slots' names s source held frames es l))
+      (found (function_named p f) (function_named q f) refl (common.codes f code) (values here es) (values there (images r es)) (values_alike C R P p q common L r scope scope' slots slots' names s source held live frames es l))
     where
       asked : (x : Answer (List Value)) → Only (All (IsHeld C)) x → Meets (SectionAct C f d k) (x >>= asks (Section f)) ((x >>= λ ws. Gives (Code d ∷ k ∷ Code f ∷ ws)) >>= asks (Builtin RtDetach))
       asked (Gives ws) m = BothGive _ _ (Detached ws m)
@@ -132,7 +133,7 @@ module _ (C : Text → Type 0) (R : Function → Function → Type 0) (P : ℕ �
   -- a value is left in a local
   pub stored_alike : (t : Ty) (e : Expr) (y : Text) (k' : ℕ) (u : Value) → named q scope' y ≡ ALocal k' t → slice_get slots' k' ≡ Some (Register u) → AllNames L e
       → Meets (StoredAct C s frames slots' k') (value here e >>= assigned t) (assigns there (ENamed y) (image r e))
-  stored_alike t e y k' u n f l = go (value here e) (value there (image r e)) (value_alike C R P p q common L r scope scope' slots slots' names s source held frames e l)
+  stored_alike t e y k' u n f l = go (value here e) (value there (image r e)) (value_alike C R P p q common L r scope scope' slots slots' names s source held live frames e l)
     where
       written : (w : Value) (x : Answer Value) → x ≡ assigned t w → Only (IsHeld C) x
           → Meets (StoredAct C s frames slots' k') x (assign there (ENamed y) w >>= λ w. Gives (GoesOn true w.1 w.0))
@@ -150,7 +151,7 @@ module _ (C : Text → Type 0) (R : Function → Function → Type 0) (P : ℕ �
       → Meets (SameAct C R P frames slots slots') (assign here e v >>= λ w. Gives (GoesOn true w.1 w.0)) (assigns there (image r e) (ENamed y))
   arrival_alike e v y k' t n f h l i =
       subst (λ a. Meets (SameAct C R P frames slots slots') (assign here e v >>= λ w. Gives (GoesOn true w.1 w.0)) (a >>= λ v. assign there (image r e) v >>= λ w. Gives (GoesOn true w.1 w.0))) (sym known)
-      (arrives_alike C R P p q common L r scope scope' slots slots' names s source held frames (Some e) v h l i)
+      (arrives_alike C R P p q common L r scope scope' slots slots' names s source held live frames (Some e) v h l i)
     where
       known : value there (ENamed y) ≡ Gives v
       known = simp (n, f) refl

@@ -4,14 +4,14 @@ use Rattle.std.proofs.lemmas.Bool.{cases_eq}
 use Rattle.cpc_base.specs.Bytes.{Text}
 use Rattle.cpc_num.specs.Number.{convert}
 use Rattle.cpc_num.proofs.KindLemmas.{convert-convert}
-use Rattle.cpc_tree.specs.Syntax.{Ty, TyInt, TyCondvar, TyPointer, TyCode, TyArray, Program}
+use Rattle.cpc_tree.specs.Syntax.{Ty, TyInt, TyCondvar, TyPointer, TyCode, Program}
 use Rattle.cpc_tree.specs.Typing.{Scope, Meant}
 use Rattle.cpc_store.specs.Store.{Value, Unset, Whole, Null, At, Code, Cond}
 use Rattle.cpc_meaning.specs.Answer.{Gives}
 use Rattle.cpc_meaning.specs.Eval.{Slot, Register, Boxed, assigned}
 use Rattle.cpc_meaning.proofs.Stores.{get_set, get_other}
 use Rattle.cpc_convert_image_laws.specs.Images.{Reading}
-use Rattle.cpc_convert_image_laws.specs.Relations.{Means, InLocal, InBox, InArray, StaysRegister, StaysBox, StaysNowhere, StaysGlobal, StaysFunction, IsCps, StaysNothing, Changed, NoneChanged, BothChanged, OneToOne}
+use Rattle.cpc_convert_image_laws.specs.Relations.{Means, InLocal, InBox, StaysRegister, StaysBox, StaysNowhere, StaysGlobal, StaysFunction, IsCps, StaysNothing, Changed, NoneChanged, BothChanged, OneToOne}
 
 -- ---- values that fit a type
 
@@ -76,8 +76,7 @@ module _ (P : ℕ → Ty → ℕ → Type 0) (one : OneToOne P) (slots slots' : 
   -- each name means what it meant
   pub means_kept : (C : Text → Type 0) (q : Program) (scope : Scope) (a b : List Slot) (x : Text) (o : Option Reading) (m : Meant) → Changed P slots slots' a b → Means C P q scope slots slots' x o m → Means C P q scope a b x o m
   means_kept C q scope a b x _ _ c (InLocal y k k' t v i e n f) = let z = register_kept a b k k' t v c i e f in InLocal y k k' t z.0 i z.1 n z.2
-  means_kept C q scope a b x _ _ c (InBox y k k' t d i e n f) = let z = box_kept a b k k' d t _ c i e f in InBox y k k' t d i z.0 n z.1
-  means_kept C q scope a b x _ _ c (InArray y k k' t m d i e n f) = let z = box_kept a b k k' d (TyArray t m) _ c i e f in InArray y k k' t m d i z.0 n z.1
+  means_kept C q scope a b x _ _ c (InBox y g tag k k' t d i e n j f) = let z = box_kept a b k k' d t _ c i e f in InBox y g tag k k' t d i z.0 n j z.1
   means_kept C q scope a b x _ _ c (StaysRegister k k' t v i e n f) = let z = register_kept a b k k' t v c i e f in StaysRegister k k' t z.0 i z.1 n z.2
   means_kept C q scope a b x _ _ c (StaysBox k k' t d i e n f) = let z = box_kept a b k k' d t _ c i e f in StaysBox k k' t d i z.0 n z.1
   means_kept C q scope a b x _ _ c (StaysNowhere k k' t e n) = StaysNowhere k k' t (nothing_kept a b k c e) n

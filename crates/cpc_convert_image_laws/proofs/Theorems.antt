@@ -2,6 +2,7 @@
 use Rattle.cpc_convert_image_laws.specs.Laws.{ImagesArePlaces, NamesGrow, SectionsCopyAlike, ScalarsAreWritten, ImagesTakeNoAddress, ArgumentsOneByOne, ReturnsAndArrivals, NativeSpawnsAreCalls, ScopesAreRead, VariablesStand, ValuesFit, StoresAreBeside, ImagesHaveTypes, ImagesHaveValues, ImagesAreArguments, ImagesAreWritten, StatementsDoSame, TestsDoSame, ArrivalsDoSame, ArrivalsAreAssigned, ResultsAreStored, SpawnsAreCalls, WaitsAreCalls, SectionsAreCalls, VariablesStay, NativeStepsDoSame, CallsAreEntered}
 use Rattle.cpc_convert_image_laws.specs.Frames.{IsIn, AreIn, StandsIn}
 use Rattle.cpc_convert_image_laws.proofs.Types.{same_null}
+use Rattle.cpc_convert_image_laws.proofs.Live.{read_live}
 use Rattle.cpc_convert_image_laws.proofs.Acts as acts
 use Rattle.cpc_convert_image_laws.proofs.Statements as statements
 use Rattle.cpc_convert_image_laws.proofs.Rows as rows
@@ -19,40 +20,40 @@ use Rattle.cpc_convert_image_laws.proofs.Beside as beside
 use Rattle.cpc_convert_image_laws.proofs.Copies as copies
 
 pub images_have_types : ImagesHaveTypes
-images_have_types t e l = (acts.type_alike (IsIn t.programs.codes) (AreIn t.programs.pairs) (StandsIn t.stands) t.programs.source t.programs.target t.programs.common (IsIn t.used) t.readings t.scope t.scope' t.slots t.slots' t.names t.store t.is_source t.held t.frames e l, λ w. acts.written_less (IsIn t.programs.codes) (AreIn t.programs.pairs) (StandsIn t.stands) t.programs.source t.programs.target t.programs.common (IsIn t.used) t.readings t.scope t.scope' t.slots t.slots' t.names t.store t.is_source t.held t.frames e w l, same_null t.readings e)
+images_have_types t e l = (acts.type_alike (IsIn t.programs.codes) (AreIn t.programs.pairs) (StandsIn t.stands) t.programs.source t.programs.target t.programs.common (IsIn t.used) t.readings t.scope t.scope' t.slots t.slots' t.names t.store t.is_source t.held (λ x. read_live t.store t.slots (t.readings x) t.live) t.frames e l, λ w. acts.written_less (IsIn t.programs.codes) (AreIn t.programs.pairs) (StandsIn t.stands) t.programs.source t.programs.target t.programs.common (IsIn t.used) t.readings t.scope t.scope' t.slots t.slots' t.names t.store t.is_source t.held (λ x. read_live t.store t.slots (t.readings x) t.live) t.frames e w l, same_null t.readings e)
 
 pub images_have_values : ImagesHaveValues
-images_have_values t e l = (acts.value_alike (IsIn t.programs.codes) (AreIn t.programs.pairs) (StandsIn t.stands) t.programs.source t.programs.target t.programs.common (IsIn t.used) t.readings t.scope t.scope' t.slots t.slots' t.names t.store t.is_source t.held t.frames e l, λ u. acts.assigned_alike (IsIn t.programs.codes) (AreIn t.programs.pairs) (StandsIn t.stands) t.programs.source t.programs.target t.programs.common (IsIn t.used) t.readings t.scope t.scope' t.slots t.slots' t.names t.store t.is_source t.held t.frames u e l)
+images_have_values t e l = (acts.value_alike (IsIn t.programs.codes) (AreIn t.programs.pairs) (StandsIn t.stands) t.programs.source t.programs.target t.programs.common (IsIn t.used) t.readings t.scope t.scope' t.slots t.slots' t.names t.store t.is_source t.held (λ x. read_live t.store t.slots (t.readings x) t.live) t.frames e l, λ u. acts.assigned_alike (IsIn t.programs.codes) (AreIn t.programs.pairs) (StandsIn t.stands) t.programs.source t.programs.target t.programs.common (IsIn t.used) t.readings t.scope t.scope' t.slots t.slots' t.names t.store t.is_source t.held (λ x. read_live t.store t.slots (t.readings x) t.live) t.frames u e l)
 
 pub images_are_arguments : ImagesAreArguments
-images_are_arguments t es l = (acts.values_alike (IsIn t.programs.codes) (AreIn t.programs.pairs) (StandsIn t.stands) t.programs.source t.programs.target t.programs.common (IsIn t.used) t.readings t.scope t.scope' t.slots t.slots' t.names t.store t.is_source t.held t.frames es l, λ ts. acts.arguments_alike (IsIn t.programs.codes) (AreIn t.programs.pairs) (StandsIn t.stands) t.programs.source t.programs.target t.programs.common (IsIn t.used) t.readings t.scope t.scope' t.slots t.slots' t.names t.store t.is_source t.held t.frames ts es l, λ ts. acts.taken_alike (IsIn t.programs.codes) (AreIn t.programs.pairs) (StandsIn t.stands) t.programs.source t.programs.target t.programs.common (IsIn t.used) t.readings t.scope t.scope' t.slots t.slots' t.names t.store t.is_source t.held t.frames ts es l)
+images_are_arguments t es l = (acts.values_alike (IsIn t.programs.codes) (AreIn t.programs.pairs) (StandsIn t.stands) t.programs.source t.programs.target t.programs.common (IsIn t.used) t.readings t.scope t.scope' t.slots t.slots' t.names t.store t.is_source t.held (λ x. read_live t.store t.slots (t.readings x) t.live) t.frames es l, λ ts. acts.arguments_alike (IsIn t.programs.codes) (AreIn t.programs.pairs) (StandsIn t.stands) t.programs.source t.programs.target t.programs.common (IsIn t.used) t.readings t.scope t.scope' t.slots t.slots' t.names t.store t.is_source t.held (λ x. read_live t.store t.slots (t.readings x) t.live) t.frames ts es l, λ ts. acts.taken_alike (IsIn t.programs.codes) (AreIn t.programs.pairs) (StandsIn t.stands) t.programs.source t.programs.target t.programs.common (IsIn t.used) t.readings t.scope t.scope' t.slots t.slots' t.names t.store t.is_source t.held (λ x. read_live t.store t.slots (t.readings x) t.live) t.frames ts es l)
 
 pub images_are_written : ImagesAreWritten
-images_are_written t o v n l h = acts.deliver_alike (IsIn t.programs.codes) (AreIn t.programs.pairs) (StandsIn t.stands) t.programs.source t.programs.target t.programs.common (IsIn t.used) t.readings t.scope t.scope' t.slots t.slots' t.names t.store t.is_source t.held t.frames o v n l h
+images_are_written t o v n l h = acts.deliver_alike (IsIn t.programs.codes) (AreIn t.programs.pairs) (StandsIn t.stands) t.programs.source t.programs.target t.programs.common (IsIn t.used) t.readings t.scope t.scope' t.slots t.slots' t.names t.store t.is_source t.held (λ x. read_live t.store t.slots (t.readings x) t.live) t.frames o v n l h
 
 pub statements_do_same : StatementsDoSame
-statements_do_same t result result' s h l = statements.simple_alike (IsIn t.programs.codes) (AreIn t.programs.pairs) (StandsIn t.stands) t.programs.source t.programs.target t.programs.common (IsIn t.used) t.readings t.scope t.scope' t.slots t.slots' t.names t.store t.is_source t.held t.frames result result' s h l
+statements_do_same t result result' s h l = statements.simple_alike (IsIn t.programs.codes) (AreIn t.programs.pairs) (StandsIn t.stands) t.programs.source t.programs.target t.programs.common (IsIn t.used) t.readings t.scope t.scope' t.slots t.slots' t.names t.store t.is_source t.held (λ x. read_live t.store t.slots (t.readings x) t.live) t.frames result result' s h l
 
 pub tests_do_same : TestsDoSame
-tests_do_same t o l = acts.test_alike (IsIn t.programs.codes) (AreIn t.programs.pairs) (StandsIn t.stands) t.programs.source t.programs.target t.programs.common (IsIn t.used) t.readings t.scope t.scope' t.slots t.slots' t.names t.store t.is_source t.held t.frames o l
+tests_do_same t o l = acts.test_alike (IsIn t.programs.codes) (AreIn t.programs.pairs) (StandsIn t.stands) t.programs.source t.programs.target t.programs.common (IsIn t.used) t.readings t.scope t.scope' t.slots t.slots' t.names t.store t.is_source t.held (λ x. read_live t.store t.slots (t.readings x) t.live) t.frames o l
 
 pub arrivals_do_same : ArrivalsDoSame
-arrivals_do_same t s o h i l = statements.arrival_image (IsIn t.programs.codes) (AreIn t.programs.pairs) (StandsIn t.stands) t.programs.source t.programs.target t.programs.common (IsIn t.used) t.readings t.scope t.scope' t.slots t.slots' t.names t.store t.is_source t.held t.frames s o h i l
+arrivals_do_same t s o h i l = statements.arrival_image (IsIn t.programs.codes) (AreIn t.programs.pairs) (StandsIn t.stands) t.programs.source t.programs.target t.programs.common (IsIn t.used) t.readings t.scope t.scope' t.slots t.slots' t.names t.store t.is_source t.held (λ x. read_live t.store t.slots (t.readings x) t.live) t.frames s o h i l
 
 pub arrivals_are_assigned : ArrivalsAreAssigned
-arrivals_are_assigned t e v y k' u n f h l i = rows.arrival_alike (IsIn t.programs.codes) (AreIn t.programs.pairs) (StandsIn t.stands) t.programs.source t.programs.target t.programs.common (IsIn t.used) t.readings t.scope t.scope' t.slots t.slots' t.names t.store t.is_source t.held t.frames e v y k' u n f h l i
+arrivals_are_assigned t e v y k' u n f h l i = rows.arrival_alike (IsIn t.programs.codes) (AreIn t.programs.pairs) (StandsIn t.stands) t.programs.source t.programs.target t.programs.common (IsIn t.used) t.readings t.scope t.scope' t.slots t.slots' t.names t.store t.is_source t.held (λ x. read_live t.store t.slots (t.readings x) t.live) t.frames e v y k' u n f h l i
 
 pub results_are_stored : ResultsAreStored
-results_are_stored t u e y k' v n f l = rows.stored_alike (IsIn t.programs.codes) (AreIn t.programs.pairs) (StandsIn t.stands) t.programs.source t.programs.target t.programs.common (IsIn t.used) t.readings t.scope t.scope' t.slots t.slots' t.names t.store t.is_source t.held t.frames u e y k' v n f l
+results_are_stored t u e y k' v n f l = rows.stored_alike (IsIn t.programs.codes) (AreIn t.programs.pairs) (StandsIn t.stands) t.programs.source t.programs.target t.programs.common (IsIn t.used) t.readings t.scope t.scope' t.slots t.slots' t.names t.store t.is_source t.held (λ x. read_live t.store t.slots (t.readings x) t.live) t.frames u e y k' v n f l
 
 pub spawns_are_calls : SpawnsAreCalls
-spawns_are_calls t f x es g u us n e h l = statements.spawn_alike (IsIn t.programs.codes) (AreIn t.programs.pairs) (StandsIn t.stands) t.programs.source t.programs.target t.programs.common (IsIn t.used) t.readings t.scope t.scope' t.slots t.slots' t.names t.store t.is_source t.held t.frames f x es g u us n e h l
+spawns_are_calls t f x es g u us n e h l = statements.spawn_alike (IsIn t.programs.codes) (AreIn t.programs.pairs) (StandsIn t.stands) t.programs.source t.programs.target t.programs.common (IsIn t.used) t.readings t.scope t.scope' t.slots t.slots' t.names t.store t.is_source t.held (λ x. read_live t.store t.slots (t.readings x) t.live) t.frames f x es g u us n e h l
 
 pub waits_are_calls : WaitsAreCalls
-waits_are_calls t prim prim' es a b d k h i j e f g l = rows.wait_alike (IsIn t.programs.codes) (AreIn t.programs.pairs) (StandsIn t.stands) t.programs.source t.programs.target t.programs.common (IsIn t.used) t.readings t.scope t.scope' t.slots t.slots' t.names t.store t.is_source t.held t.frames prim prim' es a b d k h i j e f g l
+waits_are_calls t prim prim' es a b d k h i j e f g l = rows.wait_alike (IsIn t.programs.codes) (AreIn t.programs.pairs) (StandsIn t.stands) t.programs.source t.programs.target t.programs.common (IsIn t.used) t.readings t.scope t.scope' t.slots t.slots' t.names t.store t.is_source t.held (λ x. read_live t.store t.slots (t.readings x) t.live) t.frames prim prim' es a b d k h i j e f g l
 
 pub sections_are_calls : SectionsAreCalls
-sections_are_calls t f es a b c d k code e g h i l = rows.section_alike (IsIn t.programs.codes) (AreIn t.programs.pairs) (StandsIn t.stands) t.programs.source t.programs.target t.programs.common (IsIn t.used) t.readings t.scope t.scope' t.slots t.slots' t.names t.store t.is_source t.held t.frames f es a b c d k code e g h i l
+sections_are_calls t f es a b c d k code e g h i l = rows.section_alike (IsIn t.programs.codes) (AreIn t.programs.pairs) (StandsIn t.stands) t.programs.source t.programs.target t.programs.common (IsIn t.used) t.readings t.scope t.scope' t.slots t.slots' t.names t.store t.is_source t.held (λ x. read_live t.store t.slots (t.readings x) t.live) t.frames f es a b c d k code e g h i l
 
 pub variables_stay : VariablesStay
 variables_stay C P one q scope xs ys a b x o m c h = slots.means_kept (StandsIn P) one xs ys (IsIn C) q scope a b x o m c h
@@ -64,7 +65,7 @@ pub calls_are_entered : CallsAreEntered
 calls_are_entered C p q types f g marks frames n xs vs s source h = entering.slots_beside (IsIn C) p q types f g marks frames n xs vs s source h
 
 pub scopes_are_read : ScopesAreRead
-scopes_are_read C P p q marks spelled scope scope' xs ys x h i = locals.scope_means (IsIn C) (StandsIn P) p q marks spelled scope scope' xs ys x h i
+scopes_are_read C P p q marks spelled boxes scope scope' xs ys x h i = locals.scope_means (IsIn C) (StandsIn P) p q marks spelled boxes scope scope' xs ys x h i
 
 pub variables_stand : VariablesStand
 variables_stand P one xs ys mark k k' t h i = (λ a b c. locals.stands_kept (StandsIn P) xs ys one a b mark k k' t c h i, λ j' x d. locals.stands_apart (StandsIn P) xs ys mark k k' j' x d i)
@@ -97,7 +98,7 @@ pub names_grow : NamesGrow
 names_grow used more h s l = names_more_of (IsIn used) (IsIn more) h s l
 
 pub images_are_places : ImagesArePlaces
-images_are_places t e l = places (IsIn t.programs.codes) (StandsIn t.stands) t.programs.source t.programs.target t.programs.common.types (IsIn t.used) t.readings t.scope t.scope' t.slots t.slots' t.names t.store t.is_source t.held t.frames e l
+images_are_places t e l = places (IsIn t.programs.codes) (StandsIn t.stands) t.programs.source t.programs.target t.programs.common.types (IsIn t.used) t.readings t.scope t.scope' t.slots t.slots' t.names t.store t.is_source t.held (λ x. read_live t.store t.slots (t.readings x) t.live) t.frames e l
 
 pub native_stacks_step : (A B : Type 0) → NativeStacksStep A B
 native_stacks_step A B t k o h = native_step (IsIn t.codes) (AreIn t.pairs) (At t.positions) (AreIn t.below) t.ends t.source t.target t.common t.enters k.frames k.store k.is_source k.function k.here k.there k.slots k.xs k.ys k.held k.stacks (IsIn k.used) o k.point h

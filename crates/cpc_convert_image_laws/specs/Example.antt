@@ -1,20 +1,19 @@
 -- A small source and its target, two frames of them, and what does not hold of images.
-use Rattle.std.specs.Prelude.{◌≡◌, ℕ, Bool, true, ◌||◌, ◌==◌, List, [], ◌∷◌, Some, None, bytes_eq, codes, pos}
+use Rattle.std.specs.Prelude.{◌≡◌, ℕ, zero, suc, Bool, ◌||◌, ◌==◌, List, [], ◌∷◌, ◌++◌, Some, None, bytes_eq, codes, pos}
 use Rattle.cpc_base.specs.Bytes.{Text}
 use Rattle.cpc_num.specs.declared.kinds.Kind.TheVariants.{Int, ULong}
+use Rattle.cpc_num.specs.declared.kinds.Fault.TheVariants.{Freed}
 use Rattle.cpc_tree.specs.declared.program.Mode.TheVariants.{Native}
 use Rattle.cpc_tree.specs.declared.program.UnaryOp.TheVariants.{AddressOf}
-use Rattle.cpc_tree.specs.Syntax.{Ty, TyInt, TyPointer, TyStruct, TyArray, Expr, ENamed, EInteger, EUnary, ESizeOf, Return, Variable, Function, StructItem, GlobalItem, FunctionItem, Program}
-use Rattle.cpc_tree.specs.Typing.{Scope, Local, AValue, typing}
+use Rattle.cpc_tree.specs.Syntax.{Ty, TyInt, TyPointer, TyStruct, TyArray, Expr, ENamed, EInteger, EUnary, ESizeOf, Return, Variable, Function, Item, StructItem, GlobalItem, FunctionItem, Program}
+use Rattle.cpc_tree.specs.Typing.{Scope, Local}
 use Rattle.cpc_store.specs.declared.values.Class.TheVariants.{Static, Auto}
-use Rattle.cpc_store.specs.Store.{Value, Unset, Whole, At, Store, empty_store, alloc}
-use Rattle.cpc_meaning.specs.Answer.{Gives, NoAnswer}
+use Rattle.cpc_store.specs.Store.{Value, Whole, At, Store, empty_store, alloc}
+use Rattle.cpc_meaning.specs.Answer.{Gives, Faults, NoAnswer}
 use Rattle.cpc_meaning.specs.Eval.{Slot, Register, Boxed, Context, value}
-use Rattle.cpc_meaning.specs.Act.{assign}
 use Rattle.cpc_convert_image_laws.specs.Images.{Readings, image}
 use Rattle.cpc_convert_image_laws.specs.Locals.{readings_in}
-use Rattle.cpc_convert_image_laws.specs.Relations.{Meets, After}
-use Rattle.cpc_convert_image_laws.specs.Frames.{IsIn, StandsIn, TwoFrames, here, there}
+use Rattle.cpc_convert_image_laws.specs.Frames.{TwoFrames, here, there}
 
 -- the type `int`
 abbrev pub int : Ty
@@ -36,17 +35,33 @@ native_function = record { mode = Native; called = codes "h"; result = int; para
 abbrev pub small : Program
 small = StructItem (codes "s") (field_of (codes "f") ∷ []) ∷ GlobalItem (codes "g") int None ∷ FunctionItem native_function ∷ []
 
--- the same behind struct frame__ { int n; };
+-- the tags of the structs of boxes
+abbrev pub boxes : ℕ → Text
+boxes (suc zero) = codes "b__box"
+boxes (suc (suc zero)) = codes "a__box"
+boxes k = codes "v__box"
+
+-- the struct of a box
+abbrev pub box : ℕ → Text → Ty → Item
+box k x t = StructItem (boxes k) (record { called = x; type = t } ∷ [])
+
+-- the same behind struct frame__ { int n; }; and before struct b__box { int b; }; struct a__box { int a[3]; }; struct v__box { struct s v; };
 abbrev pub larger : Program
-larger = StructItem (codes "frame__") (field_of (codes "n") ∷ []) ∷ small
+larger =
+    StructItem (codes "frame__") (field_of (codes "n") ∷ [])
+    ∷ (small ++ box 1 (codes "b") int ∷ box 2 (codes "a") (TyArray int 3) ∷ box 3 (codes "v") (TyStruct (codes "s")) ∷ [])
 
 -- int x; int b; int a[3]; struct s v; where b has an address
 abbrev pub small_scope : Scope
 small_scope = local (codes "x") int 0 ∷ local (codes "b") int 1 ∷ local (codes "a") (TyArray int 3) 2 ∷ local (codes "v") (TyStruct (codes "s")) 3 ∷ []
 
--- int x__; int *b__; int *a__; struct s *v__;
+-- a pointer to a box
+abbrev pub pointer_to : ℕ → Ty
+pointer_to k = TyPointer (TyStruct (boxes k))
+
+-- int x__; struct b__box *b__; struct a__box *a__; struct v__box *v__;
 abbrev pub larger_scope : Scope
-larger_scope = local (codes "x__") int 0 ∷ local (codes "b__") (TyPointer int) 1 ∷ local (codes "a__") (TyPointer int) 2 ∷ local (codes "v__") (TyPointer (TyStruct (codes "s"))) 3 ∷ []
+larger_scope = local (codes "x__") int 0 ∷ local (codes "b__") (pointer_to 1) 1 ∷ local (codes "a__") (pointer_to 2) 2 ∷ local (codes "v__") (pointer_to 3) 3 ∷ []
 
 -- the first is a register
 abbrev pub marks : ℕ → Bool
@@ -93,17 +108,19 @@ is_small x = bytes_eq x (codes "x") || (bytes_eq x (codes "b") || (bytes_eq x (c
 abbrev pub ThereAreFrames : Type 0
 ThereAreFrames = (t : TwoFrames) × (here t ≡ small_context) × (there t ≡ larger_context) × (t.used ≡ is_small) × (t.readings ≡ small_readings)
 
--- the variable of an array, as a place
-abbrev pub array : Expr
-array = ENamed (codes "a")
+-- `&b`
+abbrev pub address : Expr
+address = EUnary AddressOf (ENamed (codes "b"))
+
+-- the same frames, where no block is live
+abbrev pub without_blocks : Context → Context
+without_blocks c = record c { store = empty_store }
 
 -- what does not hold of images
 pub record NotOfImages : Type 0 where
   -- where the source has no answer its target may have one: the target has more structs
   pub not_there : value small_context (ESizeOf (TyStruct (codes "frame__"))) ≡ NoAnswer
   pub there : value larger_context (ESizeOf (TyStruct (codes "frame__"))) ≡ Gives (Whole ULong (pos 1))
-  -- the address of the address of an array has no type, and its image has one
-  pub untyped : typing small small_scope (EUnary AddressOf (EUnary AddressOf array)) ≡ None
-  pub typed : typing larger larger_scope (image small_readings (EUnary AddressOf (EUnary AddressOf array))) ≡ Some (AValue (TyPointer (TyPointer int)))
-  -- an unset value written to an array goes into its first cell, and written to its image into the local
-  pub written : ¬ Meets (After (IsIn (λ x. true)) (StandsIn (λ k t k'. k == k')) [] small_slots larger_slots) (assign small_context array Unset) (assign larger_context (image small_readings array) Unset)
+  -- where a box is not live, its address is known in the source, and the field is not found in the target
+  pub known : value (without_blocks small_context) address ≡ Gives (At Auto 0 0)
+  pub not_found : value (without_blocks larger_context) (image small_readings address) ≡ Faults Freed

@@ -8,7 +8,7 @@ use Rattle.cpc_store.specs.Store.{Value, Store, Blocks}
 use Rattle.cpc_meaning.specs.Eval.{Slot, Context}
 use Rattle.cpc_meaning.specs.Act.{Act}
 use Rattle.cpc_convert_image_laws.specs.Images.{Readings}
-use Rattle.cpc_convert_image_laws.specs.Held.{IsHeld, IsHeldSlot, IsHeldStore, beside}
+use Rattle.cpc_convert_image_laws.specs.Held.{IsHeld, IsHeldSlot, IsHeldStore, BoxesLive, beside}
 use Rattle.cpc_convert_image_laws.specs.Relations.{Common, Means, SameAct}
 use Rattle.cpc_convert_image_laws.specs.Native.{KeptName}
 
@@ -32,7 +32,7 @@ pub record TwoPrograms : Type 0 where
   pub pairs : Function → Function → Bool
   pub common : Common (IsIn codes) (AreIn pairs) source target
 
--- a frame of each: the names that are used and how they are read, and in which local each variable stands
+-- a frame of each: the names that are used and how they are read, and in which local each variable stands. The boxes of the frame are live
 pub record TwoFrames : Type 0 where
   pub programs : TwoPrograms
   pub used : Text → Bool
@@ -46,6 +46,7 @@ pub record TwoFrames : Type 0 where
   pub frames : Blocks
   pub is_source : IsHeldStore (IsIn programs.codes) store
   pub held : All (IsHeldSlot (IsIn programs.codes)) slots
+  pub live : BoxesLive store slots
   pub names : (x : Text) → IsIn used x → Means (IsIn programs.codes) (StandsIn stands) programs.target scope' slots slots' x (readings x) (named programs.source scope x)
 
 -- where an expression of the source is evaluated, and its image

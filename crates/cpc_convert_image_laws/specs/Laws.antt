@@ -46,7 +46,7 @@ ImagesHaveValues =
 abbrev pub ImagesArePlaces : Type 0
 ImagesArePlaces =
     (t : TwoFrames) (e : Expr) → AllNames (IsIn t.used) e
-    → Meets (SpotAlike (StandsIn t.stands) t.slots t.slots' e (place_type (here t) e)) (place (here t) e) (place (there t) (image t.readings e))
+    → Meets (SpotAlike (StandsIn t.stands) t.slots t.slots' (place_type (here t) e)) (place (here t) e) (place (there t) (image t.readings e))
 
 -- and so have rows, as arguments of these types or as a primitive takes them
 abbrev pub ImagesAreArguments : Type 0
@@ -140,8 +140,8 @@ CallsAreEntered =
 -- where the variables of a scope stand in locals of the target, each name means what it should by the scope's readings
 abbrev pub ScopesAreRead : Type 0
 ScopesAreRead =
-    (C : Text → Bool) (P : ℕ → Ty → ℕ → Bool) (p q : Program) (marks : ℕ → Bool) (spelled : ℕ → Text → Text) (scope scope' : Scope) (slots slots' : List Slot) (x : Text)
-    → StandsFor (StandsIn P) marks spelled q scope' slots slots' x (named p scope x) → KeptItem (IsIn C) x (item_named 0 p x) (named q scope' x)
+    (C : Text → Bool) (P : ℕ → Ty → ℕ → Bool) (p q : Program) (marks : ℕ → Bool) (spelled : ℕ → Text → Text) (boxes : ℕ → Text) (scope scope' : Scope) (slots slots' : List Slot) (x : Text)
+    → StandsFor (StandsIn P) marks spelled boxes q scope' slots slots' x (named p scope x) → KeptItem (IsIn C) x (item_named 0 p x) (named q scope' x)
     → Means (IsIn C) (StandsIn P) q scope' slots slots' x (readings_in marks spelled scope x) (named p scope x)
 
 -- a variable that stands in a local stands there after an act of both, and after another local was written

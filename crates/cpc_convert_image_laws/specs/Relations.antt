@@ -5,7 +5,7 @@ use Rattle.cpc_base.specs.Bytes.{Text}
 use Rattle.cpc_num.specs.declared.kinds.Fault.{Fault}
 use Rattle.cpc_tree.specs.declared.program.Mode.{Mode}
 use Rattle.cpc_tree.specs.declared.program.Mode.TheVariants.{Cps}
-use Rattle.cpc_tree.specs.Syntax.{Ty, TyPointer, TyArray, Expr, ENamed, Function, Program}
+use Rattle.cpc_tree.specs.Syntax.{Ty, TyPointer, TyStruct, Function, Program}
 use Rattle.cpc_tree.specs.Typing.{Scope, Meant, ALocal, AGlobal, AFunction, NotMeant, named, cells, field, function_named}
 use Rattle.cpc_store.specs.declared.values.Class.{Class}
 use Rattle.cpc_store.specs.declared.values.Class.TheVariants.{Auto}
@@ -14,7 +14,7 @@ use Rattle.cpc_meaning.specs.Answer.{Answer, Gives, Faults, NoAnswer}
 use Rattle.cpc_meaning.specs.Eval.{Slot, Register, Boxed, assigned, Spot, InSlot, InCell}
 use Rattle.cpc_meaning.specs.Requests.{Request, Primitive, RtDetach, Builtin, ToSpawn, Section}
 use Rattle.cpc_meaning.specs.Act.{Act, GoesOn, Enters, Leaves, AsksFor}
-use Rattle.cpc_convert_image_laws.specs.Images.{Reading, AsLocal, AsPointed, AsElements}
+use Rattle.cpc_convert_image_laws.specs.Images.{Reading, AsLocal, AsField}
 use Rattle.cpc_convert_image_laws.specs.Held.{IsShared, IsHeld, IsHeldSlot, IsHeldStore, beside}
 
 -- ---- what there is, and what is given
@@ -62,10 +62,8 @@ pub record Common (C : Text → Type 0) (R : Function → Function → Type 0) (
 pub data Means (C : Text → Type 0) (P : ℕ → Ty → ℕ → Type 0) (q : Program) (scope : Scope) (slots slots' : List Slot) (x : Text) : Option Reading → Meant → Type 0 where
   InLocal : (y : Text) (k k' : ℕ) (t : Ty) (v : Value) → P k t k' → slice_get slots k ≡ Some (Register v) → named q scope y ≡ ALocal k' t → slice_get slots' k' ≡ Some (Register v)
       → Means C P q scope slots slots' x (Some (AsLocal y)) (ALocal k t)
-  InBox : (y : Text) (k k' : ℕ) (t : Ty) (n : ℕ) → P k t k' → slice_get slots k ≡ Some (Boxed n) → named q scope y ≡ ALocal k' (TyPointer t) → slice_get slots' k' ≡ Some (Register (At Auto n 0))
-      → Means C P q scope slots slots' x (Some (AsPointed y)) (ALocal k t)
-  InArray : (y : Text) (k k' : ℕ) (t : Ty) (m n : ℕ) → P k (TyArray t m) k' → slice_get slots k ≡ Some (Boxed n) → named q scope y ≡ ALocal k' (TyPointer t) → slice_get slots' k' ≡ Some (Register (At Auto n 0))
-      → Means C P q scope slots slots' x (Some (AsElements y)) (ALocal k (TyArray t m))
+  InBox : (y f tag : Text) (k k' : ℕ) (t : Ty) (n : ℕ) → P k t k' → slice_get slots k ≡ Some (Boxed n) → named q scope y ≡ ALocal k' (TyPointer (TyStruct tag)) → field q tag f ≡ Some (0, t) → slice_get slots' k' ≡ Some (Register (At Auto n 0))
+      → Means C P q scope slots slots' x (Some (AsField y f)) (ALocal k t)
   StaysRegister : (k k' : ℕ) (t : Ty) (v : Value) → P k t k' → slice_get slots k ≡ Some (Register v) → named q scope x ≡ ALocal k' t → slice_get slots' k' ≡ Some (Register v)
       → Means C P q scope slots slots' x None (ALocal k t)
   StaysBox : (k k' : ℕ) (t : Ty) (n : ℕ) → P k t k' → slice_get slots k ≡ Some (Boxed n) → named q scope x ≡ ALocal k' t → slice_get slots' k' ≡ Some (Boxed n)
@@ -76,12 +74,10 @@ pub data Means (C : Text → Type 0) (P : ℕ → Ty → ℕ → Type 0) (q : Pr
   IsCps : (r : Ty) (ps : List Ty) → Means C P q scope slots slots' x None (AFunction Cps r ps)
   StaysNothing : named q scope x ≡ NotMeant → Means C P q scope slots slots' x None NotMeant
 
--- where a place of this type is, in the source and in the target: a variable and the local in which it stands, the same cell of memory,
--- or the box of an array and the local that points to its first element
-pub data SpotAlike (P : ℕ → Ty → ℕ → Type 0) (slots slots' : List Slot) : Expr → Option Ty → Spot → Spot → Type 0 where
-  TheSlot : (x : Text) (k k' : ℕ) (t : Ty) (v : Value) → P k t k' → slice_get slots k ≡ Some (Register v) → slice_get slots' k' ≡ Some (Register v) → SpotAlike P slots slots' (ENamed x) (Some t) (InSlot k) (InSlot k')
-  TheCell : (e : Expr) (o : Option Ty) (c : Class) (n k : ℕ) → IsShared c → SpotAlike P slots slots' e o (InCell c n k) (InCell c n k)
-  TheArray : (x : Text) (t : Ty) (m n k' : ℕ) → SpotAlike P slots slots' (ENamed x) (Some (TyArray t m)) (InCell Auto n 0) (InSlot k')
+-- where a place of this type is, in the source and in the target: a variable and the local in which it stands, or the same cell of memory
+pub data SpotAlike (P : ℕ → Ty → ℕ → Type 0) (slots slots' : List Slot) : Option Ty → Spot → Spot → Type 0 where
+  TheSlot : (k k' : ℕ) (t : Ty) (v : Value) → P k t k' → slice_get slots k ≡ Some (Register v) → slice_get slots' k' ≡ Some (Register v) → SpotAlike P slots slots' (Some t) (InSlot k) (InSlot k')
+  TheCell : (o : Option Ty) (c : Class) (n k : ℕ) → IsShared c → SpotAlike P slots slots' o (InCell c n k) (InCell c n k)
 
 -- ---- acts
 

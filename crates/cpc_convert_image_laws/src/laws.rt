@@ -123,7 +123,7 @@ pub fn there_are_frames()
     ensures law { ThereAreFrames }
 {}
 
-/// What does not hold of images: the target may have an answer where the source has none, the address of an address may get a type, and what is written to an array goes elsewhere.
+/// What does not hold of images: the target may have an answer where the source has none, and the field of a box that is not live is not found.
 pub fn not_of_images()
     ensures law { NotOfImages }
 {}
