@@ -9,7 +9,7 @@ use Rattle.cpc_convert_chain_laws.specs.Structs.{NoStruct, NoneHere, NotThis, No
 
 -- ---- items
 
-no_struct_append : (tag : Text) (xs ys : List Item) → NoStruct tag xs → NoStruct tag ys → NoStruct tag (xs ++ ys)
+pub no_struct_append : (tag : Text) (xs ys : List Item) → NoStruct tag xs → NoStruct tag ys → NoStruct tag (xs ++ ys)
 no_struct_append tag _ ys NoneHere h = h
 no_struct_append tag _ ys (NotThis x xs e g) h = NotThis x (xs ++ ys) e (no_struct_append tag xs ys g h)
 
@@ -89,31 +89,29 @@ field_at q n _ (suc i) v (AndField u us sc d s) e =
 
 -- ---- a struct of a program
 
--- a struct that no later one hides
+module _ (front back : List Item) (tag : Text) (fs : List Variable) (n : NoStruct tag back) where
+  -- the fields of a struct that no later one hides, and their cells by the structs before it
+  pub struct_fields : fields (front ++ StructItem tag fs ∷ back) tag ≡ Some fs
+  struct_fields =
+      ap (λ items. fields_in items tag) (reverse_at (StructItem tag fs) front back)
+      ∙ fields_past tag (reverse back) (StructItem tag fs ∷ reverse front) (no_struct_reverse tag back n)
+      ∙ ap (λ b. cond b (Some fs) (fields_in (reverse front) tag)) (text_same tag)
+
+  pub struct_is : cells (front ++ StructItem tag fs ∷ back) (TyStruct tag) ≡ fields_cells (struct_cells (reverse front)) fs
+  struct_is =
+      ap (λ items. struct_cells items tag) (reverse_at (StructItem tag fs) front back)
+      ∙ cells_past tag (reverse back) (StructItem tag fs ∷ reverse front) (no_struct_reverse tag back n)
+      ∙ ap (λ b. cond b (fields_cells (struct_cells (reverse front)) fs) (struct_cells (reverse front) tag)) (text_same tag)
+
+-- a struct of scalar fields that no later one hides
 pub is_struct : (front back : List Item) (tag : Text) (fs : List Variable) → NoStruct tag back → ScalarFields fs → IsStruct (front ++ StructItem tag fs ∷ back) tag fs
-is_struct front back tag fs n s = record { fields = its_fields; size = its_size; field = its_field }
+is_struct front back tag fs n s = record { fields = struct_fields front back tag fs n; size = its_size; field = its_field }
   where
-    q : Program
-    q = front ++ StructItem tag fs ∷ back
-
-    its_fields : fields (front ++ StructItem tag fs ∷ back) tag ≡ Some fs
-    its_fields =
-        ap (λ items. fields_in items tag) (reverse_at (StructItem tag fs) front back)
-        ∙ fields_past tag (reverse back) (StructItem tag fs ∷ reverse front) (no_struct_reverse tag back n)
-        ∙ ap (λ b. cond b (Some fs) (fields_in (reverse front) tag)) (text_same tag)
-
-    its_cells : cells (front ++ StructItem tag fs ∷ back) (TyStruct tag) ≡ Some (map type_of fs)
-    its_cells =
-        ap (λ items. struct_cells items tag) (reverse_at (StructItem tag fs) front back)
-        ∙ cells_past tag (reverse back) (StructItem tag fs ∷ reverse front) (no_struct_reverse tag back n)
-        ∙ ap (λ b. cond b (fields_cells (struct_cells (reverse front)) fs) (struct_cells (reverse front) tag)) (text_same tag)
-        ∙ all_cells (struct_cells (reverse front)) fs s
-
     its_size : size (front ++ StructItem tag fs ∷ back) (TyStruct tag) ≡ Some (length fs)
-    its_size = ap (λ o. o >>= λ xs. Some (length xs)) its_cells ∙ ap Some (map_length fs)
+    its_size = ap (λ o. o >>= λ xs. Some (length xs)) (struct_is front back tag fs n ∙ all_cells (struct_cells (reverse front)) fs s) ∙ ap Some (map_length fs)
 
     its_field : (i : ℕ) (v : Variable) → slice_get fs i ≡ Some v → field (front ++ StructItem tag fs ∷ back) tag v.called ≡ Some (i, v.type)
     its_field i v e =
-        ap (λ o. o >>= λ gs. field_from (front ++ StructItem tag fs ∷ back) 0 gs v.called) its_fields
+        ap (λ o. o >>= λ gs. field_from (front ++ StructItem tag fs ∷ back) 0 gs v.called) (struct_fields front back tag fs n)
         ∙ field_at (front ++ StructItem tag fs ∷ back) 0 fs i v s e
         ∙ ap (λ m. Some (m, v.type)) (let g : 0 + i ≡ i = omega arith in g)

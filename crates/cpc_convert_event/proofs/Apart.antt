@@ -4,8 +4,8 @@ use Rattle.cpc_base.specs.Bytes.{Text}
 use Rattle.cpc_convert.specs.Converted.{marked, spawner_name}
 use Rattle.cpc_convert.proofs.Marks.{NoBar, decimal_is}
 use Rattle.cpc_forms.specs.Flow.{Place, Start, At}
-use Rattle.cpc_convert_chain_laws.specs.Driver.{drive_name}
-use Rattle.cpc_convert_event.specs.Names.{start_name, leader_name, piece_name}
+use Rattle.cpc_convert_chain_laws.specs.Driver.{drive_name, frame_tag}
+use Rattle.cpc_convert_event.specs.Names.{start_name, leader_name, piece_name, value_tag, box_tag}
 
 -- what stands behind the bars of a piece's name
 abbrev pub behind : Place → Text
@@ -20,6 +20,17 @@ piece_is f (At n) = refl
 pub spawner_is : (f : Text) → spawner_name f ≡ marked f (codes "spawn")
 unfolding spawner_name
 spawner_is f = refl
+
+pub value_is : (f : Text) → value_tag f ≡ marked f (codes "value")
+unfolding value_tag
+value_is f = refl
+
+pub box_is : (f : Text) (k : ℕ) → box_tag f k ≡ marked f (codes "box" ++ decimal k)
+unfolding box_tag
+box_is f k = refl
+
+pub frame_is : frame_tag ≡ marked (codes "frame") (codes "")
+frame_is = refl
 
 pub driver_is : drive_name ≡ marked (codes "drive") (codes "")
 driver_is = refl

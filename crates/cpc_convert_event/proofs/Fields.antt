@@ -3,8 +3,8 @@ use Rattle.std.proofs.Common.{◌≡◌, ℕ, zero, suc, ◌+◌, ◌<◌, ◌�
 use Rattle.std.proofs.lemmas.Option.{slice_get-get_or}
 use Rattle.cpc_base.specs.Bytes.{Text}
 use Rattle.cpc_tree.specs.Lists.{holds_number}
-use Rattle.cpc_tree.specs.Syntax.{Ty, TyVoid, TyInt, TyCondvar, TyPointer, TyCode, TyStruct, TyArray, Variable, Function, Program}
-use Rattle.cpc_tree.specs.Typing.{is_scalar, pointer_type}
+use Rattle.cpc_tree.specs.Syntax.{Ty, TyVoid, Variable, Function, Program}
+use Rattle.cpc_tree.specs.Typing.{is_scalar}
 use Rattle.cpc_tree.specs.Registers.{variables, as_variable, is_register, addressed}
 use Rattle.cpc_tree.specs.Points.{locals}
 use Rattle.cpc_meaning.proofs.Functions.{texts_differ}
@@ -20,7 +20,7 @@ use Rattle.cpc_lift_laws.proofs.Lift.{boxes_exact}
 use Rattle.cpc_convert_chain_laws.proofs.Lines.{both_true}
 use Rattle.cpc_convert_chain_laws.specs.Structs.{NotCalled, NoneSo, NotSo, ScalarFields, NoFields, AndField}
 use Rattle.cpc_convert_chain_laws.specs.Driver.{head_fields}
-use Rattle.cpc_convert_event.specs.Names.{variable_name}
+use Rattle.cpc_convert_event.specs.Names.{box_tag, variable_name}
 use Rattle.cpc_convert_event.specs.Routines.{routine_of, closure_of, is_plain, variable_or, stood_variable, local_of, locals_of, variable_if, passed_from, passed}
 use Rattle.cpc_convert_event.specs.NameLaws.{IsNamed, IsCps}
 
@@ -83,18 +83,9 @@ passed_rises k (suc n) (x ∷ xs) h names = go (is_scalar x.type) refl (passed_r
 
 -- ---- variables that are kept
 
-pointer_scalar : (t : Ty) → is_scalar (pointer_type t) ≡ true
-pointer_scalar TyVoid = refl
-pointer_scalar (TyInt kind) = refl
-pointer_scalar TyCondvar = refl
-pointer_scalar (TyPointer t) = refl
-pointer_scalar (TyCode r ps) = refl
-pointer_scalar (TyStruct tag) = refl
-pointer_scalar (TyArray t n) = refl
-
-local_scalar : (b : Bool) (t : Ty) → (b ≡ true → is_scalar t ≡ true) → is_scalar (local_type b t) ≡ true
-local_scalar true t h = h refl
-local_scalar false t h = pointer_scalar t
+local_scalar : (b : Bool) (t : Ty) (tag : Text) → (b ≡ true → is_scalar t ≡ true) → is_scalar (local_type b t tag) ≡ true
+local_scalar true t tag h = h refl
+local_scalar false t tag h = refl
 
 module _ (p : Program) (ok : IsNamed p) (f : Function) (c : IsCps p f) where
   -- a register is scalar
@@ -127,8 +118,8 @@ module _ (p : Program) (ok : IsNamed p) (f : Function) (c : IsCps p f) where
       there : (x : Variable) → slice_get (variables f) k ≡ Some x → Rising (suc k) (locals_of (routine_of p f) (closure_from ways uses l (suc k) n)) → Rising k (stood_variable (routine_of p f) k x ∷ locals_of (routine_of p f) (closure_from ways uses l (suc k) n))
       there x e r =
           let few = ok.few f c.has in
-          OneRises k k x.called (local_type (is_plain (routine_of p f) k) x.type) _ (omega arith) (let z : k < 2 ^ 63 = omega (arith, few, h) in z) (ok.unmarked_variables f c.has k x e)
-          (local_scalar (is_plain (routine_of p f) k) x.type (plain_scalar k x e)) r
+          OneRises k k x.called (local_type (is_plain (routine_of p f) k) x.type (box_tag f.called k)) _ (omega arith) (let z : k < 2 ^ 63 = omega (arith, few, h) in z) (ok.unmarked_variables f c.has k x e)
+          (local_scalar (is_plain (routine_of p f) k) x.type (box_tag f.called k) (plain_scalar k x e)) r
 
       here : Rising (suc k) (locals_of (routine_of p f) (closure_from ways uses l (suc k) n)) → Rising k (local_of (routine_of p f) k ∷ locals_of (routine_of p f) (closure_from ways uses l (suc k) n))
       here r =

@@ -1,9 +1,9 @@
 -- Pieces are flat, and their lines stand behind their openings.
-use Rattle.std.proofs.Common.{◌≡◌, ℕ, ◌+◌, Bool, true, false, ◌&&◌, List, [], ◌∷◌, ◌++◌, map, length, slice_get, Some, refl, ◌∙◌, ap, subst, arith}
+use Rattle.std.proofs.Common.{◌≡◌, ℕ, ◌+◌, Bool, true, false, ◌&&◌, List, [], ◌∷◌, ◌++◌, map, length, Some, refl, ◌∙◌, ap, subst, arith}
 use Rattle.cpc_base.specs.Bytes.{Text}
-use Rattle.cpc_tree.specs.Syntax.{TyPointer, TyStruct, ENamed, Declare, Stmt, Stmts, NoStmt, AndStmt, Variable, Program}
+use Rattle.cpc_tree.specs.Syntax.{TyPointer, TyStruct, ENamed, Declare, Stmt, Stmts, NoStmt, AndStmt, Program}
 use Rattle.cpc_tree.specs.Typing.{Scope}
-use Rattle.cpc_tree.specs.Registers.{variables, outer_scope}
+use Rattle.cpc_tree.specs.Registers.{outer_scope}
 use Rattle.cpc_forms.specs.Flow.{Place, Start, At}
 use Rattle.cpc_convert_chain_laws.specs.Flat.{before, is_line, is_flat, are_flat, are_lines, Stands}
 use Rattle.cpc_convert_chain_laws.specs.Frames.{loads_one, loaded_scope, declares_one, frees_frame}
@@ -13,7 +13,7 @@ use Rattle.cpc_convert_chain_laws.proofs.Scopes.{all_lines, past_lines, lines_fl
 use Rattle.cpc_convert_chain_laws.proofs.Taking.{past_loads}
 use Rattle.cpc_convert_chain_laws.proofs.Prologue.{past_declares}
 use Rattle.cpc_convert_event.specs.Names.{piece_name, pointer_name, frame_name}
-use Rattle.cpc_convert_event.specs.Routines.{Routine, variable_or}
+use Rattle.cpc_convert_event.specs.Routines.{Routine, variable_of}
 use Rattle.cpc_convert_event.specs.Rows.{piece_statements}
 use Rattle.cpc_convert_event.specs.Pieces.{loads_of, declares_of, fills_if, box_lines, boxing_lines, boxing_of, piece_body, piece_function}
 use Rattle.cpc_convert_event.specs.FlatLaws.{opening, piece_scope, piece_count, PiecesAreFlat, StatementsStand}
@@ -21,16 +21,13 @@ use Rattle.cpc_convert_event.proofs.Lines.{AreLines, lines_append, piece_lines}
 
 -- ---- boxes
 
-fills_done : (b : Bool) (x : Text) → AreLines (fills_if b x)
-fills_done true x = (refl, tt)
-fills_done false x = tt
+fills_done : (b : Bool) (x y : Text) → AreLines (fills_if b x y)
+fills_done true x y = (refl, tt)
+fills_done false x y = tt
 
 boxing_done : (r : Routine) (ks : List ℕ) → AreLines (boxing_lines r ks)
 boxing_done r [] = tt
-boxing_done r (k ∷ ks) = lines_append (box_lines r k x) (boxing_lines r ks) (refl, fills_done _ _) (boxing_done r ks)
-  where
-    x : Variable
-    x = variable_or (slice_get (variables r.function) k)
+boxing_done r (k ∷ ks) = lines_append (box_lines r k (variable_of r k)) (boxing_lines r ks) (refl, fills_done _ _ _) (boxing_done r ks)
 
 boxes_done : (r : Routine) (l : Place) → AreLines (boxing_of r l)
 boxes_done r Start = boxing_done r r.boxes

@@ -10,11 +10,11 @@ use Rattle.cpc_convert_chain_laws.proofs.Structs.{is_struct}
 -- ---- one struct of a tag
 
 -- the last struct of a tag among these items has these fields
-record OneStruct (tag : Text) (fs : List Variable) (items : List Item) : Type 0 where
-  front : List Item
-  back : List Item
-  is_items : items ≡ front ++ StructItem tag fs ∷ back
-  none : NoStruct tag back
+pub record OneStruct (tag : Text) (fs : List Variable) (items : List Item) : Type 0 where
+  pub front : List Item
+  pub back : List Item
+  pub is_items : items ≡ front ++ StructItem tag fs ∷ back
+  pub none : NoStruct tag back
 
 -- fields of a struct of the tag
 abbrev SomeStruct : Text → List Item → Type 0
@@ -47,7 +47,7 @@ one_later : (tag : Text) (fs : List Variable) (item : Item) (items : List Item) 
 one_later tag fs item items o = record { front = item ∷ o.front; back = o.back; is_items = ap (λ xs. item ∷ xs) o.is_items; none = o.none }
 
 -- where all structs of a tag have these fields
-one_struct : (tag : Text) (fs : List Variable) (items : List Item) → Has (StructItem tag fs) items → ((gs : List Variable) → Has (StructItem tag gs) items → gs ≡ fs) → OneStruct tag fs items
+pub one_struct : (tag : Text) (fs : List Variable) (items : List Item) → Has (StructItem tag fs) items → ((gs : List Variable) → Has (StructItem tag gs) items → gs ≡ fs) → OneStruct tag fs items
 one_struct tag fs [] h one = elim h [ ]
 one_struct tag fs (item ∷ items) h one = ⊎_elim
     (λ none. at_top tag fs item items h none)

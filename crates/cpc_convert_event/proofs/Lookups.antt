@@ -1,5 +1,5 @@
 -- Which functions the names of an event program find.
-use Rattle.std.proofs.Common.{◌≡◌, ℕ, Bool, true, false, cond, List, [], ◌∷◌, ◌++◌, map, bytes_eq, Option, Some, refl, sym, ◌∙◌, ap, codes}
+use Rattle.std.proofs.Common.{◌≡◌, Bool, true, false, cond, List, [], ◌∷◌, ◌++◌, map, bytes_eq, Option, Some, refl, sym, ◌∙◌, ap, codes}
 use Rattle.cpc_base.specs.Bytes.{Text}
 use Rattle.cpc_tree.specs.Syntax.{Function, Item, StructItem, GlobalItem, PrototypeItem, FunctionItem, Program}
 use Rattle.cpc_tree.specs.Typing.{function_named}
@@ -15,37 +15,12 @@ use Rattle.cpc_forms.specs.Flow.{Place}
 use Rattle.cpc_convert_chain_laws.specs.Driver.{drive_name, drive_function}
 use Rattle.cpc_convert_event.specs.Names.{piece_name}
 use Rattle.cpc_convert_event.specs.Routines.{Routine, routine_of}
-use Rattle.cpc_convert_event.specs.Frames.{leader_struct, structs_of, value_struct_if, start_struct}
 use Rattle.cpc_convert_event.specs.Pieces.{piece_function, spawner_function}
-use Rattle.cpc_convert_event.specs.Converted.{kept_function, item_unless, kept_items, routines, all_structs, all_made, main_function, main_if, converted_with, converted}
+use Rattle.cpc_convert_event.specs.Converted.{kept_function, item_unless, kept_items, routines, all_structs, all_boxes, all_made, main_function, main_if, converted_with, converted}
 use Rattle.cpc_convert_event.specs.NameLaws.{IsOwner, IsNamed, IsCps, IsKept, FunctionsAreFound}
 use Rattle.cpc_convert_event.proofs.Apart.{behind, piece_is, spawner_is, driver_is, piece_nothing, spawn_nothing, no_bar_behind, no_bar_spawn, no_bar_nothing}
+use Rattle.cpc_convert_event.proofs.Structs.{skip_functions, all_structs_are, all_boxes_are}
 use Rattle.cpc_convert_event.proofs.Made.{made_one_name, made_marked, has_piece, has_spawner}
-
--- ---- what holds no function
-
-skip_map : (p : Program) (r : Routine) (ns : List ℕ) (items : Program) (x : Text) → function_named (map (leader_struct p r) ns ++ items) x ≡ function_named items x
-skip_map p r [] items x = refl
-skip_map p r (n ∷ ns) items x = skip_map p r ns items x
-
-skip_value : (b : Bool) (r : Routine) (items : Program) (x : Text) → function_named (value_struct_if b r.function.called r.function.result ++ items) x ≡ function_named items x
-skip_value true r items x = refl
-skip_value false r items x = refl
-
-append_assoc : (xs ys zs : List Item) → (xs ++ ys) ++ zs ≡ xs ++ (ys ++ zs)
-append_assoc [] ys zs = refl
-append_assoc (x ∷ xs) ys zs = ap (λ us. x ∷ us) (append_assoc xs ys zs)
-
-skip_structs_of : (p : Program) (r : Routine) (items : Program) (x : Text) → function_named (structs_of p r ++ items) x ≡ function_named items x
-skip_structs_of p r items x =
-    let front = value_struct_if _ r.function.called r.function.result in
-    let back = start_struct r.function ∷ map (leader_struct p r) r.split.leaders in
-    ap (λ ys. function_named ys x) (append_assoc front back items) ∙ skip_value _ r (back ++ items) x ∙ skip_map p r r.split.leaders items x
-
-pub skip_structs : (p : Program) (rs : List Routine) (items : Program) (x : Text) → function_named (all_structs p rs ++ items) x ≡ function_named items x
-skip_structs p [] items x = refl
-skip_structs p (r ∷ rs) items x =
-    ap (λ ys. function_named ys x) (append_assoc (structs_of p r) (all_structs p rs) items) ∙ skip_structs_of p r (all_structs p rs ++ items) x ∙ skip_structs p rs items x
 
 -- ---- what stays
 
@@ -92,16 +67,20 @@ append_nil (x ∷ xs) = ap (λ ys. x ∷ ys) (append_nil xs)
 
 -- ---- the parts of an event program
 
+-- the functions that are made
+abbrev behind_boxes : Program → List Routine → List Item
+behind_boxes p rs = map function_item (all_made p rs) ++ main_if (is_cps (function_named p main_name))
+
 -- the items behind the driver
 abbrev behind_driver : Program → List Routine → List Item
-behind_driver p rs = kept_items p ++ (map function_item (all_made p rs) ++ main_if (is_cps (function_named p main_name)))
+behind_driver p rs = kept_items p ++ (all_boxes rs ++ behind_boxes p rs)
 
 -- a name is looked up among the driver and what stands behind it
 abbrev from_driver : Program → List Routine → Text → Option Function
 from_driver p rs x = cond (bytes_eq drive_name x) (Some drive_function) (function_named (behind_driver p rs) x)
 
 looked_up : (p : Program) (r : Routine) (rs : List Routine) (x : Text) → function_named (converted_with p (r ∷ rs)) x ≡ from_driver p (r ∷ rs) x
-looked_up p r rs x = skip_structs p (r ∷ rs) _ x ∙ skip_prototypes (all_made p (r ∷ rs)) _ x
+looked_up p r rs x = skip_functions (all_structs p (r ∷ rs)) _ x (all_structs_are p (r ∷ rs)) ∙ skip_prototypes (all_made p (r ∷ rs)) _ x
 
 -- where there is something made, there are routines
 made_there : (p : Program) (rs : List Routine) (g : Function) (x : Text) → Has g (all_made p rs) → function_named (converted_with p rs) x ≡ from_driver p rs x
@@ -117,8 +96,9 @@ module _ (p : Program) (ok : IsNamed p) where
   find_made g f rest e h d =
       made_there p (routines p) g g.called h
       ∙ (ap (λ b. cond b (Some drive_function) (function_named (behind_driver p (routines p)) g.called)) d
-      ∙ (pass_kept p (map function_item (all_made p (routines p)) ++ main_if (is_cps (function_named p main_name))) g.called (λ k j c. ap (bytes_eq k.called) e ∙ none_marked f rest k j)
-      ∙ find_function (all_made p (routines p)) (main_if (is_cps (function_named p main_name))) g h (made_one_name p ok g h)))
+      ∙ (pass_kept p (all_boxes (routines p) ++ behind_boxes p (routines p)) g.called (λ k j c. ap (bytes_eq k.called) e ∙ none_marked f rest k j)
+      ∙ (skip_functions (all_boxes (routines p)) (behind_boxes p (routines p)) g.called (all_boxes_are (routines p))
+      ∙ find_function (all_made p (routines p)) (main_if (is_cps (function_named p main_name))) g h (made_one_name p ok g h))))
 
   -- the driver's name is none of a piece or a spawner
   driver_differs : (f rest : Text) → has_marks f ≡ false → NoBar rest → (rest ≡ codes "" → ⊥) → bytes_eq drive_name (marked f rest) ≡ false
@@ -161,10 +141,11 @@ module _ (p : Program) (ok : IsNamed p) where
   find_main : (f : Function) → IsCps p f → f.called ≡ main_name → function_named (converted p) main_name ≡ Some main_function
   find_main f c e =
       made_there p (routines p) (spawner_function f) main_name (has_spawner p f c)
-      ∙ (pass_kept p (map function_item (all_made p (routines p)) ++ main_if (is_cps (function_named p main_name))) main_name
+      ∙ (pass_kept p (all_boxes (routines p) ++ behind_boxes p (routines p)) main_name
       (λ g h m. texts_differ g.called main_name (λ (k : g.called ≡ main_name). no_other f g c h m (k ∙ sym e)))
+      ∙ (skip_functions (all_boxes (routines p)) (behind_boxes p (routines p)) main_name (all_boxes_are (routines p))
       ∙ (pass_functions (all_made p (routines p)) (main_if (is_cps (function_named p main_name))) main_name (made_marked p ok main_name refl)
-      ∙ ap (λ b. function_named (main_if b) main_name) (ap is_cps (ap (function_named p) (sym e) ∙ ok.found f c.has) ∙ c.mode)))
+      ∙ ap (λ b. function_named (main_if b) main_name) (ap is_cps (ap (function_named p) (sym e) ∙ ok.found f c.has) ∙ c.mode))))
 
 pub functions_found : FunctionsAreFound
 functions_found p ok = record { pieces = find_piece p ok; spawners = find_spawner p ok; driver = find_driver p ok; kept = find_native p ok; main = find_main p ok }

@@ -17,41 +17,16 @@ use Rattle.cpc_convert.proofs.Made.{find_prototype, pass_prototypes, pass_items}
 use Rattle.cpc_convert_image_laws.specs.InPlace.{is_cps}
 use Rattle.cpc_convert_chain_laws.specs.Driver.{drive_name, drive_function}
 use Rattle.cpc_convert_event.specs.Routines.{Routine, routine_of}
-use Rattle.cpc_convert_event.specs.Frames.{leader_struct, structs_of, value_struct_if, start_struct}
 use Rattle.cpc_convert_event.specs.Pieces.{piece_function, spawner_function}
-use Rattle.cpc_convert_event.specs.Converted.{kept_function, item_unless, kept_items, routines, all_structs, all_made, main_function, main_if, converted_with, converted}
+use Rattle.cpc_convert_event.specs.Converted.{kept_function, item_unless, kept_items, routines, all_structs, all_boxes, all_made, main_function, main_if, converted_with, converted}
 use Rattle.cpc_convert_event.specs.NameLaws.{IsNamed, ItemsAreMeant}
 use Rattle.cpc_convert_event.proofs.Apart.{behind, piece_is, spawner_is, driver_is, piece_nothing, spawn_nothing, no_bar_behind, no_bar_spawn, no_bar_nothing}
+use Rattle.cpc_convert_event.proofs.Structs.{skip_names, all_structs_are, all_boxes_are}
 use Rattle.cpc_convert_event.proofs.Made.{Made, MadeSpawner, MadePiece, made_is, made_one_name, made_marked, has_piece, has_spawner}
-
--- ---- structs mean nothing
-
-skip_map : (p : Program) (r : Routine) (ns : List ℕ) (items : Program) (n : ℕ) (x : Text) → item_named n (map (leader_struct p r) ns ++ items) x ≡ item_named n items x
-skip_map p r [] items n x = refl
-skip_map p r (m ∷ ns) items n x = skip_map p r ns items n x
-
-skip_value : (b : Bool) (r : Routine) (items : Program) (n : ℕ) (x : Text) → item_named n (value_struct_if b r.function.called r.function.result ++ items) x ≡ item_named n items x
-skip_value true r items n x = refl
-skip_value false r items n x = refl
-
-append_assoc : (xs ys zs : List Item) → (xs ++ ys) ++ zs ≡ xs ++ (ys ++ zs)
-append_assoc [] ys zs = refl
-append_assoc (x ∷ xs) ys zs = ap (λ us. x ∷ us) (append_assoc xs ys zs)
 
 append_nil : (xs : List Item) → xs ++ [] ≡ xs
 append_nil [] = refl
 append_nil (x ∷ xs) = ap (λ ys. x ∷ ys) (append_nil xs)
-
-skip_structs_of : (p : Program) (r : Routine) (items : Program) (n : ℕ) (x : Text) → item_named n (structs_of p r ++ items) x ≡ item_named n items x
-skip_structs_of p r items n x =
-    let front = value_struct_if _ r.function.called r.function.result in
-    let back = start_struct r.function ∷ map (leader_struct p r) r.split.leaders in
-    ap (λ ys. item_named n ys x) (append_assoc front back items) ∙ skip_value _ r (back ++ items) n x ∙ skip_map p r r.split.leaders items n x
-
-skip_structs : (p : Program) (rs : List Routine) (items : Program) (n : ℕ) (x : Text) → item_named n (all_structs p rs ++ items) x ≡ item_named n items x
-skip_structs p [] items n x = refl
-skip_structs p (r ∷ rs) items n x =
-    ap (λ ys. item_named n ys x) (append_assoc (structs_of p r) (all_structs p rs) items) ∙ skip_structs_of p r (all_structs p rs ++ items) n x ∙ skip_structs p rs items n x
 
 -- ---- what stays
 
@@ -94,9 +69,13 @@ module _ (tail : List Item) (x : Text) where
 
 -- ---- the parts of an event program
 
+-- the functions that are made
+abbrev behind_boxes : Program → List Routine → List Item
+behind_boxes p rs = map function_item (all_made p rs) ++ main_if (T.is_cps (function_named p main_name))
+
 -- the items behind the driver
 abbrev behind_driver : Program → List Routine → List Item
-behind_driver p rs = kept_items p ++ (map function_item (all_made p rs) ++ main_if (T.is_cps (function_named p main_name)))
+behind_driver p rs = kept_items p ++ (all_boxes rs ++ behind_boxes p rs)
 
 -- what stands behind the structs
 abbrev behind_structs : Program → List Routine → List Item
@@ -104,7 +83,7 @@ behind_structs p rs = map prototype (all_made p rs) ++ FunctionItem drive_functi
 
 made_there : (p : Program) (rs : List Routine) (g : Function) (x : Text) → Has g (all_made p rs) → item_named 0 (converted_with p rs) x ≡ item_named 0 (behind_structs p rs) x
 made_there p [] g x h = elim h [ ]
-made_there p (r ∷ rs) g x h = skip_structs p (r ∷ rs) (behind_structs p (r ∷ rs)) 0 x
+made_there p (r ∷ rs) g x h = skip_names (all_structs p (r ∷ rs)) (behind_structs p (r ∷ rs)) 0 x (all_structs_are p (r ∷ rs))
 
 -- a function that is found is there
 found_there : (its : List Item) (x : Text) (f : Function) → function_named its x ≡ Some f → Has (FunctionItem f) its × (f.called ≡ x)
@@ -163,11 +142,11 @@ module _ (p : Program) (ok : IsNamed p) where
       go : (rs : List Routine) → ((g : Function) → Has g (all_made p rs) → bytes_eq g.called x ≡ false) → item_named 0 (converted_with p rs) x ≡ item_named 0 p x
       go [] none = ap (λ ys. item_named 0 ys x) (sym (append_nil (kept_items p))) ∙ kept_meant [] x (λ n. refl) p 0 e
       go (r ∷ rs) none =
-          skip_structs p (r ∷ rs) (behind_structs p (r ∷ rs)) 0 x
+          skip_names (all_structs p (r ∷ rs)) (behind_structs p (r ∷ rs)) 0 x (all_structs_are p (r ∷ rs))
           ∙ (pass_prototypes (all_made p (r ∷ rs)) (FunctionItem drive_function ∷ behind_driver p (r ∷ rs)) 0 x none
           ∙ (ap (λ b. cond b (AFunction drive_function.mode drive_function.result (map parameter_type drive_function.parameters)) (item_named 0 (behind_driver p (r ∷ rs)) x)) (unlike_driver x h)
-          ∙ kept_meant (map function_item (all_made p (r ∷ rs)) ++ main_if (T.is_cps (function_named p main_name))) x
-          (λ n. pass_items (all_made p (r ∷ rs)) (main_if (T.is_cps (function_named p main_name))) n x none ∙ main_nothing x e n) p 0 e))
+          ∙ kept_meant (all_boxes (r ∷ rs) ++ behind_boxes p (r ∷ rs)) x
+          (λ n. skip_names (all_boxes (r ∷ rs)) (behind_boxes p (r ∷ rs)) n x (all_boxes_are (r ∷ rs)) ∙ (pass_items (all_made p (r ∷ rs)) (main_if (T.is_cps (function_named p main_name))) n x none ∙ main_nothing x e n)) p 0 e))
 
 pub items_meant : ItemsAreMeant
 items_meant p ok = record {

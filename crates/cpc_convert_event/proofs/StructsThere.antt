@@ -1,5 +1,5 @@
 -- The structs of frames are there, each once.
-use Rattle.std.proofs.Common.{◌≡◌, ℕ, ⊎_elim, Bool, true, false, List, [], ◌∷◌, ◌++◌, map, slice_get, Option, Some, None, refl, sym, ◌∙◌, ap, subst, codes}
+use Rattle.std.proofs.Common.{◌≡◌, ◌⊎◌, inl, inr, ℕ, ⊎_elim, Bool, true, false, List, [], ◌∷◌, ◌++◌, map, slice_get, Option, Some, None, refl, sym, ◌∙◌, ap, subst, codes}
 use Rattle.cpc_base.specs.Bytes.{Text}
 use Rattle.cpc_num.specs.declared.kinds.Kind.TheVariants.{Int}
 use Rattle.cpc_tree.specs.Syntax.{Ty, TyInt, Expr, ENamed, EInteger, ECharacter, EText, EUnary, EBinary, EAnd, EOr, EChoose, ECast, ESizeOf, EIndex, EMember, EArrow, ECall, Exprs, Stmt, Block, Empty, Declare, Assign, Call, Detach, Spawn, If, While, DoWhile, For, Goto, Label, Break, Continue, Return, Variable, Function, Item, StructItem, GlobalItem, PrototypeItem, FunctionItem, Program}
@@ -21,12 +21,11 @@ use Rattle.cpc_convert_chain_laws.specs.Driver.{drive_function, frame_tag, head_
 use Rattle.cpc_convert_event.specs.Names.{piece_name, value_tag}
 use Rattle.cpc_convert_event.specs.Routines.{Routine, routine_of, closure_of, locals_of, passed}
 use Rattle.cpc_convert_event.specs.Frames.{any_frame, value_struct, start_struct, leader_struct, structs_of, arriving_if, arriving_from, arriving_found, arriving_stood, arriving_type}
-use Rattle.cpc_convert_event.specs.Converted.{kept_function, item_unless, kept_items, routines, all_structs, all_made, main_if, converted_with, converted}
+use Rattle.cpc_convert_event.specs.Converted.{kept_function, item_unless, kept_items, routines, all_structs, all_boxes, all_made, main_if, converted_with, converted}
 use Rattle.cpc_convert_event.specs.NameLaws.{IsNamed, IsCps}
-use Rattle.cpc_convert_event.specs.StructLaws.{StructsAreThere}
-use Rattle.cpc_convert_event.proofs.Apart.{behind, piece_is}
+use Rattle.cpc_convert_event.proofs.Apart.{behind, piece_is, value_is, frame_is}
 use Rattle.cpc_convert_event.proofs.Fields.{kept_rises, passed_rise, frame_fields, NoneRises}
-use Rattle.cpc_convert_event.proofs.Framed.{Framed, AnyFrame, AValue, AStart, OfLeader, framed_is, framed_has, has_value, has_start, has_leader, value_is, frame_is, framed_once}
+use Rattle.cpc_convert_event.proofs.Framed.{Framed, AnyFrame, AValue, AStart, OfLeader, framed_is, boxed_is, framed_has, has_value, has_start, has_leader, framed_once}
 use Rattle.cpc_convert_event.proofs.FrameStructs.{struct_of}
 
 -- ---- no struct elsewhere
@@ -63,25 +62,31 @@ kept_struct (FunctionItem f ∷ its) tag gs h = past (unless_prototype (is_cps_m
 
 -- ---- the parts of an event program
 
--- what stands behind the structs
-abbrev behind_structs : Program → List Routine → List Item
-behind_structs p rs = map prototype (all_made p rs) ++ FunctionItem drive_function ∷ (kept_items p ++ (map function_item (all_made p rs) ++ main_if (is_cps (function_named p main_name))))
+-- what stands behind the boxes
+abbrev pub behind_boxes : Program → List Routine → List Item
+behind_boxes p rs = map function_item (all_made p rs) ++ main_if (is_cps (function_named p main_name))
 
--- it has the structs of the source alone
-struct_behind : (p : Program) (rs : List Routine) (tag : Text) (gs : List Variable) → Has (StructItem tag gs) (behind_structs p rs) → Has (StructItem tag gs) p
+-- what stands behind the frames
+abbrev pub behind_structs : Program → List Routine → List Item
+behind_structs p rs = map prototype (all_made p rs) ++ FunctionItem drive_function ∷ (kept_items p ++ (all_boxes rs ++ behind_boxes p rs))
+
+-- it has the structs of the source, and boxes
+struct_behind : (p : Program) (rs : List Routine) (tag : Text) (gs : List Variable) → Has (StructItem tag gs) (behind_structs p rs) → Has (StructItem tag gs) p ⊎ Has (StructItem tag gs) (all_boxes rs)
 struct_behind p rs tag gs h =
     ⊎_elim (λ a. absurd (no_prototype (all_made p rs) tag gs a)) (λ a. past_driver a)
-    (has_either (StructItem tag gs) (map prototype (all_made p rs)) (FunctionItem drive_function ∷ (kept_items p ++ (map function_item (all_made p rs) ++ main_if (is_cps (function_named p main_name))))) h)
+    (has_either (StructItem tag gs) (map prototype (all_made p rs)) (FunctionItem drive_function ∷ (kept_items p ++ (all_boxes rs ++ behind_boxes p rs))) h)
   where
-    past_driver : Has (StructItem tag gs) (FunctionItem drive_function ∷ (kept_items p ++ (map function_item (all_made p rs) ++ main_if (is_cps (function_named p main_name))))) → Has (StructItem tag gs) p
+    past_driver : Has (StructItem tag gs) (FunctionItem drive_function ∷ (kept_items p ++ (all_boxes rs ++ behind_boxes p rs))) → Has (StructItem tag gs) p ⊎ Has (StructItem tag gs) (all_boxes rs)
     past_driver (Below _ _ _ k) =
-        ⊎_elim (λ a. kept_struct p tag gs a)
-        (λ a. ⊎_elim (λ b. absurd (no_function (all_made p rs) tag gs b)) (λ b. absurd (no_main (is_cps (function_named p main_name)) tag gs b))
-        (has_either (StructItem tag gs) (map function_item (all_made p rs)) (main_if (is_cps (function_named p main_name))) a))
-        (has_either (StructItem tag gs) (kept_items p) (map function_item (all_made p rs) ++ main_if (is_cps (function_named p main_name))) k)
+        ⊎_elim (λ a. inl (kept_struct p tag gs a))
+        (λ a. ⊎_elim (λ b. inr b)
+        (λ b. ⊎_elim (λ c. absurd (no_function (all_made p rs) tag gs c)) (λ c. absurd (no_main (is_cps (function_named p main_name)) tag gs c))
+        (has_either (StructItem tag gs) (map function_item (all_made p rs)) (main_if (is_cps (function_named p main_name))) b))
+        (has_either (StructItem tag gs) (all_boxes rs) (behind_boxes p rs) a))
+        (has_either (StructItem tag gs) (kept_items p) (all_boxes rs ++ behind_boxes p rs) k)
 
 -- where there are structs, the program begins with that of any frame
-with_structs : (p : Program) (rs : List Routine) (x : Item) → Has x (all_structs p rs) → converted_with p rs ≡ any_frame ∷ (all_structs p rs ++ behind_structs p rs)
+pub with_structs : (p : Program) (rs : List Routine) (x : Item) → Has x (all_structs p rs) → converted_with p rs ≡ any_frame ∷ (all_structs p rs ++ behind_structs p rs)
 with_structs p [] x h = elim h [ ]
 with_structs p (r ∷ rs) x h = refl
 
@@ -157,7 +162,8 @@ module _ (p : Program) (ok : IsNamed p) where
   framed_in tag f rest e gs (OnTop _ _) = AnyFrame
   framed_in tag f rest e gs (Below _ _ _ h) =
       ⊎_elim (λ a. framed_is p p (StructItem tag gs) a)
-      (λ a. absurd (let none = ok.unmarked (StructItem tag gs) (struct_behind p (routines p) tag gs a) in let z : true ≡ false = sym (marked_has f rest) ∙ sym (ap has_marks e) ∙ none in cc))
+      (λ a. ⊎_elim (λ b. absurd (let none = ok.unmarked (StructItem tag gs) b in let z : true ≡ false = sym (marked_has f rest) ∙ sym (ap has_marks e) ∙ none in cc))
+      (λ b. boxed_is p p (StructItem tag gs) b) (struct_behind p (routines p) tag gs a))
       (has_either (StructItem tag gs) (all_structs p (routines p)) (behind_structs p (routines p)) h)
 
   -- it is there once, where some struct is made
@@ -174,29 +180,26 @@ module _ (p : Program) (ok : IsNamed p) where
   behind_any : (x : Item) → Has x (all_structs p (routines p)) → Has x (any_frame ∷ (all_structs p (routines p) ++ behind_structs p (routines p)))
   behind_any x h = Below _ _ _ (has_left x (all_structs p (routines p)) (behind_structs p (routines p)) h)
 
-  any_there : (f : Function) → IsCps p f → IsStruct (converted p) frame_tag (head_fields (TyInt Int) [])
+  pub any_there : (f : Function) → IsCps p f → IsStruct (converted p) frame_tag (head_fields (TyInt Int) [])
   any_there f c =
       is_there frame_tag (head_fields (TyInt Int) []) (codes "frame") (codes "") (start_struct f) (among f c (start_struct f) (has_start p f)) frame_is AnyFrame (OnTop _ _) (frame_fields (TyInt Int) 0 [] refl (NoneRises 0))
 
-  value_there : (f : Function) → IsCps p f → is_scalar f.result ≡ true → IsStruct (converted p) (value_tag f.called) (head_fields f.result [])
+  pub value_there : (f : Function) → IsCps p f → is_scalar f.result ≡ true → IsStruct (converted p) (value_tag f.called) (head_fields f.result [])
   value_there f c s =
       let h = among f c (value_struct f.called f.result) (has_value p f s) in
       is_there (value_tag f.called) (head_fields f.result []) f.called (codes "value") (value_struct f.called f.result) h (value_is f.called) (AValue f c.has c.mode) (behind_any (value_struct f.called f.result) h)
       (frame_fields f.result 0 [] s (NoneRises 0))
 
-  start_there : (f : Function) → IsCps p f → IsStruct (converted p) (piece_name f.called Start) (head_fields (TyInt Int) (passed f))
+  pub start_there : (f : Function) → IsCps p f → IsStruct (converted p) (piece_name f.called Start) (head_fields (TyInt Int) (passed f))
   start_there f c =
       let h = among f c (start_struct f) (has_start p f) in
       is_there (piece_name f.called Start) (head_fields (TyInt Int) (passed f)) f.called (behind Start) (start_struct f) h (piece_is f.called Start) (AStart f c.has c.mode) (behind_any (start_struct f) h)
       (frame_fields (TyInt Int) 0 (passed f) refl (passed_rise p ok f c))
 
-  leader_there : (f : Function) → IsCps p f → (n : ℕ) → Has n (routine_of p f).split.leaders
+  pub leader_there : (f : Function) → IsCps p f → (n : ℕ) → Has n (routine_of p f).split.leaders
       → IsStruct (converted p) (piece_name f.called (At n)) (head_fields (arriving_type p (routine_of p f) (At n)) (locals_of (routine_of p f) (closure_of (routine_of p f) (At n))))
   leader_there f c n k =
       let r = routine_of p f in
       let h = among f c (leader_struct p r n) (has_leader p f n k) in
       is_there (piece_name f.called (At n)) (head_fields (arriving_type p r (At n)) (locals_of r (closure_of r (At n)))) f.called (behind (At n)) (leader_struct p r n) h (piece_is f.called (At n)) (OfLeader f n c.has c.mode k) (behind_any (leader_struct p r n) h)
       (frame_fields (arriving_type p r (At n)) 0 (locals_of r (closure_of r (At n))) (arriving_scalar p r n) (kept_rises p ok f c (At n)))
-
-pub structs_there : StructsAreThere
-structs_there p ok = record { any = any_there p ok; value = value_there p ok; start = start_there p ok; leader = leader_there p ok }

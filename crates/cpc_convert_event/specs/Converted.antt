@@ -9,7 +9,7 @@ use Rattle.cpc_meaning.specs.Threads.{is_cps_mode, is_cps}
 use Rattle.cpc_convert.specs.Converted.{respawned, spawner_name, function_item, prototype}
 use Rattle.cpc_convert_chain_laws.specs.Driver.{drive_function}
 use Rattle.cpc_convert_event.specs.Routines.{Routine, routine_of}
-use Rattle.cpc_convert_event.specs.Frames.{any_frame, structs_of}
+use Rattle.cpc_convert_event.specs.Frames.{any_frame, structs_of, boxes_of}
 use Rattle.cpc_convert_event.specs.Pieces.{made_of}
 
 -- ---- what stays
@@ -47,10 +47,15 @@ routines_in p (item ∷ items) = routines_in p items
 abbrev pub routines : Program → List Routine
 routines p = routines_in p p
 
--- the structs of all of them
+-- the frames of all of them
 abbrev pub all_structs : Program → List Routine → List Item
 all_structs p [] = []
 all_structs p (r ∷ rs) = structs_of p r ++ all_structs p rs
+
+-- the boxes of all of them
+abbrev pub all_boxes : List Routine → List Item
+all_boxes [] = []
+all_boxes (r ∷ rs) = boxes_of r ++ all_boxes rs
 
 -- what is made of all of them
 abbrev pub all_made : Program → List Routine → List Function
@@ -74,12 +79,13 @@ main_if false = []
 
 -- ---- programs
 
--- the event program with what is made of these: the frames' structs, the prototypes of what is made, the driver, what stays, what is made
+-- the event program with what is made of these: the structs of frames, the prototypes of what is made, the driver, what stays, the structs of
+-- boxes, behind those of the source, and what is made
 abbrev pub converted_with : Program → List Routine → Program
 converted_with p [] = kept_items p
 converted_with p (r ∷ rs) =
     any_frame ∷ (all_structs p (r ∷ rs) ++ (map prototype (all_made p (r ∷ rs)) ++ FunctionItem drive_function
-    ∷ (kept_items p ++ (map function_item (all_made p (r ∷ rs)) ++ main_if (is_cps (function_named p main_name))))))
+    ∷ (kept_items p ++ (all_boxes (r ∷ rs) ++ (map function_item (all_made p (r ∷ rs)) ++ main_if (is_cps (function_named p main_name)))))))
 
 -- the event program of a program
 abbrev pub converted : Program → Program

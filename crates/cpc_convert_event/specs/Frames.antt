@@ -1,8 +1,9 @@
--- The structs of frames. Each begins as any frame does: the piece that takes it up, the frame below, and the value that arrives.
+-- The structs of frames and of boxes. A frame begins as any does: the piece that takes it up, the frame below, and the value that arrives; a box
+-- has one field, its variable.
 use Rattle.std.specs.Prelude.{ℕ, Bool, true, false, List, [], ◌∷◌, ◌++◌, map, slice_get, Option, Some, None}
 use Rattle.cpc_base.specs.Bytes.{Text}
 use Rattle.cpc_num.specs.declared.kinds.Kind.TheVariants.{Int}
-use Rattle.cpc_tree.specs.Syntax.{Ty, TyInt, ENamed, Call, Item, StructItem, Function, Program}
+use Rattle.cpc_tree.specs.Syntax.{Ty, TyInt, ENamed, Call, Item, StructItem, Variable, Function, Program}
 use Rattle.cpc_tree.specs.Points.{Found, Simple}
 use Rattle.cpc_tree.specs.Typing.{is_scalar, function_named}
 use Rattle.cpc_meaning.specs.Act.{Stood, AtArrival}
@@ -10,8 +11,8 @@ use Rattle.cpc_meaning.specs.Ways.{Manner, AsCps}
 use Rattle.cpc_forms.specs.Graph.{at_node}
 use Rattle.cpc_forms.specs.Flow.{Place, Start, At}
 use Rattle.cpc_convert_chain_laws.specs.Driver.{frame_tag, head_fields}
-use Rattle.cpc_convert_event.specs.Names.{piece_name, value_tag}
-use Rattle.cpc_convert_event.specs.Routines.{Routine, closure_of, locals_of, passed}
+use Rattle.cpc_convert_event.specs.Names.{piece_name, value_tag, box_tag}
+use Rattle.cpc_convert_event.specs.Routines.{Routine, closure_of, variable_of, locals_of, passed}
 
 -- ---- the value that arrives
 
@@ -63,6 +64,18 @@ start_struct f = StructItem (piece_name f.called Start) (head_fields (TyInt Int)
 abbrev pub leader_struct : Program → Routine → ℕ → Item
 leader_struct p r n = StructItem (piece_name r.function.called (At n)) (head_fields (arriving_type p r (At n)) (locals_of r (closure_of r (At n))))
 
--- the structs of a function
+-- the frames of a function
 abbrev pub structs_of : Program → Routine → List Item
 structs_of p r = value_struct_if (is_scalar r.function.result) r.function.called r.function.result ++ start_struct r.function ∷ map (leader_struct p r) r.split.leaders
+
+-- the box of a variable
+abbrev pub box_struct : (function : Text) → ℕ → Variable → Item
+box_struct f k x = StructItem (box_tag f k) (x ∷ [])
+
+-- that of the variable of a number
+abbrev pub box_of : Routine → ℕ → Item
+box_of r k = box_struct r.function.called k (variable_of r k)
+
+-- the boxes of a function
+abbrev pub boxes_of : Routine → List Item
+boxes_of r = map (box_of r) r.boxes

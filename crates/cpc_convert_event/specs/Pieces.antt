@@ -1,13 +1,10 @@
 -- The functions that are made of a cps function: its spawner, and a piece for its start and for each leader.
-use Rattle.std.specs.Prelude.{ℕ, Bool, true, false, not, ◌||◌, ◌&&◌, if◌then◌else◌, List, [], ◌∷◌, ◌++◌, map, pos, slice_get, Option, Some}
+use Rattle.std.specs.Prelude.{ℕ, Bool, true, false, not, ◌||◌, ◌&&◌, if◌then◌else◌, List, [], ◌∷◌, ◌++◌, map, slice_get, Option, Some}
 use Rattle.cpc_base.specs.Bytes.{Text}
-use Rattle.cpc_num.specs.declared.kinds.Kind.TheVariants.{Int}
-use Rattle.cpc_num.specs.declared.kinds.Op.TheVariants.{Mul}
 use Rattle.cpc_tree.specs.declared.program.Mode.TheVariants.{Native}
 use Rattle.cpc_tree.specs.Lists.{is_empty}
-use Rattle.cpc_tree.specs.Syntax.{Ty, TyVoid, TyArray, Expr, ENamed, EInteger, EBinary, ESizeOf, Stmt, Block, Call, Return, Stmts, NoStmt, AndStmt, Variable, Parameter, Function, Program}
+use Rattle.cpc_tree.specs.Syntax.{Ty, TyVoid, TyStruct, Expr, ENamed, ESizeOf, Stmt, Block, Call, Return, Stmts, NoStmt, AndStmt, Variable, Parameter, Function, Program}
 use Rattle.cpc_tree.specs.Points.{Simple}
-use Rattle.cpc_tree.specs.Registers.{variables}
 use Rattle.cpc_tree.specs.Typing.{is_scalar, function_named}
 use Rattle.cpc_meaning.specs.Act.{Stood, AtStatement, AtArrival, target_of}
 use Rattle.cpc_meaning.specs.Ways.{Manner, AsCps}
@@ -19,8 +16,8 @@ use Rattle.cpc_convert_chain_laws.specs.Flat.{before}
 use Rattle.cpc_convert_chain_laws.specs.Frames.{Load, opens_frame, frees_frame}
 use Rattle.cpc_convert_chain_laws.specs.Boxes.{boxes_one, fills_box}
 use Rattle.cpc_convert_chain_laws.specs.Driver.{code_field, next_field, value_field, any_pointer, spawns}
-use Rattle.cpc_convert_event.specs.Names.{start_name, piece_name, pointer_name, frame_name, next_name, value_name, to_name, under_name, result_name}
-use Rattle.cpc_convert_event.specs.Routines.{Routine, closure_of, is_plain, variable_or, local_of, locals_of, passed, is_parameter, chosen, variable_if}
+use Rattle.cpc_convert_event.specs.Names.{start_name, piece_name, box_tag, pointer_name, frame_name, next_name, value_name, to_name, under_name, result_name}
+use Rattle.cpc_convert_event.specs.Routines.{Routine, closure_of, is_plain, stood_variable, variable_of, locals_of, passed, is_parameter, chosen, variable_if}
 use Rattle.cpc_convert_event.specs.Frames.{arriving_type}
 use Rattle.cpc_convert_event.specs.Lines.{save_of}
 use Rattle.cpc_convert_event.specs.Rows.{rows_nodes, stubs_of, piece_statements}
@@ -114,23 +111,20 @@ declares_of p r l = words_of p r l ++ locals_of r (begun r l)
 
 -- ---- boxes
 
--- the size of a variable's box: of an array that of so many elements
-abbrev pub amount : Ty → Expr
-amount (TyArray t n) = EBinary Mul (EInteger Int (pos n)) (ESizeOf t)
-amount t = ESizeOf t
-
 -- the start makes a box, and puts an argument in it, where there is one
-abbrev pub fills_if : Bool → Text → List Stmt
-fills_if true x = fills_box x frame_name x ∷ []
-fills_if false x = []
+abbrev pub fills_if : Bool → (variable field : Text) → List Stmt
+fills_if true x y = fills_box x y frame_name x ∷ []
+fills_if false x y = []
 
 abbrev pub box_lines : Routine → ℕ → Variable → List Stmt
-box_lines r k x = boxes_one (local_of r k).called (amount x.type) ∷ fills_if (is_parameter r.function k && is_scalar x.type) (local_of r k).called
+box_lines r k x =
+    boxes_one (stood_variable r k x).called (ESizeOf (TyStruct (box_tag r.function.called k)))
+    ∷ fills_if (is_parameter r.function k && is_scalar x.type) (stood_variable r k x).called x.called
 
 -- all of these
 abbrev pub boxing_lines : Routine → List ℕ → List Stmt
 boxing_lines r [] = []
-boxing_lines r (k ∷ ks) = box_lines r k (variable_or (slice_get (variables r.function) k)) ++ boxing_lines r ks
+boxing_lines r (k ∷ ks) = box_lines r k (variable_of r k) ++ boxing_lines r ks
 
 -- those of a piece
 abbrev pub boxing_of : Routine → Place → List Stmt

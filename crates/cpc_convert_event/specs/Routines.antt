@@ -14,7 +14,7 @@ use Rattle.cpc_forms.specs.Split.{Split, split_of, split_code, owner_or, Positio
 use Rattle.cpc_lift_laws.specs.Search.{Link, closure}
 use Rattle.cpc_lift_laws.specs.Nodes.{ways_of_nodes, uses_of_nodes}
 use Rattle.cpc_lift_laws.specs.Lift.{boxes}
-use Rattle.cpc_convert_event.specs.Names.{variable_name}
+use Rattle.cpc_convert_event.specs.Names.{box_tag, variable_name}
 
 -- ---- what is computed
 
@@ -84,13 +84,17 @@ abbrev pub variable_or : Option Variable → Variable
 variable_or None = record { called = []; type = TyVoid }
 variable_or (Some x) = x
 
--- a variable in its local: called by its name and its number, a register of its type, a box a pointer
+-- a variable in its local: called by its name and its number, a register of its type, a box a pointer to the struct of the box
 abbrev pub stood_variable : Routine → ℕ → Variable → Variable
-stood_variable r k x = record { called = variable_name k x.called; type = local_type (is_plain r k) x.type }
+stood_variable r k x = record { called = variable_name k x.called; type = local_type (is_plain r k) x.type (box_tag r.function.called k) }
+
+-- the variable of a number
+abbrev pub variable_of : Routine → ℕ → Variable
+variable_of r k = variable_or (slice_get (variables r.function) k)
 
 -- the variable of a number, in its local
 abbrev pub local_of : Routine → ℕ → Variable
-local_of r k = stood_variable r k (variable_or (slice_get (variables r.function) k))
+local_of r k = stood_variable r k (variable_of r k)
 
 -- these variables, in their locals
 abbrev pub locals_of : Routine → List ℕ → List Variable

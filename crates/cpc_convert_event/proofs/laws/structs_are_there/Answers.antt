@@ -1,4 +1,4 @@
-use Rattle.cpc_convert_event.proofs.StructsThere as L
+use Rattle.cpc_convert_event.proofs.BoxesThere as L
 use Rattle.cpc_convert_event.proofs.laws.structs_are_there.Goals as goal
 
 pub returns : goal.returns
