@@ -60,26 +60,26 @@ module _ (q : Program) (w : World) (fn : Text) (g : Function) (body : Stmts) (be
 
 -- ---- a whole frame of a call
 
-module _ (q : Program) (w : World) (fn : Text) (g : Function) (body : Stmts) (below : List (CallFrame Point)) (is_g : function_named q fn ≡ Some g) (k : ℕ) (scope : Scope) (n : ℕ) (rest : Stmts) (slots : List Slot) (s : Store) (to tag code next piece : Text) (f lower : Expr) (ps : List Give) (l : LineAt g body k scope n (asks_block to tag) (before (fills_call f code next piece lower ps) rest))
+module _ (q : Program) (w : World) (fn : Text) (g : Function) (body : Stmts) (below : List (CallFrame Point)) (is_g : function_named q fn ≡ Some g) (k : ℕ) (scope : Scope) (n : ℕ) (rest : Stmts) (slots : List Slot) (s : Store) (to tag head code next piece : Text) (start f lower : Expr) (ps : List Give) (l : LineAt g body k scope n (asks_block to tag) (before (fills_call start f code next piece lower ps) rest))
     (is_named : named q scope (codes "rt_frame") ≡ NotMeant) (is_size : size q (TyStruct tag) ≡ Some (suc (suc (suc (length ps))))) (small : suc (suc (suc (length ps))) < 2 ^ 63) (t : Ty) (old : Value) (h : Holds q scope slots to (TyPointer t) old)
-    (points : (u : Store) → PointsTo q scope (pointed_slots slots h.slot (next_block Frame s)) u f tag (next_block Frame s)) (r r' : Ty) (params : List Ty) (params' : Tys) (is_piece : named q scope piece ≡ AFunction Native r params) (is_code : field q tag code ≡ Some (0, TyCode r' params'))
-    (t' : Ty) (v p : Value) (is_next : field q tag next ≡ Some (1, t')) (is_lower : (u : Store) → value (at q scope (pointed_slots slots h.slot (next_block Frame s)) u) lower ≡ Gives v) (fits : assigned t' v ≡ Gives p) where
+    (begins : (u : Store) → PointsTo q scope (pointed_slots slots h.slot (next_block Frame s)) u start head (next_block Frame s)) (points : (u : Store) → PointsTo q scope (pointed_slots slots h.slot (next_block Frame s)) u f tag (next_block Frame s)) (r r' : Ty) (params : List Ty) (params' : Tys) (is_piece : named q scope piece ≡ AFunction Native r params) (is_code : field q head code ≡ Some (0, TyCode r' params'))
+    (t' : Ty) (v p : Value) (is_next : field q head next ≡ Some (1, t')) (is_lower : (u : Store) → value (at q scope (pointed_slots slots h.slot (next_block Frame s)) u) lower ≡ Gives v) (fits : assigned t' v ≡ Gives p) where
   -- the start frame of a call, over the frame below, with the values of the arguments
   pub calls_frame : (vs : List Value) → Giving q scope (pointed_slots slots h.slot (next_block Frame s)) tag s 3 ps vs
-      → Walk q w.trace (3 + length ps) (at_line w fn below k (AndStmt l.statement (before (fills_call f code next piece lower ps) rest)) slots s)
+      → Walk q w.trace (3 + length ps) (at_line w fn below k (AndStmt l.statement (before (fills_call start f code next piece lower ps) rest)) slots s)
       (at_line w fn below (suc (suc (suc k)) + length ps) rest (pointed_slots slots h.slot (next_block Frame s)) (alloc Frame (frame_cells (record { piece = piece; values = vs }) p Unset) s))
   calls_frame vs giving =
       let slots' = pointed_slots slots h.slot (next_block Frame s) in
       let left = before (map (gives_one f) ps) rest in
-      let head = heads_frame q w fn g body below is_g k scope n left slots s to tag code next piece f lower (length ps) l is_named is_size small t old h points r r' params params' is_piece is_code t' v p is_next is_lower fits in
-      walk_append 3 (length ps) _ _ _ head.0 (gives_walk q w fn g body below is_g scope n rest slots' s f tag points 3 (suc (suc (suc k))) (Code piece ∷ p ∷ Unset ∷ []) ps vs refl giving head.1)
+      let top = heads_frame q w fn g body below is_g k scope n left slots s to tag head code next piece start lower (length ps) l is_named is_size small t old h begins r r' params params' is_piece is_code t' v p is_next is_lower fits in
+      walk_append 3 (length ps) _ _ _ top.0 (gives_walk q w fn g body below is_g scope n rest slots' s f tag points 3 (suc (suc (suc k))) (Code piece ∷ p ∷ Unset ∷ []) ps vs refl giving top.1)
 
   -- or up to the first argument that faults
   pub calls_fault : (fault : Fault) → GivingFaults q scope (pointed_slots slots h.slot (next_block Frame s)) tag s fault 3 ps
-      → FaultsAfter q w.trace fn fault (at_line w fn below k (AndStmt l.statement (before (fills_call f code next piece lower ps) rest)) slots s)
+      → FaultsAfter q w.trace fn fault (at_line w fn below k (AndStmt l.statement (before (fills_call start f code next piece lower ps) rest)) slots s)
   calls_fault fault giving =
       let slots' = pointed_slots slots h.slot (next_block Frame s) in
       let left = before (map (gives_one f) ps) rest in
-      let head = heads_frame q w fn g body below is_g k scope n left slots s to tag code next piece f lower (length ps) l is_named is_size small t old h points r r' params params' is_piece is_code t' v p is_next is_lower fits in
-      let tail = gives_fault q w fn g body below is_g scope n rest slots' s f tag points fault 3 (suc (suc (suc k))) (Code piece ∷ p ∷ Unset ∷ []) ps refl giving head.1 in
-      record { steps = 3 + tail.steps; last = tail.last; leads = walk_append 3 tail.steps _ _ _ head.0 tail.leads; faults = tail.faults }
+      let top = heads_frame q w fn g body below is_g k scope n left slots s to tag head code next piece start lower (length ps) l is_named is_size small t old h begins r r' params params' is_piece is_code t' v p is_next is_lower fits in
+      let tail = gives_fault q w fn g body below is_g scope n rest slots' s f tag points fault 3 (suc (suc (suc k))) (Code piece ∷ p ∷ Unset ∷ []) ps refl giving top.1 in
+      record { steps = 3 + tail.steps; last = tail.last; leads = walk_append 3 tail.steps _ _ _ top.0 tail.leads; faults = tail.faults }

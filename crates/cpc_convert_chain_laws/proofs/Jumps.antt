@@ -2,7 +2,7 @@
 use Rattle.std.proofs.Common.{◌≡◌, ℕ, suc, true, false, List, [], ◌∷◌, pos, Some, None, refl, ◌∙◌, ap, arith}
 use Rattle.cpc_base.specs.Bytes.{Text}
 use Rattle.cpc_num.specs.declared.kinds.Kind.TheVariants.{Int}
-use Rattle.cpc_tree.specs.Syntax.{Ty, TyPointer, Expr, EArrow, Stmt, Empty, Assign, If, Goto, Absent, Stmts, AndStmt, Function, Program}
+use Rattle.cpc_tree.specs.Syntax.{Ty, TyPointer, Expr, ENamed, EArrow, Stmt, Empty, Assign, If, Goto, Absent, Stmts, AndStmt, Function, Program, TyStruct}
 use Rattle.cpc_tree.specs.Typing.{Scope, function_named}
 use Rattle.cpc_tree.specs.Points.{Nth, Point, Simple, Test, Out, ToLabel, Path}
 use Rattle.cpc_tree.specs.Points as P
@@ -19,7 +19,7 @@ use Rattle.cpc_convert_chain_laws.specs.Frames.{Holds, frame_through, at}
 use Rattle.cpc_convert_chain_laws.specs.Driver.{value_field, head_fields, is_set, patches, patched}
 use Rattle.cpc_convert_chain_laws.specs.Walks.{World, Walk, in_function, at_line}
 use Rattle.cpc_convert_chain_laws.specs.Structs.{IsStruct}
-use Rattle.cpc_convert_chain_laws.proofs.Fields.{cast_pointer, field_assign}
+use Rattle.cpc_convert_chain_laws.proofs.Fields.{named_pointer, field_assign}
 use Rattle.cpc_convert_chain_laws.proofs.AtLine.{line_path, line_found, line_scope, line_goes, test_holds, test_fails, arm_found, arm_next, arm_goes}
 use Rattle.cpc_convert_chain_laws.proofs.LineSteps.{line_step}
 use Rattle.cpc_convert_chain_laws.proofs.Steps.{step_on}
@@ -86,16 +86,16 @@ set_false q scope slots s x t h = simp (h.is_local, h.is_slot) refl
 
 module _ (q : Program) (w : World) (fn : Text) (g : Function) (body : Stmts) (below : List (CallFrame Point)) (is_g : function_named q fn ≡ Some g) (k : ℕ) (scope : Scope) (n : ℕ) (rest : Stmts) (slots : List Slot) (s : Store) where
   -- there is no frame below
-  pub patch_none : (next tag : Text) (e : Expr) (l : LineAt g body k scope n (patches next tag e) rest) → (t : Ty) → Holds q scope slots next t Null
+  pub patch_none : (next : Text) (e : Expr) (l : LineAt g body k scope n (patches next e) rest) → (t : Ty) → Holds q scope slots next t Null
       → Walk q w.trace 1 (at_line w fn below k (AndStmt l.statement rest) slots s) (at_line w fn below (suc k) rest slots s)
-  patch_none next tag e l t h = fails_step q w fn g body below is_g k scope n rest slots s (is_set next) _ l (Whole Int (pos 0)) (set_false q scope slots s next t h) refl
+  patch_none next e l t h = fails_step q w fn g body below is_g k scope n rest slots s (is_set next) _ l (Whole Int (pos 0)) (set_false q scope slots s next t h) refl
 
   -- a value is written to the frame below
-  pub patch_frame : (next tag : Text) (e : Expr) (l : LineAt g body k scope n (patches next tag e) rest) → (t u : Ty) (b : ℕ) → Holds q scope slots next (TyPointer t) (At Frame b 0) → IsStruct q tag (head_fields u [])
+  pub patch_frame : (next tag : Text) (e : Expr) (l : LineAt g body k scope n (patches next e) rest) → (u : Ty) (b : ℕ) → Holds q scope slots next (TyPointer (TyStruct tag)) (At Frame b 0) → IsStruct q tag (head_fields u [])
       → (f : Saved) (fs : List Saved) (lower old : Value) (owned : List ℕ) → Top s.frames f fs b lower old owned → (v v' : Value) → value (at q scope slots s) e ≡ Gives v → assigned u v ≡ Gives v'
       → Walk q w.trace 2 (at_line w fn below k (AndStmt l.statement rest) slots s) (at_line w fn below (suc k) rest slots (patched s b f lower v'))
-  patch_frame next tag e l t u b h struct f fs lower old owned top v v' is_value fits =
-      let points = cast_pointer q scope slots s next tag t b h in
-      let a = field_assign q scope slots s (frame_through next tag) tag b points (frame_cells f lower old) top.cells value_field 2 u (struct.field 2 _ refl) v v' (omega arith) fits in
-      then_step q w fn g body below is_g k scope n rest slots s (is_set next) (Assign (EArrow (frame_through next tag) value_field) None e) l (Whole Int (pos 1)) (set_true q scope slots s next (TyPointer t) Frame b 0 h) refl refl
+  patch_frame next tag e l u b h struct f fs lower old owned top v v' is_value fits =
+      let points = named_pointer q scope slots s next tag b h in
+      let a = field_assign q scope slots s (ENamed next) tag b points (frame_cells f lower old) top.cells value_field 2 u (struct.field 2 _ refl) v v' (omega arith) fits in
+      then_step q w fn g body below is_g k scope n rest slots s (is_set next) (Assign (EArrow (ENamed next) value_field) None e) l (Whole Int (pos 1)) (set_true q scope slots s next (TyPointer (TyStruct tag)) Frame b 0 h) refl refl
       (patched s b f lower v') slots (simp (is_value, a) refl)

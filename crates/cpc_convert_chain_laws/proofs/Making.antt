@@ -99,45 +99,45 @@ module _ (q : Program) (w : World) (fn : Text) (g : Function) (body : Stmts) (be
 
 module _ (q : Program) (w : World) (fn : Text) (g : Function) (body : Stmts) (below : List (CallFrame Point)) (is_g : function_named q fn ≡ Some g) (k : ℕ) (scope : Scope) (n : ℕ) (rest : Stmts) (slots : List Slot) (s : Store) where
   -- a new frame block of a piece, over the frame below, with so many fields that hold nothing yet
-  pub heads_frame : (to tag code next piece : Text) (f lower : Expr) (m : ℕ) (l : LineAt g body k scope n (asks_block to tag) (AndStmt (Assign (EArrow f code) None (ENamed piece)) (AndStmt (Assign (EArrow f next) None lower) rest)))
+  pub heads_frame : (to tag head code next piece : Text) (start lower : Expr) (m : ℕ) (l : LineAt g body k scope n (asks_block to tag) (AndStmt (Assign (EArrow start code) None (ENamed piece)) (AndStmt (Assign (EArrow start next) None lower) rest)))
       → named q scope (codes "rt_frame") ≡ NotMeant → size q (TyStruct tag) ≡ Some (suc (suc (suc m))) → suc (suc (suc m)) < 2 ^ 63
       → (t : Ty) (old : Value) (h : Holds q scope slots to (TyPointer t) old)
-      → ((u : Store) → PointsTo q scope (pointed_slots slots h.slot (next_block Frame s)) u f tag (next_block Frame s))
-      → (r r' : Ty) (params : List Ty) (params' : Tys) → named q scope piece ≡ AFunction Native r params → field q tag code ≡ Some (0, TyCode r' params')
-      → (t' : Ty) (v p : Value) → field q tag next ≡ Some (1, t') → ((u : Store) → value (at q scope (pointed_slots slots h.slot (next_block Frame s)) u) lower ≡ Gives v) → assigned t' v ≡ Gives p
-      → Walk q w.trace 3 (at_line w fn below k (AndStmt l.statement (AndStmt (Assign (EArrow f code) None (ENamed piece)) (AndStmt (Assign (EArrow f next) None lower) rest))) slots s)
+      → ((u : Store) → PointsTo q scope (pointed_slots slots h.slot (next_block Frame s)) u start head (next_block Frame s))
+      → (r r' : Ty) (params : List Ty) (params' : Tys) → named q scope piece ≡ AFunction Native r params → field q head code ≡ Some (0, TyCode r' params')
+      → (t' : Ty) (v p : Value) → field q head next ≡ Some (1, t') → ((u : Store) → value (at q scope (pointed_slots slots h.slot (next_block Frame s)) u) lower ≡ Gives v) → assigned t' v ≡ Gives p
+      → Walk q w.trace 3 (at_line w fn below k (AndStmt l.statement (AndStmt (Assign (EArrow start code) None (ENamed piece)) (AndStmt (Assign (EArrow start next) None lower) rest))) slots s)
       (at_line w fn below (suc (suc (suc k))) rest (pointed_slots slots h.slot (next_block Frame s)) (alloc Frame (Code piece ∷ p ∷ Unset ∷ replicate m Unset) s))
       × Stands g body (suc (suc (suc k))) scope n rest
-  heads_frame to tag code next piece f lower m l is_named is_size small t old h points r r' params params' is_piece is_code t' v p is_next is_lower fits =
+  heads_frame to tag head code next piece start lower m l is_named is_size small t old h points r r' params params' is_piece is_code t' v p is_next is_lower fits =
       let slots' = pointed_slots slots h.slot (next_block Frame s) in
-      let left1 = AndStmt (Assign (EArrow f next) None lower) rest in
-      let left0 = AndStmt (Assign (EArrow f code) None (ENamed piece)) left1 in
+      let left1 = AndStmt (Assign (EArrow start next) None lower) rest in
+      let left0 = AndStmt (Assign (EArrow start code) None (ENamed piece)) left1 in
       let blanks = replicate m Unset in
       let st0 = line_passed g body k scope n (asks_block to tag) left0 l in
-      let st1 = line_passed g body (suc k) scope n (Assign (EArrow f code) None (ENamed piece)) left1 (record { statement = Assign (EArrow f code) None (ENamed piece); stands = st0; is_bare = refl; is_line = refl }) in
-      let st2 = line_passed g body (suc (suc k)) scope n (Assign (EArrow f next) None lower) rest (record { statement = Assign (EArrow f next) None lower; stands = st1; is_bare = refl; is_line = refl }) in
+      let st1 = line_passed g body (suc k) scope n (Assign (EArrow start code) None (ENamed piece)) left1 (record { statement = Assign (EArrow start code) None (ENamed piece); stands = st0; is_bare = refl; is_line = refl }) in
+      let st2 = line_passed g body (suc (suc k)) scope n (Assign (EArrow start next) None lower) rest (record { statement = Assign (EArrow start next) None lower; stands = st1; is_bare = refl; is_line = refl }) in
       let made = frame_step q w fn g body below is_g k scope n left0 slots s to tag l is_named (suc (suc (suc m))) is_size small t old h in
-      let coded = new_field_step q w fn g body below is_g scope n rest slots' s f tag points (suc k) code (ENamed piece) left1 st0 [] (Unset ∷ Unset ∷ blanks) Unset (TyCode r' params') (Code piece) (Code piece) is_code (simp (is_piece) refl) refl in
-      let linked = new_field_step q w fn g body below is_g scope n rest slots' s f tag points (suc (suc k)) next lower rest st1 (Code piece ∷ []) (Unset ∷ blanks) Unset t' v p is_next (is_lower _) fits in
+      let coded = new_field_step q w fn g body below is_g scope n rest slots' s start head points (suc k) code (ENamed piece) left1 st0 [] (Unset ∷ Unset ∷ blanks) Unset (TyCode r' params') (Code piece) (Code piece) is_code (simp (is_piece) refl) refl in
+      let linked = new_field_step q w fn g body below is_g scope n rest slots' s start head points (suc (suc k)) next lower rest st1 (Code piece ∷ []) (Unset ∷ blanks) Unset t' v p is_next (is_lower _) fits in
       (walk_cons 2 _ _ _ made (walk_cons 1 _ _ _ coded linked), st2)
 
 module _ (q : Program) (w : World) (fn : Text) (g : Function) (body : Stmts) (below : List (CallFrame Point)) (is_g : function_named q fn ≡ Some g) (k : ℕ) (scope : Scope) (n : ℕ) (rest : Stmts) (slots : List Slot) (s : Store) where
   -- a new frame block of a piece, over the frame below, with the values of these variables
-  pub makes_frame : (to tag code next piece : Text) (f lower : Expr) (ps : List Save) (vs : List Value) (l : LineAt g body k scope n (asks_block to tag) (before (fills_frame f code next piece lower ps) rest))
+  pub makes_frame : (to tag head code next piece : Text) (start f lower : Expr) (ps : List Save) (vs : List Value) (l : LineAt g body k scope n (asks_block to tag) (before (fills_frame start f code next piece lower ps) rest))
       → named q scope (codes "rt_frame") ≡ NotMeant → size q (TyStruct tag) ≡ Some (suc (suc (suc (length ps)))) → suc (suc (suc (length ps))) < 2 ^ 63
       → (t : Ty) (old : Value) (h : Holds q scope slots to (TyPointer t) old)
-      → ((u : Store) → PointsTo q scope (pointed_slots slots h.slot (next_block Frame s)) u f tag (next_block Frame s))
-      → (r r' : Ty) (params : List Ty) (params' : Tys) → named q scope piece ≡ AFunction Native r params → field q tag code ≡ Some (0, TyCode r' params')
-      → (t' : Ty) (v p : Value) → field q tag next ≡ Some (1, t') → ((u : Store) → value (at q scope (pointed_slots slots h.slot (next_block Frame s)) u) lower ≡ Gives v) → assigned t' v ≡ Gives p
+      → ((u : Store) → PointsTo q scope (pointed_slots slots h.slot (next_block Frame s)) u start head (next_block Frame s)) → ((u : Store) → PointsTo q scope (pointed_slots slots h.slot (next_block Frame s)) u f tag (next_block Frame s))
+      → (r r' : Ty) (params : List Ty) (params' : Tys) → named q scope piece ≡ AFunction Native r params → field q head code ≡ Some (0, TyCode r' params')
+      → (t' : Ty) (v p : Value) → field q head next ≡ Some (1, t') → ((u : Store) → value (at q scope (pointed_slots slots h.slot (next_block Frame s)) u) lower ≡ Gives v) → assigned t' v ≡ Gives p
       → Saving q scope (pointed_slots slots h.slot (next_block Frame s)) tag 3 ps vs
-      → Walk q w.trace (suc (suc (suc (length ps)))) (at_line w fn below k (AndStmt l.statement (before (fills_frame f code next piece lower ps) rest)) slots s)
+      → Walk q w.trace (suc (suc (suc (length ps)))) (at_line w fn below k (AndStmt l.statement (before (fills_frame start f code next piece lower ps) rest)) slots s)
       (at_line w fn below (suc (suc (suc k)) + length ps) rest (pointed_slots slots h.slot (next_block Frame s)) (alloc Frame (frame_cells (record { piece = piece; values = vs }) p Unset) s))
-  makes_frame to tag code next piece f lower ps vs l is_named is_size small t old h points r r' params params' is_piece is_code t' v p is_next is_lower fits saving =
+  makes_frame to tag head code next piece start f lower ps vs l is_named is_size small t old h begins points r r' params params' is_piece is_code t' v p is_next is_lower fits saving =
       let slots' = pointed_slots slots h.slot (next_block Frame s) in
       let left = before (map (saves_one f) ps) rest in
-      let head = heads_frame q w fn g body below is_g k scope n left slots s to tag code next piece f lower (length ps) l is_named is_size small t old h points r r' params params' is_piece is_code t' v p is_next is_lower fits in
-      let saved = saves_walk q w fn g body below is_g scope n rest slots' s f tag points 3 (suc (suc (suc k))) (Code piece ∷ p ∷ Unset ∷ []) ps vs refl saving head.1 in
-      walk_as (3 + length ps) (suc (suc (suc (length ps)))) _ _ (let z : 3 + length ps ≡ suc (suc (suc (length ps))) = omega arith in z) (walk_append 3 (length ps) _ _ _ head.0 saved)
+      let top = heads_frame q w fn g body below is_g k scope n left slots s to tag head code next piece start lower (length ps) l is_named is_size small t old h begins r r' params params' is_piece is_code t' v p is_next is_lower fits in
+      let saved = saves_walk q w fn g body below is_g scope n rest slots' s f tag points 3 (suc (suc (suc k))) (Code piece ∷ p ∷ Unset ∷ []) ps vs refl saving top.1 in
+      walk_as (3 + length ps) (suc (suc (suc (length ps)))) _ _ (let z : 3 + length ps ≡ suc (suc (suc (length ps))) = omega arith in z) (walk_append 3 (length ps) _ _ _ top.0 saved)
 
 -- ---- the position behind a new frame
 
@@ -145,15 +145,15 @@ saves_lines : (f : Expr) (ps : List Save) → all_lines (map (saves_one f) ps) �
 saves_lines f [] = refl
 saves_lines f (p ∷ ps) = saves_lines f ps
 
-pub past_made : (g : Function) (body : Stmts) (k : ℕ) (scope : Scope) (n : ℕ) (rest : Stmts) (to tag code next piece : Text) (f lower : Expr) (ps : List Save) → LineAt g body k scope n (asks_block to tag) (before (fills_frame f code next piece lower ps) rest)
+pub past_made : (g : Function) (body : Stmts) (k : ℕ) (scope : Scope) (n : ℕ) (rest : Stmts) (to tag code next piece : Text) (start f lower : Expr) (ps : List Save) → LineAt g body k scope n (asks_block to tag) (before (fills_frame start f code next piece lower ps) rest)
     → Stands g body (suc (suc (suc k)) + length ps) scope n rest
-past_made g body k scope n rest to tag code next piece f lower ps l =
+past_made g body k scope n rest to tag code next piece start f lower ps l =
     let left = before (map (saves_one f) ps) rest in
-    let left1 = AndStmt (Assign (EArrow f next) None lower) left in
-    let left0 = AndStmt (Assign (EArrow f code) None (ENamed piece)) left1 in
+    let left1 = AndStmt (Assign (EArrow start next) None lower) left in
+    let left0 = AndStmt (Assign (EArrow start code) None (ENamed piece)) left1 in
     let st0 = line_passed g body k scope n (asks_block to tag) left0 l in
-    let st1 = line_passed g body (suc k) scope n (Assign (EArrow f code) None (ENamed piece)) left1 (record { statement = Assign (EArrow f code) None (ENamed piece); stands = st0; is_bare = refl; is_line = refl }) in
-    let st2 = line_passed g body (suc (suc k)) scope n (Assign (EArrow f next) None lower) left (record { statement = Assign (EArrow f next) None lower; stands = st1; is_bare = refl; is_line = refl }) in
+    let st1 = line_passed g body (suc k) scope n (Assign (EArrow start code) None (ENamed piece)) left1 (record { statement = Assign (EArrow start code) None (ENamed piece); stands = st0; is_bare = refl; is_line = refl }) in
+    let st2 = line_passed g body (suc (suc k)) scope n (Assign (EArrow start next) None lower) left (record { statement = Assign (EArrow start next) None lower; stands = st1; is_bare = refl; is_line = refl }) in
     subst (λ m. Stands g body m scope n rest) (let z : suc (suc (suc k)) + length (map (saves_one f) ps) ≡ suc (suc (suc k)) + length ps = ap (λ i. suc (suc (suc k)) + i) (same_length ps) in z)
     (past_lines g body (suc (suc (suc k))) scope n (map (saves_one f) ps) rest (saves_lines f ps) st2)
   where

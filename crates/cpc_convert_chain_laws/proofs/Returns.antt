@@ -1,7 +1,7 @@
 -- A piece is left: a value is written to the frame below, the frame below is given to the driver, and its piece is entered; or nothing runs.
 use Rattle.std.proofs.Common.{◌≡◌, ℕ, suc, ◌+◌, List, [], ◌∷◌, length, Some, refl, ap}
 use Rattle.cpc_base.specs.Bytes.{Text}
-use Rattle.cpc_tree.specs.Syntax.{Ty, TyPointer, Expr, ENamed, Stmt, Return, Stmts, AndStmt, Function, Program}
+use Rattle.cpc_tree.specs.Syntax.{Ty, TyPointer, TyStruct, Expr, ENamed, Stmt, Return, Stmts, AndStmt, Function, Program}
 use Rattle.cpc_tree.specs.Typing.{Scope, function_named}
 use Rattle.cpc_tree.specs.Registers.{variables}
 use Rattle.cpc_store.specs.declared.values.Class.TheVariants.{Frame}
@@ -46,31 +46,31 @@ module _ (q : Program) (facts : DriverFacts q) (w : World) (fn : Text) (g : Func
       (drive_finishes q facts w s p0 r0 k0)
 
 -- the same with a value, which is written to the frame below first
-module _ (q : Program) (facts : DriverFacts q) (w : World) (fn : Text) (g : Function) (body : Stmts) (is_g : function_named q fn ≡ Some g) (gives_pointer : g.result ≡ any_pointer) (p0 r0 k0 : Value) (k : ℕ) (scope : Scope) (n : ℕ) (rest : Stmts) (slots : List Slot) (s : Store) (all : AllRegisters slots) (next tag : Text) (e : Expr) where
-  pub value_below : (l : LineAt g body k scope n (patches next tag e) (AndStmt (Return (Some (ENamed next))) rest)) (t u : Ty) (b : ℕ) → Holds q scope slots next (TyPointer t) (At Frame b 0) → IsStruct q tag (head_fields u [])
+module _ (q : Program) (facts : DriverFacts q) (w : World) (fn : Text) (g : Function) (body : Stmts) (is_g : function_named q fn ≡ Some g) (gives_pointer : g.result ≡ any_pointer) (p0 r0 k0 : Value) (k : ℕ) (scope : Scope) (n : ℕ) (rest : Stmts) (slots : List Slot) (s : Store) (all : AllRegisters slots) (next : Text) (e : Expr) where
+  pub value_below : (l : LineAt g body k scope n (patches next e) (AndStmt (Return (Some (ENamed next))) rest)) (tag : Text) (u : Ty) (b : ℕ) → Holds q scope slots next (TyPointer (TyStruct tag)) (At Frame b 0) → IsStruct q tag (head_fields u [])
       → (f : Saved) (fs : List Saved) (lower old : Value) (owned : List ℕ) → Top s.frames f fs b lower old owned → (v v' : Value) → value (at q scope slots s) e ≡ Gives v → assigned u v ≡ Gives v'
       → (leader : Function) → IsPiece q f.piece leader → AreRegisters leader 0 (variables leader)
       → Walk q w.trace (2 + 4) (at_line w fn (driving p0 r0 k0 ∷ []) k (AndStmt l.statement (AndStmt (Return (Some (ENamed next))) rest)) slots s)
       (entered q w (patched s b f lower v') leader (register_slots (length (variables leader)) (At Frame b 0 ∷ [])) p0 r0 (At Frame b 0))
       × Top (patched s b f lower v').frames f fs b lower v' owned
-  value_below l t u b h struct f fs lower old owned top v v' is_value fits leader is_leader registers =
+  value_below l tag u b h struct f fs lower old owned top v v' is_value fits leader is_leader registers =
       let below = driving p0 r0 k0 ∷ [] in
       let last = AndStmt (Return (Some (ENamed next))) rest in
       let s' = patched s b f lower v' in
       let top' = chain_patched s.frames f fs b lower old v' owned top in
-      let st = line_passed g body k scope n (patches next tag e) last l in
+      let st = line_passed g body k scope n (patches next e) last l in
       let l' : LineAt g body (suc k) scope n (Return (Some (ENamed next))) rest = record { statement = Return (Some (ENamed next)); stands = st; is_bare = refl; is_line = refl } in (
-        walk_append 2 4 _ _ _ (patch_frame q w fn g body below is_g k scope n last slots s next tag e l t u b h struct f fs lower old owned top v v' is_value fits)
-            (goes_below q facts w fn g body is_g gives_pointer p0 r0 k0 (suc k) scope n rest slots s' all next l' t b h f fs lower v' owned top' leader is_leader registers),
+        walk_append 2 4 _ _ _ (patch_frame q w fn g body below is_g k scope n last slots s next tag e l u b h struct f fs lower old owned top v v' is_value fits)
+            (goes_below q facts w fn g body is_g gives_pointer p0 r0 k0 (suc k) scope n rest slots s' all next l' (TyStruct tag) b h f fs lower v' owned top' leader is_leader registers),
         top',
       )
 
-  pub value_ends : (l : LineAt g body k scope n (patches next tag e) (AndStmt (Return (Some (ENamed next))) rest)) (t : Ty) → Holds q scope slots next (TyPointer t) Null
+  pub value_ends : (l : LineAt g body k scope n (patches next e) (AndStmt (Return (Some (ENamed next))) rest)) (t : Ty) → Holds q scope slots next (TyPointer t) Null
       → Walk q w.trace (1 + 4) (at_line w fn (driving p0 r0 k0 ∷ []) k (AndStmt l.statement (AndStmt (Return (Some (ENamed next))) rest)) slots s) (idle w s)
   value_ends l t h =
       let below = driving p0 r0 k0 ∷ [] in
       let last = AndStmt (Return (Some (ENamed next))) rest in
-      let st = line_passed g body k scope n (patches next tag e) last l in
+      let st = line_passed g body k scope n (patches next e) last l in
       let l' : LineAt g body (suc k) scope n (Return (Some (ENamed next))) rest = record { statement = Return (Some (ENamed next)); stands = st; is_bare = refl; is_line = refl } in
-      walk_append 1 4 _ _ _ (patch_none q w fn g body below is_g k scope n last slots s next tag e l (TyPointer t) h)
+      walk_append 1 4 _ _ _ (patch_none q w fn g body below is_g k scope n last slots s next e l (TyPointer t) h)
       (ends_thread q facts w fn g body is_g gives_pointer p0 r0 k0 (suc k) scope n rest slots s all next l' t h)

@@ -53,7 +53,7 @@ module _ (q : Program) (w : World) (fn : Text) (g : Function) (body : Stmts) (fr
       let made = alloc Frame (frame_cells (record { piece = piece; values = vs }) Null Unset) s in
       let readied = with_agenda w (ready_one (CallWith drive_name (At Frame b 0)) w.agenda) in
       let last = AndStmt (readies e) NoStmt in
-      let fills = before (fills_frame (ENamed e) code next piece (EInteger Int (pos 0)) ps) last in
+      let fills = before (fills_frame (ENamed e) (ENamed e) code next piece (EInteger Int (pos 0)) ps) last in
       let st1 : Stands g body 1 spawner_scope (suc n) (AndStmt (asks_block e tag) fills) = subst (λ m. Stands g body 1 spawner_scope m (AndStmt (asks_block e tag) fills)) (let z : n + 1 ≡ suc n = omega arith in z) (passed g body 0 scope n (Declare e (TyPointer (TyStruct tag)) None) (AndStmt (asks_block e tag) fills) st) in
       let l : LineAt g body 1 spawner_scope (suc n) (asks_block e tag) fills = record { statement = asks_block e tag; stands = st1; is_bare = refl; is_line = refl } in
       let h : Holds q spawner_scope slots e (TyPointer (TyStruct tag)) Unset = record {
@@ -62,12 +62,12 @@ module _ (q : Program) (w : World) (fn : Text) (g : Function) (body : Stmts) (fr
         is_slot = ap (slice_get slots) (sym len) ∙ get_next done [] (Register Unset);
       } in
       let h' = holds_new q spawner_scope slots e (TyPointer (TyStruct tag)) Unset (At Frame b 0) h in
-      let st2 = past_made g body 1 spawner_scope (suc n) last e tag code next piece (ENamed e) (EInteger Int (pos 0)) ps l in
+      let st2 = past_made g body 1 spawner_scope (suc n) last e tag code next piece (ENamed e) (ENamed e) (EInteger Int (pos 0)) ps l in
       let k = suc (suc (suc 1)) + length ps in
       let l' : LineAt g body k spawner_scope (suc n) (readies e) NoStmt = record { statement = readies e; stands = st2; is_bare = refl; is_line = refl } in
       let first = declares_step q w fn g body below is_g 0 scope n (AndStmt (asks_block e tag) fills) slots s e (TyPointer (TyStruct tag)) st in
-      let second = makes_frame q w fn g body below is_g 1 spawner_scope (suc n) last slots s e tag code next piece (ENamed e) (EInteger Int (pos 0)) ps vs l is_frame is_size small (TyStruct tag) Unset h
-      (λ u. named_pointer q spawner_scope spawner_slots u e tag b h') r r' params params' is_piece is_code (TyPointer t') (Whole Int (pos 0)) Null is_next (λ u. refl) refl saving in
+      let second = makes_frame q w fn g body below is_g 1 spawner_scope (suc n) last slots s e tag tag code next piece (ENamed e) (ENamed e) (EInteger Int (pos 0)) ps vs l is_frame is_size small (TyStruct tag) Unset h
+      (λ u. named_pointer q spawner_scope spawner_slots u e tag b h') (λ u. named_pointer q spawner_scope spawner_slots u e tag b h') r r' params params' is_piece is_code (TyPointer t') (Whole Int (pos 0)) Null is_next (λ u. refl) refl saving in
       let third = walk_one (at_line w fn below k last spawner_slots made) (at_line readied fn below (suc k) NoStmt spawner_slots made) (ready_step q w fn g body below is_g k spawner_scope (suc n) NoStmt spawner_slots made e l' is_ready is_drive (TyPointer (TyStruct tag)) b h') (record { is_trace = refl; goes = refl }) in
       let fourth = walk_one (at_line readied fn below (suc k) NoStmt spawner_slots made) (running readied made below (Some Unset)) (step_leaves q readied fn g below is_g spawner_slots made made frame others refl (free_all spawner_slots made (registers_set slots n (At Frame b 0) all))) (record { is_trace = refl; goes = refl }) in
       walk_cons (suc (suc (suc (length ps))) + 2) _ _ _ first (walk_append (suc (suc (suc (length ps)))) 2 _ _ _ second (walk_cons 1 _ _ _ third fourth))

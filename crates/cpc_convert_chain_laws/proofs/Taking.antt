@@ -78,15 +78,15 @@ module _ (q : Program) (w : World) (fn : Text) (g : Function) (body : Stmts) (be
       let start = at_line w fn below k rest (done ++ more) s in
       subst (λ xs. Walk q w.trace 0 start (at_line w fn below (k + 0) rest (xs ++ more) s)) (sym (slots_none done))
       (subst (λ j. Walk q w.trace 0 start (at_line w fn below j rest (done ++ more) s)) (let z : k ≡ k + 0 = omega arith in z) (Stay _))
-  loads_walk tag e b cells live k scope n rest done more i _ _ len is_e is_slot (AndLoading l j v ls vs apart is_field sc is_cell fits others) st =
+  loads_walk tag e b cells live k scope n rest done more i _ _ len is_e is_slot (AndLoading l t j v ls vs apart is_field sc is_cell fits fits' others) st =
       let left = before (map (loads_one e) ls) rest in
       let inner : Scope = record { called = l.variable; type = l.type; slot = n } ∷ scope in
       let slots = done ++ Register Unset ∷ blank (length ls) more in
       let is_e' = not_hidden q scope l.variable e l.type (TyPointer (TyStruct tag)) n i apart is_e in
       let h : Holds q inner slots e (TyPointer (TyStruct tag)) (At Frame b 0) = record { slot = i; is_local = is_e'; is_slot = get_front done _ i (Register (At Frame b 0)) is_slot } in
       let points = named_pointer q inner slots s e tag b h in
-      let is_value = field_value q inner slots s (ENamed e) tag b points cells live l.field j l.type is_field v sc is_cell fits in
-      let first = local_step k scope n left done (blank (length ls) more) l.variable l.type (EArrow (ENamed e) l.field) v v len st is_value fits in
+      let is_value = field_value q inner slots s (ENamed e) tag b points cells live l.field j t is_field v sc is_cell fits in
+      let first = local_step k scope n left done (blank (length ls) more) l.variable l.type (EArrow (ENamed e) l.field) v v len st is_value fits' in
       let st' = passed g body k scope n (loads_one e l) left st in
       let st1 : Stands g body (suc k) inner (suc n) left = subst (λ m. Stands g body (suc k) inner m left) (let z : n + 1 ≡ suc n = omega arith in z) st' in
       let done' = done ++ Register v ∷ [] in

@@ -12,7 +12,7 @@ use Rattle.cpc_store.specs.Store.{Null, Code, Unset}
 use Rattle.cpc_convert_chain_laws.specs.Boxes.{boxes_one, fills_box, Boxing, NoBoxing, PassRegister, BoxParameter}
 use Rattle.cpc_convert_chain_laws.specs.Driver.{any_pointer}
 use Rattle.cpc_convert_chain_laws.specs.Frames.{taken_scope}
-use Rattle.cpc_convert_chain_laws.specs.Worked.{int, field_of, load_of, n, to}
+use Rattle.cpc_convert_chain_laws.specs.Worked.{int, to_frame, field_of, load_of, n, to}
 use Rattle.cpc_convert_chain_laws.specs.Driver.{next_field}
 use Rattle.cpc_convert_chain_laws.specs.WorkedBoxes.{p, box, to_box, boxed_program, BoxedProgramRuns}
 
@@ -34,7 +34,7 @@ abbrev source : Program
 source = FunctionItem source_function ∷ []
 
 abbrev piece_scope : Scope
-piece_scope = taken_scope (record { called = codes "k__"; type = any_pointer; slot = 0 } ∷ []) 1 (codes "e__") (codes "f__start") (load_of next_field any_pointer ∷ []) (field_of n to_box ∷ field_of p (TyPointer int) ∷ field_of to any_pointer ∷ [])
+piece_scope = taken_scope (record { called = codes "k__"; type = any_pointer; slot = 0 } ∷ []) 1 (codes "e__") (codes "f__start") (load_of next_field any_pointer ∷ []) (field_of n to_box ∷ field_of p (TyPointer int) ∷ field_of to to_frame ∷ [])
 
 -- its boxes are made as the laws have it
 pub boxed_boxing : Boxing source source_function boxed_program piece_scope 6 1 (codes "f__start") (codes "e__") (Code (codes "f__start") ∷ Null ∷ Unset ∷ Unset ∷ []) 0 (variables source_function) (Unset ∷ []) (Some 3 ∷ None ∷ []) (boxes_one n (ESizeOf (TyStruct box)) ∷ fills_box n (codes "n") (codes "e__") n ∷ [])

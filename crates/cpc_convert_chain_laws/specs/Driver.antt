@@ -17,7 +17,7 @@ use Rattle.cpc_meaning.specs.Trees.{first_point}
 use Rattle.cpc_meaning.specs.Events.{Callback}
 use Rattle.cpc_convert_chain_laws.specs.Chains.{Saved, frame_cells}
 use Rattle.cpc_convert_chain_laws.specs.Structs.{IsStruct}
-use Rattle.cpc_convert_chain_laws.specs.Frames.{frame_through, Save, asks_block, fills_frame}
+use Rattle.cpc_convert_chain_laws.specs.Frames.{Save, asks_block, fills_frame}
 use Rattle.cpc_convert_chain_laws.specs.Flat.{before}
 use Rattle.cpc_convert_chain_laws.specs.Walks.{World, Here, running, frame_at}
 
@@ -121,9 +121,9 @@ pub record IsPiece (q : Program) (piece : Text) (f : Function) : Type 0 where
 abbrev pub is_set : Text → Expr
 is_set x = EBinary Ne (ENamed x) (EInteger Int (pos 0))
 
--- `if (next != 0) ((struct T *) next)->value__ = e;`
-abbrev pub patches : (next tag : Text) → Expr → Stmt
-patches next tag e = If (is_set next) (Assign (EArrow (frame_through next tag) value_field) None e) Absent
+-- `if (next != 0) next->value__ = e;`
+abbrev pub patches : (next : Text) → Expr → Stmt
+patches next e = If (is_set next) (Assign (EArrow (ENamed next) value_field) None e) Absent
 
 -- the world with another agenda and more marks
 abbrev pub with_marks : World → Agenda Callback → List Mark → World
@@ -156,7 +156,7 @@ awaits d e x = Call None (ENamed (codes "rt_io")) (AndExpr d (AndExpr e (AndExpr
 -- the lines of a spawner
 abbrev pub spawns : (frame tag code next piece : Text) → List Save → Stmts
 spawns e tag code next piece ps =
-    AndStmt (Declare e (TyPointer (TyStruct tag)) None) (AndStmt (asks_block e tag) (before (fills_frame (ENamed e) code next piece (EInteger Int (pos 0)) ps) (AndStmt (readies e) NoStmt)))
+    AndStmt (Declare e (TyPointer (TyStruct tag)) None) (AndStmt (asks_block e tag) (before (fills_frame (ENamed e) (ENamed e) code next piece (EInteger Int (pos 0)) ps) (AndStmt (readies e) NoStmt)))
 
 -- `rt_detach(drive__, x, f, es);`
 abbrev pub detaches : (pointer function : Text) → Exprs → Stmt

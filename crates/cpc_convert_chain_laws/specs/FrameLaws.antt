@@ -23,18 +23,18 @@ use Rattle.cpc_convert_chain_laws.specs.Frames.{at, PointsTo, Holds, Save, asks_
 use Rattle.cpc_convert_chain_laws.specs.Boxes.{AllRegisters, Boxing, Made, Unboxing, unboxes_one}
 use Rattle.cpc_convert_chain_laws.specs.Driver.{drive_name, head_fields, DriverFacts, with_round, driving, entered, patched, IsPiece, patches}
 
--- a new frame of a piece, over the frame below, with the values of some variables: three steps, and one for each variable
+-- a new frame of a piece, written through a pointer to it and one to what it begins as, over the frame below, with the values of some variables: three steps, and one for each variable
 abbrev pub FramesAreMade : Type 0
 FramesAreMade =
     (q : Program) (w : World) (fn : Text) (g : Function) (body : Stmts) (below : List (CallFrame Point)) (is_g : function_named q fn ≡ Some g) (k : ℕ) (scope : Scope) (n : ℕ) (rest : Stmts) (slots : List Slot) (s : Store)
-    → (to tag code next piece : Text) (f lower : Expr) (ps : List Save) (vs : List Value) (l : LineAt g body k scope n (asks_block to tag) (before (fills_frame f code next piece lower ps) rest))
+    → (to tag head code next piece : Text) (start f lower : Expr) (ps : List Save) (vs : List Value) (l : LineAt g body k scope n (asks_block to tag) (before (fills_frame start f code next piece lower ps) rest))
     → named q scope (codes "rt_frame") ≡ NotMeant → size q (TyStruct tag) ≡ Some (suc (suc (suc (length ps)))) → suc (suc (suc (length ps))) < 2 ^ 63
     → (t : Ty) (old : Value) (h : Holds q scope slots to (TyPointer t) old)
-    → ((u : Store) → PointsTo q scope (pointed_slots slots h.slot (next_block Frame s)) u f tag (next_block Frame s))
-    → (r r' : Ty) (params : List Ty) (params' : Tys) → named q scope piece ≡ AFunction Native r params → field q tag code ≡ Some (0, TyCode r' params')
-    → (t' : Ty) (v p : Value) → field q tag next ≡ Some (1, t') → ((u : Store) → value (at q scope (pointed_slots slots h.slot (next_block Frame s)) u) lower ≡ Gives v) → assigned t' v ≡ Gives p
+    → ((u : Store) → PointsTo q scope (pointed_slots slots h.slot (next_block Frame s)) u start head (next_block Frame s)) → ((u : Store) → PointsTo q scope (pointed_slots slots h.slot (next_block Frame s)) u f tag (next_block Frame s))
+    → (r r' : Ty) (params : List Ty) (params' : Tys) → named q scope piece ≡ AFunction Native r params → field q head code ≡ Some (0, TyCode r' params')
+    → (t' : Ty) (v p : Value) → field q head next ≡ Some (1, t') → ((u : Store) → value (at q scope (pointed_slots slots h.slot (next_block Frame s)) u) lower ≡ Gives v) → assigned t' v ≡ Gives p
     → Saving q scope (pointed_slots slots h.slot (next_block Frame s)) tag 3 ps vs
-    → Walk q w.trace (suc (suc (suc (length ps)))) (at_line w fn below k (AndStmt l.statement (before (fills_frame f code next piece lower ps) rest)) slots s)
+    → Walk q w.trace (suc (suc (suc (length ps)))) (at_line w fn below k (AndStmt l.statement (before (fills_frame start f code next piece lower ps) rest)) slots s)
     (at_line w fn below (suc (suc (suc k)) + length ps) rest (pointed_slots slots h.slot (next_block Frame s)) (alloc Frame (frame_cells (record { piece = piece; values = vs }) p Unset) s))
 
 -- the fields of a frame are loaded into new locals: a step for each
@@ -49,10 +49,10 @@ FramesAreTaken =
 -- a value is written to the frame below, if there is one: two steps, or one
 pub record FramesArePatched : Type 0 where
   pub none : (q : Program) (w : World) (fn : Text) (g : Function) (body : Stmts) (below : List (CallFrame Point)) (is_g : function_named q fn ≡ Some g) (k : ℕ) (scope : Scope) (n : ℕ) (rest : Stmts) (slots : List Slot) (s : Store)
-      → (next tag : Text) (e : Expr) (l : LineAt g body k scope n (patches next tag e) rest) → (t : Ty) → Holds q scope slots next t Null
+      → (next : Text) (e : Expr) (l : LineAt g body k scope n (patches next e) rest) → (t : Ty) → Holds q scope slots next t Null
       → Walk q w.trace 1 (at_line w fn below k (AndStmt l.statement rest) slots s) (at_line w fn below (suc k) rest slots s)
   pub one : (q : Program) (w : World) (fn : Text) (g : Function) (body : Stmts) (below : List (CallFrame Point)) (is_g : function_named q fn ≡ Some g) (k : ℕ) (scope : Scope) (n : ℕ) (rest : Stmts) (slots : List Slot) (s : Store)
-      → (next tag : Text) (e : Expr) (l : LineAt g body k scope n (patches next tag e) rest) → (t u : Ty) (b : ℕ) → Holds q scope slots next (TyPointer t) (At Frame b 0) → IsStruct q tag (head_fields u [])
+      → (next tag : Text) (e : Expr) (l : LineAt g body k scope n (patches next e) rest) → (u : Ty) (b : ℕ) → Holds q scope slots next (TyPointer (TyStruct tag)) (At Frame b 0) → IsStruct q tag (head_fields u [])
       → (f : Saved) (fs : List Saved) (lower old : Value) (owned : List ℕ) → Top s.frames f fs b lower old owned → (v v' : Value) → value (at q scope slots s) e ≡ Gives v → assigned u v ≡ Gives v'
       → Walk q w.trace 2 (at_line w fn below k (AndStmt l.statement rest) slots s) (at_line w fn below (suc k) rest slots (patched s b f lower v'))
 

@@ -32,9 +32,9 @@ frame_through to tag = ECast (TyPointer (TyStruct tag)) (ENamed to)
 abbrev pub asks_block : (pointer tag : Text) → Stmt
 asks_block to tag = Call (Some (ENamed to)) (ENamed (codes "rt_frame")) (AndExpr (ESizeOf (TyStruct tag)) NoExpr)
 
--- the code, the frame below and the values of a new frame
-abbrev pub fills_frame : (frame : Expr) → (code next : Text) → (piece : Text) → (below : Expr) → List Save → List Stmt
-fills_frame f code next piece below saves = Assign (EArrow f code) None (ENamed piece) ∷ Assign (EArrow f next) None below ∷ map (saves_one f) saves
+-- the code, the frame below and the values of a new frame, the first two through a pointer to what it begins as
+abbrev pub fills_frame : (start frame : Expr) → (code next : Text) → (piece : Text) → (below : Expr) → List Save → List Stmt
+fills_frame start f code next piece below saves = Assign (EArrow start code) None (ENamed piece) ∷ Assign (EArrow start next) None below ∷ map (saves_one f) saves
 
 -- a variable of a type with a value, in a register
 pub record Holds (q : Program) (scope : Scope) (slots : List Slot) (x : Text) (t : Ty) (v : Value) : Type 0 where
@@ -75,11 +75,11 @@ pub record Load : Type 0 where
 abbrev pub loads_one : (frame : Text) → Load → Stmt
 loads_one e l = Declare l.variable l.type (Some (EArrow (ENamed e) l.field))
 
--- the fields of these cells hold these values, which fit the variables; no variable is called as the frame
+-- the fields of these cells hold these values, which fit them and the variables; no variable is called as the frame
 pub data Loading (q : Program) (tag e : Text) (cells : List Value) : List Load → List Value → Type 0 where
   NoLoading : Loading q tag e cells [] []
-  AndLoading : (l : Load) (i : ℕ) (v : Value) (ls : List Load) (vs : List Value) → bytes_eq l.variable e ≡ false → field q tag l.field ≡ Some (i, l.type) → is_scalar l.type ≡ true
-      → slice_get cells i ≡ Some v → Fits l.type v → Loading q tag e cells ls vs → Loading q tag e cells (l ∷ ls) (v ∷ vs)
+  AndLoading : (l : Load) (t : Ty) (i : ℕ) (v : Value) (ls : List Load) (vs : List Value) → bytes_eq l.variable e ≡ false → field q tag l.field ≡ Some (i, t) → is_scalar t ≡ true
+      → slice_get cells i ≡ Some v → Fits t v → Fits l.type v → Loading q tag e cells ls vs → Loading q tag e cells (l ∷ ls) (v ∷ vs)
 
 -- the scope with these variables, the first of which is the n-th
 abbrev pub loaded_scope : Scope → ℕ → List Load → Scope
@@ -142,9 +142,9 @@ pub record Give : Type 0 where
 abbrev pub gives_one : (frame : Expr) → Give → Stmt
 gives_one f p = Assign (EArrow f p.field) None p.expression
 
--- the code, the frame below and the arguments of a new frame
-abbrev pub fills_call : (frame : Expr) → (code next : Text) → (piece : Text) → (below : Expr) → List Give → List Stmt
-fills_call f code next piece below gives = Assign (EArrow f code) None (ENamed piece) ∷ Assign (EArrow f next) None below ∷ map (gives_one f) gives
+-- the code, the frame below and the arguments of a new frame, likewise
+abbrev pub fills_call : (start frame : Expr) → (code next : Text) → (piece : Text) → (below : Expr) → List Give → List Stmt
+fills_call start f code next piece below gives = Assign (EArrow start code) None (ENamed piece) ∷ Assign (EArrow start next) None below ∷ map (gives_one f) gives
 
 -- these expressions have values, whatever the new frame holds already, which are assigned to the fields from the i-th on
 pub data Giving (q : Program) (scope : Scope) (slots : List Slot) (tag : Text) (s : Store) : (i : ℕ) → List Give → List Value → Type 0 where

@@ -48,16 +48,16 @@ PiecesBegin =
 abbrev pub LeadersAreEntered : Type 0
 LeadersAreEntered =
     (q : Program) (facts : DriverFacts q) (w : World) (fn : Text) (g : Function) (body : Stmts) (is_g : function_named q fn ≡ Some g) (gives_pointer : g.result ≡ any_pointer) (p0 r0 k0 : Value)
-    (k : ℕ) (scope : Scope) (n : ℕ) (rest : Stmts) (slots : List Slot) (s : Store) (all : AllRegisters slots) (to tag code next piece : Text) (lower : Expr) (ps : List Save) (vs : List Value)
+    (k : ℕ) (scope : Scope) (n : ℕ) (rest : Stmts) (slots : List Slot) (s : Store) (all : AllRegisters slots) (to tag head code next piece : Text) (lower : Expr) (ps : List Save) (vs : List Value)
     (fs : List Saved) (p : Value) (owned : List ℕ) → Chain s.frames fs p owned
-    → (l : LineAt g body k scope n (asks_block to tag) (before (fills_frame (frame_through to tag) code next piece lower ps) (AndStmt (Return (Some (ENamed to))) rest)))
+    → (l : LineAt g body k scope n (asks_block to tag) (before (fills_frame (ENamed to) (frame_through to tag) code next piece lower ps) (AndStmt (Return (Some (ENamed to))) rest)))
     → named q scope (codes "rt_frame") ≡ NotMeant → size q (TyStruct tag) ≡ Some (suc (suc (suc (length ps)))) → suc (suc (suc (length ps))) < 2 ^ 63
-    → (t : Ty) (old : Value) (h : Holds q scope slots to (TyPointer t) old)
-    → (r r' : Ty) (params : List Ty) (params' : Tys) → named q scope piece ≡ AFunction Native r params → field q tag code ≡ Some (0, TyCode r' params')
-    → (t' : Ty) (v : Value) → field q tag next ≡ Some (1, t') → ((u : Store) → value (at q scope (pointed_slots slots h.slot (next_block Frame s)) u) lower ≡ Gives v) → assigned t' v ≡ Gives p
+    → (old : Value) (h : Holds q scope slots to (TyPointer (TyStruct head)) old)
+    → (r r' : Ty) (params : List Ty) (params' : Tys) → named q scope piece ≡ AFunction Native r params → field q head code ≡ Some (0, TyCode r' params')
+    → (t' : Ty) (v : Value) → field q head next ≡ Some (1, t') → ((u : Store) → value (at q scope (pointed_slots slots h.slot (next_block Frame s)) u) lower ≡ Gives v) → assigned t' v ≡ Gives p
     → Saving q scope (pointed_slots slots h.slot (next_block Frame s)) tag 3 ps vs
     → (leader : Function) → IsPiece q piece leader → AreRegisters leader 0 (variables leader)
-    → Walk q w.trace (suc (suc (suc (length ps))) + 4) (at_line w fn (driving p0 r0 k0 ∷ []) k (AndStmt l.statement (before (fills_frame (frame_through to tag) code next piece lower ps) (AndStmt (Return (Some (ENamed to))) rest))) slots s)
+    → Walk q w.trace (suc (suc (suc (length ps))) + 4) (at_line w fn (driving p0 r0 k0 ∷ []) k (AndStmt l.statement (before (fills_frame (ENamed to) (frame_through to tag) code next piece lower ps) (AndStmt (Return (Some (ENamed to))) rest))) slots s)
     (entered q w (alloc Frame (frame_cells (record { piece = piece; values = vs }) p Unset) s) leader (register_slots (length (variables leader)) (At Frame (next_block Frame s) 0 ∷ [])) p0 r0 (At Frame (next_block Frame s) 0))
     × Top (alloc Frame (frame_cells (record { piece = piece; values = vs }) p Unset) s).frames (record { piece = piece; values = vs }) fs (next_block Frame s) p Unset owned
 

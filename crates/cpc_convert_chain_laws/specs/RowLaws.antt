@@ -32,36 +32,37 @@ use Rattle.cpc_convert_chain_laws.specs.Structs.{IsStruct}
 use Rattle.cpc_convert_chain_laws.specs.Walks.{World, Walk, at_line, running, idle, frame_at, line_stack, arriving_at, FaultsAfter}
 
 -- what is known where the start frame of a call is made
-pub record CallMade (q : Program) (g : Function) (body : Stmts) (k : ℕ) (scope : Scope) (n : ℕ) (rest : Stmts) (slots : List Slot) (s : Store) (to tag code next piece : Text) (f lower : Expr) (ps : List Give) (p : Value) : Type 0 where
-  pub line : LineAt g body k scope n (asks_block to tag) (before (fills_call f code next piece lower ps) rest)
+pub record CallMade (q : Program) (g : Function) (body : Stmts) (k : ℕ) (scope : Scope) (n : ℕ) (rest : Stmts) (slots : List Slot) (s : Store) (to tag head code next piece : Text) (start f lower : Expr) (ps : List Give) (p : Value) : Type 0 where
+  pub line : LineAt g body k scope n (asks_block to tag) (before (fills_call start f code next piece lower ps) rest)
   pub is_named : named q scope (codes "rt_frame") ≡ NotMeant
   pub is_size : size q (TyStruct tag) ≡ Some (suc (suc (suc (length ps))))
   pub small : suc (suc (suc (length ps))) < 2 ^ 63
   pub pointer : Ty
   pub old : Value
   pub holds : Holds q scope slots to (TyPointer pointer) old
+  pub begins : (u : Store) → PointsTo q scope (pointed_slots slots holds.slot (next_block Frame s)) u start head (next_block Frame s)
   pub points : (u : Store) → PointsTo q scope (pointed_slots slots holds.slot (next_block Frame s)) u f tag (next_block Frame s)
   pub result : Ty
   pub parameters : List Ty
   pub is_piece : named q scope piece ≡ AFunction Native result parameters
   pub code_result : Ty
   pub code_parameters : Tys
-  pub is_code : field q tag code ≡ Some (0, TyCode code_result code_parameters)
+  pub is_code : field q head code ≡ Some (0, TyCode code_result code_parameters)
   pub next_type : Ty
   pub below : Value
-  pub is_next : field q tag next ≡ Some (1, next_type)
+  pub is_next : field q head next ≡ Some (1, next_type)
   pub is_lower : (u : Store) → value (at q scope (pointed_slots slots holds.slot (next_block Frame s)) u) lower ≡ Gives below
   pub fits : assigned next_type below ≡ Gives p
 
 -- the start frame of a call holds the values of the arguments; or the first one that faults does
 pub record CallsAreFramed : Type 0 where
-  pub made : (q : Program) (w : World) (fn : Text) (g : Function) (body : Stmts) (below : List (CallFrame Point)) → function_named q fn ≡ Some g → (k : ℕ) (scope : Scope) (n : ℕ) (rest : Stmts) (slots : List Slot) (s : Store) (to tag code next piece : Text) (f lower : Expr) (ps : List Give) (p : Value)
-      → (c : CallMade q g body k scope n rest slots s to tag code next piece f lower ps p) → (vs : List Value) → Giving q scope (pointed_slots slots c.holds.slot (next_block Frame s)) tag s 3 ps vs
-      → Walk q w.trace (3 + length ps) (at_line w fn below k (AndStmt c.line.statement (before (fills_call f code next piece lower ps) rest)) slots s)
+  pub made : (q : Program) (w : World) (fn : Text) (g : Function) (body : Stmts) (below : List (CallFrame Point)) → function_named q fn ≡ Some g → (k : ℕ) (scope : Scope) (n : ℕ) (rest : Stmts) (slots : List Slot) (s : Store) (to tag head code next piece : Text) (start f lower : Expr) (ps : List Give) (p : Value)
+      → (c : CallMade q g body k scope n rest slots s to tag head code next piece start f lower ps p) → (vs : List Value) → Giving q scope (pointed_slots slots c.holds.slot (next_block Frame s)) tag s 3 ps vs
+      → Walk q w.trace (3 + length ps) (at_line w fn below k (AndStmt c.line.statement (before (fills_call start f code next piece lower ps) rest)) slots s)
       (at_line w fn below (suc (suc (suc k)) + length ps) rest (pointed_slots slots c.holds.slot (next_block Frame s)) (alloc Frame (frame_cells (record { piece = piece; values = vs }) p Unset) s))
-  pub faults : (q : Program) (w : World) (fn : Text) (g : Function) (body : Stmts) (below : List (CallFrame Point)) → function_named q fn ≡ Some g → (k : ℕ) (scope : Scope) (n : ℕ) (rest : Stmts) (slots : List Slot) (s : Store) (to tag code next piece : Text) (f lower : Expr) (ps : List Give) (p : Value)
-      → (c : CallMade q g body k scope n rest slots s to tag code next piece f lower ps p) → (fault : Fault) → GivingFaults q scope (pointed_slots slots c.holds.slot (next_block Frame s)) tag s fault 3 ps
-      → FaultsAfter q w.trace fn fault (at_line w fn below k (AndStmt c.line.statement (before (fills_call f code next piece lower ps) rest)) slots s)
+  pub faults : (q : Program) (w : World) (fn : Text) (g : Function) (body : Stmts) (below : List (CallFrame Point)) → function_named q fn ≡ Some g → (k : ℕ) (scope : Scope) (n : ℕ) (rest : Stmts) (slots : List Slot) (s : Store) (to tag head code next piece : Text) (start f lower : Expr) (ps : List Give) (p : Value)
+      → (c : CallMade q g body k scope n rest slots s to tag head code next piece start f lower ps p) → (fault : Fault) → GivingFaults q scope (pointed_slots slots c.holds.slot (next_block Frame s)) tag s fault 3 ps
+      → FaultsAfter q w.trace fn fault (at_line w fn below k (AndStmt c.line.statement (before (fills_call start f code next piece lower ps) rest)) slots s)
 
 -- a piece is left: the frame below is on top, with the value, and its piece is entered; or nothing runs
 pub record PiecesReturn (q : Program) (w : World) (fn : Text) (g : Function) (body : Stmts) (p0 r0 k0 : Value) (k : ℕ) (scope : Scope) (n : ℕ) (rest : Stmts) (slots : List Slot) (s : Store) (next : Text) : Type 0 where
@@ -70,13 +71,13 @@ pub record PiecesReturn (q : Program) (w : World) (fn : Text) (g : Function) (bo
       → Walk q w.trace 4 (at_line w fn (driving p0 r0 k0 ∷ []) k (AndStmt l.statement rest) slots s) (entered q w s leader (register_slots (length (variables leader)) (At Frame b 0 ∷ [])) p0 r0 (At Frame b 0))
   pub ends : (l : LineAt g body k scope n (Return (Some (ENamed next))) rest) (t : Ty) → Holds q scope slots next (TyPointer t) Null
       → Walk q w.trace 4 (at_line w fn (driving p0 r0 k0 ∷ []) k (AndStmt l.statement rest) slots s) (idle w s)
-  pub gives : (tag : Text) (e : Expr) (l : LineAt g body k scope n (patches next tag e) (AndStmt (Return (Some (ENamed next))) rest)) (t u : Ty) (b : ℕ) → Holds q scope slots next (TyPointer t) (At Frame b 0) → IsStruct q tag (head_fields u [])
+  pub gives : (tag : Text) (e : Expr) (l : LineAt g body k scope n (patches next e) (AndStmt (Return (Some (ENamed next))) rest)) (u : Ty) (b : ℕ) → Holds q scope slots next (TyPointer (TyStruct tag)) (At Frame b 0) → IsStruct q tag (head_fields u [])
       → (f : Saved) (fs : List Saved) (lower old : Value) (owned : List ℕ) → Top s.frames f fs b lower old owned → (v v' : Value) → value (at q scope slots s) e ≡ Gives v → assigned u v ≡ Gives v'
       → (leader : Function) → IsPiece q f.piece leader → AreRegisters leader 0 (variables leader)
       → Walk q w.trace (2 + 4) (at_line w fn (driving p0 r0 k0 ∷ []) k (AndStmt l.statement (AndStmt (Return (Some (ENamed next))) rest)) slots s)
       (entered q w (patched s b f lower v') leader (register_slots (length (variables leader)) (At Frame b 0 ∷ [])) p0 r0 (At Frame b 0))
       × Top (patched s b f lower v').frames f fs b lower v' owned
-  pub gives_none : (tag : Text) (e : Expr) (l : LineAt g body k scope n (patches next tag e) (AndStmt (Return (Some (ENamed next))) rest)) (t : Ty) → Holds q scope slots next (TyPointer t) Null
+  pub gives_none : (e : Expr) (l : LineAt g body k scope n (patches next e) (AndStmt (Return (Some (ENamed next))) rest)) (t : Ty) → Holds q scope slots next (TyPointer t) Null
       → Walk q w.trace (1 + 4) (at_line w fn (driving p0 r0 k0 ∷ []) k (AndStmt l.statement (AndStmt (Return (Some (ENamed next))) rest)) slots s) (idle w s)
 
 abbrev pub PiecesAreLeft : Type 0

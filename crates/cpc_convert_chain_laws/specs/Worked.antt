@@ -4,7 +4,7 @@ use Rattle.cpc_base.specs.Bytes.{Text}
 use Rattle.cpc_num.specs.declared.kinds.Kind.TheVariants.{Int}
 use Rattle.cpc_num.specs.declared.kinds.Op.TheVariants.{Add}
 use Rattle.cpc_tree.specs.declared.program.Mode.TheVariants.{Native}
-use Rattle.cpc_tree.specs.Syntax.{Ty, TyVoid, TyInt, Expr, ENamed, EInteger, EBinary, NoExpr, AndExpr, Block, Empty, Assign, Call, Return, Stmts, NoStmt, AndStmt, Variable, Item, StructItem, FunctionItem, Program}
+use Rattle.cpc_tree.specs.Syntax.{Ty, TyVoid, TyInt, Expr, ENamed, EInteger, EBinary, NoExpr, AndExpr, Block, Empty, Assign, Call, Return, Stmts, NoStmt, AndStmt, Variable, Item, StructItem, FunctionItem, Program, TyPointer, TyStruct}
 use Rattle.cpc_tree.specs.Trace.{Output, Ended}
 use Rattle.cpc_meaning.specs.History.{History}
 use Rattle.cpc_meaning.specs.Events.{event}
@@ -39,9 +39,17 @@ load_of x t = record { variable = x; type = t; field = x }
 abbrev pub save_of : Text → Save
 save_of x = record { field = x; variable = x }
 
--- a new frame through a pointer of type `void *`
+-- a pointer to any frame
+abbrev pub to_frame : Ty
+to_frame = TyPointer (TyStruct frame_tag)
+
+-- a pointer to a frame at which the value of g arrives
+abbrev pub to_value : Ty
+to_value = TyPointer (TyStruct (codes "g__value"))
+
+-- a new frame through a pointer to any frame
 abbrev pub frame_lines : (pointer tag piece : Text) → (below : Expr) → List Save → Stmts → Stmts
-frame_lines to tag piece below saves rest = AndStmt (asks_block to tag) (before (fills_frame (frame_through to tag) code_field next_field piece below saves) rest)
+frame_lines to tag piece below saves rest = AndStmt (asks_block to tag) (before (fills_frame (ENamed to) (frame_through to tag) code_field next_field piece below saves) rest)
 
 -- a piece that takes the frame of its name
 abbrev pub piece_of : Text → List Load → List Variable → Stmts → Item
@@ -88,13 +96,13 @@ others =
       parameters = record { called = Some n; type = int } ∷ [];
       body = Block (spawns (codes "e__") (codes "f__start") code_field next_field (codes "f__start") (save_of n ∷ []));
     })
-    ∷ piece_of (codes "f__start") (load_of next_field any_pointer ∷ load_of n int ∷ []) (field_of to any_pointer ∷ field_of under any_pointer ∷ [])
+    ∷ piece_of (codes "f__start") (load_of next_field any_pointer ∷ load_of n int ∷ []) (field_of to to_frame ∷ field_of under to_frame ∷ [])
     (frame_lines under (codes "f__at1") (codes "f__at1") (ENamed next_field) []
     (frame_lines to (codes "g__start") (codes "g__start") (ENamed under) (record { field = a; variable = n } ∷ []) (AndStmt (Return (Some (ENamed to))) NoStmt)))
-    ∷ piece_of (codes "g__start") (load_of next_field any_pointer ∷ load_of a int ∷ []) (field_of to any_pointer ∷ [])
+    ∷ piece_of (codes "g__start") (load_of next_field to_value ∷ load_of a int ∷ []) (field_of to to_frame ∷ [])
     (frame_lines to (codes "g__at1") (codes "g__at1") (ENamed next_field) (save_of a ∷ []) (AndStmt (readies to) (AndStmt (Return (Some (EInteger Int (pos 0)))) NoStmt)))
-    ∷ piece_of (codes "g__at1") (load_of next_field any_pointer ∷ load_of a int ∷ []) (field_of result int ∷ [])
-    (AndStmt Empty (AndStmt (Assign (ENamed result) None (EBinary Add (ENamed a) (EInteger Int (pos 1)))) (AndStmt (patches next_field (codes "g__value") (ENamed result)) (AndStmt (Return (Some (ENamed next_field))) NoStmt))))
+    ∷ piece_of (codes "g__at1") (load_of next_field to_value ∷ load_of a int ∷ []) (field_of result int ∷ [])
+    (AndStmt Empty (AndStmt (Assign (ENamed result) None (EBinary Add (ENamed a) (EInteger Int (pos 1)))) (AndStmt (patches next_field (ENamed result)) (AndStmt (Return (Some (ENamed next_field))) NoStmt))))
     ∷ piece_of (codes "f__at1") (load_of next_field any_pointer ∷ load_of value_field int ∷ []) (field_of x int ∷ [])
     (AndStmt (Assign (ENamed x) None (ENamed value_field)) (AndStmt (Call None (ENamed (codes "cpc_print")) (AndExpr (ENamed x) NoExpr)) (AndStmt (Return (Some (ENamed next_field))) NoStmt)))
     ∷ FunctionItem (record {

@@ -11,7 +11,7 @@ use Rattle.cpc_meaning.specs.Events.{event}
 use Rattle.cpc_convert_chain_laws.specs.Frames.{opens_frame, frees_frame}
 use Rattle.cpc_convert_chain_laws.specs.Boxes.{boxes_one, fills_box, unboxes_one}
 use Rattle.cpc_convert_chain_laws.specs.Driver.{drive_function, frame_tag, code_field, next_field, any_pointer, head_fields, readies, spawns}
-use Rattle.cpc_convert_chain_laws.specs.Worked.{int, field_of, load_of, save_of, frame_lines, piece_of, n, to, quiet}
+use Rattle.cpc_convert_chain_laws.specs.Worked.{int, to_frame, field_of, load_of, save_of, frame_lines, piece_of, n, to, quiet}
 
 -- cps void f(int n) { int *p; p = &n; cpc_yield(); *p = *p + 1; cpc_print(n); }
 -- int main(void) { cpc_spawn f(6); return 0; }
@@ -46,7 +46,7 @@ boxed_program =
       called = codes "f__start";
       result = any_pointer;
       parameters = record { called = Some (codes "k__"); type = any_pointer } ∷ [];
-      body = Block (opens_frame (codes "k__") (codes "e__") (codes "f__start") (load_of next_field any_pointer ∷ []) (field_of n to_box ∷ field_of p (TyPointer int) ∷ field_of to any_pointer ∷ [])
+      body = Block (opens_frame (codes "k__") (codes "e__") (codes "f__start") (load_of next_field any_pointer ∷ []) (field_of n to_box ∷ field_of p (TyPointer int) ∷ field_of to to_frame ∷ [])
           (AndStmt (boxes_one n (ESizeOf (TyStruct box))) (AndStmt (fills_box n (codes "n") (codes "e__") n) (AndStmt (frees_frame (codes "k__"))
           (AndStmt (Assign (ENamed p) None (EUnary AddressOf (EArrow (ENamed n) (codes "n"))))
           (frame_lines to (codes "f__at1") (codes "f__at1") (ENamed next_field) (save_of n ∷ save_of p ∷ []) (AndStmt (readies to) (AndStmt (Return (Some (EInteger Int (pos 0)))) NoStmt))))))));

@@ -73,13 +73,13 @@ result_done : (names : Readings) (o : Option Expr) → AreLines (result_lines na
 result_done names None = tt
 result_done names (Some e) = (refl, tt)
 
-patch_done : (f : Text) (o : Option Expr) → AreLines (patch_lines f o)
-patch_done f None = tt
-patch_done f (Some e) = (refl, tt)
+patch_done : (o : Option Expr) → AreLines (patch_lines o)
+patch_done None = tt
+patch_done (Some e) = (refl, tt)
 
 leave_done : (r : Routine) (names : Readings) (o : Option Expr) → AreLines (leave_lines r names o)
 leave_done r names o =
-    lines_append (result_lines names o) _ (result_done names o) (lines_append (unbox_lines r) _ (lines_map _ (λ k. refl) r.boxes) (lines_append (patch_lines r.function.called o) _ (patch_done r.function.called o) (refl, tt)))
+    lines_append (result_lines names o) _ (result_done names o) (lines_append (unbox_lines r) _ (lines_map _ (λ k. refl) r.boxes) (lines_append (patch_lines o) _ (patch_done o) (refl, tt)))
 
 simple_done : (r : Routine) (names : Readings) (s : Stmt) (o : Option ℕ) → AllDo (simple_lines r names s o)
 simple_done r names (Return e) o = all_done (leave_lines r names e) (leave_done r names e)

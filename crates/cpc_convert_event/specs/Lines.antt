@@ -16,7 +16,7 @@ use Rattle.cpc_forms.specs.Flow.{Place, At}
 use Rattle.cpc_convert_chain_laws.specs.Frames.{Save, asks_block, fills_frame, frame_through, Give, fills_call}
 use Rattle.cpc_convert_chain_laws.specs.Boxes.{unboxes_one}
 use Rattle.cpc_convert_chain_laws.specs.Driver.{drive_name, code_field, next_field, patches, detaches}
-use Rattle.cpc_convert_event.specs.Names.{start_name, piece_name, value_tag, variable_name, next_name, value_name, to_name, under_name, result_name}
+use Rattle.cpc_convert_event.specs.Names.{start_name, piece_name, variable_name, next_name, value_name, to_name, under_name, result_name}
 use Rattle.cpc_convert_event.specs.Routines.{Routine, readings_of, closure_of, local_of}
 
 -- A line: a statement; a way behind one, which is a goto, unless the node stands next; a test with a goto; or a way in place of a statement that
@@ -51,7 +51,7 @@ save_of x = record { field = x.called; variable = x.called }
 abbrev pub frame_lines : Routine → (pointer : Text) → Place → List Stmt
 frame_lines r to l =
     asks_block to (piece_name r.function.called l)
-    ∷ fills_frame (frame_through to (piece_name r.function.called l)) code_field next_field (piece_name r.function.called l) (ENamed next_name) (map (λ k. save_of (local_of r k)) (closure_of r l))
+    ∷ fills_frame (ENamed to) (frame_through to (piece_name r.function.called l)) code_field next_field (piece_name r.function.called l) (ENamed next_name) (map (λ k. save_of (local_of r k)) (closure_of r l))
 
 -- the same, where the owner may be missing
 abbrev pub frame_lines_if : Routine → (pointer : Text) → Option ℕ → List Stmt
@@ -67,7 +67,7 @@ gives_from k _ names _ = []
 abbrev pub call_lines : Function → Readings → Exprs → List Stmt
 call_lines g names es =
     asks_block to_name (start_name g.called)
-    ∷ fills_call (frame_through to_name (start_name g.called)) code_field next_field (start_name g.called) (ENamed under_name) (gives_from 0 (variables g) names es)
+    ∷ fills_call (ENamed to_name) (frame_through to_name (start_name g.called)) code_field next_field (start_name g.called) (ENamed under_name) (gives_from 0 (variables g) names es)
 
 -- ---- what waits
 
@@ -115,13 +115,13 @@ abbrev pub result_lines : Readings → Option Expr → List Stmt
 result_lines names None = []
 result_lines names (Some e) = Assign (ENamed result_name) None (image names e) ∷ []
 
-abbrev pub patch_lines : Text → Option Expr → List Stmt
-patch_lines f None = []
-patch_lines f (Some e) = patches next_name (value_tag f) (ENamed result_name) ∷ []
+abbrev pub patch_lines : Option Expr → List Stmt
+patch_lines None = []
+patch_lines (Some e) = patches next_name (ENamed result_name) ∷ []
 
 -- the function is left
 abbrev pub leave_lines : Routine → Readings → Option Expr → List Stmt
-leave_lines r names o = result_lines names o ++ (unbox_lines r ++ (patch_lines r.function.called o ++ (hands_over next_name ∷ [])))
+leave_lines r names o = result_lines names o ++ (unbox_lines r ++ (patch_lines o ++ (hands_over next_name ∷ [])))
 
 -- ---- nodes
 

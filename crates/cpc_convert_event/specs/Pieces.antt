@@ -3,7 +3,7 @@ use Rattle.std.specs.Prelude.{ℕ, Bool, true, false, not, ◌||◌, ◌&&◌, i
 use Rattle.cpc_base.specs.Bytes.{Text}
 use Rattle.cpc_tree.specs.declared.program.Mode.TheVariants.{Native}
 use Rattle.cpc_tree.specs.Lists.{is_empty}
-use Rattle.cpc_tree.specs.Syntax.{Ty, TyVoid, TyStruct, Expr, ENamed, ESizeOf, Stmt, Block, Call, Return, Stmts, NoStmt, AndStmt, Variable, Parameter, Function, Program}
+use Rattle.cpc_tree.specs.Syntax.{Ty, TyVoid, TyPointer, TyStruct, Expr, ENamed, ESizeOf, Stmt, Block, Call, Return, Stmts, NoStmt, AndStmt, Variable, Parameter, Function, Program}
 use Rattle.cpc_tree.specs.Points.{Simple}
 use Rattle.cpc_tree.specs.Typing.{is_scalar, function_named}
 use Rattle.cpc_meaning.specs.Act.{Stood, AtStatement, AtArrival, target_of}
@@ -15,8 +15,8 @@ use Rattle.cpc_forms.specs.Flow.{Place, Start, At}
 use Rattle.cpc_convert_chain_laws.specs.Flat.{before}
 use Rattle.cpc_convert_chain_laws.specs.Frames.{Load, opens_frame, frees_frame}
 use Rattle.cpc_convert_chain_laws.specs.Boxes.{boxes_one, fills_box}
-use Rattle.cpc_convert_chain_laws.specs.Driver.{code_field, next_field, value_field, any_pointer, spawns}
-use Rattle.cpc_convert_event.specs.Names.{start_name, piece_name, box_tag, pointer_name, frame_name, next_name, value_name, to_name, under_name, result_name}
+use Rattle.cpc_convert_chain_laws.specs.Driver.{frame_tag, code_field, next_field, value_field, any_pointer, spawns}
+use Rattle.cpc_convert_event.specs.Names.{start_name, piece_name, value_tag, box_tag, pointer_name, frame_name, next_name, value_name, to_name, under_name, result_name}
 use Rattle.cpc_convert_event.specs.Routines.{Routine, closure_of, is_plain, stood_variable, variable_of, locals_of, passed, is_parameter, chosen, variable_if}
 use Rattle.cpc_convert_event.specs.Frames.{arriving_type}
 use Rattle.cpc_convert_event.specs.Lines.{save_of}
@@ -32,9 +32,14 @@ parameter_of x = record { called = Some x.called; type = x.type }
 abbrev pub load_of : Variable → Load
 load_of x = record { variable = x.called; type = x.type; field = x.called }
 
+-- the type of a pointer to the frame below a function: where the function has a value, one at which it arrives
+abbrev pub below_if : (is_scalar : Bool) → (function : Text) → Ty
+below_if true f = TyPointer (TyStruct (value_tag f))
+below_if false f = any_pointer
+
 -- the frame below
-abbrev pub next_load : Load
-next_load = record { variable = next_name; type = any_pointer; field = next_field }
+abbrev pub next_load : Function → Load
+next_load f = record { variable = next_name; type = below_if (is_scalar f.result) f.called; field = next_field }
 
 -- whether a value that arrives at a place is put somewhere
 abbrev pub has_place : Option (Option Expr) → Bool
@@ -62,7 +67,7 @@ loaded r (At n) = closure_of r (At n)
 
 -- what a piece loads
 abbrev pub loads_of : Program → Routine → Place → List Load
-loads_of p r l = next_load ∷ (value_load p r l ++ map load_of (locals_of r (loaded r l)))
+loads_of p r l = next_load r.function ∷ (value_load p r l ++ map load_of (locals_of r (loaded r l)))
 
 -- ---- what is declared
 
@@ -90,9 +95,13 @@ is_result stood = false
 abbrev pub called_so : Text → Ty → Variable
 called_so x t = record { called = x; type = t }
 
+-- a pointer to any frame
+abbrev pub to_frame : Ty
+to_frame = TyPointer (TyStruct frame_tag)
+
 -- words for the frame that a piece gives, for one below it, and for the value that it returns, where they are used
 abbrev pub words_if : (gives calls returns : Bool) → Ty → List Variable
-words_if a b c t = variable_if a (called_so to_name any_pointer) (variable_if b (called_so under_name any_pointer) (variable_if c (called_so result_name t) []))
+words_if a b c t = variable_if a (called_so to_name to_frame) (variable_if b (called_so under_name to_frame) (variable_if c (called_so result_name t) []))
 
 -- the words that a piece declares
 abbrev pub words_of : Program → Routine → Place → List Variable

@@ -51,7 +51,7 @@ use Rattle.cpc_convert_event.specs.Written.{counters_event}
 -- void *f__start(void *k__) {
 --   struct f__start *e__ = k__;
 --   void *next__ = e__->next__;
---   void *to__;
+--   struct frame__ *to__;
 --   int y__1;
 --   struct f__box0 *x__0;
 --   x__0 = rt_box(sizeof(struct f__box0));
@@ -63,8 +63,8 @@ use Rattle.cpc_convert_event.specs.Written.{counters_event}
 --   g = &x__0->x;
 --   w__spawn();
 --   to__ = rt_frame(sizeof(struct f__at7));
---   ((struct f__at7 *) to__)->code__ = f__at7;
---   ((struct f__at7 *) to__)->next__ = next__;
+--   to__->code__ = f__at7;
+--   to__->next__ = next__;
 --   ((struct f__at7 *) to__)->x__0 = x__0;
 --   ((struct f__at7 *) to__)->y__1 = y__1;
 --   rt_ready(drive__, to__);
@@ -99,7 +99,7 @@ shared_event =
     ∷ FunctionItem (record { mode = Native; called = (codes "w__spawn"); result = TyVoid; parameters = ([]); body = (Block (AndStmt (Declare (codes "e__") (TyPointer (TyStruct (codes "w__start"))) None) (AndStmt (Call (Some (ENamed (codes "e__"))) (ENamed (codes "rt_frame")) (AndExpr (ESizeOf (TyStruct (codes "w__start"))) NoExpr)) (AndStmt (Assign (EArrow (ENamed (codes "e__")) (codes "code__")) None (ENamed (codes "w__start"))) (AndStmt (Assign (EArrow (ENamed (codes "e__")) (codes "next__")) None (EInteger Int (pos 0))) (AndStmt (Call None (ENamed (codes "rt_ready")) (AndExpr (ENamed (codes "drive__")) (AndExpr (ENamed (codes "e__")) NoExpr))) NoStmt)))))) })
     ∷ FunctionItem (record { mode = Native; called = (codes "w__start"); result = (TyPointer TyVoid); parameters = (record { called = (Some (codes "k__")); type = (TyPointer TyVoid) } ∷ []); body = (Block (AndStmt (Declare (codes "e__") (TyPointer (TyStruct (codes "w__start"))) (Some (ENamed (codes "k__")))) (AndStmt (Declare (codes "next__") (TyPointer TyVoid) (Some (EArrow (ENamed (codes "e__")) (codes "next__")))) (AndStmt (Call None (ENamed (codes "rt_frame_free")) (AndExpr (ENamed (codes "k__")) NoExpr)) (AndStmt (Assign (EUnary Dereference (ENamed (codes "g"))) None (EBinary Add (EUnary Dereference (ENamed (codes "g"))) (EInteger Int (pos 5)))) (AndStmt (Return (Some (ENamed (codes "next__")))) NoStmt)))))) })
     ∷ FunctionItem (record { mode = Native; called = (codes "f__spawn"); result = TyVoid; parameters = ([]); body = (Block (AndStmt (Declare (codes "e__") (TyPointer (TyStruct (codes "f__start"))) None) (AndStmt (Call (Some (ENamed (codes "e__"))) (ENamed (codes "rt_frame")) (AndExpr (ESizeOf (TyStruct (codes "f__start"))) NoExpr)) (AndStmt (Assign (EArrow (ENamed (codes "e__")) (codes "code__")) None (ENamed (codes "f__start"))) (AndStmt (Assign (EArrow (ENamed (codes "e__")) (codes "next__")) None (EInteger Int (pos 0))) (AndStmt (Call None (ENamed (codes "rt_ready")) (AndExpr (ENamed (codes "drive__")) (AndExpr (ENamed (codes "e__")) NoExpr))) NoStmt)))))) })
-    ∷ FunctionItem (record { mode = Native; called = (codes "f__start"); result = (TyPointer TyVoid); parameters = (record { called = (Some (codes "k__")); type = (TyPointer TyVoid) } ∷ []); body = (Block (AndStmt (Declare (codes "e__") (TyPointer (TyStruct (codes "f__start"))) (Some (ENamed (codes "k__")))) (AndStmt (Declare (codes "next__") (TyPointer TyVoid) (Some (EArrow (ENamed (codes "e__")) (codes "next__")))) (AndStmt (Declare (codes "to__") (TyPointer TyVoid) None) (AndStmt (Declare (codes "y__1") (TyInt Int) None) (AndStmt (Declare (codes "x__0") (TyPointer (TyStruct (codes "f__box0"))) None) (AndStmt (Call (Some (ENamed (codes "x__0"))) (ENamed (codes "rt_box")) (AndExpr (ESizeOf (TyStruct (codes "f__box0"))) NoExpr)) (AndStmt (Call None (ENamed (codes "rt_frame_free")) (AndExpr (ENamed (codes "k__")) NoExpr)) (AndStmt Empty (AndStmt Empty (AndStmt (Assign (EArrow (ENamed (codes "x__0")) (codes "x")) None (EInteger Int (pos 1))) (AndStmt (Assign (ENamed (codes "y__1")) None (EInteger Int (pos 2))) (AndStmt (Assign (ENamed (codes "g")) None (EUnary AddressOf (EArrow (ENamed (codes "x__0")) (codes "x")))) (AndStmt (Call None (ENamed (codes "w__spawn")) NoExpr) (AndStmt (Call (Some (ENamed (codes "to__"))) (ENamed (codes "rt_frame")) (AndExpr (ESizeOf (TyStruct (codes "f__at7"))) NoExpr)) (AndStmt (Assign (EArrow (ECast (TyPointer (TyStruct (codes "f__at7"))) (ENamed (codes "to__"))) (codes "code__")) None (ENamed (codes "f__at7"))) (AndStmt (Assign (EArrow (ECast (TyPointer (TyStruct (codes "f__at7"))) (ENamed (codes "to__"))) (codes "next__")) None (ENamed (codes "next__"))) (AndStmt (Assign (EArrow (ECast (TyPointer (TyStruct (codes "f__at7"))) (ENamed (codes "to__"))) (codes "x__0")) None (ENamed (codes "x__0"))) (AndStmt (Assign (EArrow (ECast (TyPointer (TyStruct (codes "f__at7"))) (ENamed (codes "to__"))) (codes "y__1")) None (ENamed (codes "y__1"))) (AndStmt (Call None (ENamed (codes "rt_ready")) (AndExpr (ENamed (codes "drive__")) (AndExpr (ENamed (codes "to__")) NoExpr))) (AndStmt (Return (Some (EInteger Int (pos 0)))) NoStmt))))))))))))))))))))) })
+    ∷ FunctionItem (record { mode = Native; called = (codes "f__start"); result = (TyPointer TyVoid); parameters = (record { called = (Some (codes "k__")); type = (TyPointer TyVoid) } ∷ []); body = (Block (AndStmt (Declare (codes "e__") (TyPointer (TyStruct (codes "f__start"))) (Some (ENamed (codes "k__")))) (AndStmt (Declare (codes "next__") (TyPointer TyVoid) (Some (EArrow (ENamed (codes "e__")) (codes "next__")))) (AndStmt (Declare (codes "to__") (TyPointer (TyStruct (codes "frame__"))) None) (AndStmt (Declare (codes "y__1") (TyInt Int) None) (AndStmt (Declare (codes "x__0") (TyPointer (TyStruct (codes "f__box0"))) None) (AndStmt (Call (Some (ENamed (codes "x__0"))) (ENamed (codes "rt_box")) (AndExpr (ESizeOf (TyStruct (codes "f__box0"))) NoExpr)) (AndStmt (Call None (ENamed (codes "rt_frame_free")) (AndExpr (ENamed (codes "k__")) NoExpr)) (AndStmt Empty (AndStmt Empty (AndStmt (Assign (EArrow (ENamed (codes "x__0")) (codes "x")) None (EInteger Int (pos 1))) (AndStmt (Assign (ENamed (codes "y__1")) None (EInteger Int (pos 2))) (AndStmt (Assign (ENamed (codes "g")) None (EUnary AddressOf (EArrow (ENamed (codes "x__0")) (codes "x")))) (AndStmt (Call None (ENamed (codes "w__spawn")) NoExpr) (AndStmt (Call (Some (ENamed (codes "to__"))) (ENamed (codes "rt_frame")) (AndExpr (ESizeOf (TyStruct (codes "f__at7"))) NoExpr)) (AndStmt (Assign (EArrow (ENamed (codes "to__")) (codes "code__")) None (ENamed (codes "f__at7"))) (AndStmt (Assign (EArrow (ENamed (codes "to__")) (codes "next__")) None (ENamed (codes "next__"))) (AndStmt (Assign (EArrow (ECast (TyPointer (TyStruct (codes "f__at7"))) (ENamed (codes "to__"))) (codes "x__0")) None (ENamed (codes "x__0"))) (AndStmt (Assign (EArrow (ECast (TyPointer (TyStruct (codes "f__at7"))) (ENamed (codes "to__"))) (codes "y__1")) None (ENamed (codes "y__1"))) (AndStmt (Call None (ENamed (codes "rt_ready")) (AndExpr (ENamed (codes "drive__")) (AndExpr (ENamed (codes "to__")) NoExpr))) (AndStmt (Return (Some (EInteger Int (pos 0)))) NoStmt))))))))))))))))))))) })
     ∷ FunctionItem (record { mode = Native; called = (codes "f__at7"); result = (TyPointer TyVoid); parameters = (record { called = (Some (codes "k__")); type = (TyPointer TyVoid) } ∷ []); body = (Block (AndStmt (Declare (codes "e__") (TyPointer (TyStruct (codes "f__at7"))) (Some (ENamed (codes "k__")))) (AndStmt (Declare (codes "next__") (TyPointer TyVoid) (Some (EArrow (ENamed (codes "e__")) (codes "next__")))) (AndStmt (Declare (codes "x__0") (TyPointer (TyStruct (codes "f__box0"))) (Some (EArrow (ENamed (codes "e__")) (codes "x__0")))) (AndStmt (Declare (codes "y__1") (TyInt Int) (Some (EArrow (ENamed (codes "e__")) (codes "y__1")))) (AndStmt (Call None (ENamed (codes "rt_frame_free")) (AndExpr (ENamed (codes "k__")) NoExpr)) (AndStmt Empty (AndStmt (Call None (ENamed (codes "cpc_print")) (AndExpr (EBinary Add (EArrow (ENamed (codes "x__0")) (codes "x")) (ENamed (codes "y__1"))) NoExpr)) (AndStmt (Call None (ENamed (codes "rt_unbox")) (AndExpr (ENamed (codes "x__0")) NoExpr)) (AndStmt (Return (Some (ENamed (codes "next__")))) NoStmt)))))))))) })
     ∷ []
 
