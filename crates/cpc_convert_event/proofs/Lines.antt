@@ -9,12 +9,11 @@ use Rattle.cpc_meaning.specs.Ways.{Manner, InPlace, ByFrame, AsCps}
 use Rattle.cpc_convert_image_laws.specs.Images.{Readings}
 use Rattle.cpc_forms.specs.Graph.{Node, at_node}
 use Rattle.cpc_forms.specs.Flow.{Place, At}
-use Rattle.cpc_forms.specs.Split.{Split}
 use Rattle.cpc_convert_chain_laws.specs.Flat.{is_line}
-use Rattle.cpc_convert_event.specs.Names.{to_name, under_name}
+use Rattle.cpc_convert_event.specs.Names.{to_name, under_name, node_label}
 use Rattle.cpc_convert_event.specs.Routines.{Routine}
 use Rattle.cpc_convert_event.specs.Lines.{Line, Does, Goes, Tests, Passes, goes, passes, all_do, frame_lines, frame_lines_if, call_lines, waits_lines, unbox_lines, result_lines, patch_lines, leave_lines, simple_lines, cps_lines, test_lines, arrival_lines, framed_lines, stood_lines, node_lines, hands_over}
-use Rattle.cpc_convert_event.specs.Rows.{Target, Row, rows_nodes, stubs_of, node_row, stub_row, rows_of, Put, Plain, Jump, put_line, put_lines, PutRow, first_target, put_rows, put_statement, label_of, label_if, is_wanted, rows_statements, piece_statements, is_next, target_in}
+use Rattle.cpc_convert_event.specs.Rows.{is_own, Row, stub_lines, lines_by, row_of, numbers_of, rows_of, Put, Plain, Jump, put_line, put_lines, PutRow, first_number, put_rows, put_statement, label_if, is_wanted, is_next, rows_statements, piece_statements}
 
 -- ---- statements
 
@@ -174,40 +173,37 @@ stood_done p r names w (AtStatement Nothing) n m a = passes_done n
 
 -- ---- rows
 
-row_done : (p : Program) (r : Routine) (n : ℕ) → AllDo (node_row p r n).lines
-row_done p r n = go (slice_get r.split.graph.nodes n)
+stub_done : (r : Routine) (n : ℕ) → AllDo (stub_lines r n)
+stub_done r n = all_done (frame_lines r to_name (At n) ++ (hands_over to_name ∷ [])) (lines_append (frame_lines r to_name (At n)) (hands_over to_name ∷ []) (frame_done r to_name (At n)) (refl, tt))
+
+lines_done : (b : Bool) (p : Program) (r : Routine) (n : ℕ) → AllDo (lines_by b p r n)
+lines_done true p r n = go (slice_get r.split.graph.nodes n)
   where
     go : (o : Option Node) → AllDo (at_node [] (node_lines p r) o)
     go None = tt
     go (Some node) = stood_done p r _ node.manner node.stood node.yes node.no node.arrival
-
-stub_done : (r : Routine) (n : ℕ) → AllDo (stub_row r n).lines
-stub_done r n = all_done (frame_lines r to_name (At n) ++ (hands_over to_name ∷ [])) (lines_append (frame_lines r to_name (At n)) (hands_over to_name ∷ []) (frame_done r to_name (At n)) (refl, tt))
+lines_done false p r n = stub_done r n
 
 -- so it is in each of these rows
 abbrev AllRows : List Row → Type 0
 AllRows [] = Unit {0}
 AllRows (r ∷ rs) = AllDo r.lines × AllRows rs
 
-rows_append : (xs ys : List Row) → AllRows xs → AllRows ys → AllRows (xs ++ ys)
-rows_append [] ys h g = g
-rows_append (x ∷ xs) ys h g = (h.0, rows_append xs ys h.1 g)
-
 rows_map : (f : ℕ → Row) → ((n : ℕ) → AllDo (f n).lines) → (ns : List ℕ) → AllRows (map f ns)
 rows_map f h [] = tt
 rows_map f h (n ∷ ns) = (h n, rows_map f h ns)
 
-put_done : (s : Split) (l : Place) (o : Option Target) (x : Line) → DoesLine x → AreLines (map put_statement (put_line s l o x))
-put_done s l o (Does x) h = (h, tt)
-put_done s l o (Goes n) h = go (is_next (target_in s l n) o)
+put_done : (o : Option ℕ) (x : Line) → DoesLine x → AreLines (map put_statement (put_line o x))
+put_done o (Does x) h = (h, tt)
+put_done o (Goes n) h = go (is_next n o)
   where
-    go : (b : Bool) → AreLines (map put_statement (cond b [] (Jump (target_in s l n) ∷ [])))
+    go : (b : Bool) → AreLines (map put_statement (cond b [] (Jump n ∷ [])))
     go true = tt
     go false = (refl, tt)
-put_done s l o (Tests e n) h = (refl, tt)
-put_done s l o (Passes n) h = go (is_next (target_in s l n) o)
+put_done o (Tests e n) h = (refl, tt)
+put_done o (Passes n) h = go (is_next n o)
   where
-    go : (b : Bool) → AreLines (map put_statement (cond b (Plain Empty ∷ []) (Jump (target_in s l n) ∷ [])))
+    go : (b : Bool) → AreLines (map put_statement (cond b (Plain Empty ∷ []) (Jump n ∷ [])))
     go true = (refl, tt)
     go false = (refl, tt)
 
@@ -215,21 +211,19 @@ puts_append : (xs ys : List Put) → AreLines (map put_statement xs) → AreLine
 puts_append [] ys h g = g
 puts_append (x ∷ xs) ys h g = (h.0, puts_append xs ys h.1 g)
 
-puts_done : (s : Split) (l : Place) (o : Option Target) (xs : List Line) → AllDo xs → AreLines (map put_statement (put_lines s l o xs))
-puts_done s l o [] h = tt
-puts_done s l o (x ∷ xs) h = puts_append (put_line s l o x) (put_lines s l o xs) (put_done s l o x h.0) (puts_done s l o xs h.1)
+puts_done : (o : Option ℕ) (xs : List Line) → AllDo xs → AreLines (map put_statement (put_lines o xs))
+puts_done o [] h = tt
+puts_done o (x ∷ xs) h = puts_append (put_line o x) (put_lines o xs) (put_done o x h.0) (puts_done o xs h.1)
 
 label_done : (b : Bool) (l : Text) (ss : List Stmt) → AreLines ss → AreLines (label_if b l ss)
 label_done true l [] h = h
 label_done true l (s ∷ ss) h = h
 label_done false l ss h = h
 
-rows_done : (s : Split) (l : Place) (all : List PutRow) (rs : List Row) → AllRows rs → AreLines (rows_statements all (put_rows s l rs))
-rows_done s l all [] h = tt
-rows_done s l all (r ∷ rs) h =
-    lines_append _ _ (label_done (is_wanted r.target all) (label_of r.target) _ (puts_done s l (first_target rs) r.lines h.0)) (rows_done s l all rs h.1)
+rows_done : (all : List PutRow) (rs : List Row) → AllRows rs → AreLines (rows_statements all (put_rows rs))
+rows_done all [] h = tt
+rows_done all (r ∷ rs) h = lines_append _ _ (label_done (is_wanted r.number all) (node_label r.number) _ (puts_done (first_number rs) r.lines h.0)) (rows_done all rs h.1)
 
 -- what stands behind the opening of a piece
 pub piece_lines : (p : Program) (r : Routine) (l : Place) → AreLines (piece_statements p r l)
-piece_lines p r l =
-    rows_done r.split l (put_rows r.split l (rows_of p r l)) (rows_of p r l) (rows_append (map (node_row p r) (rows_nodes r.split l)) (map (stub_row r) (stubs_of r l)) (rows_map (node_row p r) (row_done p r) _) (rows_map (stub_row r) (stub_done r) _))
+piece_lines p r l = rows_done (put_rows (rows_of p r l)) (rows_of p r l) (rows_map (row_of p r l) (λ n. lines_done (is_own r.split l n) p r n) (numbers_of p r l))

@@ -2,7 +2,7 @@
 use Rattle.std.specs.Prelude.{◌≡◌, refl}
 use Rattle.std.specs.Fmt.{digits}
 use Rattle.cpc_convert.specs.Converted.{spawner_name}
-use Rattle.cpc_convert_event.specs.Names.{start_name, leader_name, value_tag, box_tag, variable_name, node_label, stub_label}
+use Rattle.cpc_convert_event.specs.Names.{start_name, leader_name, value_tag, box_tag, variable_name, node_label}
 use Rattle.cpc_convert_event.specs.Converted.{converted}
 use Rattle.cpc_convert_event.specs.Programs.{two_counters}
 use Rattle.cpc_convert_event.specs.MorePrograms.{shared_local}
@@ -10,9 +10,9 @@ use Rattle.cpc_convert_event.specs.Written.{counters_event}
 use Rattle.cpc_convert_event.specs.WrittenBoxes.{shared_event}
 
 pub counters_written : converted two_counters ≡ counters_event
-unfolding digits spawner_name start_name leader_name value_tag box_tag variable_name node_label stub_label
+unfolding digits spawner_name start_name leader_name value_tag box_tag variable_name node_label
 counters_written = refl
 
 pub shared_written : converted shared_local ≡ shared_event
-unfolding digits spawner_name start_name leader_name value_tag box_tag variable_name node_label stub_label
+unfolding digits spawner_name start_name leader_name value_tag box_tag variable_name node_label
 shared_written = refl

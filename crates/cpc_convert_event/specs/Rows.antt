@@ -1,4 +1,4 @@
--- The rows of a piece: the lines of each node that its owner owns, and those that go to another leader; then their gotos and labels.
+-- The rows of a piece: the lines of each node that its owner owns, and those that go to another leader, each behind a label of its number.
 use Rattle.std.specs.Prelude.{ℕ, Bool, true, false, not, ◌||◌, ◌&&◌, ◌==◌, if◌then◌else◌, List, [], ◌∷◌, ◌++◌, map, slice_get, nat_le, nat_lt, Option, Some, None}
 use Rattle.cpc_base.specs.Bytes.{Text}
 use Rattle.cpc_tree.specs.Lists.{holds_number}
@@ -9,7 +9,7 @@ use Rattle.cpc_forms.specs.Graph.{Node, at_node}
 use Rattle.cpc_forms.specs.Flow.{Place, At, as_list}
 use Rattle.cpc_forms.specs.Split.{Split}
 use Rattle.cpc_forms.specs.Pieces.{is_owned_by, piece_nodes, first_of}
-use Rattle.cpc_convert_event.specs.Names.{to_name, node_label, stub_label}
+use Rattle.cpc_convert_event.specs.Names.{to_name, node_label}
 use Rattle.cpc_convert_event.specs.Routines.{Routine, chosen}
 use Rattle.cpc_convert_event.specs.Lines.{Line, Does, Goes, Tests, Passes, frame_lines, hands_over, node_lines, all_do, behind_arrival}
 
@@ -67,110 +67,126 @@ stubs_of r l = chosen (λ n. holds_number (reached r l) n && not (is_own r.split
 
 -- ---- rows
 
--- a place in a piece to which a goto may lead: the lines of a node, or those that go to a leader
-pub data Target : Type 0 where
-  ToNode : ℕ → Target
-  ToLeader : ℕ → Target
-
--- a row: lines behind one place
+-- a row: the lines behind one label, with the number of a node of the piece, or of the leader to which they go
 pub record Row : Type 0 where
-  pub target : Target
+  pub number : ℕ
   pub lines : List Line
 
--- the row of a node
-abbrev pub node_row : Program → Routine → ℕ → Row
-node_row p r n = record { target = ToNode n; lines = at_node [] (node_lines p r) (slice_get r.split.graph.nodes n) }
+-- the lines that go to a leader: its frame, given to the driver
+abbrev pub stub_lines : Routine → ℕ → List Line
+stub_lines r n = all_do (frame_lines r to_name (At n) ++ (hands_over to_name ∷ []))
 
--- the row that goes to a leader: its frame, given to the driver
-abbrev pub stub_row : Routine → ℕ → Row
-stub_row r n = record { target = ToLeader n; lines = all_do (frame_lines r to_name (At n) ++ (hands_over to_name ∷ [])) }
+-- the lines of a number: those of a node of the piece, or those that go to a leader
+abbrev pub lines_by : (is_own : Bool) → Program → Routine → ℕ → List Line
+lines_by true p r n = at_node [] (node_lines p r) (slice_get r.split.graph.nodes n)
+lines_by false p r n = stub_lines r n
+
+-- the row of a number in the piece of l
+abbrev pub row_of : Program → Routine → Place → ℕ → Row
+row_of p r l n = record { number = n; lines = lines_by (is_own r.split l n) p r n }
+
+-- where control falls behind lines
+abbrev pub falls_to : Line → Option ℕ
+falls_to (Goes n) = Some n
+falls_to (Passes n) = Some n
+falls_to x = None
+
+abbrev pub falls : List Line → Option ℕ
+falls [] = None
+falls (x ∷ []) = falls_to x
+falls (x ∷ y ∷ xs) = falls (y ∷ xs)
+
+-- a number, where it is so
+abbrev pub number_where : Bool → ℕ → List ℕ
+number_where true n = n ∷ []
+number_where false n = []
+
+-- the leader that stands behind lines which fall to it, unless it has a place already
+abbrev pub stub_behind : Split → Place → (placed : List ℕ) → (falls : Option ℕ) → List ℕ
+stub_behind s l placed None = []
+stub_behind s l placed (Some n) = number_where (not (is_own s l n) && not (holds_number placed n)) n
+
+-- nodes, each with the leader to which it is the first to fall behind it; some leaders have a place already
+abbrev pub numbers_from : Program → Routine → Place → (placed : List ℕ) → List ℕ → List ℕ
+numbers_from p r l placed [] = []
+numbers_from p r l placed (n ∷ ns) =
+    n ∷ (stub_behind r.split l placed (falls (row_of p r l n).lines) ++ numbers_from p r l (stub_behind r.split l placed (falls (row_of p r l n).lines) ++ placed) ns)
+
+-- what these leave of a piece's leaders
+abbrev pub stubs_left : Routine → Place → (placed : List ℕ) → List ℕ
+stubs_left r l placed = chosen (λ n. not (holds_number placed n)) (stubs_of r l)
+
+-- the numbers of a piece's rows: its nodes, each leader behind the first node that falls to it, and the other leaders
+abbrev pub numbers_of : Program → Routine → Place → List ℕ
+numbers_of p r l = numbers_from p r l [] (rows_nodes r.split l) ++ stubs_left r l (numbers_from p r l [] (rows_nodes r.split l))
 
 -- the rows of a piece
 abbrev pub rows_of : Program → Routine → Place → List Row
-rows_of p r l = map (node_row p r) (rows_nodes r.split l) ++ map (stub_row r) (stubs_of r l)
+rows_of p r l = map (row_of p r l) (numbers_of p r l)
 
 -- ---- ways
 
 -- a line whose ways are known
 pub data Put : Type 0 where
   Plain : Stmt → Put
-  Jump : Target → Put
-  JumpIf : Expr → Target → Put
+  Jump : ℕ → Put
+  JumpIf : Expr → ℕ → Put
 
--- the place of a node: its own lines, or those that go to its leader
-abbrev pub target_by : (is_own : Bool) → ℕ → Target
-target_by true n = ToNode n
-target_by false n = ToLeader n
+-- whether a number is the one that stands next
+abbrev pub is_next : ℕ → Option ℕ → Bool
+is_next n None = false
+is_next n (Some m) = m == n
 
-abbrev pub target_in : Split → Place → ℕ → Target
-target_in s l n = target_by (is_own s l n) n
+-- a line before this number
+abbrev pub put_line : (following : Option ℕ) → Line → List Put
+put_line o (Does x) = Plain x ∷ []
+put_line o (Goes n) = if is_next n o then [] else Jump n ∷ []
+put_line o (Tests e n) = JumpIf e n ∷ []
+put_line o (Passes n) = if is_next n o then Plain Empty ∷ [] else Jump n ∷ []
 
--- whether two places are one
-abbrev pub same_target : Target → Target → Bool
-same_target (ToNode m) (ToNode n) = m == n
-same_target (ToLeader m) (ToLeader n) = m == n
-same_target a b = false
-
--- whether a place is the one that stands next
-abbrev pub is_next : Target → Option Target → Bool
-is_next a None = false
-is_next a (Some b) = same_target a b
-
--- a line in the piece of l, before this place
-abbrev pub put_line : Split → Place → (following : Option Target) → Line → List Put
-put_line s l o (Does x) = Plain x ∷ []
-put_line s l o (Goes n) = if is_next (target_in s l n) o then [] else Jump (target_in s l n) ∷ []
-put_line s l o (Tests e n) = JumpIf e (target_in s l n) ∷ []
-put_line s l o (Passes n) = if is_next (target_in s l n) o then Plain Empty ∷ [] else Jump (target_in s l n) ∷ []
-
--- lines before this place
-abbrev pub put_lines : Split → Place → (following : Option Target) → List Line → List Put
-put_lines s l o [] = []
-put_lines s l o (x ∷ xs) = put_line s l o x ++ put_lines s l o xs
+-- lines before this number
+abbrev pub put_lines : (following : Option ℕ) → List Line → List Put
+put_lines o [] = []
+put_lines o (x ∷ xs) = put_line o x ++ put_lines o xs
 
 -- a row whose ways are known
 pub record PutRow : Type 0 where
-  pub target : Target
+  pub number : ℕ
   pub puts : List Put
 
--- the place of the first of these rows
-abbrev pub first_target : List Row → Option Target
-first_target [] = None
-first_target (r ∷ rs) = Some r.target
+-- the number of the first of these rows
+abbrev pub first_number : List Row → Option ℕ
+first_number [] = None
+first_number (r ∷ rs) = Some r.number
 
 -- rows, each before the next
-abbrev pub put_rows : Split → Place → List Row → List PutRow
-put_rows s l [] = []
-put_rows s l (r ∷ rs) = record { target = r.target; puts = put_lines s l (first_target rs) r.lines } ∷ put_rows s l rs
+abbrev pub put_rows : List Row → List PutRow
+put_rows [] = []
+put_rows (r ∷ rs) = record { number = r.number; puts = put_lines (first_number rs) r.lines } ∷ put_rows rs
 
 -- ---- labels
 
--- whether a line goes to this place
-abbrev pub leads : Target → Put → Bool
-leads a (Plain x) = false
-leads a (Jump b) = same_target a b
-leads a (JumpIf e b) = same_target a b
+-- whether a line goes to this number
+abbrev pub leads : ℕ → Put → Bool
+leads n (Plain x) = false
+leads n (Jump m) = m == n
+leads n (JumpIf e m) = m == n
 
 -- whether one of these does
-abbrev pub any_leads : Target → List Put → Bool
-any_leads a [] = false
-any_leads a (x ∷ xs) = leads a x || any_leads a xs
+abbrev pub any_leads : ℕ → List Put → Bool
+any_leads n [] = false
+any_leads n (x ∷ xs) = leads n x || any_leads n xs
 
 -- whether a line of one of these rows does
-abbrev pub is_wanted : Target → List PutRow → Bool
-is_wanted a [] = false
-is_wanted a (r ∷ rs) = any_leads a r.puts || is_wanted a rs
-
--- the label of a place
-abbrev pub label_of : Target → Text
-label_of (ToNode n) = node_label n
-label_of (ToLeader n) = stub_label n
+abbrev pub is_wanted : ℕ → List PutRow → Bool
+is_wanted n [] = false
+is_wanted n (r ∷ rs) = any_leads n r.puts || is_wanted n rs
 
 -- a line as a statement
 abbrev pub put_statement : Put → Stmt
 put_statement (Plain x) = x
-put_statement (Jump a) = Goto (label_of a)
-put_statement (JumpIf e a) = If e (Goto (label_of a)) Absent
+put_statement (Jump n) = Goto (node_label n)
+put_statement (JumpIf e n) = If e (Goto (node_label n)) Absent
 
 -- a label before the first of these, where it is wanted
 abbrev pub label_if : (is_wanted : Bool) → Text → List Stmt → List Stmt
@@ -179,7 +195,7 @@ label_if b l ss = ss
 
 -- the statements of a row, among all rows of its piece
 abbrev pub row_statements : List PutRow → PutRow → List Stmt
-row_statements all r = label_if (is_wanted r.target all) (label_of r.target) (map put_statement r.puts)
+row_statements all r = label_if (is_wanted r.number all) (node_label r.number) (map put_statement r.puts)
 
 -- those of these rows
 abbrev pub rows_statements : (all : List PutRow) → List PutRow → List Stmt
@@ -188,4 +204,4 @@ rows_statements all (r ∷ rs) = row_statements all r ++ rows_statements all rs
 
 -- the statements of a piece behind its opening
 abbrev pub piece_statements : Program → Routine → Place → List Stmt
-piece_statements p r l = rows_statements (put_rows r.split l (rows_of p r l)) (put_rows r.split l (rows_of p r l))
+piece_statements p r l = rows_statements (put_rows (rows_of p r l)) (put_rows (rows_of p r l))
