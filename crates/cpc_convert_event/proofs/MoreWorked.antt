@@ -7,6 +7,7 @@ use Rattle.cpc_tree.specs.Trace.{Ended, Failed, HistoryEnded, BadHistory}
 use Rattle.cpc_convert.specs.Converted.{spawner_name}
 use Rattle.cpc_meaning_worked_laws.specs.Shown.{no_polls, polls}
 use Rattle.cpc_convert_event.specs.Names.{start_name, leader_name, value_tag, box_tag, variable_name, node_label}
+use Rattle.cpc_convert_event.specs.BoxPrograms.{boxed_code, boxed_parts, counting}
 use Rattle.cpc_convert_event.specs.MorePrograms.{shared_local, passing_unset, outliving, two_arrays, three_waiters, sleepers, two_readers, two_sums}
 use Rattle.cpc_convert_event.specs.Worked.{RunsAlike}
 
@@ -49,3 +50,15 @@ sections = record { output = refl; ended = refl; trace = refl; outcome = refl }
 pub bad_history : RunsAlike two_sums (polls (codes "poll 0\npoll 1 d5\n")) 60 200 (codes "99\n") (BadHistory 5)
 unfolding digits settle divided spawner_name start_name leader_name value_tag box_tag variable_name node_label
 bad_history = record { output = refl; ended = refl; trace = refl; outcome = refl }
+
+pub boxed_codes : RunsAlike boxed_code no_polls 60 200 (codes "7\n") (Ended 0)
+unfolding digits settle divided spawner_name start_name leader_name value_tag box_tag variable_name node_label
+boxed_codes = record { output = refl; ended = refl; trace = refl; outcome = refl }
+
+pub boxed_structs : RunsAlike boxed_parts no_polls 100 400 (codes "4155\n") (Ended 0)
+unfolding digits settle divided spawner_name start_name leader_name value_tag box_tag variable_name node_label
+boxed_structs = record { output = refl; ended = refl; trace = refl; outcome = refl }
+
+pub first_loop : RunsAlike counting no_polls 60 200 (codes "0\n") (Ended 0)
+unfolding digits settle divided spawner_name start_name leader_name value_tag box_tag variable_name node_label
+first_loop = record { output = refl; ended = refl; trace = refl; outcome = refl }

@@ -6,6 +6,8 @@ use Rattle.cpc_convert_event.specs.Names.{start_name, leader_name, value_tag, bo
 use Rattle.cpc_convert_event.specs.Converted.{converted}
 use Rattle.cpc_convert_event.specs.Programs.{two_counters}
 use Rattle.cpc_convert_event.specs.MorePrograms.{shared_local}
+use Rattle.cpc_convert_event.specs.BoxPrograms.{counting}
+use Rattle.cpc_convert_event.specs.WrittenLoop.{counting_event}
 use Rattle.cpc_convert_event.specs.Written.{counters_event}
 use Rattle.cpc_convert_event.specs.WrittenBoxes.{shared_event}
 
@@ -16,3 +18,7 @@ counters_written = refl
 pub shared_written : converted shared_local ≡ shared_event
 unfolding digits spawner_name start_name leader_name value_tag box_tag variable_name node_label
 shared_written = refl
+
+pub loop_written : converted counting ≡ counting_event
+unfolding digits spawner_name start_name leader_name value_tag box_tag variable_name node_label
+loop_written = refl

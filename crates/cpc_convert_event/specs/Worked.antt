@@ -11,6 +11,7 @@ use Rattle.cpc_meaning.specs.Events.{event}
 use Rattle.cpc_meaning_worked_laws.specs.Shown.{no_polls, polls}
 use Rattle.cpc_convert_event.specs.Converted.{converted}
 use Rattle.cpc_convert_event.specs.Programs.{two_counters, two_ways_in, two_ways_in_over_globals, many_calls, diving, asking_main}
+use Rattle.cpc_convert_event.specs.BoxPrograms.{boxed_code, boxed_parts, counting}
 use Rattle.cpc_convert_event.specs.MorePrograms.{shared_local, passing_unset, outliving, two_arrays, three_waiters, sleepers, two_readers, two_sums}
 
 -- after m steps the threads of a program have made this output and have this outcome; after n steps its event program has left the same trace, and has it too
@@ -41,3 +42,9 @@ pub record WaitsRunAlike : Type 0 where
   pub descriptors : RunsAlike two_readers (polls (codes "poll 1 r9\npoll 2 r3\n")) 100 250 (codes "1\n2\n") (Ended 0)
   pub sections : RunsAlike two_sums (polls (codes "poll 0\npoll 1 d1\npoll 2 d0\n")) 100 300 (codes "99\n202\n2\n200\n22\n2\n20\n") (Ended 0)
   pub bad_history : RunsAlike two_sums (polls (codes "poll 0\npoll 1 d5\n")) 60 200 (codes "99\n") (BadHistory 5)
+
+-- programs with boxes of each type, and a loop that begins with the first node
+pub record BoxesRunAlike : Type 0 where
+  pub code : RunsAlike boxed_code no_polls 60 200 (codes "7\n") (Ended 0)
+  pub parts : RunsAlike boxed_parts no_polls 100 400 (codes "4155\n") (Ended 0)
+  pub loop : RunsAlike counting no_polls 60 200 (codes "0\n") (Ended 0)

@@ -1,4 +1,4 @@
--- The event program of a worked program with a box, written out; and that both programs are converted so.
+-- The event program of a worked program with a box, written out; and that programs are converted so.
 use Rattle.std.specs.Prelude.{◌≡◌, [], ◌∷◌, pos, Some, None, codes}
 use Rattle.cpc_num.specs.declared.kinds.Kind.TheVariants.{Int}
 use Rattle.cpc_num.specs.declared.kinds.Op.TheVariants.{Add, Ne}
@@ -8,6 +8,8 @@ use Rattle.cpc_tree.specs.Syntax.{TyVoid, TyInt, TyPointer, TyCode, TyStruct, No
 use Rattle.cpc_convert_event.specs.Converted.{converted}
 use Rattle.cpc_convert_event.specs.Programs.{two_counters}
 use Rattle.cpc_convert_event.specs.MorePrograms.{shared_local}
+use Rattle.cpc_convert_event.specs.BoxPrograms.{counting}
+use Rattle.cpc_convert_event.specs.WrittenLoop.{counting_event}
 use Rattle.cpc_convert_event.specs.Written.{counters_event}
 
 -- struct frame__ { void *(*code__)(void *); void *next__; int value__; };
@@ -107,3 +109,4 @@ shared_event =
 pub record ProgramsAreWritten : Type 0 where
   pub counters : converted two_counters ≡ counters_event
   pub shared : converted shared_local ≡ shared_event
+  pub loop : converted counting ≡ counting_event

@@ -6,7 +6,7 @@ ghost use Rattle.cpc_convert_event.specs.ClosureLaws.{ClosuresAreLifted};
 ghost use Rattle.cpc_convert_event.specs.ScopeLaws.{NothingIsHidden};
 ghost use Rattle.cpc_convert_event.specs.Mixed.{MixedRunsAlike};
 ghost use Rattle.cpc_convert_event.specs.WrittenBoxes.{ProgramsAreWritten};
-ghost use Rattle.cpc_convert_event.specs.Worked.{CallsRunAlike, WaitsRunAlike};
+ghost use Rattle.cpc_convert_event.specs.Worked.{CallsRunAlike, WaitsRunAlike, BoxesRunAlike};
 
 /// Event programs of programs that call run as these do.
 pub fn calls_run_alike()
@@ -18,7 +18,12 @@ pub fn waits_run_alike()
     ensures law { WaitsRunAlike }
 {}
 
-/// The event programs of two programs, written out.
+/// Event programs of programs with boxes of each type, and with a loop at the head of a function, run as these do.
+pub fn boxes_run_alike()
+    ensures law { BoxesRunAlike }
+{}
+
+/// The event programs of three programs, written out.
 pub fn programs_are_written()
     ensures law { ProgramsAreWritten }
 {}
