@@ -31,13 +31,13 @@ unfolding variable_name
 variable_is k x = refl
 
 -- variables of different numbers
-variables_apart : (j k : ℕ) (x y : Text) → j < 2 ^ 63 → k < 2 ^ 63 → has_marks x ≡ false → has_marks y ≡ false → (j ≡ k → ⊥) → bytes_eq (variable_name j x) (variable_name k y) ≡ false
+pub variables_apart : (j k : ℕ) (x y : Text) → j < 2 ^ 63 → k < 2 ^ 63 → has_marks x ≡ false → has_marks y ≡ false → (j ≡ k → ⊥) → bytes_eq (variable_name j x) (variable_name k y) ≡ false
 variables_apart j k x y hj hk hx hy d =
     texts_differ (variable_name j x) (variable_name k y)
     (λ (e : variable_name j x ≡ variable_name k y). d (decimal_is j k hj hk (marked_is x y (decimal j) (decimal k) hx hy (no_bar_decimal j hj) (no_bar_decimal k hk) (sym (variable_is j x) ∙ e ∙ variable_is k y)).1))
 
 -- a word and a variable
-word_apart : (w : Text) (k : ℕ) (x : Text) → has_marks w ≡ false → has_marks x ≡ false → k < 2 ^ 63 → bytes_eq (marked w []) (variable_name k x) ≡ false
+pub word_apart : (w : Text) (k : ℕ) (x : Text) → has_marks w ≡ false → has_marks x ≡ false → k < 2 ^ 63 → bytes_eq (marked w []) (variable_name k x) ≡ false
 word_apart w k x hw hx h = ap (bytes_eq (marked w [])) (variable_is k x) ∙ bar_piece w x k hw hx h
 
 -- ---- fields with numbers
@@ -83,13 +83,13 @@ passed_rises k (suc n) (x ∷ xs) h names = go (is_scalar x.type) refl (passed_r
 
 -- ---- variables that are kept
 
-local_scalar : (b : Bool) (t : Ty) (tag : Text) → (b ≡ true → is_scalar t ≡ true) → is_scalar (local_type b t tag) ≡ true
+pub local_scalar : (b : Bool) (t : Ty) (tag : Text) → (b ≡ true → is_scalar t ≡ true) → is_scalar (local_type b t tag) ≡ true
 local_scalar true t tag h = h refl
 local_scalar false t tag h = refl
 
 module _ (p : Program) (ok : IsNamed p) (f : Function) (c : IsCps p f) where
   -- a register is scalar
-  plain_scalar : (k : ℕ) (x : Variable) → slice_get (variables f) k ≡ Some x → is_plain (routine_of p f) k ≡ true → is_scalar x.type ≡ true
+  pub plain_scalar : (k : ℕ) (x : Variable) → slice_get (variables f) k ≡ Some x → is_plain (routine_of p f) k ≡ true → is_scalar x.type ≡ true
   plain_scalar k x e h = (both_true (is_scalar x.type) (not (holds_number (addressed f) k)) (by_box (is_register f k x) refl)).0
     where
       is_boxed : is_box p f.called k ≡ not (is_register f k x)

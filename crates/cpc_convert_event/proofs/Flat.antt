@@ -29,7 +29,7 @@ boxing_done : (r : Routine) (ks : List ℕ) → AreLines (boxing_lines r ks)
 boxing_done r [] = tt
 boxing_done r (k ∷ ks) = lines_append (box_lines r k (variable_of r k)) (boxing_lines r ks) (refl, fills_done _ _ _) (boxing_done r ks)
 
-boxes_done : (r : Routine) (l : Place) → AreLines (boxing_of r l)
+pub boxes_done : (r : Routine) (l : Place) → AreLines (boxing_of r l)
 boxes_done r Start = boxing_done r r.boxes
 boxes_done r (At n) = tt
 

@@ -147,7 +147,7 @@ arriving_stood_scalar p AsCps AtEnd = refl
 arriving_stood_scalar p InPlace s = refl
 arriving_stood_scalar p ByFrame s = refl
 
-arriving_scalar : (p : Program) (r : Routine) (n : ℕ) → is_scalar (arriving_type p r (At n)) ≡ true
+pub arriving_scalar : (p : Program) (r : Routine) (n : ℕ) → is_scalar (arriving_type p r (At n)) ≡ true
 arriving_scalar p r n = go (slice_get r.split.graph.nodes n)
   where
     go : (o : Option Node) → is_scalar (at_node (TyInt Int) (λ node. arriving_stood p node.manner node.stood) o) ≡ true

@@ -4,6 +4,7 @@ ghost use Rattle.cpc_convert_event.specs.NameLaws.{FunctionsAreFound, ItemsAreMe
 ghost use Rattle.cpc_convert_event.specs.StructLaws.{StructsAreThere};
 ghost use Rattle.cpc_convert_event.specs.ClosureLaws.{ClosuresAreLifted};
 ghost use Rattle.cpc_convert_event.specs.ScopeLaws.{NothingIsHidden};
+ghost use Rattle.cpc_convert_event.specs.LocalLaws.{AllLocalsAreMeant};
 ghost use Rattle.cpc_convert_event.specs.Mixed.{MixedRunsAlike};
 ghost use Rattle.cpc_convert_event.specs.WrittenBoxes.{ProgramsAreWritten};
 ghost use Rattle.cpc_convert_event.specs.Worked.{CallsRunAlike, WaitsRunAlike, BoxesRunAlike};
@@ -62,4 +63,9 @@ pub fn nothing_is_hidden()
 /// The event program of a program with a little of everything runs as it does.
 pub fn mixed_runs_alike()
     ensures law { MixedRunsAlike }
+{}
+
+/// Each variable of a piece is found by its name, and all that its owner keeps stands in one.
+pub fn locals_are_meant()
+    ensures law { AllLocalsAreMeant }
 {}
