@@ -27,6 +27,7 @@ use Rattle.cpc_convert_image_laws.proofs.Answers.{meets_then, self_then}
 use Rattle.cpc_convert_image_laws.proofs.Beside as S
 use Rattle.cpc_convert_image_laws.proofs.Stacks.{native_answered}
 use Rattle.cpc_convert_chain_laws.specs.Chains.{count, Owns}
+use Rattle.cpc_convert_laws.specs.Fresh.{AllFresh}
 use Rattle.cpc_convert_laws.specs.Sums.{total}
 use Rattle.cpc_convert_laws.specs.Items.{Cut, Tagged, ItemFor, IsUntagged, owned_in}
 use Rattle.cpc_convert_laws.specs.Running.{Places, SamePoint, InPiece, AtNode, Under, Bottom, PieceWaits, NativeRuns}
@@ -53,16 +54,17 @@ module _ (z : Setting) (facts : NativeFacts z) (bs : Blocks) (owned : List ℕ) 
   abbrev Steps : Answer Source → Answer Target → Type 0
   Steps = Meets (Related z.codes z.cut z.there)
 
-  -- agendas that stand for each other, whose items own the same blocks
+  -- agendas that stand for each other, whose items own the blocks, at which no value has arrived
   pub record Agendas (a : Agenda (Thread Position)) (tags : Agenda Tagged) (b : Agenda Callback) : Type 0 where
     pub alike : AgendaFor z.cut bs a tags b
     pub owns : Owns bs (owned ++ owned_in tags)
+    pub fresh : AllFresh bs
 
   -- where the running code goes on
   done_alike : (w : Shared) (k : Option (Stack Position)) (j : Option (Stack Point)) (a : Agenda (Thread Position)) (tags : Agenda Tagged) (b : Agenda Callback) → Agendas a tags b
       → (d : Done Position) (e : Done Point) → DoneAlike z.codes (SamePoint z.cut) Below bs d e → Steps (after_done (source_state w k a) d) (after_done (target_state w bs j b) e)
   done_alike w k j a tags b g _ _ (BothWent t xs ys o held hold stacks) =
-      BothGive _ _ (Goes (record w { store = t }) bs _ _ owned a tags b (NativeRuns xs ys o owned stacks hold) g.alike g.owns)
+      BothGive _ _ (Goes (record w { store = t }) bs _ _ owned a tags b (NativeRuns xs ys o owned stacks hold) g.alike g.owns g.fresh)
   done_alike w k j a tags b g _ _ (BothReturned v t h i) = Stuck _
   done_alike w k j a tags b g _ _ (BothAsked r h) = Stuck _
 
@@ -96,7 +98,7 @@ module _ (z : Setting) (facts : NativeFacts z) (bs : Blocks) (owned : List ℕ) 
     acts_alike : (w : Shared) (a : Agenda (Thread Position)) (tags : Agenda Tagged) (c : Agenda Callback) → IsHeldStore z.codes w.store → Agendas a tags c
         → (u : Result (Agenda (Thread Position)) Fault) (v : Result (Agenda Callback) Fault) → ThreeResults tags u v
         → Steps (acts (from_form z) k u (source_state w (Some k) a)) (acts (to_form z) j v (target_state w bs (Some j) c))
-    acts_alike w a tags c source g _ _ (AllOk a' t' c' g' same) = reply_alike w a' t' c' source (record { alike = g'; owns = owns_again bs owned tags t' same g.owns }) Unset tt
+    acts_alike w a tags c source g _ _ (AllOk a' t' c' g' same) = reply_alike w a' t' c' source (record { alike = g'; owns = owns_again bs owned tags t' same g.owns; fresh = g.fresh }) Unset tt
     acts_alike w a tags c source g _ _ (AllErr fault) = BothFault fault
 
     module _ (w : Shared) (a : Agenda (Thread Position)) (tags : Agenda Tagged) (c : Agenda Callback) (source : IsHeldStore z.codes w.store) (g : Agendas a tags c) where
@@ -123,7 +125,7 @@ module _ (z : Setting) (facts : NativeFacts z) (bs : Blocks) (owned : List ℕ) 
       made_alike = g.alike.items.conditions_made ∙ g.alike.untagged.conditions_made
 
       conditions : Agendas (cond_new a) (cond_new tags) (cond_new c)
-      conditions = record { alike = record { items = made (ItemFor z.cut bs) a tags g.alike.items; untagged = made IsUntagged tags c g.alike.untagged }; owns = g.owns }
+      conditions = record { alike = record { items = made (ItemFor z.cut bs) a tags g.alike.items; untagged = made IsUntagged tags c g.alike.untagged }; owns = g.owns; fresh = g.fresh }
 
       freed_three : (n : ℕ) → ThreeResults tags (cond_free n a) (cond_free n c)
       freed_three n = three tags _ (cond_free n tags) _ (λ t e m. total_freed (λ (x : Tagged). count m x.owned) n tags t e) (released (ItemFor z.cut bs) n a tags g.alike.items) (released IsUntagged n tags c g.alike.untagged)

@@ -25,9 +25,15 @@ use Rattle.cpc_convert_image_laws.proofs.Entering.{slots_beside}
 use Rattle.cpc_convert_chain_laws.specs.Chains.{Owns}
 use Rattle.cpc_convert_laws.specs.Items.{Tagged}
 use Rattle.cpc_convert_laws.specs.Running.{SamePoint, Bottom, NativeRuns}
-use Rattle.cpc_convert_laws.proofs.Relation.{Source, Target, Shared, AgendaFor, going, source_state, target_state, with_main, Related, Goes}
+use Rattle.cpc_convert_laws.proofs.Relation.{Source, Target, Shared, AgendaFor, going, source_state, target_state, with_main, Related, MainIsNext, Goes}
 use Rattle.cpc_convert_laws.proofs.Setting.{Setting, from_form, to_form, NativeFacts, KeepsFacts}
-use Rattle.cpc_convert_laws.proofs.Idle.{RowFor, settled_alike, one_step}
+use Rattle.cpc_convert_laws.proofs.Rows.{RowFor, BothTo, settled_alike, one_step}
+
+-- the call of `main` is put into the first round
+pub first_row : (z : Setting) → NativeFacts z → KeepsFacts z → (w : Shared) (x' : Source) → option_map (tidy z.kept) (next (threads_of (from_form z)) (source_state w None (with_main (Pending main_name [])))) ≡ Some x'
+    → RowFor z (source_state w None (with_main (Pending main_name []))) x' 1 (target_state w [] None (with_main CallMain))
+first_row z native keeps w x' e =
+    one_step z native keeps (source_state w None (with_main (Pending main_name []))) x' (target_state w [] None (with_main CallMain)) _ _ (BothTo _ _ (MainIsNext w)) e refl
 
 module _ (z : Setting) (native : NativeFacts z) (keeps : KeepsFacts z) (w : Shared) (source : IsHeldStore z.codes w.store) where
   abbrev Steps : Answer Source → Answer Target → Type 0
@@ -54,7 +60,7 @@ module _ (z : Setting) (native : NativeFacts z) (keeps : KeepsFacts z) (w : Shar
 
   begins : (f : Text) (a : Position) (b : Point) → SamePoint z.cut f a b → (u v : Answer (List Slot × Store)) → Meets (Entered z.codes []) u v → Steps ((u >>= framed f a) >>= runs_here) ((v >>= framed f b) >>= runs_there)
   begins f a b same _ _ (BothGive _ _ (SlotsMade t slots h l)) =
-      BothGive _ _ (Goes (record w { store = t }) [] _ _ [] new_agenda new_agenda new_agenda (NativeRuns _ _ None [] (OneMore f a b slots [] [] same l (NoMore [] [] Bottom)) tt) nothing_waits nothing_owned)
+      BothGive _ _ (Goes (record w { store = t }) [] _ _ [] new_agenda new_agenda new_agenda (NativeRuns _ _ None [] (OneMore f a b slots [] [] same l (NoMore [] [] Bottom)) tt) nothing_waits nothing_owned tt)
   begins f a b same _ _ (BothFault fault) = BothFault fault
   begins f a b same _ _ (Stuck v) = Stuck _
 

@@ -2,7 +2,7 @@
 use Rattle.std.proofs.Common.{◌≡◌, ℕ, ◌≤◌, List, [], ◌∷◌, slice_set, Option, Some, None}
 use Rattle.cpc_base.specs.Bytes.{Text}
 use Rattle.cpc_store.specs.declared.values.Class.TheVariants.{Frame}
-use Rattle.cpc_store.specs.Store.{Value, At as Pointer, Blocks, Store}
+use Rattle.cpc_store.specs.Store.{Value, Unset, At as Pointer, Blocks, Store}
 use Rattle.cpc_tree.specs.Syntax.{Function}
 use Rattle.cpc_tree.specs.Points.{Point}
 use Rattle.cpc_tree.specs.Typing.{function_named}
@@ -18,11 +18,13 @@ use Rattle.cpc_convert_image_laws.specs.Stacks.{frame_of}
 use Rattle.cpc_convert_chain_laws.specs.Chains.{Saved, Top}
 use Rattle.cpc_convert_chain_laws.specs.Driver.{DriverFacts, IsPiece, driving, entered}
 use Rattle.cpc_convert_chain_laws.specs.Walks.{World, Walk, running}
+use Rattle.cpc_convert_laws.specs.Fresh.{beyond}
 use Rattle.cpc_convert_laws.specs.Items.{saved_at, first_saved}
 use Rattle.cpc_convert_laws.proofs.Setting.{Setting, from_form}
 
 -- The piece of this name is entered with the pointer to block b, over these frame blocks and the store s. Some steps, at most so many, lead
--- to where it stands for a frame of f at node n of owner l, with these variables and the store t; block b is then free.
+-- to where it stands for a frame of f at node n of owner l, with these variables and the store t; block b is then free, and so are blocks
+-- that were made besides (as by the start of a function whose first node is a leader).
 pub record Opens (z : Setting) (bound : ℕ) (name : Text) (w : World) (bs : Blocks) (s : Store) (b : ℕ) (f : Text) (l : Place) (n : ℕ) (slots : List Slot) (o : Option Value) (next : Value) (t : Store) : Type 0 where
   pub function : Function
   pub is_piece : IsPiece z.target name function
@@ -31,8 +33,9 @@ pub record Opens (z : Setting) (bound : ℕ) (name : Text) (w : World) (bs : Blo
   pub steps : ℕ
   pub within : steps ≤ bound
   pub piece : CallFrame Point
+  pub more : ℕ
   pub leads : (pointer result frame : Value) → Walk z.target w.trace steps (entered z.target w (beside bs s) function locals pointer result frame)
-      (running w (beside (slice_set bs b None) t) (piece ∷ driving pointer result frame ∷ []) None)
+      (running w (beside (beyond more (slice_set bs b None)) t) (piece ∷ driving pointer result frame ∷ []) None)
   pub stands : z.there f l n slots o next piece None
 
 -- what is known of the driver, and of the beginning of pieces, whose steps are at most so many
@@ -42,6 +45,10 @@ pub record EntryFacts (z : Setting) (bound : ℕ) : Type 0 where
   pub resumes : (w : World) (bs : Blocks) (s : Store) (f : Text) (n : ℕ) (slots : List Slot) (v : Value) (below : List Saved) (b : ℕ) (next : Value) (owned : List ℕ)
       → z.fine (frame_of f (InGraph (At n) n) slots) (Some v) → Top bs (saved_at z.cut f slots n) below b next v owned
       → Opens z bound (z.cut.piece f (At n)) w bs s b f (At n) n slots (Some v) next s
+  -- a leader takes up a frame that was made on the way to it, at which no value arrives
+  pub jumps : (w : World) (bs : Blocks) (s : Store) (f : Text) (n : ℕ) (slots : List Slot) (below : List Saved) (b : ℕ) (next : Value) (owned : List ℕ)
+      → z.fine (frame_of f (InGraph (At n) n) slots) None → Top bs (saved_at z.cut f slots n) below b next Unset owned
+      → Opens z bound (z.cut.piece f (At n)) w bs s b f (At n) n slots None next s
   -- the start takes up the first frame of a call, and makes its variables as the source does
   pub begins : (w : World) (bs : Blocks) (s t : Store) (f : Text) (g : Function) (vs : List Value) (slots : List Slot) (v : Value) (below : List Saved) (b : ℕ) (next : Value) (owned : List ℕ)
       → function_named z.source f ≡ Some g → z.given f vs → call_slots z.source g vs s ≡ Gives (slots, t)

@@ -31,44 +31,15 @@ use Rattle.cpc_convert_chain_laws.specs.Chains.{Saved, Chain, AndChain, Top, Own
 use Rattle.cpc_convert_chain_laws.specs.Driver.{drive_name, with_round}
 use Rattle.cpc_convert_chain_laws.specs.Walks.{Quiet}
 use Rattle.cpc_convert_chain_laws.proofs.Chains.{chain_patched}
+use Rattle.cpc_convert_laws.specs.Fresh.{AllFresh}
 use Rattle.cpc_convert_laws.specs.Items.{FramesWait, NoneWait, OneWaits, saved_at, first_saved, Tagged, driven, ItemFor, ForPending, ForSuspended, IsUntagged, owned_in}
 use Rattle.cpc_convert_laws.proofs.Relation.{Source, Target, Shared, AgendaFor, source_state, target_state, Related, IsOver}
 use Rattle.cpc_convert_laws.proofs.Setting.{Setting, from_form, NativeFacts, KeepsFacts, Known}
 use Rattle.cpc_convert_laws.proofs.Entry.{EntryFacts}
+use Rattle.cpc_convert_laws.proofs.Rows.{RowFor, settled_alike, one_step}
 use Rattle.cpc_convert_laws.proofs.Turns.{turns_meet}
 use Rattle.cpc_convert_laws.proofs.Tidy.{saved_tidied, waits_tidied, related_tidied}
 use Rattle.cpc_convert_laws.proofs.Taking.{given_value, with_rest, takes_up}
-
--- ---- rows
-
--- a state of the target shows what a state of the source shows
-pub record Shows (x : Source) (y : Target) : Type 0 where
-  pub trace : x.trace ≡ y.trace
-  pub outcome : x.outcome ≡ y.outcome
-
--- a row: at least one step, at most so many, from y to a state that stands for x', over states that show what x or x' shows
-abbrev pub RowFor : Setting → (x x' : Source) → ℕ → Target → Type 0
-RowFor z x x' n y = Path (next (callbacks z.target)) one (Related z.codes z.cut z.there x') (λ t. Shows x t ⊎ Shows x' t) n y
-
--- what both machines come to in a step, where the source has one
-pub data BothStep (R : Source → Target → Type 0) : Option Source → Option Target → Type 0 where
-  BothTo : (s : Source) (t : Target) → R s t → BothStep R (Some s) (Some t)
-  NoStep : (o : Option Target) → BothStep R None o
-
--- an answer that is settled
-pub settled_alike : (z : Setting) (x : Source) (y : Target) → x.trace ≡ y.trace
-    → shown_in z.source (fault_function x.running) ≡ before_bars (fault_function y.running)
-    → (u : Answer Source) (v : Answer Target) → Meets (Related z.codes z.cut z.there) u v
-    → BothStep (Related z.codes z.cut z.there) (settled (threads_of (from_form z)) x u) (settled (callbacks z.target) y v)
-settled_alike z x y tr e _ _ (BothGive s t r) = BothTo s t r
-settled_alike z x y tr e _ _ (BothFault fault) = BothTo _ _ (IsOver _ _ refl (sym tr) (ap (λ f. Failed fault f) (sym e)))
-settled_alike z x y tr e _ _ (Stuck v) = NoStep _
-
--- a row of one step
-pub one_step : (z : Setting) → NativeFacts z → KeepsFacts z → (x x' : Source) (y : Target) (u : Option Source) (v : Option Target) → BothStep (Related z.codes z.cut z.there) u v
-    → option_map (tidy z.kept) u ≡ Some x' → next (callbacks z.target) y ≡ v → RowFor z x x' 1 y
-one_step z native keeps x x' y _ _ (BothTo s t r) e i = let j : tidy z.kept s ≡ x' = cc in Last 1 y t i (omega arith) (subst (λ s. Related z.codes z.cut z.there s t) j (related_tidied z native keeps s t r))
-one_step z native keeps x x' y _ _ (NoStep o) e i = absurd (cc)
 
 -- ---- the variables of a call are made without a fault
 
@@ -95,7 +66,7 @@ fine_slots p f n (x ∷ xs) vs s fault e = sized (λ t g. fine_slots p f (suc n)
     sized others None i = absurd (cc)
     sized others (Some cells) i = rest others cells _ refl i
 
-module _ (z : Setting) (native : NativeFacts z) (keeps : KeepsFacts z) (bound : ℕ) (entry : EntryFacts z bound) (w : Shared) (bs : Blocks) (a : Agenda (Thread Position)) (tags : Agenda Tagged) (c : Agenda Callback) (g : AgendaFor z.cut bs a tags c) (owns : Owns bs (owned_in tags)) where
+module _ (z : Setting) (native : NativeFacts z) (keeps : KeepsFacts z) (bound : ℕ) (entry : EntryFacts z bound) (w : Shared) (bs : Blocks) (a : Agenda (Thread Position)) (tags : Agenda Tagged) (c : Agenda Callback) (g : AgendaFor z.cut bs a tags c) (owns : Owns bs (owned_in tags)) (fresh : AllFresh bs) where
   abbrev from : Source
   from = source_state w None a
 
@@ -113,13 +84,10 @@ module _ (z : Setting) (native : NativeFacts z) (keeps : KeepsFacts z) (bound : 
   turn_row : (x' : Source) → a.round ≡ [] → tags.round ≡ [] → c.round ≡ [] → Known z from → option_map (tidy z.kept) (next (threads_of (from_form z)) from) ≡ Some x' → RowFor z from x' 1 to
   turn_row x' i j k known e =
       one_step z native keeps from x' to _ _
-      (settled_alike z from to refl (sym native.nobody) (turns (threads_of (from_form z)) from) (turns (callbacks z.target) to) (turns_meet z native w bs a tags c j g owns known))
+      (settled_alike z from to refl (sym native.nobody) (turns (threads_of (from_form z)) from) (turns (callbacks z.target) to) (turns_meet z native w bs a tags c j g owns fresh known))
       (sym (ap (option_map (tidy z.kept)) (from_next [] i)) ∙ e) (to_next [] k)
 
   module _ (v : Value) (ds : List (Due (Thread Position))) (ts : List (Due Tagged)) (es : List (Due Callback)) (both : Both (SameDue (ItemFor z.cut bs)) ds ts) (bare : Both (SameDue IsUntagged) ts es) (is_int : assigned (TyInt Int) v ≡ Gives v) where
-    quiet_row : (x' : Source) (n : ℕ) → Path (next (callbacks z.target)) one (Related z.codes z.cut z.there x') (Quiet w.trace) n to → RowFor z from x' n to
-    quiet_row x' n p = path_map (λ t r. r) (λ t q. inl (record { trace = sym q.is_trace; outcome = sym q.goes })) p
-
     -- a thread that waited is taken
     resumed : (x' : Source) (f : Text) (n : ℕ) (slots : List Slot) (below : List (CallFrame Position)) (saved : List Saved) (p : Value) (owned : List ℕ) → FramesWait z.cut (map (tidy_frame z.kept) below) saved
         → Chain bs (saved_at z.cut f (tidy_slots (z.kept f (InGraph (At n) n)) slots) n ∷ saved) p owned
@@ -129,11 +97,10 @@ module _ (z : Setting) (native : NativeFacts z) (keeps : KeepsFacts z) (bound : 
         let keep : ℕ → Bool = z.kept f (InGraph (At n) n) in
         let top : Top bs (saved_at z.cut f (tidy_slots keep slots) n) saved b under old owned = record { cells = cells; apart = apart; below = chain } in
         let fine = known.running (frame_of f (InGraph (At n) n) (tidy_slots keep slots)) (map (tidy_frame z.kept) below) (Some v) (sym (ap (λ (s : Source). s.running) e)) in
-        quiet_row x' (5 + bound)
-        (subst (λ x. Path (next (callbacks z.target)) one (Related z.codes z.cut z.there x) (Quiet w.trace) (5 + bound) to) e
-        (takes_up z bound entry w bs a tags c g owns ds ts es both bare v is_int (saved_at z.cut f (tidy_slots keep slots) n) saved b under old owned top first is_round
+        subst (λ x. RowFor z from x (5 + bound) to) e
+        (takes_up z bound entry w bs a tags c g owns fresh ds ts es both bare v is_int (saved_at z.cut f (tidy_slots keep slots) n) saved b under old owned top first is_round
         f (At n) n (tidy_slots keep slots) (Some v) w.store (map (tidy_frame z.kept) below) waits
-        (entry.resumes _ (given_value bs b (saved_at z.cut f (tidy_slots keep slots) n) under v) w.store f n (tidy_slots keep slots) v saved b under owned fine (chain_patched bs (saved_at z.cut f (tidy_slots keep slots) n) saved b under old v owned top))))
+        (entry.resumes _ (given_value bs b (saved_at z.cut f (tidy_slots keep slots) n) under v) w.store f n (tidy_slots keep slots) v saved b under owned fine (chain_patched bs (saved_at z.cut f (tidy_slots keep slots) n) saved b under old v owned top)))
 
     -- a call is begun
     begun : (x' : Source) (f : Text) (vs : List Value) (p : Value) (owned : List ℕ) → Chain bs (first_saved z.cut f vs ∷ []) p owned → z.given f vs
@@ -146,10 +113,9 @@ module _ (z : Setting) (native : NativeFacts z) (keeps : KeepsFacts z) (bound : 
         let r = entry.begins (with_round (record { agenda = c; jobs = w.jobs; history = w.history; trace = w.trace }) es) (given_value bs b saved under v) w.store t f h vs slots v [] b under owned named given made (chain_patched bs saved [] b under old v owned top) in
         let at : Text → Position → Source = λ name point. source_state (record w { store = t }) (Some (record { frames = frame_of name point (tidy_slots (z.kept name point) slots) ∷ []; arriving = None })) (with_rest a ds) in
         let same : at f (InGraph r.0 r.1) ≡ x' = sym (ap (λ name. at name ((from_form z).code.first name)) r.2 ∙ ap (at f) r.3) ∙ e in
-        quiet_row x' (5 + bound)
-        (subst (λ x. Path (next (callbacks z.target)) one (Related z.codes z.cut z.there x) (Quiet w.trace) (5 + bound) to) same
-        (takes_up z bound entry w bs a tags c g owns ds ts es both bare v is_int saved [] b under old owned top first is_round
-        f r.0 r.1 (tidy_slots (z.kept f (InGraph r.0 r.1)) slots) None t [] NoneWait r.4))
+        subst (λ x. RowFor z from x (5 + bound) to) same
+        (takes_up z bound entry w bs a tags c g owns fresh ds ts es both bare v is_int saved [] b under old owned top first is_round
+        f r.0 r.1 (tidy_slots (z.kept f (InGraph r.0 r.1)) slots) None t [] NoneWait r.4)
 
     -- what a call that is taken comes to
     abbrev rest : Source

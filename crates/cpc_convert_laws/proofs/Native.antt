@@ -26,7 +26,7 @@ use Rattle.cpc_convert_chain_laws.specs.Chains.{Owns}
 use Rattle.cpc_convert_laws.specs.Running.{Places, SamePoint, InPiece, AtNode, Under, Bottom, PieceWaits, NothingRuns, NativeRuns}
 use Rattle.cpc_convert_laws.proofs.Relation.{Source, Target, Shared, source_state, target_state, Related, Goes}
 use Rattle.cpc_convert_laws.proofs.Setting.{Setting, from_form, to_form, NativeFacts, KeepsFacts, NativeAt}
-use Rattle.cpc_convert_laws.proofs.Idle.{RowFor, settled_alike, one_step}
+use Rattle.cpc_convert_laws.proofs.Rows.{RowFor, settled_alike, one_step}
 use Rattle.cpc_convert_laws.proofs.Answering.{under_ends, Agendas, asked_alike}
 
 -- where the source gives something, of which that is known
@@ -90,10 +90,10 @@ module _ (z : Setting) (facts : NativeFacts z) (keeps : KeepsFacts z) (bs : Bloc
 
   runs_alike : (d : Done Position) (e : Done Point) → frames_step (from_form z) w.store o (frame_of f (InTree b) slots ∷ xs) ≡ Gives d → Alike d e
       → Meets (Related z.codes z.cut z.there) (runs_on (threads_of (from_form z)) from here d) (runs_on (callbacks z.target) to there e)
-  runs_alike _ _ i (BothWent t us vs p h l r) = BothGive _ _ (Goes (record w { store = t }) bs _ _ owned a tags c (NativeRuns us vs p owned r l) g.alike g.owns)
+  runs_alike _ _ i (BothWent t us vs p h l r) = BothGive _ _ (Goes (record w { store = t }) bs _ _ owned a tags c (NativeRuns us vs p owned r l) g.alike g.owns g.fresh)
   runs_alike _ _ i (BothReturned v t h l) =
       let none = nothing_below z.codes z.cut z.there bs owned xs ys (step_last (from_form z) w.store (frame_of f (InTree b) slots) xs v t o i) stacks in
-      BothGive _ _ (Goes (record w { store = t }) bs None None [] a tags c NothingRuns g.alike (subst (λ ns. Owns bs (ns ++ owned_in tags)) none g.owns))
+      BothGive _ _ (Goes (record w { store = t }) bs None None [] a tags c NothingRuns g.alike (subst (λ ns. Owns bs (ns ++ owned_in tags)) none g.owns) g.fresh)
   runs_alike _ _ i (BothAsked r h) = asked_alike z facts bs owned f b slots xs ys same held stacks at o w a tags c source g r.asked (at.asks w.store o xs r i) r.arguments h
 
   -- a step of native code, with the answer to what it asks for, is one of the target

@@ -5,15 +5,12 @@ use Rattle.cpc_store.specs.declared.values.Class.TheVariants.{Frame}
 use Rattle.cpc_store.specs.Store.{Value, Null, Unset, At as Pointer, Blocks}
 use Rattle.cpc_tree.specs.Points.{Point}
 use Rattle.cpc_meaning.specs.Agenda.{Agenda, ready_one}
-use Rattle.cpc_meaning.specs.Machine.{next}
 use Rattle.cpc_meaning.specs.Plain.{Frame as CallFrame, Stack}
-use Rattle.cpc_meaning.specs.Start.{main_name}
-use Rattle.cpc_meaning.specs.Threads.{Thread, Pending, threads_of}
-use Rattle.cpc_meaning.specs.Events.{Callback, CallMain}
+use Rattle.cpc_meaning.specs.Threads.{Thread, Pending}
+use Rattle.cpc_meaning.specs.Events.{Callback}
 use Rattle.cpc_meaning.proofs.Both as B
 use Rattle.cpc_meaning.proofs.Agendas.{readies_all}
 use Rattle.cpc_forms.specs.Split.{Position}
-use Rattle.cpc_lift_laws.specs.Lifted.{tidy}
 use Rattle.cpc_convert_image_laws.specs.Stacks.{Native, NoMore, OneMore}
 use Rattle.cpc_convert_chain_laws.specs.Chains.{NoChain, Owns, count, frame_cells}
 use Rattle.cpc_convert_chain_laws.proofs.Chains.{count_append, chain_alloc, chain_push, chain_closed}
@@ -23,9 +20,7 @@ use Rattle.cpc_convert_laws.specs.Items.{Cut, first_saved, Tagged, driven, ItemF
 use Rattle.cpc_convert_laws.specs.Running.{Places, SamePoint, InPiece, AtNode, Under, Bottom, PieceWaits, RunningFor, NothingRuns, NativeRuns, PieceRuns}
 use Rattle.cpc_convert_laws.proofs.Sums.{total_ready}
 use Rattle.cpc_convert_laws.proofs.Items.{count_owned, agenda_changed, item_kept}
-use Rattle.cpc_convert_laws.proofs.Relation.{Source, Shared, AgendaFor, source_state, target_state, with_main, MainIsNext}
-use Rattle.cpc_convert_laws.proofs.Setting.{Setting, from_form, NativeFacts, KeepsFacts}
-use Rattle.cpc_convert_laws.proofs.Idle.{RowFor, BothTo, one_step}
+use Rattle.cpc_convert_laws.proofs.Relation.{AgendaFor}
 
 -- ---- agendas
 
@@ -98,11 +93,3 @@ module _ (C : Text → Type 0) (cut : Cut) (There : Places) (bs : Blocks) (x : O
   running_alloc _ _ _ NothingRuns = NothingRuns
   running_alloc _ _ _ (NativeRuns xs ys o owned r held) = NativeRuns xs ys o owned (stacks_alloc owned xs ys r) held
   running_alloc _ _ _ (PieceRuns xs o ys o' owned r) = PieceRuns xs o ys o' owned (piece_alloc xs o ys o' owned r)
-
--- ---- the first turn
-
--- the call of `main` is put into the first round
-pub first_row : (z : Setting) → NativeFacts z → KeepsFacts z → (w : Shared) (x' : Source) → option_map (tidy z.kept) (next (threads_of (from_form z)) (source_state w None (with_main (Pending main_name [])))) ≡ Some x'
-    → RowFor z (source_state w None (with_main (Pending main_name []))) x' 1 (target_state w [] None (with_main CallMain))
-first_row z native keeps w x' e =
-    one_step z native keeps (source_state w None (with_main (Pending main_name []))) x' (target_state w [] None (with_main CallMain)) _ _ (BothTo _ _ (MainIsNext w)) e refl

@@ -16,6 +16,7 @@ use Rattle.cpc_meaning.proofs.Agendas.{SameAgenda}
 use Rattle.cpc_forms.specs.Split.{Position}
 use Rattle.cpc_convert_image_laws.specs.Held.{beside}
 use Rattle.cpc_convert_chain_laws.specs.Chains.{Owns}
+use Rattle.cpc_convert_laws.specs.Fresh.{AllFresh}
 use Rattle.cpc_convert_laws.specs.Items.{Cut, Tagged, ItemFor, IsUntagged, owned_in}
 use Rattle.cpc_convert_laws.specs.Running.{Places, RunningFor}
 
@@ -54,11 +55,11 @@ abbrev pub with_main : {T : Type 0} → T → Agenda T
 with_main item = ready_one item new_agenda
 
 module _ (C : Text → Type 0) (cut : Cut) (There : Places) where
-  -- states that stand for each other: before `main` is called; where threads run and wait, and the blocks of all chains are just the live
-  -- frame blocks, each once; and where the run is over
+  -- states that stand for each other: before `main` is called; where threads run and wait, the blocks of all chains are just the live frame
+  -- blocks, each once, and no value has arrived at a frame; and where the run is over
   pub data Related : Source → Target → Type 0 where
     MainIsReady : (w : Shared) → Related (source_state w None (with_main (Pending main_name []))) (target_state w [] None (with_main CallMain))
     MainIsNext : (w : Shared) → Related (source_state w None (begin_round (with_main (Pending main_name [])))) (target_state w [] None (begin_round (with_main CallMain)))
     Goes : (w : Shared) (bs : Blocks) (k : Option (Stack Position)) (j : Option (Stack Point)) (owned : List ℕ) (a : Agenda (Thread Position)) (tags : Agenda Tagged) (b : Agenda Callback)
-        → RunningFor C cut There bs k j owned → AgendaFor cut bs a tags b → Owns bs (owned ++ owned_in tags) → Related (source_state w k a) (target_state w bs j b)
+        → RunningFor C cut There bs k j owned → AgendaFor cut bs a tags b → Owns bs (owned ++ owned_in tags) → AllFresh bs → Related (source_state w k a) (target_state w bs j b)
     IsOver : (x : Source) (y : Target) → is_over x.outcome ≡ true → y.trace ≡ x.trace → y.outcome ≡ x.outcome → Related x y

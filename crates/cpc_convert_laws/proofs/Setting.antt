@@ -26,6 +26,7 @@ use Rattle.cpc_lift_laws.specs.Lifted.{tidy_slots}
 use Rattle.cpc_convert_image_laws.specs.Held.{IsHeld, IsHeldStore, beside}
 use Rattle.cpc_convert_image_laws.specs.Relations.{Common}
 use Rattle.cpc_convert_image_laws.specs.Stacks.{frame_of, EntersAlike, NativePoint}
+use Rattle.cpc_convert_laws.specs.Boxes.{OwnsBoxes}
 use Rattle.cpc_convert_laws.specs.Items.{Cut}
 use Rattle.cpc_convert_laws.specs.Running.{Places, SamePoint}
 use Rattle.cpc_convert_laws.proofs.Relation.{Source}
@@ -64,10 +65,11 @@ pub record HeldJob (z : Setting) (j : Job) : Type 0 where
   pub cells : All (IsHeld z.codes) j.cells
   pub pointer : IsHeld z.codes j.pointer
 
--- what is known of a state of the source
+-- what is known of a state of the source: among it that the boxes of all frames are live, and no two the same
 pub record Known (z : Setting) (x : Source) : Type 0 where
   pub store : IsHeldStore z.codes x.store
   pub jobs : All (HeldJob z) x.jobs
+  pub boxes : OwnsBoxes x
   pub running : (frame : Frame Position) (below : List (Frame Position)) (o : Option Value) → x.running ≡ Some (record { frames = frame ∷ below; arriving = o }) → z.fine frame o
   pub result : (d : Due (Thread Position)) (ds : List (Due (Thread Position))) → x.agenda.round ≡ d ∷ ds → assigned (TyInt Int) d.result ≡ Gives d.result
   pub arguments : (f : Text) (vs : List Value) (v : Value) (ds : List (Due (Thread Position))) → x.agenda.round ≡ record { item = Pending f vs; result = v } ∷ ds → z.given f vs

@@ -1,61 +1,42 @@
--- A thread is taken: the driver takes up the first frame of its chain, and the frame's piece goes to where it stands for the thread's first frame.
-use Rattle.std.proofs.Common.{◌≡◌, ℕ, suc, ◌+◌, ◌≤◌, List, [], ◌∷◌, ◌++◌, slice_set, Option, Some, None, ap, arith}
+-- A frame is taken up by its piece: where a thread is taken, and where a piece gives a frame to the driver.
+use Rattle.std.proofs.Common.{◌≡◌, ℕ, ◌+◌, List, [], ◌∷◌, ◌++◌, slice_set, Option, Some, None, refl, ap, arith}
 use Rattle.cpc_base.specs.Bytes.{Text}
 use Rattle.cpc_num.specs.declared.kinds.Kind.TheVariants.{Int}
 use Rattle.cpc_store.specs.declared.values.Class.TheVariants.{Frame}
 use Rattle.cpc_store.specs.Store.{Value, At as Pointer, Blocks, Store}
 use Rattle.cpc_tree.specs.Syntax.{TyInt}
-use Rattle.cpc_meaning_matching.specs.Simulation.{one, Path}
 use Rattle.cpc_meaning.specs.Answer.{Gives}
 use Rattle.cpc_meaning.specs.Agenda.{Agenda, Due}
 use Rattle.cpc_meaning.specs.Eval.{Slot, assigned}
-use Rattle.cpc_meaning.specs.Machine.{next}
 use Rattle.cpc_meaning.specs.Plain.{Frame as CallFrame}
 use Rattle.cpc_meaning.specs.Threads.{Thread}
-use Rattle.cpc_meaning.specs.Events.{Callback, CallWith, callbacks}
+use Rattle.cpc_meaning.specs.Events.{Callback, CallWith}
 use Rattle.cpc_meaning.proofs.Both.{Both}
-use Rattle.cpc_meaning.proofs.Agendas.{SameAgenda, SameDue}
+use Rattle.cpc_meaning.proofs.Agendas.{SameDue}
 use Rattle.cpc_forms.specs.Flow.{Place}
 use Rattle.cpc_forms.specs.Split.{Position, InGraph}
 use Rattle.cpc_convert_image_laws.specs.Held.{beside}
 use Rattle.cpc_convert_image_laws.specs.Stacks.{frame_of}
 use Rattle.cpc_convert_chain_laws.specs.Chains.{Saved, Top, Owns, count, frame_cells}
 use Rattle.cpc_convert_chain_laws.specs.Driver.{drive_name, driving, entered, with_round}
-use Rattle.cpc_convert_chain_laws.specs.Walks.{World, Walk, Quiet, running}
+use Rattle.cpc_convert_chain_laws.specs.Walks.{World, running}
 use Rattle.cpc_convert_chain_laws.proofs.Chains.{same_number, count_append, chain_set, chain_patched, chain_taken}
 use Rattle.cpc_convert_chain_laws.proofs.Owned.{lives_there, owns_free, owns_set, owns_order, owns_once}
-use Rattle.cpc_convert_chain_laws.proofs.Pieces.{drive_begins}
-use Rattle.cpc_convert_chain_laws.proofs.Walks.{walk_append, walk_as, walk_ends}
-use Rattle.cpc_meaning_matching.proofs.Paths.{path_wider}
+use Rattle.cpc_convert_chain_laws.proofs.Pieces.{drive_begins, drive_goes_on}
+use Rattle.cpc_convert_laws.specs.Fresh.{AllFresh, beyond}
 use Rattle.cpc_convert_laws.specs.Sums.{sum, total}
 use Rattle.cpc_convert_laws.specs.Items.{Cut, FramesWait, Tagged, ItemFor, IsUntagged, owned_in}
 use Rattle.cpc_convert_laws.specs.Running.{AtNode, PieceRuns}
+use Rattle.cpc_convert_laws.proofs.Fresh.{agenda_beyond, chain_beyond, owns_beyond, fresh_beyond, fresh_taken}
 use Rattle.cpc_convert_laws.proofs.Items.{count_owned, agenda_changed, item_kept}
-use Rattle.cpc_convert_laws.proofs.Relation.{Target, Shared, AgendaFor, source_state, target_state, Related, Goes}
+use Rattle.cpc_convert_laws.proofs.Relation.{Source, Shared, AgendaFor, source_state, target_state, Goes}
+use Rattle.cpc_convert_laws.proofs.Rows.{RowFor, Reached, reached_after, row_reached}
 use Rattle.cpc_convert_laws.proofs.Setting.{Setting}
 use Rattle.cpc_convert_laws.proofs.Entry.{Opens, EntryFacts}
 
--- ---- the blocks
-
--- the frame blocks while a piece has taken up its frame
+-- the frame blocks where a value was given to a frame
 abbrev pub given_value : Blocks → ℕ → Saved → (next value : Value) → Blocks
 given_value bs b f next v = slice_set bs b (Some (frame_cells f next v))
-
--- and once it has freed it
-abbrev pub taken_up : Blocks → ℕ → Saved → (next value : Value) → Blocks
-taken_up bs b f next v = slice_set (given_value bs b f next v) b None
-
--- items none of which owns the block are kept
-pub items_taken : (cut : Cut) (bs : Blocks) (b : ℕ) (f : Saved) (below v : Value) (a : Agenda (Thread Position)) (tags : Agenda Tagged) → total (λ (t : Tagged). count b t.owned) tags ≡ 0
-    → SameAgenda (ItemFor cut bs) a tags → SameAgenda (ItemFor cut (taken_up bs b f below v)) a tags
-items_taken cut bs b f below v a tags e g =
-    agenda_changed (λ (t : Tagged). count b t.owned)
-    (λ x t r apart. item_kept cut bs (taken_up bs b f below v) x t (λ p saved h. chain_set (given_value bs b f below v) b None saved p t.owned apart (chain_set bs b (Some (frame_cells f below v)) saved p t.owned apart h)) r)
-    a tags e g
-
--- the block is no longer live, and the others are
-pub owns_taken_up : (bs : Blocks) (b : ℕ) (f : Saved) (fs : List Saved) (below v r : Value) (owned rest : List ℕ) → Top bs f fs b below v owned → Owns bs (b ∷ rest) → Owns (taken_up bs b f below r) rest
-owns_taken_up bs b f fs below v r owned rest top o = owns_free (given_value bs b f below r) b rest (owns_set bs b (frame_cells f below r) (b ∷ rest) (lives_there bs b (frame_cells f below v) top.cells) o)
 
 -- ---- the agenda without the first of its round
 
@@ -107,11 +88,51 @@ owned_rest tags d ds e n =
 
 -- ---- the rows
 
-module _ (z : Setting) (bound : ℕ) (facts : EntryFacts z bound) (w : Shared) (bs : Blocks) (a : Agenda (Thread Position)) (tags : Agenda Tagged) (c : Agenda Callback) (g : AgendaFor z.cut bs a tags c) (owns : Owns bs (owned_in tags)) where
+module _ (z : Setting) (bound : ℕ) (facts : EntryFacts z bound) (w : Shared) (a : Agenda (Thread Position)) (tags : Agenda Tagged) (c : Agenda Callback) where
   -- what the target has besides its store and what runs
-  abbrev world : World
+  abbrev pub world : World
   world = record { agenda = c; jobs = w.jobs; history = w.history; trace = w.trace }
 
+  -- a frame that a piece takes up: the piece goes to where it stands for this frame of the source
+  module _ (cs : Blocks) (f : Saved) (fs : List Saved) (b : ℕ) (below v : Value) (owned : List ℕ) (top : Top cs f fs b below v owned) (g : AgendaFor z.cut cs a tags c) (owns : Owns cs (b ∷ (owned ++ owned_in tags))) (fresh : AllFresh (slice_set cs b None)) (x : Text) (l : Place) (n : ℕ) (slots : List Slot) (o : Option Value) (t : Store) (frames : List (CallFrame Position)) (waits : FramesWait z.cut frames fs) (opens : Opens z bound f.piece world cs w.store b x l n slots o below t) where
+    -- the state of the source
+    abbrev pub resumed_state : Source
+    resumed_state = source_state (record w { store = t }) (Some (record { frames = frame_of x (InGraph l n) slots ∷ frames; arriving = o })) a
+
+    -- the blocks once the frame is freed
+    abbrev freed_blocks : Blocks
+    freed_blocks = beyond opens.more (slice_set cs b None)
+
+    apart : total (λ (t : Tagged). count b t.owned) tags ≡ 0
+    apart =
+        let once = owns_once cs (b ∷ (owned ++ owned_in tags)) owns b in
+        let h = count_owned b tags in
+        let i = count_append b owned (owned_in tags) in
+        let j = same_number b in
+        omega (arith, once, h, i, j)
+
+    pub opened : (pointer result frame : Value) → Reached z resumed_state bound w.trace (entered z.target world (beside cs w.store) opens.function opens.locals pointer result frame)
+    opened pointer result frame = record {
+      steps = opens.steps;
+      within = opens.within;
+      last = running world (beside freed_blocks t) (opens.piece ∷ driving pointer result frame ∷ []) None;
+      leads = opens.leads pointer result frame;
+      ends =
+          Goes (record w { store = t }) freed_blocks _ _ owned a tags c
+          (PieceRuns _ o _ None owned (AtNode x l n slots o below opens.piece None opens.stands frames fs owned waits (chain_beyond opens.more (slice_set cs b None) fs below owned (chain_taken cs f fs b below v owned top)) pointer result frame))
+          (agenda_beyond opens.more z.cut (slice_set cs b None) a tags c
+          (record { items = agenda_changed (λ (t : Tagged). count b t.owned) (λ i t r e. item_kept z.cut cs (slice_set cs b None) i t (λ p saved h. chain_set cs b None saved p t.owned e h) r) a tags apart g.items; untagged = g.untagged }))
+          (owns_beyond opens.more (slice_set cs b None) (owned ++ owned_in tags) (owns_free cs b (owned ++ owned_in tags) owns))
+          (fresh_beyond opens.more (slice_set cs b None) fresh);
+    }
+
+    -- the driver takes the frame that a piece returned
+    pub goes_on : (pointer result frame : Value) → Reached z resumed_state (3 + bound) w.trace (running world (beside cs w.store) (driving pointer result frame ∷ []) (Some (Pointer Frame b 0)))
+    goes_on pointer result frame =
+        reached_after z resumed_state 3 bound w.trace (running world (beside cs w.store) (driving pointer result frame ∷ []) (Some (Pointer Frame b 0))) (entered z.target world (beside cs w.store) opens.function opens.locals pointer result (Pointer Frame b 0))
+        (drive_goes_on z.target facts.driver world (beside cs w.store) f fs b below v owned top opens.function opens.is_piece pointer result frame opens.locals (beside cs w.store) opens.called) (opened pointer result (Pointer Frame b 0))
+
+module _ (z : Setting) (bound : ℕ) (facts : EntryFacts z bound) (w : Shared) (bs : Blocks) (a : Agenda (Thread Position)) (tags : Agenda Tagged) (c : Agenda Callback) (g : AgendaFor z.cut bs a tags c) (owns : Owns bs (owned_in tags)) (fresh : AllFresh bs) where
   module _ (ds : List (Due (Thread Position))) (ts : List (Due Tagged)) (es : List (Due Callback)) (both : Both (SameDue (ItemFor z.cut bs)) ds ts) (bare : Both (SameDue IsUntagged) ts es) (v : Value) (is_int : assigned (TyInt Int) v ≡ Gives v) (f : Saved) (fs : List Saved) (b : ℕ) (below old : Value) (owned : List ℕ) (top : Top bs f fs b below old owned) (first : tags.round ≡ record { item = record { callback = CallWith drive_name (Pointer Frame b 0); owned = b ∷ owned }; result = v } ∷ ts) (is_round : c.round ≡ record { item = CallWith drive_name (Pointer Frame b 0); result = v } ∷ es) where
     -- the block is owned by this item alone
     others_apart : total (λ (t : Tagged). count b t.owned) (with_rest tags ts) ≡ 0
@@ -128,32 +149,22 @@ module _ (z : Setting) (bound : ℕ) (facts : EntryFacts z bound) (w : Shared) (
 
     -- the frame is taken up, and its piece goes to where it stands for this frame of the source
     pub takes_up : (x : Text) (l : Place) (n : ℕ) (slots : List Slot) (o : Option Value) (t : Store) (frames : List (CallFrame Position)) → FramesWait z.cut frames fs
-        → Opens z bound f.piece (with_round world es) (given_value bs b f below v) w.store b x l n slots o below t
-        → Path (next (callbacks z.target)) one (Related z.codes z.cut z.there (source_state (record w { store = t }) (Some (record { frames = frame_of x (InGraph l n) slots ∷ frames; arriving = o })) (with_rest a ds))) (Quiet w.trace) (5 + bound) (target_state w bs None c)
+        → Opens z bound f.piece (world z bound facts w (with_rest a ds) (with_rest tags ts) (with_rest c es)) (given_value bs b f below v) w.store b x l n slots o below t
+        → RowFor z (source_state w None a) (source_state (record w { store = t }) (Some (record { frames = frame_of x (InGraph l n) slots ∷ frames; arriving = o })) (with_rest a ds)) (5 + bound) (target_state w bs None c)
     takes_up x l n slots o t frames waits opens =
-        path_wider (5 + bound) (let i = opens.within in let e : suc (4 + opens.steps) ≤ 5 + bound = omega (arith, i) in e)
-        (walk_ends {q = z.target} {trace = w.trace} (Related z.codes z.cut z.there (source_state (record w { store = t }) (Some (record { frames = frame_of x (InGraph l n) slots ∷ frames; arriving = o })) (with_rest a ds))) (Quiet w.trace) (λ s quiet. quiet) (4 + opens.steps) (target_state w bs None c) last all ends)
+        row_reached z (source_state w None a) _ (target_state w bs None c) (entered z.target (with_round (world z bound facts w a tags c) es) (beside cs w.store) opens.function opens.locals (Pointer Frame b 0) v (Pointer Frame b 0)) 4 bound refl
+        (drive_begins z.target facts.driver (world z bound facts w a tags c) (beside bs w.store) f fs b below old owned top opens.function opens.is_piece es v v is_round is_int opens.locals (beside cs w.store) opens.called)
+        (opened z bound facts w (with_rest a ds) (with_rest tags ts) (with_rest c es) cs f fs b below v owned (chain_patched bs f fs b below old v owned top) kept
+        (owns_set bs b (frame_cells f below v) (b ∷ (owned ++ owned_in (with_rest tags ts))) (lives_there bs b (frame_cells f below old) top.cells) owns_rest)
+        (fresh_taken bs b (Some (frame_cells f below v)) fresh) x l n slots o t frames waits opens (Pointer Frame b 0) v (Pointer Frame b 0))
       where
-        last : Target
-        last = running (with_round world es) (beside (taken_up bs b f below v) t) (opens.piece ∷ driving (Pointer Frame b 0) v (Pointer Frame b 0) ∷ []) None
+        cs : Blocks
+        cs = given_value bs b f below v
 
-        all : Walk z.target w.trace (suc (4 + opens.steps)) (target_state w bs None c) last
-        all =
-            walk_as (5 + opens.steps) (suc (4 + opens.steps)) (target_state w bs None c) last (omega arith)
-            (walk_append 5 opens.steps (target_state w bs None c) (entered z.target (with_round world es) (beside (given_value bs b f below v) w.store) opens.function opens.locals (Pointer Frame b 0) v (Pointer Frame b 0)) last
-            (drive_begins z.target facts.driver world (beside bs w.store) f fs b below old owned top opens.function opens.is_piece es v v is_round is_int opens.locals (beside (given_value bs b f below v) w.store) opens.called)
-            (opens.leads (Pointer Frame b 0) v (Pointer Frame b 0)))
-
-        patched : Top (given_value bs b f below v) f fs b below v owned
-        patched = chain_patched bs f fs b below old v owned top
-
-        kept : AgendaFor z.cut (taken_up bs b f below v) (with_rest a ds) (with_rest tags ts) (with_rest c es)
+        kept : AgendaFor z.cut cs (with_rest a ds) (with_rest tags ts) (with_rest c es)
         kept =
             let r = rest_alike z.cut bs a tags c ds ts es both bare g in
-            record { items = items_taken z.cut bs b f below v (with_rest a ds) (with_rest tags ts) others_apart r.items; untagged = r.untagged }
-
-        ends : Related z.codes z.cut z.there (source_state (record w { store = t }) (Some (record { frames = frame_of x (InGraph l n) slots ∷ frames; arriving = o })) (with_rest a ds)) last
-        ends =
-            Goes (record w { store = t }) (taken_up bs b f below v) _ _ owned (with_rest a ds) (with_rest tags ts) (with_rest c es)
-            (PieceRuns _ o _ None owned (AtNode x l n slots o below opens.piece None opens.stands frames fs owned waits (chain_taken (given_value bs b f below v) f fs b below v owned patched) (Pointer Frame b 0) v (Pointer Frame b 0)))
-            kept (owns_taken_up bs b f fs below old v owned (owned ++ owned_in (with_rest tags ts)) top owns_rest)
+            record {
+              items = agenda_changed (λ (t : Tagged). count b t.owned) (λ i t r e. item_kept z.cut bs cs i t (λ p saved h. chain_set bs b (Some (frame_cells f below v)) saved p t.owned e h) r) (with_rest a ds) (with_rest tags ts) others_apart r.items;
+              untagged = r.untagged;
+            }

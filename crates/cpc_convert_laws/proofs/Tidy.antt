@@ -92,5 +92,5 @@ module _ (z : Setting) (native : NativeFacts z) (facts : KeepsFacts z) where
   pub related_tidied : (x : Source) (y : Target) → Related z.codes z.cut z.there x y → Related z.codes z.cut z.there (tidy z.kept x) y
   related_tidied _ _ (MainIsReady w) = MainIsReady w
   related_tidied _ _ (MainIsNext w) = MainIsNext w
-  related_tidied _ _ (Goes w bs k j owned a tags b runs g owns) = Goes w bs (tidy_running z.kept k) j owned a tags b (running_tidied bs k j owned runs) g owns
+  related_tidied _ _ (Goes w bs k j owned a tags b runs g owns fresh) = Goes w bs (tidy_running z.kept k) j owned a tags b (running_tidied bs k j owned runs) g owns fresh
   related_tidied _ _ (IsOver x y e i j) = IsOver (tidy z.kept x) y e i j

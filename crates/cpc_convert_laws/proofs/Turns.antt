@@ -16,6 +16,7 @@ use Rattle.cpc_convert_image_laws.specs.Held.{beside}
 use Rattle.cpc_convert_image_laws.specs.Relations.{Meets, BothGive, Stuck}
 use Rattle.cpc_convert_chain_laws.specs.Chains.{count, Owns}
 use Rattle.cpc_convert_chain_laws.proofs.Chains.{count_append}
+use Rattle.cpc_convert_laws.specs.Fresh.{AllFresh}
 use Rattle.cpc_convert_laws.specs.Sums.{total}
 use Rattle.cpc_convert_laws.specs.Items.{Cut, Tagged, ItemFor, IsUntagged, owned_in}
 use Rattle.cpc_convert_laws.specs.Running.{NothingRuns}
@@ -64,7 +65,7 @@ module _ (z : Setting) (facts : NativeFacts z) where
   abbrev Steps : Answer Source → Answer Target → Type 0
   Steps = Meets Relates
 
-  module _ (w : Shared) (bs : Blocks) (a : Agenda (Thread Position)) (tags : Agenda Tagged) (b : Agenda Callback) (over : tags.round ≡ []) (g : AgendaFor z.cut bs a tags b) (owns : Owns bs (owned_in tags)) (held : Known z (source_state w None a)) where
+  module _ (w : Shared) (bs : Blocks) (a : Agenda (Thread Position)) (tags : Agenda Tagged) (b : Agenda Callback) (over : tags.round ≡ []) (g : AgendaFor z.cut bs a tags b) (owns : Owns bs (owned_in tags)) (fresh : AllFresh bs) (held : Known z (source_state w None a)) where
     abbrev x : Source
     x = source_state w None a
 
@@ -88,7 +89,7 @@ module _ (z : Setting) (facts : NativeFacts z) where
         → Steps (polled (threads_of (from_form z)) told (source_state (told_shared told left) None a) c) (polled (callbacks_of (to_form z)) told (target_state (told_shared told left) bs None b) d)
     polled_alike told left _ _ (BothGave vs t) =
         BothGive _ _ (Goes (record w { store = t; history = record w.history { polls = left }; trace = w.trace ++ Polled told ∷ [] }) bs None None [] _ (begin_round (poll told vs tags)) _ NothingRuns
-        (begin_alike (poll_alike g told vs)) (owns_again bs [] tags (begin_round (poll told vs tags)) (λ n. polled_total n told vs) owns))
+        (begin_alike (poll_alike g told vs)) (owns_again bs [] tags (begin_round (poll told vs tags)) (λ n. polled_total n told vs) owns) fresh)
     polled_alike told left _ _ (BothFailed fault f e) =
         subst (λ name. Steps (Gives (ends (Failed fault (shown_in z.source f)) (source_state (told_shared told left) None a))) (Gives (ends (Failed fault name) (target_state (told_shared told left) bs None b)))) (sym e)
         (BothGive _ _ (IsOver _ _ refl refl refl))
@@ -108,7 +109,7 @@ module _ (z : Setting) (facts : NativeFacts z) where
 
     round_alike : (n : Bool) → Relates (next_round x n) (next_round y n)
     round_alike true = IsOver _ _ refl refl (ap Ended (sym (waiters_alike g)))
-    round_alike false = Goes w bs None None [] _ (begin_round tags) _ NothingRuns (begin_alike g) (owns_again bs [] tags (begin_round tags) (λ n. total_begins (λ (t : Tagged). count n t.owned) tags over) owns)
+    round_alike false = Goes w bs None None [] _ (begin_round tags) _ NothingRuns (begin_alike g) (owns_again bs [] tags (begin_round tags) (λ n. total_begins (λ (t : Tagged). count n t.owned) tags over) owns) fresh
 
     turns_where_alike : (n : Bool) → Steps (turns_where (threads_of (from_form z)) x n) (turns_where (callbacks_of (to_form z)) y n)
     turns_where_alike true = next_poll_alike w.history.polls

@@ -24,12 +24,14 @@ use Rattle.cpc_convert_chain_laws.specs.Chains.{Owns, frame_cells}
 use Rattle.cpc_convert_chain_laws.specs.Driver.{drive_name}
 use Rattle.cpc_convert_chain_laws.specs.Walks.{Here, Quiet, Walk, Stay, Step, FaultsAfter}
 use Rattle.cpc_convert_chain_laws.proofs.Walks.{walk_then, walk_ends}
+use Rattle.cpc_convert_laws.specs.Fresh.{AllFresh}
 use Rattle.cpc_convert_laws.specs.Items.{first_saved, Tagged, driven, owned_in}
 use Rattle.cpc_convert_laws.specs.Running.{SamePoint, Under, NativeRuns}
 use Rattle.cpc_convert_laws.proofs.Relation.{Source, Target, Shared, AgendaFor, source_state, target_state, Related, Goes, IsOver}
 use Rattle.cpc_convert_laws.proofs.Setting.{Setting, from_form, NativeFacts, KeepsFacts}
 use Rattle.cpc_convert_laws.proofs.Tidy.{related_tidied}
-use Rattle.cpc_convert_laws.proofs.Idle.{RowFor, Shows}
+use Rattle.cpc_convert_laws.proofs.Fresh.{fresh_more}
+use Rattle.cpc_convert_laws.proofs.Rows.{RowFor, Shows}
 use Rattle.cpc_convert_laws.proofs.Putting.{agenda_alloc, agenda_ready, owns_ready, pending_put, stacks_alloc}
 
 -- a walk leads from a quiet state to a quiet one
@@ -72,10 +74,10 @@ pub record Spawns (z : Setting) (f : Text) (b : Point) (slots : List Slot) (xs :
 
 -- so both come to states that stand for each other
 pub spawn_row : (z : Setting) → NativeFacts z → KeepsFacts z → (f : Text) (b : Point) (slots : List Slot) (xs : List (CallFrame Position)) (ys : List (CallFrame Point)) (o : Option Value) (w : Shared) (bs : Blocks) (owned : List ℕ) (a : Agenda (Thread Position)) (tags : Agenda Tagged) (c : Agenda Callback)
-    → (h : Spawns z f b slots xs ys o w bs a c) → z.cut.whole f ≡ true → All (IsHeldSlot z.codes) slots → Native z.codes (SamePoint z.cut) (Under z.codes z.cut z.there bs owned) xs ys → AgendaFor z.cut bs a tags c → Owns bs (owned ++ owned_in tags)
+    → (h : Spawns z f b slots xs ys o w bs a c) → z.cut.whole f ≡ true → All (IsHeldSlot z.codes) slots → Native z.codes (SamePoint z.cut) (Under z.codes z.cut z.there bs owned) xs ys → AgendaFor z.cut bs a tags c → Owns bs (owned ++ owned_in tags) → AllFresh bs
     → (x' : Source) → option_map (tidy z.kept) (next (threads_of (from_form z)) (source_state w (Some (record { frames = frame_of f (InTree b) slots ∷ xs; arriving = o })) a)) ≡ Some x'
     → RowFor z (source_state w (Some (record { frames = frame_of f (InTree b) slots ∷ xs; arriving = o })) a) x' (suc h.steps) (target_state w bs (Some (record { frames = frame_of f b slots ∷ ys; arriving = o })) c)
-spawn_row z native keeps f b slots xs ys o w bs owned a tags c h same held stacks g owns x' e =
+spawn_row z native keeps f b slots xs ys o w bs owned a tags c h same held stacks g owns fresh x' e =
     let cells = frame_cells (first_saved z.cut h.spawned h.arguments) Null Unset in
     let more : Blocks = bs ++ Some cells ∷ [] in
     let item = driven (Pointer Frame (length bs) 0) (length bs ∷ []) in
@@ -84,5 +86,5 @@ spawn_row z native keeps f b slots xs ys o w bs owned a tags c h same held stack
     (NativeRuns (frame_of f (InTree h.onwards) slots ∷ xs) (frame_of f h.onwards slots ∷ ys) None owned
     (OneMore f (InTree h.onwards) h.onwards slots xs ys (refl, same) held (stacks_alloc z.codes z.cut z.there bs (Some cells) owned xs ys stacks)) tt)
     (agenda_ready z.cut more (Pending h.spawned h.arguments) item a tags c (pending_put z.cut bs h.spawned h.arguments) (agenda_alloc z.cut bs (Some cells) a tags c g))
-    (owns_ready bs cells owned item.callback tags owns))
+    (owns_ready bs cells owned item.callback tags owns) (fresh_more bs (Some cells) refl fresh))
     e h.leads
