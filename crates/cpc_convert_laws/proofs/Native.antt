@@ -27,7 +27,8 @@ use Rattle.cpc_convert_laws.specs.Running.{Places, SamePoint, InPiece, AtNode, U
 use Rattle.cpc_convert_laws.proofs.Relation.{Source, Target, Shared, source_state, target_state, Related, Goes}
 use Rattle.cpc_convert_laws.proofs.Setting.{Setting, from_form, to_form, NativeFacts, KeepsFacts, NativeAt}
 use Rattle.cpc_convert_laws.proofs.Rows.{RowFor, settled_alike, one_step}
-use Rattle.cpc_convert_laws.proofs.Answering.{under_ends, Agendas, asked_alike}
+use Rattle.cpc_convert_laws.proofs.Answering.{under_ends, asked_alike}
+use Rattle.cpc_convert_laws.proofs.Asking.{Agendas}
 
 -- where the source gives something, of which that is known
 pub meets_known : {A B D E : Type 0} (R : A → B → Type 0) (S : D → E → Type 0) (a : Answer A) (b : Answer B) (f : A → Answer D) (g : B → Answer E) → Meets R a b
@@ -72,7 +73,7 @@ nothing_below C cut There bs owned _ _ e (OneMore f a b slots xs ys h i k) = abs
 
 -- ---- the row
 
-module _ (z : Setting) (facts : NativeFacts z) (keeps : KeepsFacts z) (bs : Blocks) (owned : List ℕ) (f : Text) (b : Point) (slots : List Slot) (xs : List (CallFrame Position)) (ys : List (CallFrame Point)) (same : z.cut.whole f ≡ true) (held : All (IsHeldSlot z.codes) slots) (stacks : Native z.codes (SamePoint z.cut) (Under z.codes z.cut z.there bs owned) xs ys) (at : NativeAt z f b slots) (o : Option Value) (hold : IsHeldIf z.codes o) (w : Shared) (a : Agenda (Thread Position)) (tags : Agenda Tagged) (c : Agenda Callback) (source : IsHeldStore z.codes w.store) (g : Agendas z facts bs owned a tags c) where
+module _ (z : Setting) (facts : NativeFacts z) (keeps : KeepsFacts z) (bs : Blocks) (owned : List ℕ) (f : Text) (b : Point) (slots : List Slot) (xs : List (CallFrame Position)) (ys : List (CallFrame Point)) (same : z.cut.whole f ≡ true) (held : All (IsHeldSlot z.codes) slots) (stacks : Native z.codes (SamePoint z.cut) (Under z.codes z.cut z.there bs owned) xs ys) (at : NativeAt z f b slots) (o : Option Value) (hold : IsHeldIf z.codes o) (w : Shared) (a : Agenda (Thread Position)) (tags : Agenda Tagged) (c : Agenda Callback) (source : IsHeldStore z.codes w.store) (g : Agendas z bs owned a tags c) where
   abbrev here : Stack Position
   here = record { frames = frame_of f (InTree b) slots ∷ xs; arriving = o }
 
