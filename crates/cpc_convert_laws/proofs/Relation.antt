@@ -16,6 +16,7 @@ use Rattle.cpc_meaning.proofs.Agendas.{SameAgenda}
 use Rattle.cpc_forms.specs.Split.{Position}
 use Rattle.cpc_convert_image_laws.specs.Held.{beside}
 use Rattle.cpc_convert_chain_laws.specs.Chains.{Owns}
+use Rattle.cpc_convert_chain_laws.specs.Walks.{World}
 use Rattle.cpc_convert_laws.specs.Fresh.{AllFresh}
 use Rattle.cpc_convert_laws.specs.Items.{Cut, Tagged, ItemFor, IsUntagged, owned_in}
 use Rattle.cpc_convert_laws.specs.Running.{Places, RunningFor}
@@ -49,6 +50,10 @@ source_state w k a = going w w.store k a
 
 abbrev pub target_state : Shared → Blocks → Option (Stack Point) → Agenda Callback → Target
 target_state w bs k b = going w (beside bs w.store) k b
+
+-- what the target has besides its store and what runs
+abbrev pub world_of : Shared → Agenda Callback → World
+world_of w b = record { agenda = b; jobs = w.jobs; history = w.history; trace = w.trace }
 
 -- the agenda before the call of `main` is taken, and in its round
 abbrev pub with_main : {T : Type 0} → T → Agenda T
