@@ -18,6 +18,7 @@ use Rattle.cpc_convert_image_laws.specs.Stacks.{frame_of}
 use Rattle.cpc_convert_chain_laws.specs.Chains.{Saved, Top}
 use Rattle.cpc_convert_chain_laws.specs.Driver.{DriverFacts, IsPiece, driving, entered}
 use Rattle.cpc_convert_chain_laws.specs.Walks.{World, Walk, running}
+use Rattle.cpc_convert_laws.specs.Bounds.{Bounds}
 use Rattle.cpc_convert_laws.specs.Fresh.{beyond}
 use Rattle.cpc_convert_laws.specs.Items.{saved_at, first_saved}
 use Rattle.cpc_convert_laws.proofs.Setting.{Setting, from_form}
@@ -39,18 +40,18 @@ pub record Opens (z : Setting) (bound : ℕ) (name : Text) (w : World) (bs : Blo
   pub stands : z.there f l n slots o next piece None
 
 -- what is known of the driver, and of the beginning of pieces, whose steps are at most so many
-pub record EntryFacts (z : Setting) (bound : ℕ) : Type 0 where
+pub record EntryFacts (z : Setting) (b : Bounds) : Type 0 where
   pub driver : DriverFacts z.target
   -- a leader takes up a frame that waits, with the value that arrives
-  pub resumes : (w : World) (bs : Blocks) (s : Store) (f : Text) (n : ℕ) (slots : List Slot) (v : Value) (below : List Saved) (b : ℕ) (next : Value) (owned : List ℕ)
-      → z.fine (frame_of f (InGraph (At n) n) slots) (Some v) → Top bs (saved_at z.cut f slots n) below b next v owned
-      → Opens z bound (z.cut.piece f (At n)) w bs s b f (At n) n slots (Some v) next s
+  pub resumes : (w : World) (bs : Blocks) (s : Store) (f : Text) (n : ℕ) (slots : List Slot) (v : Value) (below : List Saved) (k : ℕ) (next : Value) (owned : List ℕ)
+      → z.fine (frame_of f (InGraph (At n) n) slots) (Some v) → Top bs (saved_at z.cut f slots n) below k next v owned
+      → Opens z b.resumes (z.cut.piece f (At n)) w bs s k f (At n) n slots (Some v) next s
   -- a leader takes up a frame that was made on the way to it, at which no value arrives
-  pub jumps : (w : World) (bs : Blocks) (s : Store) (f : Text) (n : ℕ) (slots : List Slot) (below : List Saved) (b : ℕ) (next : Value) (owned : List ℕ)
-      → z.fine (frame_of f (InGraph (At n) n) slots) None → Top bs (saved_at z.cut f slots n) below b next Unset owned
-      → Opens z bound (z.cut.piece f (At n)) w bs s b f (At n) n slots None next s
+  pub jumps : (w : World) (bs : Blocks) (s : Store) (f : Text) (n : ℕ) (slots : List Slot) (below : List Saved) (k : ℕ) (next : Value) (owned : List ℕ)
+      → z.fine (frame_of f (InGraph (At n) n) slots) None → Top bs (saved_at z.cut f slots n) below k next Unset owned
+      → Opens z b.resumes (z.cut.piece f (At n)) w bs s k f (At n) n slots None next s
   -- the start takes up the first frame of a call, and makes its variables as the source does
-  pub begins : (w : World) (bs : Blocks) (s t : Store) (f : Text) (g : Function) (vs : List Value) (slots : List Slot) (v : Value) (below : List Saved) (b : ℕ) (next : Value) (owned : List ℕ)
+  pub begins : (w : World) (bs : Blocks) (s t : Store) (f : Text) (g : Function) (vs : List Value) (slots : List Slot) (v : Value) (below : List Saved) (k : ℕ) (next : Value) (owned : List ℕ)
       → function_named z.source f ≡ Some g → z.given f vs → call_slots z.source g vs s ≡ Gives (slots, t)
-      → Top bs (first_saved z.cut f vs) below b next v owned
-      → (l : Place) × (n : ℕ) × (g.called ≡ f) × ((from_form z).code.first f ≡ InGraph l n) × Opens z bound (first_saved z.cut f vs).piece w bs s b f l n (tidy_slots (z.kept f (InGraph l n)) slots) None next t
+      → Top bs (first_saved z.cut f vs) below k next v owned
+      → (l : Place) × (n : ℕ) × (g.called ≡ f) × ((from_form z).code.first f ≡ InGraph l n) × Opens z b.begins (first_saved z.cut f vs).piece w bs s k f l n (tidy_slots (z.kept f (InGraph l n)) slots) None next t

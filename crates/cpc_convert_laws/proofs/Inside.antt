@@ -30,6 +30,7 @@ use Rattle.cpc_convert_image_laws.specs.Stacks.{frame_of}
 use Rattle.cpc_convert_chain_laws.specs.Chains.{Saved, Top, frame_cells}
 use Rattle.cpc_convert_chain_laws.specs.Driver.{drive_name, driving}
 use Rattle.cpc_convert_chain_laws.specs.Walks.{World, Walk, FaultsAfter, running}
+use Rattle.cpc_convert_laws.specs.Bounds.{Bounds}
 use Rattle.cpc_convert_laws.specs.Items.{saved_at, first_saved}
 use Rattle.cpc_convert_laws.specs.Running.{SamePoint}
 use Rattle.cpc_convert_laws.specs.Waits.{Awaited, awaited, put_waiting, wait_marks}
@@ -37,9 +38,9 @@ use Rattle.cpc_convert_laws.proofs.Relation.{Target, Shared, target_state, world
 use Rattle.cpc_convert_laws.proofs.Setting.{Setting, from_form, to_form, is_common, is_answered}
 use Rattle.cpc_convert_laws.proofs.Taking.{given_value}
 
--- A piece of f, for the owner l, runs above the driver, which has these values; `lower` is the pointer to the frames below. No walk below is
--- of more than so many steps.
-module _ (z : Setting) (bound : ℕ) (f : Text) (l : Place) (lower pointer result frame : Value) where
+-- A piece of f, for the owner l, runs above the driver, which has these values; `lower` is the pointer to the frames below. The walks below
+-- keep to the bounds.
+module _ (z : Setting) (bounds : Bounds) (f : Text) (l : Place) (lower pointer result frame : Value) where
   -- its stack, and the driver's while no piece runs
   abbrev pub over : CallFrame Point → List (CallFrame Point)
   over piece = piece ∷ driving pointer result frame ∷ []
@@ -54,10 +55,10 @@ module _ (z : Setting) (bound : ℕ) (f : Text) (l : Place) (lower pointer resul
   -- Control goes on from here to a position of the source, with these variables and this store: the piece comes to where it stands there; or
   -- it gives the frame of another leader, in a new block, to the driver.
   pub data Onward (bs : Blocks) (t : Store) (slots : List Slot) (from : CallFrame Point) : Position → Type 0 where
-    Stays : (n : ℕ) (piece : CallFrame Point) (steps : ℕ) → steps ≤ bound
+    Stays : (n : ℕ) (piece : CallFrame Point) (steps : ℕ) → steps ≤ bounds.onward
         → ((w : World) → Walk z.target w.trace steps (running w (beside bs t) (over from) None) (running w (beside bs t) (over piece) None))
         → z.there f l n slots None lower piece None → Onward bs t slots from (InGraph l n)
-    Jumps : (n : ℕ) (steps : ℕ) → steps ≤ bound
+    Jumps : (n : ℕ) (steps : ℕ) → steps ≤ bounds.onward
         → ((w : World) → Walk z.target w.trace steps (running w (beside bs t) (over from) None) (running w (beside (with_leader bs slots n) t) alone (Some (Pointer Frame (length bs) 0))))
         → Onward bs t slots from (InGraph (At n) n)
 
@@ -117,7 +118,7 @@ module _ (z : Setting) (bound : ℕ) (f : Text) (l : Place) (lower pointer resul
       pub back : ℕ
       pub is_back : (from_form z).code.arrival f (InGraph l n) ≡ Some (InGraph (At back) back)
       pub steps : ℕ
-      pub within : steps < bound
+      pub within : steps < bounds.leads
       pub leads : Walk z.target w.trace (suc steps) inside (running (world_of w c) (beside (with_call back g vs) w.store) alone (Some (Pointer Frame (length (with_leader bs slots back)) 0)))
 
     -- ---- returns
@@ -125,7 +126,7 @@ module _ (z : Setting) (bound : ℕ) (f : Text) (l : Place) (lower pointer resul
     -- the piece gives the frame below to the driver, over these frame blocks
     pub record GivesBack (cs : Blocks) (t : Store) : Type 0 where
       pub steps : ℕ
-      pub within : steps < bound
+      pub within : steps < bounds.leads
       pub leads : Walk z.target w.trace (suc steps) inside (running (world_of w c) (beside cs t) alone (Some lower))
 
     -- a return with a value: where there is a frame below, the value is written to it
@@ -143,7 +144,7 @@ module _ (z : Setting) (bound : ℕ) (f : Text) (l : Place) (lower pointer resul
       pub arguments : Exprs
       pub is_spawn : (from_form z).code.stood f (InGraph l n) ≡ AtStatement (Simple (Spawn g arguments))
       pub steps : ℕ
-      pub within : steps < bound
+      pub within : steps < bounds.leads
       pub from : CallFrame Point
       pub leads : Walk z.target w.trace (suc steps) inside (running (world_of w (ready_one (CallWith drive_name (Pointer Frame (length bs) 0)) c)) (beside (with_spawned g vs) w.store) (over from) None)
       pub onward : (to : Position) → (from_form z).code.goes f (InGraph l n) true ≡ Some to → Onward (with_spawned g vs) w.store slots from to
@@ -163,7 +164,7 @@ module _ (z : Setting) (bound : ℕ) (f : Text) (l : Place) (lower pointer resul
       pub from : CallFrame Point
       pub first : next (callbacks z.target) (asks_wait back asker) ≡ Some (running (world_of v d) (beside (with_leader bs slots back) w.store) (over from) None)
       pub steps : ℕ
-      pub within : steps ≤ bound
+      pub within : steps ≤ bounds.onward
       pub leads : Walk z.target v.trace steps (running (world_of v d) (beside (with_leader bs slots back) w.store) (over from) None) (running (world_of v d) (beside (with_leader bs slots back) w.store) alone (Some Null))
 
     -- the frame of the arrival is made, and then the piece asks
@@ -171,7 +172,7 @@ module _ (z : Setting) (bound : ℕ) (f : Text) (l : Place) (lower pointer resul
       pub back : ℕ
       pub is_back : (from_form z).code.arrival f (InGraph l n) ≡ Some (InGraph (At back) back)
       pub steps : ℕ
-      pub within : steps ≤ bound
+      pub within : steps ≤ bounds.leads
       pub asker : CallFrame Point
       pub leads : Walk z.target w.trace steps inside (asks_wait back asker)
       pub shown : before_bars asker.function ≡ shown_in z.source f
@@ -208,7 +209,7 @@ module _ (z : Setting) (bound : ℕ) (f : Text) (l : Place) (lower pointer resul
 
     pub data Does : Answer Act → Type 0 where
       Sticks : Does NoAnswer
-      Breaks : (fault : Fault) (name : Text) → before_bars name ≡ shown_in z.source f → (a : FaultsAfter z.target w.trace name fault inside) → a.steps < bound → Does (Faults fault)
+      Breaks : (fault : Fault) (name : Text) → before_bars name ≡ shown_in z.source f → (a : FaultsAfter z.target w.trace name fault inside) → a.steps < bounds.leads → Does (Faults fault)
       Moves : (h : Bool) (t : Store) (changed : List Slot) → ((to : Position) → (from_form z).code.goes f (InGraph l n) h ≡ Some to → GoesTo t changed to) → Does (Gives (GoesOn h t changed))
       Requests : (r : Request) → is_answered r.asked ≡ true → All (IsHeld z.codes) r.arguments → frames_step (to_form z) (beside bs w.store) o' (over piece) ≡ Gives (Asks r) → Replies → Does (Gives (AsksFor r))
       SpawnsOne : (g : Text) (vs : List Value) → SpawnsCall g vs → Does (Gives (AsksFor (record { asked = ToSpawn g; arguments = vs })))

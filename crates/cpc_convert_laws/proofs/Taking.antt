@@ -18,7 +18,7 @@ use Rattle.cpc_forms.specs.Split.{Position, InGraph}
 use Rattle.cpc_convert_image_laws.specs.Held.{beside}
 use Rattle.cpc_convert_image_laws.specs.Stacks.{frame_of}
 use Rattle.cpc_convert_chain_laws.specs.Chains.{Saved, Top, Owns, count, frame_cells}
-use Rattle.cpc_convert_chain_laws.specs.Driver.{drive_name, driving, entered, with_round}
+use Rattle.cpc_convert_chain_laws.specs.Driver.{DriverFacts, drive_name, driving, entered, with_round}
 use Rattle.cpc_convert_chain_laws.specs.Walks.{running}
 use Rattle.cpc_convert_chain_laws.proofs.Chains.{same_number, count_append, chain_set, chain_patched, chain_taken}
 use Rattle.cpc_convert_chain_laws.proofs.Owned.{lives_there, owns_free, owns_set, owns_order, owns_once}
@@ -32,7 +32,7 @@ use Rattle.cpc_convert_laws.proofs.Items.{count_owned, agenda_changed, item_kept
 use Rattle.cpc_convert_laws.proofs.Relation.{Source, Shared, AgendaFor, source_state, target_state, world_of, Goes}
 use Rattle.cpc_convert_laws.proofs.Rows.{RowFor, Reached, reached_after, row_reached}
 use Rattle.cpc_convert_laws.proofs.Setting.{Setting}
-use Rattle.cpc_convert_laws.proofs.Entry.{Opens, EntryFacts}
+use Rattle.cpc_convert_laws.proofs.Entry.{Opens}
 
 -- the frame blocks where a value was given to a frame
 abbrev pub given_value : Blocks → ℕ → Saved → (next value : Value) → Blocks
@@ -88,7 +88,7 @@ owned_rest tags d ds e n =
 
 -- ---- the rows
 
-module _ (z : Setting) (bound : ℕ) (facts : EntryFacts z bound) (w : Shared) (a : Agenda (Thread Position)) (tags : Agenda Tagged) (c : Agenda Callback) where
+module _ (z : Setting) (bound : ℕ) (driver : DriverFacts z.target) (w : Shared) (a : Agenda (Thread Position)) (tags : Agenda Tagged) (c : Agenda Callback) where
   -- a frame that a piece takes up: the piece goes to where it stands for this frame of the source
   module _ (cs : Blocks) (f : Saved) (fs : List Saved) (b : ℕ) (below v : Value) (owned : List ℕ) (top : Top cs f fs b below v owned) (g : AgendaFor z.cut cs a tags c) (owns : Owns cs (b ∷ (owned ++ owned_in tags))) (fresh : AllFresh (slice_set cs b None)) (x : Text) (l : Place) (n : ℕ) (slots : List Slot) (o : Option Value) (t : Store) (frames : List (CallFrame Position)) (waits : FramesWait z.cut frames fs) (opens : Opens z bound f.piece (world_of w c) cs w.store b x l n slots o below t) where
     -- the state of the source
@@ -126,9 +126,9 @@ module _ (z : Setting) (bound : ℕ) (facts : EntryFacts z bound) (w : Shared) (
     pub goes_on : (pointer result frame : Value) → Reached z resumed_state (3 + bound) w.trace (running (world_of w c) (beside cs w.store) (driving pointer result frame ∷ []) (Some (Pointer Frame b 0)))
     goes_on pointer result frame =
         reached_after z resumed_state 3 bound w.trace (running (world_of w c) (beside cs w.store) (driving pointer result frame ∷ []) (Some (Pointer Frame b 0))) (entered z.target (world_of w c) (beside cs w.store) opens.function opens.locals pointer result (Pointer Frame b 0))
-        (drive_goes_on z.target facts.driver (world_of w c) (beside cs w.store) f fs b below v owned top opens.function opens.is_piece pointer result frame opens.locals (beside cs w.store) opens.called) (opened pointer result (Pointer Frame b 0))
+        (drive_goes_on z.target driver (world_of w c) (beside cs w.store) f fs b below v owned top opens.function opens.is_piece pointer result frame opens.locals (beside cs w.store) opens.called) (opened pointer result (Pointer Frame b 0))
 
-module _ (z : Setting) (bound : ℕ) (facts : EntryFacts z bound) (w : Shared) (bs : Blocks) (a : Agenda (Thread Position)) (tags : Agenda Tagged) (c : Agenda Callback) (g : AgendaFor z.cut bs a tags c) (owns : Owns bs (owned_in tags)) (fresh : AllFresh bs) where
+module _ (z : Setting) (bound : ℕ) (driver : DriverFacts z.target) (w : Shared) (bs : Blocks) (a : Agenda (Thread Position)) (tags : Agenda Tagged) (c : Agenda Callback) (g : AgendaFor z.cut bs a tags c) (owns : Owns bs (owned_in tags)) (fresh : AllFresh bs) where
   module _ (ds : List (Due (Thread Position))) (ts : List (Due Tagged)) (es : List (Due Callback)) (both : Both (SameDue (ItemFor z.cut bs)) ds ts) (bare : Both (SameDue IsUntagged) ts es) (v : Value) (is_int : assigned (TyInt Int) v ≡ Gives v) (f : Saved) (fs : List Saved) (b : ℕ) (below old : Value) (owned : List ℕ) (top : Top bs f fs b below old owned) (first : tags.round ≡ record { item = record { callback = CallWith drive_name (Pointer Frame b 0); owned = b ∷ owned }; result = v } ∷ ts) (is_round : c.round ≡ record { item = CallWith drive_name (Pointer Frame b 0); result = v } ∷ es) where
     -- the block is owned by this item alone
     others_apart : total (λ (t : Tagged). count b t.owned) (with_rest tags ts) ≡ 0
@@ -149,8 +149,8 @@ module _ (z : Setting) (bound : ℕ) (facts : EntryFacts z bound) (w : Shared) (
         → RowFor z (source_state w None a) (source_state (record w { store = t }) (Some (record { frames = frame_of x (InGraph l n) slots ∷ frames; arriving = o })) (with_rest a ds)) (5 + bound) (target_state w bs None c)
     takes_up x l n slots o t frames waits opens =
         row_reached z (source_state w None a) _ (target_state w bs None c) (entered z.target (with_round (world_of w c) es) (beside cs w.store) opens.function opens.locals (Pointer Frame b 0) v (Pointer Frame b 0)) 4 bound refl
-        (drive_begins z.target facts.driver (world_of w c) (beside bs w.store) f fs b below old owned top opens.function opens.is_piece es v v is_round is_int opens.locals (beside cs w.store) opens.called)
-        (opened z bound facts w (with_rest a ds) (with_rest tags ts) (with_rest c es) cs f fs b below v owned (chain_patched bs f fs b below old v owned top) kept
+        (drive_begins z.target driver (world_of w c) (beside bs w.store) f fs b below old owned top opens.function opens.is_piece es v v is_round is_int opens.locals (beside cs w.store) opens.called)
+        (opened z bound driver w (with_rest a ds) (with_rest tags ts) (with_rest c es) cs f fs b below v owned (chain_patched bs f fs b below old v owned top) kept
         (owns_set bs b (frame_cells f below v) (b ∷ (owned ++ owned_in (with_rest tags ts))) (lives_there bs b (frame_cells f below old) top.cells) owns_rest)
         (fresh_taken bs b (Some (frame_cells f below v)) fresh) x l n slots o t frames waits opens (Pointer Frame b 0) v (Pointer Frame b 0))
       where
