@@ -7,7 +7,7 @@ use Rattle.cpc_store.specs.declared.values.Class.TheVariants.{Frame}
 use Rattle.cpc_store.specs.Store.{Value, Null, Unset, At as Pointer, Blocks}
 use Rattle.cpc_tree.specs.Syntax.{Program}
 use Rattle.cpc_tree.specs.Points.{Point}
-use Rattle.cpc_tree.specs.Trace.{Mark, Going, Failed}
+use Rattle.cpc_tree.specs.Trace.{Mark, Going, Failed, is_over}
 use Rattle.cpc_meaning_matching.specs.Simulation.{Last}
 use Rattle.cpc_meaning.specs.Agenda.{Agenda, ready_one}
 use Rattle.cpc_meaning.specs.Eval.{Slot}
@@ -49,14 +49,13 @@ walk_row z native keeps x s x' y t n going i r e walk =
     (subst (λ s. Related z.codes z.cut z.there s t) j (related_tidied z native keeps s t r))
 
 -- some steps to a fault that the source has in this step
-pub fault_row : (z : Setting) (x x' : Source) (y : Target) (f : Text) (fault : Fault) → x.outcome ≡ Going → Quiet x.trace y → x' ≡ ends (Failed fault (before_bars f)) x
+pub fault_row : (z : Setting) (x x' : Source) (y : Target) (f : Text) (fault : Fault) → x.outcome ≡ Going → Quiet x.trace y → x'.trace ≡ x.trace → x'.outcome ≡ Failed fault (before_bars f)
     → (a : FaultsAfter z.target x.trace f fault y) → RowFor z x x' (a.steps + 1) y
-fault_row z x x' y f fault going quiet e a =
+fault_row z x x' y f fault going quiet same failed a =
     let last = walk_quiet z.target x.trace a.steps y a.last quiet a.leads in
     walk_then {q = z.target} {trace = x.trace} (Related z.codes z.cut z.there x') (λ u. Shows x u ⊎ Shows x' u) (λ u q. inl (record { trace = sym q.is_trace; outcome = going ∙ sym q.goes })) a.steps 1 y a.last a.leads
     (Last 1 a.last (ends (Failed fault (before_bars f)) a.last) a.faults (omega arith)
-    (subst (λ s. Related z.codes z.cut z.there s (ends (Failed fault (before_bars f)) a.last)) (sym e)
-    (IsOver (ends (Failed fault (before_bars f)) x) (ends (Failed fault (before_bars f)) a.last) refl last.is_trace refl)))
+    (IsOver x' (ends (Failed fault (before_bars f)) a.last) (ap is_over failed) (last.is_trace ∙ sym same) (sym failed)))
 
 -- ---- spawns
 
