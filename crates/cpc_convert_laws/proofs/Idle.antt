@@ -48,7 +48,7 @@ use Rattle.cpc_convert_laws.proofs.Taking.{given_value, with_rest, takes_up}
 abbrev and_slot : Slot → List Slot × Store → Answer (List Slot × Store)
 and_slot slot r = Gives (slot ∷ r.0, r.1)
 
-fine_slots : (p : Program) (f : Function) (n : ℕ) (xs : List Variable) (vs : List Value) (s : Store) (fault : Fault) → ¬ (make_slots p f n xs vs s ≡ Faults fault)
+pub fine_slots : (p : Program) (f : Function) (n : ℕ) (xs : List Variable) (vs : List Value) (s : Store) (fault : Fault) → ¬ (make_slots p f n xs vs s ≡ Faults fault)
 fine_slots p f n [] vs s fault e = absurd (cc)
 fine_slots p f n (x ∷ xs) vs s fault e = sized (λ t g. fine_slots p f (suc n) xs (rest_of vs) t g) (size p x.type) e
   where
