@@ -191,3 +191,73 @@ module _ (z : Setting) (native : NativeFacts z) (keeps : KeepsFacts z) (bounds :
           let arrives : Option Position → Answer Source = λ back. (needed back >>= λ back. Gives (record { frames = frame_of f back slots ∷ below; arriving = None })) >>= λ (j : Stack Position). suspended q r (put_waiting q (Suspended j) a) in
           waits_row q r x'
           (sym (ap (λ u. option_map (tidy z.kept) (settles z f l n slots o w a below u)) (comes ∙ (ap (waits_by (from_form z) (stack z f l n slots o w a below) from) e ∙ ap arrives r.prepares.is_back))) ∙ stepped)
+
+  -- ---- sections
+
+  module _ (g : Text) (vs : List Value) (r : SubmitsSection z bounds f l lower pointer result frame w bs c n slots o piece o' g vs) where
+    abbrev item_out : Tagged
+    item_out = item r.prepares
+
+    three_out : ThreePut z (more r.prepares) item_out h.tags (section (Suspended (waiting_stack r.prepares)) a) (section item_out.callback c)
+    three_out =
+        three_put z (more r.prepares) item_out h.tags _ (section item_out h.tags) _ (λ d e m. total_section (λ (x : Tagged). count m x.owned) item_out h.tags d e)
+        (sectioned (ItemFor z.cut (more r.prepares)) (Suspended (waiting_stack r.prepares)) item_out a h.tags (is_item r.prepares) (kept r.prepares).items)
+        (sectioned IsUntagged item_out item_out.callback h.tags c refl (kept r.prepares).untagged)
+
+    -- the section has the same number in both
+    same_number : c.sections_made ≡ a.sections_made
+    same_number = sym (h.alike.items.sections_made ∙ h.alike.untagged.sections_made)
+
+    -- what is left in common, where the section has this number
+    abbrev left : (number : ℕ) → (taken : List Value) → Shared
+    left number taken = record w {
+      jobs = w.jobs ++ record { number = number; function = g; arguments = rest_of vs; cells = taken; pointer = first_or Unset vs } ∷ [];
+      trace = w.trace ++ Submitted number g ∷ [];
+    }
+
+    -- what comes of the cells, of the function, and of the agenda
+    abbrev by_cells : Agenda (Thread Position) → Answer (List Value) → Answer Source
+    by_cells b m = (m >>= λ taken. Gives (source_state (left a.sections_made taken) (Some (stack z f l n slots o w a below)) b)) >>= λ (t : Source). Gives (record t { running = None })
+
+    abbrev by_function : Agenda (Thread Position) → Option Function → Answer Source
+    by_function b k = (needed k >>= λ k. copy_of z.source k (first_or Unset vs) w.store >>= λ taken. Gives (source_state (left a.sections_made taken) (Some (stack z f l n slots o w a below)) b)) >>= λ (t : Source). Gives (record t { running = None })
+
+    abbrev by_agenda : Result (Agenda (Thread Position)) Fault → Answer Source
+    by_agenda u =
+        (of_result u >>= λ b. needed (function_named z.source g) >>= λ k. copy_of z.source k (first_or Unset vs) w.store >>= λ taken. Gives (source_state (left a.sections_made taken) (Some (stack z f l n slots o w a below)) b))
+        >>= λ (t : Source). Gives (record t { running = None })
+
+    module _ (x' : Source) where
+      abbrev Steps : Answer Source → Type 0
+      Steps u = option_map (tidy z.kept) (settles z f l n slots o w a below u) ≡ Some x'
+
+      steps_as : (u v : Answer Source) → u ≡ v → Steps u → Steps v
+      steps_as u v e s = sym (ap (λ t. option_map (tidy z.kept) (settles z f l n slots o w a below t)) e) ∙ s
+
+      taken_row : (b : Agenda (Thread Position)) (tags : Agenda Tagged) (d : Agenda Callback) → AgendaFor z.cut (more r.prepares) b tags d
+          → ((m : ℕ) → total (λ (x : Tagged). count m x.owned) tags ≡ count m item_out.owned + total (λ (x : Tagged). count m x.owned) h.tags)
+          → section item_out.callback c ≡ Ok d → (m : Answer (List Value)) → section_cells z bounds f l lower pointer result frame w bs c n slots o piece o' g vs ≡ m → Steps (by_cells b m) → RowFor z from x' most to
+      taken_row b tags d alike weighs i (Gives taken) e stepped =
+          subst (λ y. RowFor z from y most to) (to_state z f l n slots o w a below x' _ (source_state (left a.sections_made taken) None b) refl stepped)
+          (put_row r.prepares (left a.sections_made taken).jobs (left a.sections_made taken).trace b tags d alike weighs
+          (subst (λ m. Asked r.prepares.back r.prepares.asker (left m taken) d) same_number (r.waits d taken i e)))
+      taken_row b tags d alike weighs i (Faults fault) e stepped = refused_row r.prepares fault (r.faults d fault i e) x' (cc)
+      taken_row b tags d alike weighs i NoAnswer e stepped = absurd (no_state z f l n slots o w a below x' _ refl stepped)
+
+      function_row : (b : Agenda (Thread Position)) (tags : Agenda Tagged) (d : Agenda Callback) → AgendaFor z.cut (more r.prepares) b tags d
+          → ((m : ℕ) → total (λ (x : Tagged). count m x.owned) tags ≡ count m item_out.owned + total (λ (x : Tagged). count m x.owned) h.tags)
+          → section item_out.callback c ≡ Ok d → (k : Option Function) → function_named z.source g ≡ k → Steps (by_function b k) → RowFor z from x' most to
+      function_row b tags d alike weighs i None e stepped = absurd (no_state z f l n slots o w a below x' _ refl stepped)
+      function_row b tags d alike weighs i (Some k) e stepped =
+          taken_row b tags d alike weighs i (copy_of z.source k (first_or Unset vs) w.store) (ap (λ o. needed o >>= λ (k : Function). copy_of z.source k (first_or Unset vs) w.store) e) stepped
+
+      out_row : (u : Result (Agenda (Thread Position)) Fault) (v : Result (Agenda Callback) Fault) → section item_out.callback c ≡ v → ThreePut z (more r.prepares) item_out h.tags u v → Steps (by_agenda u) → RowFor z from x' most to
+      out_row _ _ i (AllPut b tags d alike weighs) stepped = function_row b tags d alike weighs i (function_named z.source g) refl stepped
+      out_row _ _ i (NonePut fault) stepped = refused_row r.prepares fault (r.refused fault i) x' (cc)
+
+  pub submits_row : (g : Text) (vs : List Value) → SubmitsSection z bounds f l lower pointer result frame w bs c n slots o piece o' g vs
+      → (x' : Source) → StepsTo (Gives (AsksFor (record { asked = Section g; arguments = vs }))) x' → RowFor z from x' most to
+  submits_row g vs r x' stepped =
+      let arrives : Option Position → Answer Source = λ back. (needed back >>= λ back. Gives (record { frames = frame_of f back slots ∷ below; arriving = None })) >>= λ (j : Stack Position). by_agenda g vs r (section (Suspended j) a) in
+      out_row g vs r x' (section (Suspended (waiting_stack r.prepares)) a) (section (item_out g vs r).callback c) refl (three_out g vs r)
+      (steps_as g vs r x' _ (by_agenda g vs r (section (Suspended (waiting_stack r.prepares)) a)) (ap arrives r.prepares.is_back) stepped)
