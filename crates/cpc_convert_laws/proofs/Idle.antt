@@ -31,7 +31,7 @@ use Rattle.cpc_convert_chain_laws.specs.Chains.{Saved, Chain, AndChain, Top, Own
 use Rattle.cpc_convert_chain_laws.specs.Driver.{drive_name, with_round}
 use Rattle.cpc_convert_chain_laws.specs.Walks.{Quiet}
 use Rattle.cpc_convert_chain_laws.proofs.Chains.{chain_patched}
-use Rattle.cpc_convert_laws.specs.Bounds.{Bounds, Enough}
+use Rattle.cpc_convert_laws.specs.Bounds.{Bounds}
 use Rattle.cpc_convert_laws.specs.Fresh.{AllFresh}
 use Rattle.cpc_convert_laws.specs.Items.{FramesWait, NoneWait, OneWaits, saved_at, first_saved, Tagged, driven, ItemFor, ForPending, ForSuspended, IsUntagged, owned_in}
 use Rattle.cpc_convert_laws.proofs.Relation.{Source, Target, Shared, AgendaFor, source_state, target_state, Related, IsOver}
@@ -67,7 +67,7 @@ fine_slots p f n (x ∷ xs) vs s fault e = sized (λ t g. fine_slots p f (suc n)
     sized others None i = absurd (cc)
     sized others (Some cells) i = rest others cells _ refl i
 
-module _ (z : Setting) (native : NativeFacts z) (keeps : KeepsFacts z) (bounds : Bounds) (entry : EntryFacts z bounds) (most : ℕ) (enough : Enough bounds most) (w : Shared) (bs : Blocks) (a : Agenda (Thread Position)) (tags : Agenda Tagged) (c : Agenda Callback) (g : AgendaFor z.cut bs a tags c) (owns : Owns bs (owned_in tags)) (fresh : AllFresh bs) where
+module _ (z : Setting) (native : NativeFacts z) (keeps : KeepsFacts z) (bounds : Bounds) (entry : EntryFacts z bounds) (most : ℕ) (fits : 5 + bounds.begins ≤ most) (less : bounds.resumes ≤ bounds.begins) (w : Shared) (bs : Blocks) (a : Agenda (Thread Position)) (tags : Agenda Tagged) (c : Agenda Callback) (g : AgendaFor z.cut bs a tags c) (owns : Owns bs (owned_in tags)) (fresh : AllFresh bs) where
   abbrev from : Source
   from = source_state w None a
 
@@ -98,7 +98,7 @@ module _ (z : Setting) (native : NativeFacts z) (keeps : KeepsFacts z) (bounds :
         let keep : ℕ → Bool = z.kept f (InGraph (At n) n) in
         let top : Top bs (saved_at z.cut f (tidy_slots keep slots) n) saved b under old owned = record { cells = cells; apart = apart; below = chain } in
         let fine = known.running (frame_of f (InGraph (At n) n) (tidy_slots keep slots)) (map (tidy_frame z.kept) below) (Some v) (sym (ap (λ (s : Source). s.running) e)) in
-        path_wider most enough.resumes (subst (λ x. RowFor z from x (5 + bounds.resumes) to) e
+        path_wider most (let e : 5 + bounds.resumes ≤ most = omega arith in e) (subst (λ x. RowFor z from x (5 + bounds.resumes) to) e
         (takes_up z bounds.resumes entry.driver w bs a tags c g owns fresh ds ts es both bare v is_int (saved_at z.cut f (tidy_slots keep slots) n) saved b under old owned top first is_round
         f (At n) n (tidy_slots keep slots) (Some v) w.store (map (tidy_frame z.kept) below) waits
         (entry.resumes _ (given_value bs b (saved_at z.cut f (tidy_slots keep slots) n) under v) w.store f n (tidy_slots keep slots) v saved b under owned fine (chain_patched bs (saved_at z.cut f (tidy_slots keep slots) n) saved b under old v owned top))))
@@ -114,7 +114,7 @@ module _ (z : Setting) (native : NativeFacts z) (keeps : KeepsFacts z) (bounds :
         let r = entry.begins (with_round (record { agenda = c; jobs = w.jobs; history = w.history; trace = w.trace }) es) (given_value bs b saved under v) w.store t f h vs slots v [] b under owned named given made (chain_patched bs saved [] b under old v owned top) in
         let at : Text → Position → Source = λ name point. source_state (record w { store = t }) (Some (record { frames = frame_of name point (tidy_slots (z.kept name point) slots) ∷ []; arriving = None })) (with_rest a ds) in
         let same : at f (InGraph r.0 r.1) ≡ x' = sym (ap (λ name. at name ((from_form z).code.first name)) r.2 ∙ ap (at f) r.3) ∙ e in
-        path_wider most (let i = enough.begins in let e : 5 + bounds.begins ≤ most = omega arith in e) (subst (λ x. RowFor z from x (5 + bounds.begins) to) same
+        path_wider most fits (subst (λ x. RowFor z from x (5 + bounds.begins) to) same
         (takes_up z bounds.begins entry.driver w bs a tags c g owns fresh ds ts es both bare v is_int saved [] b under old owned top first is_round
         f r.0 r.1 (tidy_slots (z.kept f (InGraph r.0 r.1)) slots) None t [] NoneWait r.4))
 
@@ -165,7 +165,7 @@ module _ (z : Setting) (native : NativeFacts z) (keeps : KeepsFacts z) (bounds :
     where
       go : (xs : List (Due (Thread Position))) (ys : List (Due Tagged)) (zs : List (Due Callback)) → a.round ≡ xs → tags.round ≡ ys → c.round ≡ zs
           → Both (SameDue (ItemFor z.cut bs)) xs ys → Both (SameDue IsUntagged) ys zs → RowFor z from x' most to
-      go _ _ _ i j k Ends Ends = path_wider most (let i = enough.resumes in let e : 1 ≤ most = omega arith in e) (turn_row x' i j k known e)
+      go _ _ _ i j k Ends Ends = path_wider most (let e : 1 ≤ most = omega arith in e) (turn_row x' i j k known e)
       go _ _ _ i j k (And d t ds ts r rs) (And _ u _ es q qs) =
           taken d.result ds ts es rs qs (known.result d ds i) x' d.item t.item r.item i
           (j ∙ ap (λ (v : Value). record { item = t.item; result = v } ∷ ts) (sym r.result))

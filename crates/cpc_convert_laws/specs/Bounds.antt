@@ -14,5 +14,5 @@ pub record Bounds : Type 0 where
 pub record Enough (b : Bounds) (n : ℕ) : Type 0 where
   pub goes : b.leads + suc (b.onward + (3 + b.resumes)) ≤ n
   pub calls : b.leads + (3 + b.begins) ≤ n
-  pub resumes : 5 + b.resumes ≤ n
-  pub begins : 6 + b.begins + b.mains ≤ n
+  pub begins : 7 + b.mains + b.begins ≤ n
+  pub less : b.resumes ≤ b.begins

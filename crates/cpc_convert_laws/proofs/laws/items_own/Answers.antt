@@ -1,9 +1,6 @@
 use Rattle.cpc_convert_laws.proofs.Items as L
 use Rattle.cpc_convert_laws.proofs.Beginning as M
-use Rattle.cpc_convert_laws.proofs.Moving as N
-use Rattle.cpc_convert_laws.proofs.Calling as O
-use Rattle.cpc_convert_laws.proofs.Returning as P
-use Rattle.cpc_convert_laws.proofs.Pausing as Q
+use Rattle.cpc_convert_laws.proofs.Pieces as N
 use Rattle.cpc_convert_laws.proofs.laws.items_own.Goals as goal
 
 pub returns : goal.returns
