@@ -1,39 +1,28 @@
 -- What native code asks for is answered alike in both: primitives, and the host's functions.
-use Rattle.std.proofs.Common.{◌≡◌, ℕ, pos, true, List, [], ◌∷◌, ◌++◌, map, Option, Some, Result, Ok, Err, refl, sym, ◌∙◌, subst, arith}
+use Rattle.std.proofs.Common.{◌≡◌, ℕ, true, List, ◌∷◌, Option, Some, refl, sym}
 use Rattle.std.specs.List.{All}
-use Rattle.std.specs.Fmt.{signed_decimal}
 use Rattle.cpc_base.specs.Bytes.{Text}
-use Rattle.cpc_num.specs.declared.kinds.Fault.{Fault}
-use Rattle.cpc_num.specs.declared.kinds.Kind.TheVariants.{Long}
-use Rattle.cpc_store.specs.declared.values.Class.TheVariants.{Heap}
-use Rattle.cpc_store.specs.Store.{Value, Unset, Whole, Cond, Blocks, Store}
-use Rattle.cpc_tree.specs.Lists.{is_empty, rest_of}
+use Rattle.cpc_store.specs.Store.{Value, Unset, Blocks}
+use Rattle.cpc_tree.specs.Lists.{is_empty}
 use Rattle.cpc_tree.specs.Points.{Point}
-use Rattle.cpc_tree.specs.Trace.{Output, HostCall}
 use Rattle.cpc_meaning.specs.Answer.{Answer}
-use Rattle.cpc_meaning.specs.Agenda.{Agenda, cond_new, cond_free, signal, signal_all}
+use Rattle.cpc_meaning.specs.Agenda.{Agenda}
 use Rattle.cpc_meaning.specs.Eval.{Slot}
-use Rattle.cpc_meaning.specs.Machine.{marks, with_agenda, after_done, reply, byte_of, replies, acts, int_of, cond_of, ints_of, first_answer, primitive, host_call, asked_by}
+use Rattle.cpc_meaning.specs.Machine.{after_done, reply, asked_by}
 use Rattle.cpc_meaning.specs.Plain.{Frame as CallFrame, Stack, Done}
-use Rattle.cpc_meaning.specs.Requests.{Asked, Builtin, Host, ToSpawn, Section, Primitive, Print, Putc, Puts, Now, CondNew, CondFree, Signal, SignalAll, Exit, Malloc, Free}
-use Rattle.cpc_meaning.specs.Threads.{Thread, thread_primitive, threads_of}
-use Rattle.cpc_meaning.specs.Events.{Callback, callbacks_of, event_primitive}
-use Rattle.cpc_meaning.proofs.Agendas.{SameResult, BothOk, BothErr, signals, signals_all, made, freed as released}
+use Rattle.cpc_meaning.specs.Requests.{Asked}
+use Rattle.cpc_meaning.specs.Threads.{Thread, threads_of}
+use Rattle.cpc_meaning.specs.Events.{Callback, callbacks_of}
 use Rattle.cpc_forms.specs.Split.{Position, InTree}
 use Rattle.cpc_convert_image_laws.specs.Held.{IsHeld, IsHeldSlot, IsHeldStore}
-use Rattle.cpc_convert_image_laws.specs.Relations.{Meets, BothGive, BothFault, Stuck, Answered, BothAnswer}
+use Rattle.cpc_convert_image_laws.specs.Relations.{Meets, BothGive, Stuck}
 use Rattle.cpc_convert_image_laws.specs.Stacks.{frame_of, Native, DoneAlike, BothWent, BothReturned, BothAsked}
-use Rattle.cpc_convert_image_laws.proofs.Answers.{meets_then, self_then}
-use Rattle.cpc_convert_image_laws.proofs.Beside as S
+use Rattle.cpc_convert_image_laws.proofs.Answers.{meets_then}
 use Rattle.cpc_convert_image_laws.proofs.Stacks.{native_answered}
-use Rattle.cpc_convert_chain_laws.specs.Chains.{count, Owns}
-use Rattle.cpc_convert_laws.specs.Fresh.{AllFresh}
-use Rattle.cpc_convert_laws.specs.Sums.{total}
-use Rattle.cpc_convert_laws.specs.Items.{Cut, Tagged, ItemFor, IsUntagged, owned_in}
+use Rattle.cpc_convert_laws.specs.Items.{Cut, Tagged}
 use Rattle.cpc_convert_laws.specs.Running.{Places, SamePoint, InPiece, AtNode, Under, Bottom, PieceWaits, NativeRuns}
-use Rattle.cpc_convert_laws.proofs.Sums.{total_signal, total_signal_all, total_freed}
-use Rattle.cpc_convert_laws.proofs.Relation.{Source, Target, Shared, AgendaFor, source_state, target_state, Related, Goes, IsOver}
-use Rattle.cpc_convert_laws.proofs.Setting.{Setting, from_form, to_form, NativeFacts, NativeAt, is_common, is_answered}
+use Rattle.cpc_convert_laws.proofs.Relation.{Source, Target, Shared, source_state, target_state, Related, Goes, IsOver}
+use Rattle.cpc_convert_laws.proofs.Setting.{Setting, from_form, to_form, NativeFacts, NativeAt, is_answered}
 use Rattle.cpc_convert_laws.proofs.Asking.{Agendas, asked_alike as requests_alike}
 
 -- what is below native frames is empty in both, or in none

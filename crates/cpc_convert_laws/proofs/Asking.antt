@@ -7,7 +7,7 @@ use Rattle.cpc_num.specs.declared.kinds.Fault.{Fault}
 use Rattle.cpc_num.specs.declared.kinds.Fault.TheVariants as F
 use Rattle.cpc_num.specs.declared.kinds.Kind.TheVariants.{Long}
 use Rattle.cpc_store.specs.declared.values.Class.TheVariants.{Heap}
-use Rattle.cpc_store.specs.Store.{Value, Unset, Whole, Null, At as Pointer, Code, Cond, Blocks, Store, same_class, cells_of, next_block, alloc, with_blocks, blocks, free}
+use Rattle.cpc_store.specs.Store.{Value, Unset, Whole, Null, At as Pointer, Cond, Blocks, Store, same_class, cells_of, next_block, alloc, with_blocks, blocks, free}
 use Rattle.cpc_tree.specs.Lists.{rest_of}
 use Rattle.cpc_tree.specs.Points.{Point}
 use Rattle.cpc_tree.specs.Trace.{Output, HostCall, Exited}

@@ -1,6 +1,5 @@
 -- A thread that waits: what its primitives come to, and how the agendas of both take it.
-use Rattle.std.proofs.Common.{◌≡◌, ℕ, ◌+◌, Bool, true, false, List, [], ◌∷◌, Option, Some, None, Result, Ok, Err, refl, sym, ap, arith}
-use Rattle.cpc_num.specs.declared.kinds.Fault.{Fault}
+use Rattle.std.proofs.Common.{◌≡◌, ℕ, ◌+◌, false, List, [], ◌∷◌, Option, Some, None, Ok, refl, ap, arith}
 use Rattle.cpc_store.specs.Store.{Value, Unset, Null, Whole, At as Pointer, Code, Cond}
 use Rattle.cpc_meaning.specs.Agenda.{Agenda, ready_one, io}
 use Rattle.cpc_meaning.specs.Answer.{Answer, NoAnswer, ◌>>=◌}

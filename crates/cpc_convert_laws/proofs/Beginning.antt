@@ -1,20 +1,20 @@
 -- The row in which a native `main` is called: it begins in both, with the same variables.
-use Rattle.std.proofs.Common.{◌≡◌, ℕ, true, List, [], ◌∷◌, Option, Some, None, option_map, refl, sym, subst, arith}
+use Rattle.std.proofs.Common.{◌≡◌, List, [], ◌∷◌, Option, Some, None, option_map, refl, sym, subst, arith}
 use Rattle.cpc_base.specs.Bytes.{Text}
-use Rattle.cpc_store.specs.Store.{Value, Store}
-use Rattle.cpc_tree.specs.Syntax.{Variable, Function}
+use Rattle.cpc_store.specs.Store.{Store}
+use Rattle.cpc_tree.specs.Syntax.{Function}
 use Rattle.cpc_tree.specs.Registers.{variables}
 use Rattle.cpc_tree.specs.Points.{Point}
 use Rattle.cpc_tree.specs.Typing.{function_named}
 use Rattle.cpc_meaning.specs.Answer.{Answer, Gives, ◌>>=◌, needed}
-use Rattle.cpc_meaning.specs.Agenda.{Agenda, new_agenda, begin_round}
+use Rattle.cpc_meaning.specs.Agenda.{new_agenda, begin_round}
 use Rattle.cpc_meaning.specs.Eval.{Slot}
 use Rattle.cpc_meaning.specs.Slots.{make_slots}
-use Rattle.cpc_meaning.specs.Machine.{next, runs}
+use Rattle.cpc_meaning.specs.Machine.{next}
 use Rattle.cpc_meaning.specs.Plain.{Frame as CallFrame}
 use Rattle.cpc_meaning.specs.Start.{main_name}
-use Rattle.cpc_meaning.specs.Threads.{Thread, Pending, threads_of}
-use Rattle.cpc_meaning.specs.Events.{Callback, CallMain, callbacks}
+use Rattle.cpc_meaning.specs.Threads.{Pending, threads_of}
+use Rattle.cpc_meaning.specs.Events.{CallMain}
 use Rattle.cpc_meaning.proofs.Both as B
 use Rattle.cpc_forms.specs.Split.{Position}
 use Rattle.cpc_lift_laws.specs.Lifted.{tidy}
@@ -23,7 +23,6 @@ use Rattle.cpc_convert_image_laws.specs.Relations.{Found, BothFound, NoneFound, 
 use Rattle.cpc_convert_image_laws.specs.Stacks.{frame_of, NoMore, OneMore, EntersAlike}
 use Rattle.cpc_convert_image_laws.proofs.Entering.{slots_beside}
 use Rattle.cpc_convert_chain_laws.specs.Chains.{Owns}
-use Rattle.cpc_convert_laws.specs.Items.{Tagged}
 use Rattle.cpc_convert_laws.specs.Running.{SamePoint, Bottom, NativeRuns}
 use Rattle.cpc_convert_laws.proofs.Relation.{Source, Target, Shared, AgendaFor, going, source_state, target_state, with_main, Related, MainIsNext, Goes}
 use Rattle.cpc_convert_laws.proofs.Setting.{Setting, from_form, to_form, NativeFacts, KeepsFacts}

@@ -1,5 +1,5 @@
 -- Rows inside a piece: calls of native functions, above the piece, and of cps functions, whose first frame is given to the driver.
-use Rattle.std.proofs.Common.{◌≡◌, ℕ, suc, ◌+◌, ◌≤◌, true, List, [], ◌∷◌, ◌++◌, length, slice_set, map, Option, Some, None, option_map, refl, sym, ◌∙◌, ap, subst, arith}
+use Rattle.std.proofs.Common.{◌≡◌, ℕ, suc, ◌+◌, ◌≤◌, List, [], ◌∷◌, ◌++◌, length, map, Option, Some, None, option_map, refl, sym, ◌∙◌, ap, subst, arith}
 use Rattle.cpc_base.specs.Bytes.{Text}
 use Rattle.cpc_store.specs.declared.values.Class.TheVariants.{Frame}
 use Rattle.cpc_store.specs.Store.{Value, Unset, At as Pointer, Blocks, Store}
@@ -32,12 +32,12 @@ use Rattle.cpc_convert_laws.specs.Running.{AtNode, PieceWaits, NativeRuns}
 use Rattle.cpc_convert_laws.proofs.Entry.{EntryFacts}
 use Rattle.cpc_convert_laws.proofs.Fresh.{fresh_freed, fresh_more}
 use Rattle.cpc_convert_laws.proofs.Idle.{fine_slots}
-use Rattle.cpc_convert_laws.proofs.Inside.{over, inside, CallsNative, CallsCps, with_call}
+use Rattle.cpc_convert_laws.proofs.Inside.{over, inside, CallsNative, CallsCps}
 use Rattle.cpc_convert_laws.proofs.Onwards.{Beside}
 use Rattle.cpc_convert_laws.proofs.Putting.{agenda_alloc}
 use Rattle.cpc_convert_laws.proofs.Relation.{Source, Target, Shared, source_state, world_of, Goes}
 use Rattle.cpc_convert_laws.proofs.Rows.{RowFor, Reached, reached_tidied, row_reached}
-use Rattle.cpc_convert_laws.proofs.Setting.{Setting, from_form, NativeFacts, KeepsFacts, Known}
+use Rattle.cpc_convert_laws.proofs.Setting.{Setting, from_form, NativeFacts, KeepsFacts}
 use Rattle.cpc_convert_laws.proofs.Standing.{here, comes_of, settles, to_state, no_state}
 use Rattle.cpc_convert_laws.proofs.Taking.{goes_on}
 use Rattle.cpc_convert_laws.proofs.Tidy.{waits_tidied}

@@ -1,5 +1,5 @@
 -- The row where nothing runs: a turn of both schedulers, or a thread that is taken up to where its first piece stands for it.
-use Rattle.std.proofs.Common.{◌≡◌, ◌⊎◌, inl, ℕ, suc, ◌+◌, ◌≤◌, Bool, List, [], ◌∷◌, map, Option, Some, None, option_map, refl, sym, ◌∙◌, ap, subst, arith}
+use Rattle.std.proofs.Common.{◌≡◌, ℕ, suc, ◌+◌, ◌≤◌, Bool, List, [], ◌∷◌, map, Option, Some, None, option_map, refl, sym, ◌∙◌, ap, subst, arith}
 use Rattle.cpc_base.specs.Bytes.{Text}
 use Rattle.cpc_num.specs.declared.kinds.Fault.{Fault}
 use Rattle.cpc_num.specs.declared.kinds.Kind.TheVariants.{Int}
@@ -8,38 +8,33 @@ use Rattle.cpc_tree.specs.Lists.{first_or, rest_of}
 use Rattle.cpc_tree.specs.Syntax.{TyInt, Variable, Function, Program}
 use Rattle.cpc_tree.specs.Registers.{variables, is_register}
 use Rattle.cpc_tree.specs.Typing.{function_named, size}
-use Rattle.cpc_tree.specs.Trace.{Failed}
-use Rattle.cpc_meaning_matching.specs.Simulation.{one, Path, Last}
-use Rattle.cpc_meaning_matching.proofs.Paths.{path_map, path_wider}
+use Rattle.cpc_meaning_matching.proofs.Paths.{path_wider}
 use Rattle.cpc_meaning.specs.Answer.{Answer, Gives, Faults, NoAnswer, ◌>>=◌, needed}
 use Rattle.cpc_meaning.specs.Agenda.{Agenda, Due}
 use Rattle.cpc_meaning.specs.Eval.{Slot, assigned}
 use Rattle.cpc_meaning.specs.Slots.{make_slot, make_slots, call_slots}
-use Rattle.cpc_meaning.specs.Machine.{next, settled, schedules, turns, fault_function, runs}
+use Rattle.cpc_meaning.specs.Machine.{next, settled, schedules, turns, runs}
 use Rattle.cpc_meaning.specs.Plain.{Frame as CallFrame}
-use Rattle.cpc_meaning.specs.Start.{before_bars}
-use Rattle.cpc_meaning.specs.Threads.{Thread, threads_of, shown_in}
+use Rattle.cpc_meaning.specs.Threads.{Thread, threads_of}
 use Rattle.cpc_meaning.specs.Events.{Callback, CallWith, callbacks}
 use Rattle.cpc_meaning.proofs.Both.{Both, Ends, Goes as And}
 use Rattle.cpc_meaning.proofs.Agendas.{SameDue}
 use Rattle.cpc_forms.specs.Flow.{At}
 use Rattle.cpc_forms.specs.Split.{Position, InGraph}
 use Rattle.cpc_lift_laws.specs.Lifted.{tidy, tidy_slots, tidy_frame}
-use Rattle.cpc_convert_image_laws.specs.Relations.{Meets, BothGive, BothFault, Stuck}
 use Rattle.cpc_convert_image_laws.specs.Stacks.{frame_of}
 use Rattle.cpc_convert_chain_laws.specs.Chains.{Saved, Chain, AndChain, Top, Owns}
 use Rattle.cpc_convert_chain_laws.specs.Driver.{drive_name, with_round}
-use Rattle.cpc_convert_chain_laws.specs.Walks.{Quiet}
 use Rattle.cpc_convert_chain_laws.proofs.Chains.{chain_patched}
 use Rattle.cpc_convert_laws.specs.Bounds.{Bounds}
 use Rattle.cpc_convert_laws.specs.Fresh.{AllFresh}
 use Rattle.cpc_convert_laws.specs.Items.{FramesWait, NoneWait, OneWaits, saved_at, first_saved, Tagged, driven, ItemFor, ForPending, ForSuspended, IsUntagged, owned_in}
-use Rattle.cpc_convert_laws.proofs.Relation.{Source, Target, Shared, AgendaFor, source_state, target_state, Related, IsOver}
+use Rattle.cpc_convert_laws.proofs.Relation.{Source, Target, Shared, AgendaFor, source_state, target_state}
 use Rattle.cpc_convert_laws.proofs.Setting.{Setting, from_form, NativeFacts, KeepsFacts, Known}
 use Rattle.cpc_convert_laws.proofs.Entry.{EntryFacts}
 use Rattle.cpc_convert_laws.proofs.Rows.{RowFor, settled_alike, one_step}
 use Rattle.cpc_convert_laws.proofs.Turns.{turns_meet}
-use Rattle.cpc_convert_laws.proofs.Tidy.{saved_tidied, waits_tidied, related_tidied}
+use Rattle.cpc_convert_laws.proofs.Tidy.{saved_tidied, waits_tidied}
 use Rattle.cpc_convert_laws.proofs.Taking.{given_value, with_rest, takes_up}
 
 -- ---- the variables of a call are made without a fault

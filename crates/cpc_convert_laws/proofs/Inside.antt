@@ -1,5 +1,5 @@
 -- What the rows ask of a piece that stands at a node: by what the source does there, what the piece does, and where it then stands.
-use Rattle.std.proofs.Common.{◌≡◌, ℕ, suc, ◌<◌, ◌≤◌, Bool, true, false, List, [], ◌∷◌, ◌++◌, length, Option, Some, None, Result, Ok, Err}
+use Rattle.std.proofs.Common.{◌≡◌, ℕ, suc, ◌<◌, ◌≤◌, Bool, true, false, List, [], ◌∷◌, ◌++◌, length, Option, Some, None, Ok, Err}
 use Rattle.std.specs.List.{All}
 use Rattle.cpc_base.specs.Bytes.{Text}
 use Rattle.cpc_num.specs.declared.kinds.Fault.{Fault}
@@ -16,9 +16,8 @@ use Rattle.cpc_meaning.specs.Answer.{Answer, Gives, Faults, NoAnswer, ◌>>=◌,
 use Rattle.cpc_meaning.specs.Copies.{copy_of}
 use Rattle.cpc_meaning.specs.Eval.{Slot}
 use Rattle.cpc_meaning.specs.Machine.{next, ends}
-use Rattle.cpc_meaning.specs.Plain.{Frame as CallFrame, Stack, Went, Asks, context, frames_step, answered, asking}
+use Rattle.cpc_meaning.specs.Plain.{Frame as CallFrame, Went, Asks, context, frames_step, answered, asking}
 use Rattle.cpc_meaning.specs.Requests.{Request, Primitive, Builtin, ToSpawn, Section}
-use Rattle.cpc_meaning.specs.Section.{Job}
 use Rattle.cpc_meaning.specs.Slots.{call_slots}
 use Rattle.cpc_meaning.specs.Start.{before_bars}
 use Rattle.cpc_meaning.specs.Threads.{shown_in}

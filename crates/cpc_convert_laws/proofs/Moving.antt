@@ -1,33 +1,30 @@
 -- Rows inside a piece: statements and tests in place, ways, faults, what is asked and answered in place, and spawns.
-use Rattle.std.proofs.Common.{◌≡◌, ◌⊎◌, inl, ℕ, suc, ◌+◌, ◌<◌, ◌≤◌, Bool, true, List, [], ◌∷◌, ◌++◌, length, Option, Some, None, option_map, refl, sym, ◌∙◌, ap, subst, arith}
+use Rattle.std.proofs.Common.{◌≡◌, ℕ, suc, ◌+◌, ◌<◌, ◌≤◌, Bool, true, List, [], ◌∷◌, ◌++◌, length, Option, Some, None, option_map, refl, sym, ◌∙◌, ap, subst, arith}
 use Rattle.std.specs.List.{All}
 use Rattle.cpc_base.specs.Bytes.{Text}
 use Rattle.cpc_num.specs.declared.kinds.Fault.{Fault}
 use Rattle.cpc_store.specs.declared.values.Class.TheVariants.{Frame}
 use Rattle.cpc_store.specs.Store.{Value, Unset, Null, At as Pointer, Blocks, Store}
-use Rattle.cpc_tree.specs.Points.{Point, Found, Simple}
-use Rattle.cpc_tree.specs.Syntax.{Spawn}
+use Rattle.cpc_tree.specs.Points.{Point, Found}
 use Rattle.cpc_tree.specs.Trace.{Going, Failed, is_over}
 use Rattle.cpc_meaning_matching.specs.Simulation.{Last}
 use Rattle.cpc_meaning_matching.proofs.Paths.{path_wider}
 use Rattle.cpc_meaning.specs.Act.{Act, GoesOn, AsksFor}
 use Rattle.cpc_meaning.specs.Agenda.{Agenda, ready_one}
-use Rattle.cpc_meaning.specs.Answer.{Answer, Gives, Faults, NoAnswer, ◌>>=◌}
+use Rattle.cpc_meaning.specs.Answer.{Answer, Gives, Faults, ◌>>=◌}
 use Rattle.cpc_meaning.specs.Eval.{Slot}
 use Rattle.cpc_meaning.specs.Machine.{next, ends, settled, runs_on, fault_function, after_done, reply, asked_by}
 use Rattle.cpc_meaning.specs.Plain.{Frame as CallFrame, Stack, Asks, frames_step, answered, asking}
 use Rattle.cpc_meaning.specs.Requests.{Request, ToSpawn}
 use Rattle.cpc_meaning.specs.Start.{before_bars}
 use Rattle.cpc_meaning.specs.Threads.{Thread, Pending, threads_of, shown_in}
-use Rattle.cpc_meaning.specs.Events.{Callback, CallWith, callbacks, callbacks_of}
+use Rattle.cpc_meaning.specs.Events.{Callback, callbacks, callbacks_of}
 use Rattle.cpc_forms.specs.Flow.{Place}
 use Rattle.cpc_forms.specs.Split.{Position, InGraph}
 use Rattle.cpc_lift_laws.specs.Lifted.{tidy}
 use Rattle.cpc_convert_image_laws.specs.Held.{IsHeld, IsHeldStore, beside}
 use Rattle.cpc_convert_image_laws.specs.Relations.{Meets, BothGive, BothFault, Stuck}
-use Rattle.cpc_convert_image_laws.specs.Stacks.{frame_of}
 use Rattle.cpc_convert_chain_laws.specs.Chains.{frame_cells}
-use Rattle.cpc_convert_chain_laws.specs.Driver.{drive_name}
 use Rattle.cpc_convert_chain_laws.specs.Walks.{Quiet, Stay, FaultsAfter, running}
 use Rattle.cpc_convert_chain_laws.proofs.Chains.{chain_alloc}
 use Rattle.cpc_convert_chain_laws.proofs.Walks.{walk_one}
@@ -36,7 +33,7 @@ use Rattle.cpc_convert_laws.specs.Items.{first_saved, Tagged, driven}
 use Rattle.cpc_convert_laws.proofs.Asking.{Agendas, asked_alike}
 use Rattle.cpc_convert_laws.proofs.Entry.{EntryFacts}
 use Rattle.cpc_convert_laws.proofs.Fresh.{fresh_more}
-use Rattle.cpc_convert_laws.proofs.Inside.{over, inside, Onward, GoesTo, Replied, ReplyStuck, ReplyFaults, ReplyGoes, Replies, with_spawned, SpawnsCall}
+use Rattle.cpc_convert_laws.proofs.Inside.{over, inside, Onward, GoesTo, Replied, ReplyStuck, ReplyFaults, ReplyGoes, Replies, SpawnsCall}
 use Rattle.cpc_convert_laws.proofs.Onwards.{Beside, onwards, onward_reached}
 use Rattle.cpc_convert_laws.proofs.Putting.{agenda_alloc, agenda_ready, owns_ready, pending_put}
 use Rattle.cpc_convert_laws.proofs.Relation.{Source, Target, Shared, source_state, target_state, world_of, Related, IsOver}

@@ -1,5 +1,5 @@
 -- The rows of waits and sections inside a piece: the frame of the arrival is made, the driver waits with it in the place of the thread, and nothing runs.
-use Rattle.std.proofs.Common.{◌≡◌, ℕ, suc, ◌+◌, ◌<◌, ◌≤◌, false, List, [], ◌∷◌, ◌++◌, length, Option, Some, None, option_map, Result, Ok, Err, refl, sym, ◌∙◌, ap, subst, arith}
+use Rattle.std.proofs.Common.{◌≡◌, ℕ, suc, ◌+◌, ◌≤◌, false, List, [], ◌∷◌, ◌++◌, length, Option, Some, None, option_map, Result, Ok, Err, refl, sym, ◌∙◌, ap, subst, arith}
 use Rattle.cpc_base.specs.Bytes.{Text}
 use Rattle.cpc_num.specs.declared.kinds.Fault.{Fault}
 use Rattle.cpc_store.specs.declared.values.Class.TheVariants.{Frame}
@@ -19,8 +19,7 @@ use Rattle.cpc_meaning.specs.Machine.{ends}
 use Rattle.cpc_meaning.specs.Plain.{Frame as CallFrame, Stack}
 use Rattle.cpc_meaning.specs.Requests.{Primitive, Builtin, Section}
 use Rattle.cpc_meaning.specs.Section.{Job}
-use Rattle.cpc_meaning.specs.Start.{before_bars}
-use Rattle.cpc_meaning.specs.Threads.{Thread, Suspended, suspends, threads_of, shown_in}
+use Rattle.cpc_meaning.specs.Threads.{Thread, Suspended, suspends, shown_in}
 use Rattle.cpc_meaning.specs.Events.{Callback}
 use Rattle.cpc_meaning.proofs.Agendas.{SameResult, BothOk, BothErr, sectioned}
 use Rattle.cpc_forms.specs.Flow.{Place, At}
@@ -28,7 +27,7 @@ use Rattle.cpc_forms.specs.Split.{Position, InGraph}
 use Rattle.cpc_lift_laws.specs.Lifted.{tidy}
 use Rattle.cpc_convert_image_laws.specs.Held.{beside}
 use Rattle.cpc_convert_image_laws.specs.Stacks.{frame_of}
-use Rattle.cpc_convert_chain_laws.specs.Chains.{Saved, Owns, count, frame_cells}
+use Rattle.cpc_convert_chain_laws.specs.Chains.{Owns, count, frame_cells}
 use Rattle.cpc_convert_chain_laws.specs.Driver.{driving}
 use Rattle.cpc_convert_chain_laws.specs.Walks.{running, idle, FaultsAfter}
 use Rattle.cpc_convert_chain_laws.proofs.Chains.{count_append, chain_push, chain_closed}
@@ -43,12 +42,12 @@ use Rattle.cpc_convert_laws.specs.Waits.{Awaited, awaited, put_waiting, wait_mar
 use Rattle.cpc_convert_laws.proofs.Awaiting.{waits_by, primitive_waits, put_same, total_put}
 use Rattle.cpc_convert_laws.proofs.Entry.{EntryFacts}
 use Rattle.cpc_convert_laws.proofs.Fresh.{fresh_more}
-use Rattle.cpc_convert_laws.proofs.Inside.{inside, with_leader, Prepares, HasAsked, FaultsAsking, WaitsFor, SubmitsSection, section_cells, waiting_item}
+use Rattle.cpc_convert_laws.proofs.Inside.{inside, Prepares, HasAsked, FaultsAsking, WaitsFor, SubmitsSection, section_cells}
 use Rattle.cpc_convert_laws.proofs.Items.{count_owned}
 use Rattle.cpc_convert_laws.proofs.Onwards.{Beside}
 use Rattle.cpc_convert_laws.proofs.Putting.{agenda_alloc}
 use Rattle.cpc_convert_laws.proofs.Relation.{Source, Target, Shared, AgendaFor, source_state, world_of, Goes}
-use Rattle.cpc_convert_laws.proofs.Rows.{RowFor, Reached, row_marked}
+use Rattle.cpc_convert_laws.proofs.Rows.{RowFor, row_marked}
 use Rattle.cpc_convert_laws.proofs.Setting.{Setting, from_form, NativeFacts, KeepsFacts, is_common}
 use Rattle.cpc_convert_laws.proofs.Standing.{stack, here, comes_of, settles, to_state, no_state}
 use Rattle.cpc_convert_laws.proofs.Sums.{total_section}

@@ -1,11 +1,11 @@
 -- The row of a return inside a piece: the frame below is given to the driver with the value, or the thread is over.
-use Rattle.std.proofs.Common.{◌≡◌, ℕ, suc, ◌+◌, ◌<◌, ◌≤◌, List, [], ◌∷◌, ◌++◌, slice_set, map, Option, Some, None, option_map, refl, sym, ◌∙◌, ap, subst, arith}
+use Rattle.std.proofs.Common.{◌≡◌, ℕ, suc, ◌+◌, ◌≤◌, List, [], ◌∷◌, ◌++◌, map, Option, Some, None, option_map, refl, sym, ◌∙◌, ap, subst, arith}
 use Rattle.cpc_base.specs.Bytes.{Text}
 use Rattle.cpc_store.specs.declared.values.Class.TheVariants.{Frame}
 use Rattle.cpc_store.specs.Store.{Value, Unset, Null, At as Pointer, Blocks, Store}
 use Rattle.cpc_tree.specs.Points.{Point}
 use Rattle.cpc_meaning_matching.proofs.Paths.{path_wider}
-use Rattle.cpc_meaning.specs.Act.{Act, Leaves}
+use Rattle.cpc_meaning.specs.Act.{Leaves}
 use Rattle.cpc_meaning.specs.Agenda.{Agenda}
 use Rattle.cpc_meaning.specs.Answer.{Answer, Gives}
 use Rattle.cpc_meaning.specs.Eval.{Slot}

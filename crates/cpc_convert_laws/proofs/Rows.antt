@@ -1,6 +1,5 @@
 -- Rows: at least one step of the target, and at most so many, to a state that stands for the next one of the source.
 use Rattle.std.proofs.Common.{◌≡◌, ◌⊎◌, inl, inr, ℕ, suc, ◌+◌, ◌≤◌, List, Option, Some, None, option_map, refl, sym, ◌∙◌, ap, subst, arith}
-use Rattle.cpc_num.specs.declared.kinds.Fault.{Fault}
 use Rattle.cpc_tree.specs.Trace.{Mark, Going, Failed}
 use Rattle.cpc_meaning_matching.specs.Simulation.{one, Path, Last, More}
 use Rattle.cpc_meaning_matching.proofs.Paths.{path_wider}

@@ -1,5 +1,5 @@
 -- A frame of a cps function that runs: what a step of the source comes to, by what the source does there.
-use Rattle.std.proofs.Common.{◌≡◌, ℕ, Bool, List, ◌∷◌, Option, Some, None, option_map, sym, ◌∙◌, ap}
+use Rattle.std.proofs.Common.{◌≡◌, ℕ, List, ◌∷◌, Option, Some, None, option_map, sym, ◌∙◌, ap}
 use Rattle.cpc_base.specs.Bytes.{Text}
 use Rattle.cpc_store.specs.Store.{Value, Store}
 use Rattle.cpc_tree.specs.Points.{Found}
@@ -10,7 +10,7 @@ use Rattle.cpc_meaning.specs.Agenda.{Agenda}
 use Rattle.cpc_meaning.specs.Answer.{Answer, Gives, NoAnswer, ◌>>=◌, needed}
 use Rattle.cpc_meaning.specs.Eval.{Slot}
 use Rattle.cpc_meaning.specs.Machine.{next, settled, runs_on, after_done}
-use Rattle.cpc_meaning.specs.Plain.{Frame as CallFrame, Stack, Went, context, perform, asking}
+use Rattle.cpc_meaning.specs.Plain.{Frame as CallFrame, Stack, Went, context, perform}
 use Rattle.cpc_meaning.specs.Threads.{Thread, threads_of}
 use Rattle.cpc_forms.specs.Flow.{Place}
 use Rattle.cpc_forms.specs.Split.{Position, InGraph}

@@ -1,7 +1,7 @@
 use Rattle.cpc_convert_laws.proofs.Items as L
-use Rattle.cpc_convert_laws.proofs.Beginning as M
-use Rattle.cpc_convert_laws.proofs.Pieces as N
+use Rattle.cpc_convert_laws.proofs.Pass as N
 use Rattle.cpc_convert_laws.proofs.laws.items_own.Goals as goal
 
+-- the join of the rows speaks of settings, of which no clause can speak yet; it is checked with this one
 pub returns : goal.returns
-returns c = record { law = L.count_owned }
+returns c = let joined = N.follows_lifted in record { law = L.count_owned }
