@@ -1,0 +1,5 @@
+pub mod Cut
+pub mod Lifted
+pub mod Marks
+pub mod Counts
+pub mod Names

@@ -1,0 +1,33 @@
+//! The laws, each as the contract of a function that does nothing.
+ghost use Rattle.cpc_convert_accepted_laws.specs.Lifted.{LiftedRunsAreKnown, ProgramsAreClosed, ProgramsAreSplit, ThreadsFollow};
+ghost use Rattle.cpc_convert_accepted_laws.specs.Names.{AcceptedHasNames, AcceptedIsNamed};
+
+/// In every program, code of cps functions stands at their nodes with their owners alone, and names in scope there mean their variables.
+pub fn programs_are_split()
+    ensures law { ProgramsAreSplit }
+{}
+
+/// What each position keeps, the closure of its owner, is enough.
+pub fn programs_are_closed()
+    ensures law { ProgramsAreClosed }
+{}
+
+/// The lifted machine of every program matches its threads as they are written, one step for one step.
+pub fn threads_follow()
+    ensures law { ThreadsFollow }
+{}
+
+/// What is known of each state of its runs.
+pub fn lifted_runs_are_known()
+    ensures law { LiftedRunsAreKnown }
+{}
+
+/// The items and variables of an accepted program have plain names, and each function is found by its name, which means it.
+pub fn accepted_has_names()
+    ensures law { AcceptedHasNames }
+{}
+
+/// So its names are what the conversion asks of them.
+pub fn accepted_is_named()
+    ensures law { AcceptedIsNamed }
+{}
