@@ -1,3 +1,5 @@
 pub mod Accepted
 pub mod Lifted
 pub mod Names
+pub mod Steady
+pub mod Known

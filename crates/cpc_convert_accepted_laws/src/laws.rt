@@ -1,6 +1,8 @@
 //! The laws, each as the contract of a function that does nothing.
+ghost use Rattle.cpc_convert_accepted_laws.specs.Known.{AcceptedCodesStay, AcceptedIsFine};
 ghost use Rattle.cpc_convert_accepted_laws.specs.Lifted.{LiftedRunsAreKnown, ProgramsAreClosed, ProgramsAreSplit, ThreadsFollow};
 ghost use Rattle.cpc_convert_accepted_laws.specs.Names.{AcceptedHasNames, AcceptedIsNamed};
+ghost use Rattle.cpc_convert_accepted_laws.specs.Steady.{AcceptedNeverStuck, AcceptedSplitsHold, SplitsAreSteady};
 
 /// In every program, code of cps functions stands at their nodes with their owners alone, and names in scope there mean their variables.
 pub fn programs_are_split()
@@ -30,4 +32,29 @@ pub fn accepted_has_names()
 /// So its names are what the conversion asks of them.
 pub fn accepted_is_named()
     ensures law { AcceptedIsNamed }
+{}
+
+/// Code of split graphs is steady and keeps modes where that of the text does.
+pub fn splits_are_steady()
+    ensures law { SplitsAreSteady }
+{}
+
+/// The threads of an accepted program's split graphs keep what threads keep.
+pub fn accepted_splits_hold()
+    ensures law { AcceptedSplitsHold }
+{}
+
+/// Neither they nor the lifted machine of an accepted program are ever stuck.
+pub fn accepted_never_stuck()
+    ensures law { AcceptedNeverStuck }
+{}
+
+/// The codes that values of an accepted program may be are names that stay: not marked, and no cps function's.
+pub fn accepted_codes_stay()
+    ensures law { AcceptedCodesStay }
+{}
+
+/// What is known of each state of the lifted run of an accepted program: of its values, its frames and its threads.
+pub fn accepted_is_fine()
+    ensures law { AcceptedIsFine }
 {}
