@@ -5,3 +5,8 @@ pub mod Counts
 pub mod Names
 pub mod Steady
 pub mod Known
+pub mod Used
+pub mod Scoped
+pub mod Statements
+pub mod Asks
+pub mod Points

@@ -8,7 +8,7 @@ use Rattle.cpc_tree.specs.Typing.{Scope, function_named, named}
 use Rattle.cpc_meaning_matching.specs.Steps.{or_stay}
 use Rattle.cpc_meaning_matching.specs.Systems.{run}
 use Rattle.cpc_meaning_matching.proofs.Systems.{matches_live}
-use Rattle.cpc_meaning.specs.Act.{AtStatement}
+use Rattle.cpc_meaning.specs.Act.{Stood, AtStatement}
 use Rattle.cpc_meaning.specs.History.{History}
 use Rattle.cpc_meaning.specs.Machine.{State}
 use Rattle.cpc_meaning.specs.Matching.{thread_system}
@@ -79,6 +79,14 @@ module _ (p : Program) (x : Text) where
       go : Like (splits p x) a → Q ((split_form p).code.scope x a)
       go (LikePoint point e f) = subst Q (sym f) (some point)
       go (LikeNothing e f) = subst Q (sym f) none
+
+  -- what holds of what stands at each point, and where nothing does, holds of each position
+  pub stood_like : (Q : Stood → Scope → Type 0) → Q (AtStatement Nothing) [] → ((point : Point) → Q ((ways p).code.stood x point) ((ways p).code.scope x point)) → (a : Position) → Q ((split_form p).code.stood x a) ((split_form p).code.scope x a)
+  stood_like Q none some a = go (like a)
+    where
+      go : Like (splits p x) a → Q ((split_form p).code.stood x a) ((split_form p).code.scope x a)
+      go (LikePoint point e f) = subst (λ st. Q st ((split_form p).code.scope x a)) (sym e) (subst (Q ((ways p).code.stood x point)) (sym f) (some point))
+      go (LikeNothing e f) = subst (λ st. Q st ((split_form p).code.scope x a)) (sym e) (subst (Q (AtStatement Nothing)) (sym f) none)
 
 -- ---- split code
 

@@ -3,3 +3,4 @@ pub mod Lifted
 pub mod Names
 pub mod Steady
 pub mod Known
+pub mod Points

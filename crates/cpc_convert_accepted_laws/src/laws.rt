@@ -2,6 +2,7 @@
 ghost use Rattle.cpc_convert_accepted_laws.specs.Known.{AcceptedCodesStay, AcceptedIsFine};
 ghost use Rattle.cpc_convert_accepted_laws.specs.Lifted.{LiftedRunsAreKnown, ProgramsAreClosed, ProgramsAreSplit, ThreadsFollow};
 ghost use Rattle.cpc_convert_accepted_laws.specs.Names.{AcceptedHasNames, AcceptedIsNamed};
+ghost use Rattle.cpc_convert_accepted_laws.specs.Points.{AcceptedPositionsKnown};
 ghost use Rattle.cpc_convert_accepted_laws.specs.Steady.{AcceptedNeverStuck, AcceptedSplitsHold, SplitsAreSteady};
 
 /// In every program, code of cps functions stands at their nodes with their owners alone, and names in scope there mean their variables.
@@ -57,4 +58,10 @@ pub fn accepted_codes_stay()
 /// What is known of each state of the lifted run of an accepted program: of its values, its frames and its threads.
 pub fn accepted_is_fine()
     ensures law { AcceptedIsFine }
+{}
+
+/// What stands at each position of an accepted program is typed; its names, the places that it writes and what native code asks for
+/// are as the conversion needs them.
+pub fn accepted_positions_known()
+    ensures law { AcceptedPositionsKnown }
 {}
