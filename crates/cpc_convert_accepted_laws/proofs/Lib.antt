@@ -10,3 +10,4 @@ pub mod Scoped
 pub mod Statements
 pub mod Asks
 pub mod Points
+pub mod Functions

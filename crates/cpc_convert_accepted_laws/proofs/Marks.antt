@@ -28,7 +28,7 @@ after_bar c x false e h = simp (turned c, e) h
 
 mutual
   -- two bars stand in a name by either test
-  marks_are : (x : Text) → marks_in false x ≡ holds_bars x
+  pub marks_are : (x : Text) → marks_in false x ≡ holds_bars x
   marks_are [] = refl
   marks_are (c ∷ x) = after_none c x (c == 95) refl (marks_are x) (marks_behind x)
 

@@ -1,9 +1,9 @@
 -- The names of a typed expression or call mean variables, or items that stay.
-use Rattle.std.proofs.Common.{◌≡◌, ◌⊎◌, inl, inr, ℕ, suc, Bool, true, false, cond, List, [], ◌∷◌, Some, None, bytes_eq, refl, sym, ◌∙◌, ap, subst}
+use Rattle.std.proofs.Common.{◌≡◌, ◌⊎◌, inl, inr, ℕ, suc, Bool, true, false, cond, List, [], ◌∷◌, Option, Some, None, bytes_eq, refl, sym, ◌∙◌, ap, subst}
 use Rattle.cpc_base.specs.Bytes.{Text}
 use Rattle.cpc_tree.specs.Primitives.{Primitive, primitives, primitive_in, primitive_named, Taken, AnyInteger, SetOf, FreeOf}
 use Rattle.cpc_tree.specs.Syntax.{Ty, TyVoid, TyInt, TyCondvar, TyPointer, TyCode, TyStruct, TyArray, Expr, ENamed, EInteger, ECharacter, EText, EUnary, EBinary, EAnd, EOr, EChoose, ECast, ESizeOf, EIndex, EMember, EArrow, ECall, Exprs, NoExpr, AndExpr, StructItem, GlobalItem, PrototypeItem, FunctionItem, Item, Program}
-use Rattle.cpc_tree.specs.Typing.{Scope, Meant, ALocal, AGlobal, AFunction, NotMeant, named, item_named, type_named, Typed, typing, used, tested_type}
+use Rattle.cpc_tree.specs.Typing.{Scope, Meant, ALocal, AGlobal, AFunction, NotMeant, named, item_named, type_named, Typed, typing, used, tested_type, AValue, APlace, binary_type, choice_type, sum_type, target, is_null, ◌>>=◌}
 use Rattle.cpc_tree.specs.declared.program.Mode.TheVariants.{Extern, Native, Cps, Detached}
 use Rattle.cpc_tree.specs.declared.program.UnaryOp.TheVariants.{AddressOf}
 use Rattle.cpc_check_sound_laws.specs.Typed.{Gets, IsTest, AllGet, EachGets, NamesFunction, GetsTaken, AllGetTaken}
@@ -100,6 +100,17 @@ module _ (p : Program) (names : HasNames p) (scope : Scope) where
 
   -- ---- expressions
 
+  -- two operands with types of which something is made
+  two_parts : (a b : Option Typed) (rest : Ty → Ty → Option Typed) (d : Typed) → (a >>= λ x. used x >>= λ t. b >>= λ y. used y >>= λ u. rest t u) ≡ Some d
+      → ((x : Typed) × (a ≡ Some x)) × ((y : Typed) × (b ≡ Some y))
+  two_parts None b rest d h = no_some d h
+  two_parts (Some x) b rest d h = ((x, refl), second (used x) b h)
+    where
+      second : (o : Option Ty) (b : Option Typed) → (o >>= λ t. b >>= λ y. used y >>= λ u. rest t u) ≡ Some d → (y : Typed) × (b ≡ Some y)
+      second None b h = no_some d h
+      second (Some t) None h = no_some d h
+      second (Some t) (Some y) h = (y, refl)
+
   tested_names : (e : Expr) (t : Ty) → ((d : Typed) → typing p scope e ≡ Some d → AllNames Used e) → tested_type (typing p scope e) ≡ Some t → AllNames Used e
   tested_names e t h k = let m = tested_is (typing p scope e) t k in h m.0 m.1
 
@@ -111,10 +122,8 @@ module _ (p : Program) (names : HasNames p) (scope : Scope) where
   typed_names (EUnary AddressOf (ENamed x)) d h = let k = then_some (type_named (named p scope x)) _ d h in typed_used x k.0 k.1
   typed_names (EUnary sign e) d h = let k = sign_some sign (typing p scope e) d h in typed_names e k.0 k.1
   typed_names (EBinary op a b) d h =
-      let k = then_some (typing p scope a) _ d h in
-      let l = then_some (used k.0) _ d k.2 in
-      let m = then_some (typing p scope b) _ d l.2 in
-      (typed_names a k.0 k.1, typed_names b m.0 m.1)
+      let k = two_parts (typing p scope a) (typing p scope b) (λ t u. binary_type p op (is_null a) (is_null b) t u >>= λ r. Some (AValue r)) d h in
+      (typed_names a k.0.0 k.0.1, typed_names b k.1.0 k.1.1)
   typed_names (EAnd a b) d h =
       let k = then_some (tested_type (typing p scope a)) _ d h in
       let l = then_some (tested_type (typing p scope b)) _ d k.2 in
@@ -125,17 +134,13 @@ module _ (p : Program) (names : HasNames p) (scope : Scope) where
       (tested_names a k.0 (λ d h. typed_names a d h) k.1, tested_names b l.0 (λ d h. typed_names b d h) l.1)
   typed_names (EChoose c a b) d h =
       let o = then_some (tested_type (typing p scope c)) _ d h in
-      let k = then_some (typing p scope a) _ d o.2 in
-      let l = then_some (used k.0) _ d k.2 in
-      let m = then_some (typing p scope b) _ d l.2 in
-      (tested_names c o.0 (λ d h. typed_names c d h) o.1, typed_names a k.0 k.1, typed_names b m.0 m.1)
+      let k = two_parts (typing p scope a) (typing p scope b) (λ t u. choice_type (is_null a) (is_null b) t u >>= λ r. Some (AValue r)) d o.2 in
+      (tested_names c o.0 (λ d h. typed_names c d h) o.1, typed_names a k.0.0 k.0.1, typed_names b k.1.0 k.1.1)
   typed_names (ECast t e) d h = let k = then_some (typing p scope e) _ d h in typed_names e k.0 k.1
   typed_names (ESizeOf t) d h = tt
   typed_names (EIndex a i) d h =
-      let k = then_some (typing p scope a) _ d h in
-      let l = then_some (used k.0) _ d k.2 in
-      let m = then_some (typing p scope i) _ d l.2 in
-      (typed_names a k.0 k.1, typed_names i m.0 m.1)
+      let k = two_parts (typing p scope a) (typing p scope i) (λ t u. sum_type p t u >>= λ r. target r >>= λ v. Some (APlace v)) d h in
+      (typed_names a k.0.0 k.0.1, typed_names i k.1.0 k.1.1)
   typed_names (EMember e x) d h = let k = then_some (typing p scope e) _ d h in typed_names e k.0 k.1
   typed_names (EArrow e x) d h = let k = then_some (typing p scope e) _ d h in typed_names e k.0 k.1
   typed_names (ECall g es) d h = tt

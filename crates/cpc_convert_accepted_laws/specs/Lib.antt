@@ -4,3 +4,4 @@ pub mod Names
 pub mod Steady
 pub mod Known
 pub mod Points
+pub mod Functions

@@ -1,4 +1,5 @@
 //! The laws, each as the contract of a function that does nothing.
+ghost use Rattle.cpc_convert_accepted_laws.specs.Functions.{AcceptedHasMain, AcceptedIsShown, ScopesMeanVariables};
 ghost use Rattle.cpc_convert_accepted_laws.specs.Known.{AcceptedCodesStay, AcceptedIsFine};
 ghost use Rattle.cpc_convert_accepted_laws.specs.Lifted.{LiftedRunsAreKnown, ProgramsAreClosed, ProgramsAreSplit, ThreadsFollow};
 ghost use Rattle.cpc_convert_accepted_laws.specs.Names.{AcceptedHasNames, AcceptedIsNamed};
@@ -64,4 +65,19 @@ pub fn accepted_is_fine()
 /// are as the conversion needs them.
 pub fn accepted_positions_known()
     ensures law { AcceptedPositionsKnown }
+{}
+
+/// A name that means a variable at a position is that of the variable of this number.
+pub fn scopes_mean_variables()
+    ensures law { ScopesMeanVariables }
+{}
+
+/// A fault names the functions of an accepted program as the event machine does.
+pub fn accepted_is_shown()
+    ensures law { AcceptedIsShown }
+{}
+
+/// The `main` of an accepted program is native or cps, takes nothing and gives an int.
+pub fn accepted_has_main()
+    ensures law { AcceptedHasMain }
 {}
