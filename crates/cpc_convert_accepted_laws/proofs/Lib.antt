@@ -11,3 +11,5 @@ pub mod Statements
 pub mod Asks
 pub mod Points
 pub mod Functions
+pub mod Lives
+pub mod Walk

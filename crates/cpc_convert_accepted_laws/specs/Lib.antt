@@ -5,3 +5,4 @@ pub mod Steady
 pub mod Known
 pub mod Points
 pub mod Functions
+pub mod Moves
