@@ -1,0 +1,5 @@
+pub mod Programs
+pub mod Seen
+pub mod Points
+pub mod Graphs
+pub mod Splits
