@@ -69,7 +69,10 @@ fn deep_texts(rt: HostRuntime) -> Result<(), Fail> {
     for (front, open, count, middle, close, back, column) in DEEP {
         let text = repeated(rt.alloc(), front, (open, close), count, (middle, back))?;
         let found = found(rt.alloc(), text.as_slice(), Dialect::Cpc);
-        assert!(rt; found == deep(column), "{front} {open} {count} {middle} {back}: {found:?}");
+        assert!(rt;
+            found == deep(column),
+            "{front} {open} {count} {middle} {back}: {found:?}"
+        );
     }
     // in the other dialect twice as much is permitted
     for (count, column) in [(512, 0), (513, 517)] {

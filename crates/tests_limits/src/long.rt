@@ -91,29 +91,14 @@ static LONG: [(&[u8], &[u8], &[u8], bool); 12] = [
     (b"int x; int main(void){ x = ", b"(", b"", false),
     (b"int x; int main(void){ x = ", b"-", b"1;}", false),
     (b"int x; int main(void){ x = 1", b"+1", b";}", false),
-    (
-        b"int x; int main(void){ x = f(1",
-        b",1",
-        b");}",
-        true,
-    ),
-    (
-        b"int x; int main(void){",
-        b"if(x);else ",
-        b";}",
-        false,
-    ),
+    (b"int x; int main(void){ x = f(1", b",1", b");}", true),
+    (b"int x; int main(void){", b"if(x);else ", b";}", false),
     (b"int x; int main(void){", b"{", b"", false),
     (b"int x; int main(void){", b"x=1;", b"}", true),
     (b"int ", b"*", b"x;", false),
     (b"int a", b",a", b";", true),
     (b"", b"int f(void){return 1;}", b"", true),
-    (
-        b"int x; int main(void){ x = 1",
-        b"?1:1",
-        b";}",
-        false,
-    ),
+    (b"int x; int main(void){ x = 1", b"?1:1", b";}", false),
 ];
 
 #[test]

@@ -4,10 +4,6 @@
 #[cfg(test)]
 mod base;
 #[cfg(test)]
-mod builtins;
-#[cfg(test)]
-mod closures;
-#[cfg(test)]
 mod layout;
 #[cfg(test)]
 mod lexer;
