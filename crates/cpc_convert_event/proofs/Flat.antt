@@ -17,19 +17,19 @@ use Rattle.cpc_convert_event.specs.Routines.{Routine, variable_of}
 use Rattle.cpc_convert_event.specs.Rows.{piece_statements}
 use Rattle.cpc_convert_event.specs.Pieces.{loads_of, declares_of, fills_if, box_lines, boxing_lines, boxing_of, piece_body, piece_function}
 use Rattle.cpc_convert_event.specs.FlatLaws.{opening, piece_scope, piece_count, PiecesAreFlat, StatementsStand}
-use Rattle.cpc_convert_event.proofs.Lines.{AreLines, lines_append, piece_lines}
+use Rattle.cpc_convert_event.proofs.Lines.{AreBare, AreLines, bare_append, bare_lines, piece_lines}
 
 -- ---- boxes
 
-fills_done : (b : Bool) (x y : Text) → AreLines (fills_if b x y)
+fills_done : (b : Bool) (x y : Text) → AreBare (fills_if b x y)
 fills_done true x y = (refl, tt)
 fills_done false x y = tt
 
-boxing_done : (r : Routine) (ks : List ℕ) → AreLines (boxing_lines r ks)
+boxing_done : (r : Routine) (ks : List ℕ) → AreBare (boxing_lines r ks)
 boxing_done r [] = tt
-boxing_done r (k ∷ ks) = lines_append (box_lines r k (variable_of r k)) (boxing_lines r ks) (refl, fills_done _ _ _) (boxing_done r ks)
+boxing_done r (k ∷ ks) = bare_append (box_lines r k (variable_of r k)) (boxing_lines r ks) (refl, fills_done _ _ _) (boxing_done r ks)
 
-pub boxes_done : (r : Routine) (l : Place) → AreLines (boxing_of r l)
+pub boxes_done : (r : Routine) (l : Place) → AreBare (boxing_of r l)
 boxes_done r Start = boxing_done r r.boxes
 boxes_done r (At n) = tt
 
@@ -54,7 +54,7 @@ flat_map : {X : Type 0} (f : X → Stmt) → ((x : X) → is_flat (f x) ≡ true
 flat_map f h [] rest e = e
 flat_map f h (x ∷ xs) rest e = and_true (is_flat (f x)) (are_flat (before (map f xs) rest)) (h x) (flat_map f h xs rest e)
 
-before_append : (xs ys : List Stmt) (rest : Stmts) → before (xs ++ ys) rest ≡ before xs (before ys rest)
+pub before_append : (xs ys : List Stmt) (rest : Stmts) → before (xs ++ ys) rest ≡ before xs (before ys rest)
 before_append [] ys rest = refl
 before_append (x ∷ xs) ys rest = ap (AndStmt x) (before_append xs ys rest)
 
@@ -73,7 +73,7 @@ module _ (p : Program) (r : Routine) (l : Place) where
       let lines = AndStmt (frees_frame pointer_name) (before (piece_statements p r l) NoStmt) in
       let boxes = before (boxing_of r l) lines in
       flat_map (loads_one frame_name) (λ x. refl) (loads_of p r l) (before (map declares_one (declares_of p r l)) boxes)
-      (flat_map declares_one (λ x. refl) (declares_of p r l) boxes (flat_before (boxing_of r l) lines (boxes_done r l) flat_rest))
+      (flat_map declares_one (λ x. refl) (declares_of p r l) boxes (flat_before (boxing_of r l) lines (bare_lines (boxing_of r l) (boxes_done r l)) flat_rest))
 
   -- behind the opening
   opened : Stands (piece_function p r l) (piece_body p r l) (opening p r l) (piece_scope p r l) (piece_count p r l) (before (piece_statements p r l) NoStmt)
@@ -93,7 +93,7 @@ module _ (p : Program) (r : Routine) (l : Place) where
       let s1 = passed g body 0 (outer_scope g) 1 (Declare frame_name (TyPointer (TyStruct tag)) (Some (ENamed pointer_name))) loaded (at_first g body refl flat_piece) in
       let s2 = past_loads g body frame_name 1 scope0 2 declared ls s1 in
       let s3 = past_declares g body (1 + length ls) scope1 (2 + length ls) boxes ds s2 in
-      let s4 = past_lines g body ((1 + length ls) + length ds) (piece_scope p r l) (piece_count p r l) (boxing_of r l) freed (all_true (boxing_of r l) (boxes_done r l)) s3 in
+      let s4 = past_lines g body ((1 + length ls) + length ds) (piece_scope p r l) (piece_count p r l) (boxing_of r l) freed (all_true (boxing_of r l) (bare_lines (boxing_of r l) (boxes_done r l))) s3 in
       subst (λ m. Stands g body (opening p r l) (piece_scope p r l) m lines) (let z : piece_count p r l + 0 ≡ piece_count p r l = omega arith in z)
       (passed g body (((1 + length ls) + length ds) + length (boxing_of r l)) (piece_scope p r l) (piece_count p r l) (frees_frame pointer_name) lines s4)
 

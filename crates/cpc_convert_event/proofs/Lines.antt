@@ -17,24 +17,46 @@ use Rattle.cpc_convert_event.specs.Rows.{is_own, Row, stub_lines, lines_by, row_
 
 -- ---- statements
 
--- all of these are lines
+-- whether a statement is a line without a label
+abbrev pub is_bare : Stmt → Bool
+is_bare (Label l s) = false
+is_bare s = is_line s
+
+-- all of these are
+abbrev pub AreBare : List Stmt → Type 0
+AreBare [] = Unit {0}
+AreBare (s ∷ ss) = (is_bare s ≡ true) × AreBare ss
+
+-- all of these are lines, perhaps behind labels
 abbrev pub AreLines : List Stmt → Type 0
 AreLines [] = Unit {0}
 AreLines (s ∷ ss) = (is_line s ≡ true) × AreLines ss
+
+bare_line : (s : Stmt) → is_bare s ≡ true → is_line s ≡ true
+bare_line (Label l s) e = absurd (cc)
+bare_line s e = e
+
+pub bare_lines : (ss : List Stmt) → AreBare ss → AreLines ss
+bare_lines [] h = tt
+bare_lines (s ∷ ss) h = (bare_line s h.0, bare_lines ss h.1)
+
+pub bare_append : (xs ys : List Stmt) → AreBare xs → AreBare ys → AreBare (xs ++ ys)
+bare_append [] ys h g = g
+bare_append (x ∷ xs) ys h g = (h.0, bare_append xs ys h.1 g)
+
+bare_map : {X : Type 0} (f : X → Stmt) → ((x : X) → is_bare (f x) ≡ true) → (xs : List X) → AreBare (map f xs)
+bare_map f h [] = tt
+bare_map f h (x ∷ xs) = (h x, bare_map f h xs)
 
 pub lines_append : (xs ys : List Stmt) → AreLines xs → AreLines ys → AreLines (xs ++ ys)
 lines_append [] ys h g = g
 lines_append (x ∷ xs) ys h g = (h.0, lines_append xs ys h.1 g)
 
-pub lines_map : {X : Type 0} (f : X → Stmt) → ((x : X) → is_line (f x) ≡ true) → (xs : List X) → AreLines (map f xs)
-lines_map f h [] = tt
-lines_map f h (x ∷ xs) = (h x, lines_map f h xs)
-
 -- ---- lines of nodes
 
--- a statement that a line does is a line
+-- a statement that a line does is one without a label
 abbrev pub DoesLine : Line → Type 0
-DoesLine (Does s) = is_line s ≡ true
+DoesLine (Does s) = is_bare s ≡ true
 DoesLine x = Unit {0}
 
 -- so it is of all of these
@@ -42,7 +64,7 @@ abbrev pub AllDo : List Line → Type 0
 AllDo [] = Unit {0}
 AllDo (x ∷ xs) = DoesLine x × AllDo xs
 
-all_done : (ss : List Stmt) → AreLines ss → AllDo (all_do ss)
+all_done : (ss : List Stmt) → AreBare ss → AllDo (all_do ss)
 all_done [] h = tt
 all_done (s ∷ ss) h = (h.0, all_done ss h.1)
 
@@ -54,31 +76,31 @@ passes_done : (o : Option ℕ) → AllDo (passes o ∷ [])
 passes_done None = (refl, tt)
 passes_done (Some n) = (tt, tt)
 
-frame_done : (r : Routine) (to : Text) (l : Place) → AreLines (frame_lines r to l)
-frame_done r to l = (refl, (refl, (refl, lines_map _ (λ x. refl) _)))
+frame_done : (r : Routine) (to : Text) (l : Place) → AreBare (frame_lines r to l)
+frame_done r to l = (refl, (refl, (refl, bare_map _ (λ x. refl) _)))
 
-frame_if_done : (r : Routine) (to : Text) (o : Option ℕ) → AreLines (frame_lines_if r to o)
+frame_if_done : (r : Routine) (to : Text) (o : Option ℕ) → AreBare (frame_lines_if r to o)
 frame_if_done r to None = tt
 frame_if_done r to (Some n) = frame_done r to (At n)
 
-call_done : (g : Function) (names : Readings) (es : Exprs) → AreLines (call_lines g names es)
-call_done g names es = (refl, (refl, (refl, lines_map _ (λ x. refl) _)))
+call_done : (g : Function) (names : Readings) (es : Exprs) → AreBare (call_lines g names es)
+call_done g names es = (refl, (refl, (refl, bare_map _ (λ x. refl) _)))
 
-waits_done : (r : Routine) (names : Readings) (a : Option ℕ) (f : Text) (o : Option Function) (es : Exprs) → AreLines (waits_lines r names a f o es)
-waits_done r names a f None es = lines_append (frame_lines_if r to_name a) _ (frame_if_done r to_name a) (refl, (refl, tt))
-waits_done r names a f (Some g) es = lines_append (frame_lines_if r under_name a) _ (frame_if_done r under_name a) (lines_append (call_lines g names es) _ (call_done g names es) (refl, tt))
+waits_done : (r : Routine) (names : Readings) (a : Option ℕ) (f : Text) (o : Option Function) (es : Exprs) → AreBare (waits_lines r names a f o es)
+waits_done r names a f None es = bare_append (frame_lines_if r to_name a) _ (frame_if_done r to_name a) (refl, (refl, tt))
+waits_done r names a f (Some g) es = bare_append (frame_lines_if r under_name a) _ (frame_if_done r under_name a) (bare_append (call_lines g names es) _ (call_done g names es) (refl, tt))
 
-result_done : (names : Readings) (o : Option Expr) → AreLines (result_lines names o)
+result_done : (names : Readings) (o : Option Expr) → AreBare (result_lines names o)
 result_done names None = tt
 result_done names (Some e) = (refl, tt)
 
-patch_done : (o : Option Expr) → AreLines (patch_lines o)
+patch_done : (o : Option Expr) → AreBare (patch_lines o)
 patch_done None = tt
 patch_done (Some e) = (refl, tt)
 
-leave_done : (r : Routine) (names : Readings) (o : Option Expr) → AreLines (leave_lines r names o)
+leave_done : (r : Routine) (names : Readings) (o : Option Expr) → AreBare (leave_lines r names o)
 leave_done r names o =
-    lines_append (result_lines names o) _ (result_done names o) (lines_append (unbox_lines r) _ (lines_map _ (λ k. refl) r.boxes) (lines_append (patch_lines o) _ (patch_done o) (refl, tt)))
+    bare_append (result_lines names o) _ (result_done names o) (bare_append (unbox_lines r) _ (bare_map _ (λ k. refl) r.boxes) (bare_append (patch_lines o) _ (patch_done o) (refl, tt)))
 
 simple_done : (r : Routine) (names : Readings) (s : Stmt) (o : Option ℕ) → AllDo (simple_lines r names s o)
 simple_done r names (Return e) o = all_done (leave_lines r names e) (leave_done r names e)
@@ -117,7 +139,7 @@ framed_done r names (Label l s) o = passes_done _
 framed_done r names Break o = passes_done _
 framed_done r names Continue o = passes_done _
 
-called_done : (p : Program) (r : Routine) (names : Readings) (to : Option Expr) (f : Expr) (es : Exprs) (a : Option ℕ) → AreLines (cps_lines p r names (Call to f es) a)
+called_done : (p : Program) (r : Routine) (names : Readings) (to : Option Expr) (f : Expr) (es : Exprs) (a : Option ℕ) → AreBare (cps_lines p r names (Call to f es) a)
 called_done p r names to (ENamed f) es a = waits_done r names a f (function_named p f) es
 called_done p r names to (EInteger k z) es a = tt
 called_done p r names to (ECharacter z) es a = tt
@@ -134,9 +156,9 @@ called_done p r names to (EMember x y) es a = tt
 called_done p r names to (EArrow x y) es a = tt
 called_done p r names to (ECall x y) es a = tt
 
-cps_done : (p : Program) (r : Routine) (names : Readings) (s : Stmt) (a : Option ℕ) → AreLines (cps_lines p r names s a)
+cps_done : (p : Program) (r : Routine) (names : Readings) (s : Stmt) (a : Option ℕ) → AreBare (cps_lines p r names s a)
 cps_done p r names (Call to f es) a = called_done p r names to f es a
-cps_done p r names (Detach to f es) a = lines_append (frame_lines_if r to_name a) _ (frame_if_done r to_name a) (refl, (refl, tt))
+cps_done p r names (Detach to f es) a = bare_append (frame_lines_if r to_name a) _ (frame_if_done r to_name a) (refl, (refl, tt))
 cps_done p r names (Return e) a = tt
 cps_done p r names (Spawn f es) a = tt
 cps_done p r names (Declare x t e) a = tt
@@ -174,9 +196,9 @@ stood_done p r names w (AtStatement Nothing) n m a = passes_done n
 -- ---- rows
 
 stub_done : (r : Routine) (n : ℕ) → AllDo (stub_lines r n)
-stub_done r n = all_done (frame_lines r to_name (At n) ++ (hands_over to_name ∷ [])) (lines_append (frame_lines r to_name (At n)) (hands_over to_name ∷ []) (frame_done r to_name (At n)) (refl, tt))
+stub_done r n = all_done (frame_lines r to_name (At n) ++ (hands_over to_name ∷ [])) (bare_append (frame_lines r to_name (At n)) (hands_over to_name ∷ []) (frame_done r to_name (At n)) (refl, tt))
 
-lines_done : (b : Bool) (p : Program) (r : Routine) (n : ℕ) → AllDo (lines_by b p r n)
+pub lines_done : (b : Bool) (p : Program) (r : Routine) (n : ℕ) → AllDo (lines_by b p r n)
 lines_done true p r n = go (slice_get r.split.graph.nodes n)
   where
     go : (o : Option Node) → AllDo (at_node [] (node_lines p r) o)
@@ -185,40 +207,40 @@ lines_done true p r n = go (slice_get r.split.graph.nodes n)
 lines_done false p r n = stub_done r n
 
 -- so it is in each of these rows
-abbrev AllRows : List Row → Type 0
+abbrev pub AllRows : List Row → Type 0
 AllRows [] = Unit {0}
 AllRows (r ∷ rs) = AllDo r.lines × AllRows rs
 
-rows_map : (f : ℕ → Row) → ((n : ℕ) → AllDo (f n).lines) → (ns : List ℕ) → AllRows (map f ns)
+pub rows_map : (f : ℕ → Row) → ((n : ℕ) → AllDo (f n).lines) → (ns : List ℕ) → AllRows (map f ns)
 rows_map f h [] = tt
 rows_map f h (n ∷ ns) = (h n, rows_map f h ns)
 
-put_done : (o : Option ℕ) (x : Line) → DoesLine x → AreLines (map put_statement (put_line o x))
+put_done : (o : Option ℕ) (x : Line) → DoesLine x → AreBare (map put_statement (put_line o x))
 put_done o (Does x) h = (h, tt)
 put_done o (Goes n) h = go (is_next n o)
   where
-    go : (b : Bool) → AreLines (map put_statement (cond b [] (Jump n ∷ [])))
+    go : (b : Bool) → AreBare (map put_statement (cond b [] (Jump n ∷ [])))
     go true = tt
     go false = (refl, tt)
 put_done o (Tests e n) h = (refl, tt)
 put_done o (Passes n) h = go (is_next n o)
   where
-    go : (b : Bool) → AreLines (map put_statement (cond b (Plain Empty ∷ []) (Jump n ∷ [])))
+    go : (b : Bool) → AreBare (map put_statement (cond b (Plain Empty ∷ []) (Jump n ∷ [])))
     go true = (refl, tt)
     go false = (refl, tt)
 
-puts_append : (xs ys : List Put) → AreLines (map put_statement xs) → AreLines (map put_statement ys) → AreLines (map put_statement (xs ++ ys))
+puts_append : (xs ys : List Put) → AreBare (map put_statement xs) → AreBare (map put_statement ys) → AreBare (map put_statement (xs ++ ys))
 puts_append [] ys h g = g
 puts_append (x ∷ xs) ys h g = (h.0, puts_append xs ys h.1 g)
 
-puts_done : (o : Option ℕ) (xs : List Line) → AllDo xs → AreLines (map put_statement (put_lines o xs))
+pub puts_done : (o : Option ℕ) (xs : List Line) → AllDo xs → AreBare (map put_statement (put_lines o xs))
 puts_done o [] h = tt
 puts_done o (x ∷ xs) h = puts_append (put_line o x) (put_lines o xs) (put_done o x h.0) (puts_done o xs h.1)
 
-label_done : (b : Bool) (l : Text) (ss : List Stmt) → AreLines ss → AreLines (label_if b l ss)
-label_done true l [] h = h
-label_done true l (s ∷ ss) h = h
-label_done false l ss h = h
+label_done : (b : Bool) (l : Text) (ss : List Stmt) → AreBare ss → AreLines (label_if b l ss)
+label_done true l [] h = tt
+label_done true l (s ∷ ss) h = bare_lines (s ∷ ss) h
+label_done false l ss h = bare_lines ss h
 
 rows_done : (all : List PutRow) (rs : List Row) → AllRows rs → AreLines (rows_statements all (put_rows rs))
 rows_done all [] h = tt

@@ -31,7 +31,7 @@ use Rattle.cpc_convert_event.specs.FlatLaws.{piece_scope}
 use Rattle.cpc_convert_event.specs.NameLaws.{IsNamed, IsCps, IsOwner}
 use Rattle.cpc_convert_event.specs.LocalLaws.{piece_locals, StandsIn, MeansLocals, AllLocalsAreMeant}
 use Rattle.cpc_convert_event.proofs.Fields.{variables_apart, word_apart, local_scalar, plain_scalar}
-use Rattle.cpc_convert_event.proofs.Lines.{AreLines, lines_append, piece_lines}
+use Rattle.cpc_convert_event.proofs.Lines.{AreLines, bare_lines, piece_lines}
 use Rattle.cpc_convert_event.proofs.Flat.{boxes_done}
 use Rattle.cpc_convert_event.proofs.StructsThere.{arriving_scalar}
 use Rattle.cpc_convert_event.proofs.Numbers.{later, or_false, false_or, equal_is, held_append, held_either, not_in_append, once_append, chosen_is, chosen_has, chosen_out, once_chosen, not_true, AllBelow, NoneBelow, OneBelow, below_append, below_chosen, Rises, NoneRise, OneRise, rises_lower, rises_below, rises_once}
@@ -378,7 +378,7 @@ module _ (p : Program) (ok : IsNamed p) (f : Function) (c : IsCps p f) where
     locals_are = ap (λ us. called_so pointer_name any_pointer ∷ called_so frame_name (TyPointer (TyStruct (piece_name f.called l))) ∷ called_so next_name (below_if (is_scalar f.result) f.called) ∷ us) (loads_are (locals_of r (loaded r l)) (declares_of p r l))
 
     no_locals : locals_in (before (boxing_of r l) (AndStmt (frees_frame pointer_name) (before (piece_statements p r l) NoStmt))) ≡ []
-    no_locals = lines_locals (boxing_of r l) _ (boxes_done r l) ∙ lines_locals (piece_statements p r l) NoStmt (piece_lines p r l)
+    no_locals = lines_locals (boxing_of r l) _ (bare_lines (boxing_of r l) (boxes_done r l)) ∙ lines_locals (piece_statements p r l) NoStmt (piece_lines p r l)
 
     listed : variables (piece_function p r l) ≡ piece_locals p r l
     listed =

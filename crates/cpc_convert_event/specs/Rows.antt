@@ -101,24 +101,24 @@ abbrev pub number_where : Bool → ℕ → List ℕ
 number_where true n = n ∷ []
 number_where false n = []
 
--- the leader that stands behind lines which fall to it, unless it has a place already
-abbrev pub stub_behind : Split → Place → (placed : List ℕ) → (falls : Option ℕ) → List ℕ
-stub_behind s l placed None = []
-stub_behind s l placed (Some n) = number_where (not (is_own s l n) && not (holds_number placed n)) n
+-- the one of these leaders that stands behind lines which fall to it, unless it has a place already
+abbrev pub stub_behind : (stubs placed : List ℕ) → (falls : Option ℕ) → List ℕ
+stub_behind stubs placed None = []
+stub_behind stubs placed (Some n) = number_where (holds_number stubs n && not (holds_number placed n)) n
 
--- nodes, each with the leader to which it is the first to fall behind it; some leaders have a place already
-abbrev pub numbers_from : Program → Routine → Place → (placed : List ℕ) → List ℕ → List ℕ
-numbers_from p r l placed [] = []
-numbers_from p r l placed (n ∷ ns) =
-    n ∷ (stub_behind r.split l placed (falls (row_of p r l n).lines) ++ numbers_from p r l (stub_behind r.split l placed (falls (row_of p r l n).lines) ++ placed) ns)
+-- nodes, each with the leader behind it to which it is the first to fall; some of these leaders have a place already
+abbrev pub numbers_from : Program → Routine → Place → (stubs placed : List ℕ) → List ℕ → List ℕ
+numbers_from p r l stubs placed [] = []
+numbers_from p r l stubs placed (n ∷ ns) =
+    n ∷ (stub_behind stubs placed (falls (row_of p r l n).lines) ++ numbers_from p r l stubs (stub_behind stubs placed (falls (row_of p r l n).lines) ++ placed) ns)
 
--- what these leave of a piece's leaders
-abbrev pub stubs_left : Routine → Place → (placed : List ℕ) → List ℕ
-stubs_left r l placed = chosen (λ n. not (holds_number placed n)) (stubs_of r l)
+-- these numbers, and then the leaders that are not among them
+abbrev pub completed : (stubs : List ℕ) → List ℕ → List ℕ
+completed stubs ns = ns ++ chosen (λ n. not (holds_number ns n)) stubs
 
--- the numbers of a piece's rows: its nodes, each leader behind the first node that falls to it, and the other leaders
+-- the numbers of a piece's rows: its nodes, each leader to which it goes behind the first node that falls to it, and then the other leaders
 abbrev pub numbers_of : Program → Routine → Place → List ℕ
-numbers_of p r l = numbers_from p r l [] (rows_nodes r.split l) ++ stubs_left r l (numbers_from p r l [] (rows_nodes r.split l))
+numbers_of p r l = completed (stubs_of r l) (numbers_from p r l (stubs_of r l) [] (rows_nodes r.split l))
 
 -- the rows of a piece
 abbrev pub rows_of : Program → Routine → Place → List Row

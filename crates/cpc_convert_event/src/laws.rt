@@ -5,6 +5,7 @@ ghost use Rattle.cpc_convert_event.specs.StructLaws.{StructsAreThere};
 ghost use Rattle.cpc_convert_event.specs.ClosureLaws.{ClosuresAreLifted};
 ghost use Rattle.cpc_convert_event.specs.ScopeLaws.{NothingIsHidden};
 ghost use Rattle.cpc_convert_event.specs.LocalLaws.{AllLocalsAreMeant};
+ghost use Rattle.cpc_convert_event.specs.LabelLaws.{AllRowsStandOnce, LabelsLead};
 ghost use Rattle.cpc_convert_event.specs.Mixed.{MixedRunsAlike};
 ghost use Rattle.cpc_convert_event.specs.WrittenBoxes.{ProgramsAreWritten};
 ghost use Rattle.cpc_convert_event.specs.Worked.{CallsRunAlike, WaitsRunAlike, BoxesRunAlike};
@@ -68,4 +69,10 @@ pub fn mixed_runs_alike()
 /// Each variable of a piece is found by its name, and all that its owner keeps stands in one.
 pub fn locals_are_meant()
     ensures law { AllLocalsAreMeant }
+{}
+
+/// Each node of a piece, and each leader to which it goes, has one row, and its label leads to it.
+pub fn labels_lead()
+    ensures rows { AllRowsStandOnce }
+    ensures labels { LabelsLead }
 {}
