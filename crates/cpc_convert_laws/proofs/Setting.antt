@@ -15,7 +15,7 @@ use Rattle.cpc_meaning.specs.Plain.{Form, Frame, Asks, asking, context, frames_s
 use Rattle.cpc_meaning.specs.Requests.{Request, Asked, Builtin, Host, ToSpawn, Section, Primitive, Print, Putc, Puts, Now, CondNew, CondFree, Signal, SignalAll, Exit, Malloc, Free}
 use Rattle.cpc_tree.specs.Points.{Found}
 use Rattle.cpc_convert_image_laws.specs.Native.{IsArrival}
-use Rattle.cpc_meaning.specs.Section.{Job}
+use Rattle.cpc_meaning.specs.Section.{Job, all_integers}
 use Rattle.cpc_meaning.specs.Start.{before_bars}
 use Rattle.cpc_meaning.specs.Threads.{Thread, Pending, shown_in}
 use Rattle.cpc_meaning.specs.Trees.{trees}
@@ -31,13 +31,14 @@ use Rattle.cpc_convert_laws.specs.Items.{Cut}
 use Rattle.cpc_convert_laws.specs.Running.{Places, SamePoint}
 use Rattle.cpc_convert_laws.proofs.Relation.{Source}
 
--- the source program, in its split form, and the event program; the codes that may be values; which function stands for which; how cps
--- functions are cut; which variables a position keeps; where pieces stand for frames; the names that occur at a point of native code; what
+-- the source program, in its split form, and the event program; the codes that may be values; the functions that sections run; which
+-- function stands for which; how cps functions are cut; which variables a position keeps; where pieces stand for frames; the names that occur at a point of native code; what
 -- is known of a frame on top of a stack with the value that arrives at it; and of the arguments of a call that is to begin
 pub record Setting : Type 1 where
   pub source : Program
   pub target : Program
   pub codes : Text → Type 0
+  pub sections : Text → Type 0
   pub pairs : Function → Function → Type 0
   pub cut : Cut
   pub kept : Text → Position → ℕ → Bool
@@ -59,10 +60,11 @@ pub data CollectedAlike (z : Setting) (bs : Blocks) : Collected → Collected �
   BothFailed : (fault : Fault) (f : Text) → before_bars f ≡ shown_in z.source f → CollectedAlike z bs (OneFailed fault f) (OneFailed fault f)
   SourceStuck : (c : Collected) → CollectedAlike z bs NotClear c
 
--- a section that is out holds values of the source alone
+-- a section that is out runs one of the functions for that, on integers, and its pointer is one of the source
 pub record HeldJob (z : Setting) (j : Job) : Type 0 where
-  pub arguments : All (IsHeld z.codes) j.arguments
-  pub cells : All (IsHeld z.codes) j.cells
+  pub function : z.sections j.function
+  pub arguments : all_integers j.arguments ≡ true
+  pub cells : all_integers j.cells ≡ true
   pub pointer : IsHeld z.codes j.pointer
 
 -- what is known of a state of the source: among it that the boxes of all frames are live, and no two the same
