@@ -45,23 +45,23 @@ use Rattle.cpc_convert_laws.proofs.Tidy.{waits_tidied}
 module _ (z : Setting) (native : NativeFacts z) (keeps : KeepsFacts z) (bounds : Bounds) (entry : EntryFacts z bounds) (most : ℕ) (enough : Enough bounds most) (f : Text) (l : Place) (lower pointer result frame : Value) (w : Shared) (bs : Blocks) (c : Agenda Callback) (n : ℕ) (slots : List Slot) (o : Option Value) (piece : CallFrame Point) (o' : Option Value) (a : Agenda (Thread Position)) (below : List (CallFrame Position)) (h : Beside z bs a c below lower) where
   -- the states of both
   abbrev from : Source
-  from = here z f l n slots o w a below
+  from = here z f (InGraph l n) slots o w a below
 
   abbrev to : Target
   to = inside z bounds f l lower pointer result frame w bs c n slots o piece o'
 
   abbrev StepsTo : Answer Act → Source → Type 0
-  StepsTo u x' = option_map (tidy z.kept) (settles z f l n slots o w a below (comes_of z f l n slots o w a below u)) ≡ Some x'
+  StepsTo u x' = option_map (tidy z.kept) (settles z f (InGraph l n) slots o w a below (comes_of z f (InGraph l n) slots o w a below u)) ≡ Some x'
 
   -- the state of the source in the function that is entered, over the position at which the value arrives
   abbrev in_callee : Function → Position → List Slot → Store → Source
   in_callee g back entered t = source_state (record w { store = t }) (Some (record { frames = frame_of g.called ((from_form z).code.first g.called) entered ∷ frame_of f back slots ∷ below; arriving = None })) a
 
   module _ (g : Function) (vs : List Value) (back : Position) (is_back : (from_form z).code.arrival f (InGraph l n) ≡ Some back) where
-    comes_stuck : call_slots z.source g vs w.store ≡ NoAnswer → comes_of z f l n slots o w a below (Gives (Enters g vs)) ≡ NoAnswer
+    comes_stuck : call_slots z.source g vs w.store ≡ NoAnswer → comes_of z f (InGraph l n) slots o w a below (Gives (Enters g vs)) ≡ NoAnswer
     comes_stuck made = simp (made) refl
 
-    comes_in : (entered : List Slot) (t : Store) → call_slots z.source g vs w.store ≡ Gives (entered, t) → comes_of z f l n slots o w a below (Gives (Enters g vs)) ≡ Gives (in_callee g back entered t)
+    comes_in : (entered : List Slot) (t : Store) → call_slots z.source g vs w.store ≡ Gives (entered, t) → comes_of z f (InGraph l n) slots o w a below (Gives (Enters g vs)) ≡ Gives (in_callee g back entered t)
     comes_in entered t made = simp (made, is_back) refl
 
     -- the variables are made, without a fault
@@ -70,9 +70,9 @@ module _ (z : Setting) (native : NativeFacts z) (keeps : KeepsFacts z) (bounds :
     entered_row x' stepped row = go (call_slots z.source g vs w.store) refl
       where
         go : (u : Answer (List Slot × Store)) → call_slots z.source g vs w.store ≡ u → RowFor z from x' most to
-        go (Gives (entered, t)) made = row entered t made (to_state z f l n slots o w a below x' _ (in_callee g back entered t) (comes_in entered t made) stepped)
+        go (Gives (entered, t)) made = row entered t made (to_state z f (InGraph l n) slots o w a below x' _ (in_callee g back entered t) (comes_in entered t made) stepped)
         go (Faults fault) made = absurd (fine_slots z.source g 0 (variables g) vs w.store fault made)
-        go NoAnswer made = absurd (no_state z f l n slots o w a below x' _ (comes_stuck made) stepped)
+        go NoAnswer made = absurd (no_state z f (InGraph l n) slots o w a below x' _ (comes_stuck made) stepped)
 
   -- ---- native functions
 

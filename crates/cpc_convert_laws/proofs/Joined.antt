@@ -1,5 +1,5 @@
 -- The rows, joined: for each step of the source, from states that stand for each other, at least one step of the target and at most so many.
-use Rattle.std.proofs.Common.{◌≡◌, ℕ, suc, ◌+◌, ◌<◌, ◌≤◌, true, List, [], ◌∷◌, ◌++◌, Option, Some, None, option_map, refl, sym, ◌∙◌, ap, subst, arith}
+use Rattle.std.proofs.Common.{◌≡◌, ℕ, ◌+◌, ◌≤◌, true, List, [], ◌∷◌, ◌++◌, Option, Some, None, option_map, refl, sym, ◌∙◌, ap, subst, arith}
 use Rattle.std.specs.List.{All}
 use Rattle.cpc_base.specs.Bytes.{Text}
 use Rattle.cpc_store.specs.Store.{Value, Unset, Blocks, empty_store}
@@ -41,13 +41,13 @@ use Rattle.cpc_convert_laws.proofs.Pieces.{piece_row}
 use Rattle.cpc_convert_laws.proofs.Relation.{Source, Target, Shared, AgendaFor, source_state, target_state, with_main, Related, MainIsReady, MainIsNext, Goes, IsOver}
 use Rattle.cpc_convert_laws.proofs.Rows.{RowFor}
 use Rattle.cpc_convert_laws.proofs.Setting.{Setting, from_form, NativeFacts, KeepsFacts, NativeAt, Known}
+use Rattle.cpc_convert_laws.proofs.Spawning.{SpawnAt, spawn_at_row}
 use Rattle.cpc_convert_laws.proofs.Standing.{here, acts_here, steps_by, no_step}
-use Rattle.cpc_convert_laws.proofs.Walking.{Spawns, spawn_row}
 
 -- what is known where a native function runs: what stands there is the same in both, or something is spawned
-pub data NativeDoes (z : Setting) (bounds : Bounds) (f : Text) (b : Point) (slots : List Slot) (xs : List (CallFrame Position)) (ys : List (CallFrame Point)) (o : Option Value) (w : Shared) (bs : Blocks) (a : Agenda (Thread Position)) (c : Agenda Callback) : Type 0 where
-  Plainly : NativeAt z f b slots → NativeDoes z bounds f b slots xs ys o w bs a c
-  Spawning : (h : Spawns z f b slots xs ys o w bs a c) → h.steps < bounds.leads → NativeDoes z bounds f b slots xs ys o w bs a c
+pub data NativeDoes (z : Setting) (bounds : Bounds) (f : Text) (b : Point) (slots : List Slot) (ys : List (CallFrame Point)) (o : Option Value) (w : Shared) (bs : Blocks) (c : Agenda Callback) : Type 0 where
+  Plainly : NativeAt z f b slots → NativeDoes z bounds f b slots ys o w bs c
+  Spawning : SpawnAt z bounds f b slots ys o w bs c → NativeDoes z bounds f b slots ys o w bs c
 
 -- how `main` is called: it is native, and stands for itself, or a cps function
 pub data MainIs (z : Setting) (bounds : Bounds) : Type 0 where
@@ -64,10 +64,10 @@ pub record RowFacts (z : Setting) (bounds : Bounds) : Type 0 where
   pub globals : globals (make_globals z.target z.target empty_store) ≡ beside [] (globals (make_globals z.source z.source empty_store))
   -- native code
   pub natives : (f : Text) (b : Point) (slots : List Slot) (xs : List (CallFrame Position)) (ys : List (CallFrame Point)) (o : Option Value) (w : Shared) (bs : Blocks) (a : Agenda (Thread Position)) (c : Agenda Callback)
-      → z.cut.whole f ≡ true → All (IsHeldSlot z.codes) slots → Known z (source_state w (Some (record { frames = frame_of f (InTree b) slots ∷ xs; arriving = o })) a) → NativeDoes z bounds f b slots xs ys o w bs a c
+      → z.cut.whole f ≡ true → All (IsHeldSlot z.codes) slots → Known z (source_state w (Some (record { frames = frame_of f (InTree b) slots ∷ xs; arriving = o })) a) → NativeDoes z bounds f b slots ys o w bs c
   -- pieces
   pub pieces : (f : Text) (l : Place) (lower pointer result frame : Value) (w : Shared) (bs : Blocks) (c : Agenda Callback) (n : ℕ) (slots : List Slot) (o : Option Value) (piece : CallFrame Point) (o' : Option Value) (a : Agenda (Thread Position)) (below : List (CallFrame Position))
-      → z.there f l n slots o lower piece o' → Beside z bs a c below lower → Known z (here z f l n slots o w a below) → PieceAt z bounds f l lower pointer result frame w bs c n slots o piece o'
+      → z.there f l n slots o lower piece o' → Beside z bs a c below lower → Known z (here z f (InGraph l n) slots o w a below) → PieceAt z bounds f l lower pointer result frame w bs c n slots o piece o'
   -- where a value arrives at a piece, an arrival stands in the source
   pub arrivals : (f : Text) (l : Place) (n : ℕ) (slots : List Slot) (v lower : Value) (piece : CallFrame Point) → z.there f l n slots (Some v) lower piece (Some v) → (g : Found) × ((from_form z).code.stood f (InGraph l n) ≡ AtArrival g)
 
@@ -99,10 +99,10 @@ module _ (z : Setting) (bounds : Bounds) (facts : RowFacts z bounds) (most : ℕ
         go at.0 at.1 (function_named z.source f) refl
       where
         go : (g : Found) → (from_form z).code.stood f (InGraph l n) ≡ AtArrival g → (k : Option Function) → function_named z.source f ≡ k → RowFor z (from (frame_of f (InGraph l n) slots ∷ below) None) x' most (to (piece ∷ driving pointer result frame ∷ []) None)
-        go g stood None i = absurd (no_state_at x' (sym (ap (option_map (tidy z.kept)) (no_step z f l n slots None w a below i)) ∙ e))
+        go g stood None i = absurd (no_state_at x' (sym (ap (option_map (tidy z.kept)) (no_step z f (InGraph l n) slots None w a below i)) ∙ e))
         go g stood (Some k) i =
-            let none : acts_here z f l n slots None w a below k ≡ NoAnswer = ap (λ s. act (context (from_form z) w.store (frame_of f (InGraph l n) slots)) k.result None s) stood in
-            absurd (no_state_at x' (sym (ap (option_map (tidy z.kept)) (steps_by z f l n slots None w a below k i NoAnswer none)) ∙ e))
+            let none : acts_here z f (InGraph l n) slots None w a below k ≡ NoAnswer = ap (λ s. act (context (from_form z) w.store (frame_of f (InGraph l n) slots)) k.result None s) stood in
+            absurd (no_state_at x' (sym (ap (option_map (tidy z.kept)) (steps_by z f (InGraph l n) slots None w a below k i NoAnswer none)) ∙ e))
 
     -- what is below native frames takes the value
     below_row : (owned : List ℕ) → Owns bs (owned ++ owned_in tags) → (xs : List (CallFrame Position)) (ys : List (CallFrame Point)) (o : Option Value) → IsHeldIf z.codes o → Under z.codes z.cut z.there bs owned xs ys → Known z (from xs o) → StepsTo (from xs o) x' → RowFor z (from xs o) x' most (to ys o)
@@ -115,13 +115,11 @@ module _ (z : Setting) (bounds : Bounds) (facts : RowFacts z bounds) (most : ℕ
         → Native z.codes (SamePoint z.cut) (Under z.codes z.cut z.there bs owned) xs ys → Known z (from (frame_of f (InTree b) slots ∷ xs) o) → StepsTo (from (frame_of f (InTree b) slots ∷ xs) o) x' → RowFor z (from (frame_of f (InTree b) slots ∷ xs) o) x' most (to (frame_of f b slots ∷ ys) o)
     point_row owned owns f b slots xs ys o hold same held stacks known e = go (facts.natives f b slots xs ys o w bs a c same held known)
       where
-        go : NativeDoes z bounds f b slots xs ys o w bs a c → RowFor z (from (frame_of f (InTree b) slots ∷ xs) o) x' most (to (frame_of f b slots ∷ ys) o)
+        go : NativeDoes z bounds f b slots ys o w bs c → RowFor z (from (frame_of f (InTree b) slots ∷ xs) o) x' most (to (frame_of f b slots ∷ ys) o)
         go (Plainly at) =
             path_wider most (let i = enough.goes in let j : 1 ≤ most = omega arith in j)
             (native_row z facts.native facts.keeps bs owned f b slots xs ys same held stacks at o hold w a tags c known.store (record { alike = g; owns = owns; fresh = fresh }) x' e)
-        go (Spawning h less) =
-            path_wider most (let i = enough.goes in let j : suc h.steps ≤ most = omega arith in j)
-            (spawn_row z facts.native facts.keeps f b slots xs ys o w bs owned a tags c h same held stacks g owns fresh x' e)
+        go (Spawning h) = spawn_at_row z facts.native facts.keeps bounds most enough f b slots xs ys o w bs owned a tags c h same held stacks g owns fresh x' e
 
     native_top : (owned : List ℕ) → Owns bs (owned ++ owned_in tags) → (xs : List (CallFrame Position)) (ys : List (CallFrame Point)) (o : Option Value) → IsHeldIf z.codes o → Native z.codes (SamePoint z.cut) (Under z.codes z.cut z.there bs owned) xs ys
         → Known z (from xs o) → StepsTo (from xs o) x' → RowFor z (from xs o) x' most (to ys o)

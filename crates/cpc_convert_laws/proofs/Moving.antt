@@ -72,14 +72,14 @@ module _ (z : Setting) (n : ℕ) (x x' : Source) (y : Target) (going : x.outcome
 module _ (z : Setting) (native : NativeFacts z) (keeps : KeepsFacts z) (bounds : Bounds) (entry : EntryFacts z bounds) (most : ℕ) (enough : Enough bounds most) (f : Text) (l : Place) (lower pointer result frame : Value) (w : Shared) (bs : Blocks) (c : Agenda Callback) (n : ℕ) (slots : List Slot) (o : Option Value) (piece : CallFrame Point) (o' : Option Value) (a : Agenda (Thread Position)) (below : List (CallFrame Position)) (h : Beside z bs a c below lower) where
   -- the states of both
   abbrev from : Source
-  from = here z f l n slots o w a below
+  from = here z f (InGraph l n) slots o w a below
 
   abbrev to : Target
   to = inside z bounds f l lower pointer result frame w bs c n slots o piece o'
 
   -- the step of the source that this act makes
   abbrev StepsTo : Answer Act → Source → Type 0
-  StepsTo u x' = option_map (tidy z.kept) (settles z f l n slots o w a below (comes_of z f l n slots o w a below u)) ≡ Some x'
+  StepsTo u x' = option_map (tidy z.kept) (settles z f (InGraph l n) slots o w a below (comes_of z f (InGraph l n) slots o w a below u)) ≡ Some x'
 
   abbrev rest : ℕ
   rest = bounds.onward + (3 + bounds.resumes)
@@ -90,10 +90,10 @@ module _ (z : Setting) (native : NativeFacts z) (keeps : KeepsFacts z) (bounds :
   moves_row t s changed goes x' stepped known = go ((from_form z).code.goes f (InGraph l n) t) refl
     where
       go : (p : Option Position) → (from_form z).code.goes f (InGraph l n) t ≡ p → RowFor z from x' most to
-      go None e = absurd (no_state z f l n slots o w a below x' _ (ap (moved z f l n slots o w a below s changed) e) stepped)
+      go None e = absurd (no_state z f (InGraph l n) slots o w a below x' _ (ap (moved z f (InGraph l n) slots o w a below s changed) e) stepped)
       go (Some p) e =
           let r = goes p e in
-          let same = to_state z f l n slots o w a below x' _ (onwards z native keeps bounds entry f l lower pointer result frame (record w { store = s }) a below changed p) (ap (moved z f l n slots o w a below s changed) e) stepped in
+          let same = to_state z f (InGraph l n) slots o w a below x' _ (onwards z native keeps bounds entry f l lower pointer result frame (record w { store = s }) a below changed p) (ap (moved z f (InGraph l n) slots o w a below s changed) e) stepped in
           path_wider most (let i = enough.goes in let j : 1 + rest ≤ most = omega arith in j)
           (row_reached z from x' to _ 0 rest refl (walk_one _ _ r.first (record { is_trace = refl; goes = refl }))
           (subst (λ y. Reached z y rest w.trace (running (world_of w c) (beside bs s) (over z bounds f l lower pointer result frame r.from) None)) same
@@ -117,7 +117,7 @@ module _ (z : Setting) (native : NativeFacts z) (keeps : KeepsFacts z) (bounds :
     Meet = Meets (Then z rest)
 
     reply_alike : (v : Shared) (b : Agenda (Thread Position)) (tags : Agenda Tagged) (d : Agenda Callback) → IsHeldStore z.codes v.store → v.store.auto ≡ w.store.auto → Agendas z bs h.owned b tags d → (u : Value) → IsHeld z.codes u
-        → Meet (reply (from_form z) (stack z f l n slots o w a below) u (source_state v (Some (stack z f l n slots o w a below)) b)) (reply (to_form z) there u (target_state v bs (Some there) d))
+        → Meet (reply (from_form z) (stack z f (InGraph l n) slots o w a below) u (source_state v (Some (stack z f (InGraph l n) slots o w a below)) b)) (reply (to_form z) there u (target_state v bs (Some there) d))
     reply_alike v b tags d held boxes g u is_held = go (asking ((from_form z).code.stood f (InGraph l n))) refl
       where
         answer : Answer Target
@@ -127,28 +127,28 @@ module _ (z : Setting) (native : NativeFacts z) (keeps : KeepsFacts z) (bounds :
         beside_it = record { tags = tags; saved = h.saved; owned = h.owned; waits = h.waits; chain = h.chain; alike = g.alike; owns = g.owns; fresh = g.fresh }
 
         moves : (t : Bool) (s : Store) (changed : List Slot) (first : CallFrame Point) → ((q : Position) → (from_form z).code.goes f (InGraph l n) t ≡ Some q → Onward z bounds f l lower pointer result frame bs s changed first q)
-            → (p : Option Position) → (from_form z).code.goes f (InGraph l n) t ≡ p → Meet (replied_to z f l n slots o below v b u s changed p) (Gives (running (world_of v d) (beside bs s) (over z bounds f l lower pointer result frame first) None))
+            → (p : Option Position) → (from_form z).code.goes f (InGraph l n) t ≡ p → Meet (replied_to z f (InGraph l n) slots o below v b u s changed p) (Gives (running (world_of v d) (beside bs s) (over z bounds f l lower pointer result frame first) None))
         moves t s changed first onward None e = Stuck _
         moves t s changed first onward (Some p) e =
             BothGive _ _ (GoingOn refl (record { is_trace = refl; goes = refl }) (λ known. onward_reached z native keeps bounds entry f l lower pointer result frame (record v { store = s }) bs b d below beside_it changed first p (onward p e) known))
 
-        by : (r : Answer Act) → Replied z bounds f l lower pointer result frame w bs c n slots o piece o' v.store u r → Meet (replied_of z f l n slots o below v b u r) answer
+        by : (r : Answer Act) → Replied z bounds f l lower pointer result frame w bs c n slots o piece o' v.store u r → Meet (replied_of z f (InGraph l n) slots o below v b u r) answer
         by _ ReplyStuck = Stuck _
         by _ (ReplyFaults fault e) = subst (λ x. Meet (Faults fault) (x >>= after_done (target_state v bs (Some there) d))) (sym e) (BothFault fault)
         by _ (ReplyGoes t s changed first e onward) =
-            subst (λ x. Meet (replied_to z f l n slots o below v b u s changed ((from_form z).code.goes f (InGraph l n) t)) (x >>= after_done (target_state v bs (Some there) d))) (sym e)
+            subst (λ x. Meet (replied_to z f (InGraph l n) slots o below v b u s changed ((from_form z).code.goes f (InGraph l n) t)) (x >>= after_done (target_state v bs (Some there) d))) (sym e)
             (moves t s changed first onward ((from_form z).code.goes f (InGraph l n) t) refl)
 
-        go : (g : Option Found) → asking ((from_form z).code.stood f (InGraph l n)) ≡ g → Meet (replied_by z f l n slots o below v b u g) answer
+        go : (g : Option Found) → asking ((from_form z).code.stood f (InGraph l n)) ≡ g → Meet (replied_by z f (InGraph l n) slots o below v b u g) answer
         go None e = Stuck _
-        go (Some g) e = by (arrives_at z f l n slots o below v b u g) (replies v.store u g held boxes is_held e)
+        go (Some g) e = by (arrives_at z f (InGraph l n) slots o below v b u g) (replies v.store u g held boxes is_held e)
 
     pub requests_row : (r : Request) → is_answered r.asked ≡ true → All (IsHeld z.codes) r.arguments → frames_step (to_form z) (beside bs w.store) o' (over z bounds f l lower pointer result frame piece) ≡ Gives (Asks r)
         → before_bars piece.function ≡ shown_in z.source f → IsHeldStore z.codes w.store → (x' : Source) → StepsTo (Gives (AsksFor r)) x' → Known z x' → RowFor z from x' most to
     requests_row r answered held e shown source x' stepped known =
         path_wider most (let i = enough.goes in let j : suc rest ≤ most = omega arith in j)
-        (answer_row z rest from x' to refl known (asked_by (threads_of (from_form z)) (stack z f l n slots o w a below) from r.asked r.arguments) (asked_by (callbacks_of (to_form z)) there to r.asked r.arguments)
-        (asked_alike z bs h.owned w.store.auto (stack z f l n slots o w a below) there (Then z rest) (λ x y k same. Ended refl (sym same) refl) reply_alike w a h.tags c source refl
+        (answer_row z rest from x' to refl known (asked_by (threads_of (from_form z)) (stack z f (InGraph l n) slots o w a below) from r.asked r.arguments) (asked_by (callbacks_of (to_form z)) there to r.asked r.arguments)
+        (asked_alike z bs h.owned w.store.auto (stack z f (InGraph l n) slots o w a below) there (Then z rest) (λ x y k same. Ended refl (sym same) refl) reply_alike w a h.tags c source refl
         (record { alike = h.alike; owns = h.owns; fresh = h.fresh }) r.asked answered r.arguments held)
         refl shown stepped (ap (λ u. settled (callbacks z.target) to (u >>= runs_on (callbacks z.target) to there)) e))
 
@@ -183,15 +183,15 @@ module _ (z : Setting) (native : NativeFacts z) (keeps : KeepsFacts z) (bounds :
       }
 
       asked : Option Position → Answer Source
-      asked p = replied_to z f l n slots o below w spawned Unset w.store slots p
+      asked p = replied_to z f (InGraph l n) slots o below w spawned Unset w.store slots p
 
-      comes : comes_of z f l n slots o w a below (Gives (AsksFor (record { asked = ToSpawn g; arguments = vs }))) ≡ asked ((from_form z).code.goes f (InGraph l n) true)
-      comes = ap (λ s. replied_by z f l n slots o below w spawned Unset (asking s)) r.is_spawn
+      comes : comes_of z f (InGraph l n) slots o w a below (Gives (AsksFor (record { asked = ToSpawn g; arguments = vs }))) ≡ asked ((from_form z).code.goes f (InGraph l n) true)
+      comes = ap (λ s. replied_by z f (InGraph l n) slots o below w spawned Unset (asking s)) r.is_spawn
 
       go : (p : Option Position) → (from_form z).code.goes f (InGraph l n) true ≡ p → RowFor z from x' most to
-      go None e = absurd (no_state z f l n slots o w a below x' _ (comes ∙ ap asked e) stepped)
+      go None e = absurd (no_state z f (InGraph l n) slots o w a below x' _ (comes ∙ ap asked e) stepped)
       go (Some p) e =
-          let same = to_state z f l n slots o w a below x' _ (onwards z native keeps bounds entry f l lower pointer result frame w spawned below slots p) (comes ∙ ap asked e) stepped in
+          let same = to_state z f (InGraph l n) slots o w a below x' _ (onwards z native keeps bounds entry f l lower pointer result frame w spawned below slots p) (comes ∙ ap asked e) stepped in
           path_wider most (let i = enough.goes in let k = r.within in let j : suc r.steps + rest ≤ most = omega arith in j)
           (row_reached z from x' to _ r.steps rest refl r.leads
           (subst (λ y. Reached z y rest w.trace (running (world_of w (ready_one item.callback c)) (beside more w.store) (over z bounds f l lower pointer result frame r.from) None)) same

@@ -68,13 +68,13 @@ three_put z bs t tags _ _ _ weighs (BothErr fault) (BothErr _) = NonePut fault
 module _ (z : Setting) (native : NativeFacts z) (keeps : KeepsFacts z) (bounds : Bounds) (entry : EntryFacts z bounds) (most : ℕ) (enough : Enough bounds most) (f : Text) (l : Place) (lower pointer result frame : Value) (w : Shared) (bs : Blocks) (c : Agenda Callback) (n : ℕ) (slots : List Slot) (o : Option Value) (piece : CallFrame Point) (o' : Option Value) (a : Agenda (Thread Position)) (below : List (CallFrame Position)) (h : Beside z bs a c below lower) where
   -- the states of both
   abbrev from : Source
-  from = here z f l n slots o w a below
+  from = here z f (InGraph l n) slots o w a below
 
   abbrev to : Target
   to = inside z bounds f l lower pointer result frame w bs c n slots o piece o'
 
   abbrev StepsTo : Answer Act → Source → Type 0
-  StepsTo u x' = option_map (tidy z.kept) (settles z f l n slots o w a below (comes_of z f l n slots o w a below u)) ≡ Some x'
+  StepsTo u x' = option_map (tidy z.kept) (settles z f (InGraph l n) slots o w a below (comes_of z f (InGraph l n) slots o w a below u)) ≡ Some x'
 
   abbrev Prepared : Type 0
   Prepared = Prepares z bounds f l lower pointer result frame w bs c n slots o piece o'
@@ -165,31 +165,31 @@ module _ (z : Setting) (native : NativeFacts z) (keeps : KeepsFacts z) (bounds :
     abbrev suspended : Result (Agenda (Thread Position)) Fault → Answer Source
     suspended u = suspends (record from { trace = wait_marks q w.trace }) u
 
-    waits_row : (x' : Source) → option_map (tidy z.kept) (settles z f l n slots o w a below (suspended (put_waiting q (Suspended (waiting_stack r.prepares)) a))) ≡ Some x' → RowFor z from x' most to
+    waits_row : (x' : Source) → option_map (tidy z.kept) (settles z f (InGraph l n) slots o w a below (suspended (put_waiting q (Suspended (waiting_stack r.prepares)) a))) ≡ Some x' → RowFor z from x' most to
     waits_row x' stepped = go _ _ refl refl three
       where
         go : (u : Result (Agenda (Thread Position)) Fault) (v : Result (Agenda Callback) Fault) → put_waiting q (Suspended (waiting_stack r.prepares)) a ≡ u → put_waiting q item_here.callback c ≡ v → ThreePut z (more r.prepares) item_here h.tags u v → RowFor z from x' most to
         go _ _ e i (AllPut b tags d alike weighs) =
-            subst (λ y. RowFor z from y most to) (to_state z f l n slots o w a below x' _ (source_state (record w { trace = wait_marks q w.trace }) None b) (ap suspended e) stepped)
+            subst (λ y. RowFor z from y most to) (to_state z f (InGraph l n) slots o w a below x' _ (source_state (record w { trace = wait_marks q w.trace }) None b) (ap suspended e) stepped)
             (put_row r.prepares w.jobs (wait_marks q w.trace) b tags d alike weighs (r.waits d i))
         go _ _ e i (NonePut fault) =
             refused_row r.prepares fault (r.faults fault i) x'
-            (let s : option_map (tidy z.kept) (settles z f l n slots o w a below (Faults fault)) ≡ Some x' = sym (ap (λ u. option_map (tidy z.kept) (settles z f l n slots o w a below (suspended u))) e) ∙ stepped in cc)
+            (let s : option_map (tidy z.kept) (settles z f (InGraph l n) slots o w a below (Faults fault)) ≡ Some x' = sym (ap (λ u. option_map (tidy z.kept) (settles z f (InGraph l n) slots o w a below (suspended u))) e) ∙ stepped in cc)
 
   pub pauses_row : (prim : Primitive) (vs : List Value) → is_common prim ≡ false → ((q : Awaited) → awaited prim vs ≡ Some q → WaitsFor z bounds f l lower pointer result frame w bs c n slots o piece o' q)
       → (x' : Source) → StepsTo (Gives (AsksFor (record { asked = Builtin prim; arguments = vs }))) x' → RowFor z from x' most to
   pauses_row prim vs own waits x' stepped = go (awaited prim vs) refl
     where
-      comes : comes_of z f l n slots o w a below (Gives (AsksFor (record { asked = Builtin prim; arguments = vs }))) ≡ waits_by (from_form z) (stack z f l n slots o w a below) from (awaited prim vs)
-      comes = primitive_waits (from_form z) (stack z f l n slots o w a below) from prim vs own
+      comes : comes_of z f (InGraph l n) slots o w a below (Gives (AsksFor (record { asked = Builtin prim; arguments = vs }))) ≡ waits_by (from_form z) (stack z f (InGraph l n) slots o w a below) from (awaited prim vs)
+      comes = primitive_waits (from_form z) (stack z f (InGraph l n) slots o w a below) from prim vs own
 
       go : (q : Option Awaited) → awaited prim vs ≡ q → RowFor z from x' most to
-      go None e = absurd (no_state z f l n slots o w a below x' _ (comes ∙ ap (waits_by (from_form z) (stack z f l n slots o w a below) from) e) stepped)
+      go None e = absurd (no_state z f (InGraph l n) slots o w a below x' _ (comes ∙ ap (waits_by (from_form z) (stack z f (InGraph l n) slots o w a below) from) e) stepped)
       go (Some q) e =
           let r = waits q e in
           let arrives : Option Position → Answer Source = λ back. (needed back >>= λ back. Gives (record { frames = frame_of f back slots ∷ below; arriving = None })) >>= λ (j : Stack Position). suspended q r (put_waiting q (Suspended j) a) in
           waits_row q r x'
-          (sym (ap (λ u. option_map (tidy z.kept) (settles z f l n slots o w a below u)) (comes ∙ (ap (waits_by (from_form z) (stack z f l n slots o w a below) from) e ∙ ap arrives r.prepares.is_back))) ∙ stepped)
+          (sym (ap (λ u. option_map (tidy z.kept) (settles z f (InGraph l n) slots o w a below u)) (comes ∙ (ap (waits_by (from_form z) (stack z f (InGraph l n) slots o w a below) from) e ∙ ap arrives r.prepares.is_back))) ∙ stepped)
 
   -- ---- sections
 
@@ -216,37 +216,37 @@ module _ (z : Setting) (native : NativeFacts z) (keeps : KeepsFacts z) (bounds :
 
     -- what comes of the cells, of the function, and of the agenda
     abbrev by_cells : Agenda (Thread Position) → Answer (List Value) → Answer Source
-    by_cells b m = (m >>= λ taken. Gives (source_state (left a.sections_made taken) (Some (stack z f l n slots o w a below)) b)) >>= λ (t : Source). Gives (record t { running = None })
+    by_cells b m = (m >>= λ taken. Gives (source_state (left a.sections_made taken) (Some (stack z f (InGraph l n) slots o w a below)) b)) >>= λ (t : Source). Gives (record t { running = None })
 
     abbrev by_function : Agenda (Thread Position) → Option Function → Answer Source
-    by_function b k = (needed k >>= λ k. copy_of z.source k (first_or Unset vs) w.store >>= λ taken. Gives (source_state (left a.sections_made taken) (Some (stack z f l n slots o w a below)) b)) >>= λ (t : Source). Gives (record t { running = None })
+    by_function b k = (needed k >>= λ k. copy_of z.source k (first_or Unset vs) w.store >>= λ taken. Gives (source_state (left a.sections_made taken) (Some (stack z f (InGraph l n) slots o w a below)) b)) >>= λ (t : Source). Gives (record t { running = None })
 
     abbrev by_agenda : Result (Agenda (Thread Position)) Fault → Answer Source
     by_agenda u =
-        (of_result u >>= λ b. needed (function_named z.source g) >>= λ k. copy_of z.source k (first_or Unset vs) w.store >>= λ taken. Gives (source_state (left a.sections_made taken) (Some (stack z f l n slots o w a below)) b))
+        (of_result u >>= λ b. needed (function_named z.source g) >>= λ k. copy_of z.source k (first_or Unset vs) w.store >>= λ taken. Gives (source_state (left a.sections_made taken) (Some (stack z f (InGraph l n) slots o w a below)) b))
         >>= λ (t : Source). Gives (record t { running = None })
 
     module _ (x' : Source) where
       abbrev Steps : Answer Source → Type 0
-      Steps u = option_map (tidy z.kept) (settles z f l n slots o w a below u) ≡ Some x'
+      Steps u = option_map (tidy z.kept) (settles z f (InGraph l n) slots o w a below u) ≡ Some x'
 
       steps_as : (u v : Answer Source) → u ≡ v → Steps u → Steps v
-      steps_as u v e s = sym (ap (λ t. option_map (tidy z.kept) (settles z f l n slots o w a below t)) e) ∙ s
+      steps_as u v e s = sym (ap (λ t. option_map (tidy z.kept) (settles z f (InGraph l n) slots o w a below t)) e) ∙ s
 
       taken_row : (b : Agenda (Thread Position)) (tags : Agenda Tagged) (d : Agenda Callback) → AgendaFor z.cut (more r.prepares) b tags d
           → ((m : ℕ) → total (λ (x : Tagged). count m x.owned) tags ≡ count m item_out.owned + total (λ (x : Tagged). count m x.owned) h.tags)
           → section item_out.callback c ≡ Ok d → (m : Answer (List Value)) → section_cells z bounds f l lower pointer result frame w bs c n slots o piece o' g vs ≡ m → Steps (by_cells b m) → RowFor z from x' most to
       taken_row b tags d alike weighs i (Gives taken) e stepped =
-          subst (λ y. RowFor z from y most to) (to_state z f l n slots o w a below x' _ (source_state (left a.sections_made taken) None b) refl stepped)
+          subst (λ y. RowFor z from y most to) (to_state z f (InGraph l n) slots o w a below x' _ (source_state (left a.sections_made taken) None b) refl stepped)
           (put_row r.prepares (left a.sections_made taken).jobs (left a.sections_made taken).trace b tags d alike weighs
           (subst (λ m. Asked r.prepares.back r.prepares.asker (left m taken) d) same_number (r.waits d taken i e)))
       taken_row b tags d alike weighs i (Faults fault) e stepped = refused_row r.prepares fault (r.faults d fault i e) x' (cc)
-      taken_row b tags d alike weighs i NoAnswer e stepped = absurd (no_state z f l n slots o w a below x' _ refl stepped)
+      taken_row b tags d alike weighs i NoAnswer e stepped = absurd (no_state z f (InGraph l n) slots o w a below x' _ refl stepped)
 
       function_row : (b : Agenda (Thread Position)) (tags : Agenda Tagged) (d : Agenda Callback) → AgendaFor z.cut (more r.prepares) b tags d
           → ((m : ℕ) → total (λ (x : Tagged). count m x.owned) tags ≡ count m item_out.owned + total (λ (x : Tagged). count m x.owned) h.tags)
           → section item_out.callback c ≡ Ok d → (k : Option Function) → function_named z.source g ≡ k → Steps (by_function b k) → RowFor z from x' most to
-      function_row b tags d alike weighs i None e stepped = absurd (no_state z f l n slots o w a below x' _ refl stepped)
+      function_row b tags d alike weighs i None e stepped = absurd (no_state z f (InGraph l n) slots o w a below x' _ refl stepped)
       function_row b tags d alike weighs i (Some k) e stepped =
           taken_row b tags d alike weighs i (copy_of z.source k (first_or Unset vs) w.store) (ap (λ o. needed o >>= λ (k : Function). copy_of z.source k (first_or Unset vs) w.store) e) stepped
 

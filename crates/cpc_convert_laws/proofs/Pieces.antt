@@ -14,7 +14,7 @@ use Rattle.cpc_meaning.specs.Plain.{Frame as CallFrame}
 use Rattle.cpc_meaning.specs.Threads.{Thread, threads_of}
 use Rattle.cpc_meaning.specs.Events.{Callback}
 use Rattle.cpc_forms.specs.Flow.{Place}
-use Rattle.cpc_forms.specs.Split.{Position}
+use Rattle.cpc_forms.specs.Split.{Position, InGraph}
 use Rattle.cpc_lift_laws.specs.Lifted.{tidy}
 use Rattle.cpc_convert_laws.specs.Bounds.{Bounds, Enough}
 use Rattle.cpc_convert_laws.proofs.Calling.{calls_row, enters_row}
@@ -32,18 +32,18 @@ use Rattle.cpc_convert_laws.proofs.Standing.{here, acts_here, comes_of, settles,
 module _ (z : Setting) (native : NativeFacts z) (keeps : KeepsFacts z) (bounds : Bounds) (entry : EntryFacts z bounds) (most : ℕ) (enough : Enough bounds most) (f : Text) (l : Place) (lower pointer result frame : Value) (w : Shared) (bs : Blocks) (c : Agenda Callback) (n : ℕ) (slots : List Slot) (o : Option Value) (piece : CallFrame Point) (o' : Option Value) (a : Agenda (Thread Position)) (below : List (CallFrame Position)) (h : Beside z bs a c below lower) (at : PieceAt z bounds f l lower pointer result frame w bs c n slots o piece o') where
   -- the states of both
   abbrev from : Source
-  from = here z f l n slots o w a below
+  from = here z f (InGraph l n) slots o w a below
 
   abbrev to : Target
   to = inside z bounds f l lower pointer result frame w bs c n slots o piece o'
 
   abbrev StepsTo : Answer Act → Source → Type 0
-  StepsTo u x' = option_map (tidy z.kept) (settles z f l n slots o w a below (comes_of z f l n slots o w a below u)) ≡ Some x'
+  StepsTo u x' = option_map (tidy z.kept) (settles z f (InGraph l n) slots o w a below (comes_of z f (InGraph l n) slots o w a below u)) ≡ Some x'
 
   module _ (known : Known z from) (x' : Source) (known' : Known z x') where
     -- by what the source does
     does_row : (u : Answer Act) → Does z bounds f l lower pointer result frame w bs c n slots o piece o' u → StepsTo u x' → RowFor z from x' most to
-    does_row _ Sticks e = absurd (no_state z f l n slots o w a below x' _ refl e)
+    does_row _ Sticks e = absurd (no_state z f (InGraph l n) slots o w a below x' _ refl e)
     does_row _ (Breaks fault name shown r less) e = breaks_row z native keeps bounds entry most enough f l lower pointer result frame w bs c n slots o piece o' a below h fault name shown r less x' e
     does_row _ (Moves t s changed goes) e = moves_row z native keeps bounds entry most enough f l lower pointer result frame w bs c n slots o piece o' a below h t s changed goes x' e known'
     does_row _ (Requests r answered held asks replies) e = requests_row z native keeps bounds entry most enough f l lower pointer result frame w bs c n slots o piece o' a below h replies r answered held asks at.shown known.store x' e known'
@@ -58,5 +58,5 @@ module _ (z : Setting) (native : NativeFacts z) (keeps : KeepsFacts z) (bounds :
     piece_row e = go (function_named z.source f) refl
       where
         go : (g : Option Function) → function_named z.source f ≡ g → RowFor z from x' most to
-        go None i = absurd (let s = ap (option_map (tidy z.kept)) (no_step z f l n slots o w a below i) in cc)
-        go (Some g) i = does_row (acts_here z f l n slots o w a below g) (at.does g i) (sym (ap (option_map (tidy z.kept)) (steps_by z f l n slots o w a below g i (acts_here z f l n slots o w a below g) refl)) ∙ e)
+        go None i = absurd (let s = ap (option_map (tidy z.kept)) (no_step z f (InGraph l n) slots o w a below i) in cc)
+        go (Some g) i = does_row (acts_here z f (InGraph l n) slots o w a below g) (at.does g i) (sym (ap (option_map (tidy z.kept)) (steps_by z f (InGraph l n) slots o w a below g i (acts_here z f (InGraph l n) slots o w a below g) refl)) ∙ e)

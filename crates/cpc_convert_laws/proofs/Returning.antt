@@ -52,7 +52,7 @@ lowest cut _ _ (OneWaits f n slots others more waits) = Something f n slots othe
 module _ (z : Setting) (native : NativeFacts z) (keeps : KeepsFacts z) (bounds : Bounds) (entry : EntryFacts z bounds) (most : ℕ) (enough : Enough bounds most) (f : Text) (l : Place) (lower pointer result frame : Value) (w : Shared) (bs : Blocks) (c : Agenda Callback) (n : ℕ) (slots : List Slot) (o : Option Value) (piece : CallFrame Point) (o' : Option Value) (a : Agenda (Thread Position)) (below : List (CallFrame Position)) (h : Beside z bs a c below lower) where
   -- the states of both
   abbrev from : Source
-  from = here z f l n slots o w a below
+  from = here z f (InGraph l n) slots o w a below
 
   abbrev to : Target
   to = inside z bounds f l lower pointer result frame w bs c n slots o piece o'
@@ -62,16 +62,16 @@ module _ (z : Setting) (native : NativeFacts z) (keeps : KeepsFacts z) (bounds :
 
   module _ (v : Value) (t : Store) (r : ReturnsValue z bounds f l lower pointer result frame w bs c n slots o piece o' v t) (x' : Source) (known : Known z x') where
     abbrev returned : List (CallFrame Position) → Answer Source
-    returned xs = runs_on (threads_of (from_form z)) from (stack z f l n slots o w a below) (returned_to xs v t)
+    returned xs = runs_on (threads_of (from_form z)) from (stack z f (InGraph l n) slots o w a below) (returned_to xs v t)
 
     abbrev Stepped : Type 0
-    Stepped = option_map (tidy z.kept) (settles z f l n slots o w a below (returned below)) ≡ Some x'
+    Stepped = option_map (tidy z.kept) (settles z f (InGraph l n) slots o w a below (returned below)) ≡ Some x'
 
     -- nothing is below: the thread is over
     over_row : Stepped → below ≡ [] → h.saved ≡ [] → RowFor z from x' most to
     over_row stepped none bare =
         let ended = chain_ended bs lower h.owned (subst (λ fs. Chain bs fs lower h.owned) bare h.chain) in
-        let same = to_state z f l n slots o w a below x' (returned below) (source_state (record w { store = t }) None a) (ap returned none) stepped in
+        let same = to_state z f (InGraph l n) slots o w a below x' (returned below) (source_state (record w { store = t }) None a) (ap returned none) stepped in
         let g = r.ends ended.0 in
         path_wider most (let i = enough.goes in let k = g.within in let j : suc g.steps + 3 ≤ most = omega arith in j)
         (row_reached z from x' to (running (world_of w c) (beside bs t) alone_there (Some Null)) g.steps 3 refl
@@ -132,7 +132,7 @@ module _ (z : Setting) (native : NativeFacts z) (keeps : KeepsFacts z) (bounds :
       resumed = source_state (record w { store = t }) (Some (record { frames = frame_of y (InGraph (At m) m) its ∷ others; arriving = Some v })) a
 
       same : tidy z.kept resumed ≡ x'
-      same = to_state z f l n slots o w a below x' (returned below) resumed (ap returned is_below) stepped
+      same = to_state z f (InGraph l n) slots o w a below x' (returned below) resumed (ap returned is_below) stepped
 
       below_row : RowFor z from x' most to
       below_row =
@@ -148,7 +148,7 @@ module _ (z : Setting) (native : NativeFacts z) (keeps : KeepsFacts z) (bounds :
           (known.running (frame_of y (InGraph (At m) m) tidied) (map (tidy_frame z.kept) others) (Some v) (sym (ap (λ (s : Source). s.running) same))) patched)
           pointer result frame)))
 
-    pub returns_row : option_map (tidy z.kept) (settles z f l n slots o w a below (comes_of z f l n slots o w a below (Gives (Leaves v t)))) ≡ Some x' → RowFor z from x' most to
+    pub returns_row : option_map (tidy z.kept) (settles z f (InGraph l n) slots o w a below (comes_of z f (InGraph l n) slots o w a below (Gives (Leaves v t)))) ≡ Some x' → RowFor z from x' most to
     returns_row stepped = go (lowest z.cut below h.saved h.waits)
       where
         go : Lowest z.cut below h.saved → RowFor z from x' most to

@@ -1,5 +1,5 @@
--- A frame of a cps function that runs: what a step of the source comes to, by what the source does there.
-use Rattle.std.proofs.Common.{◌≡◌, ℕ, List, ◌∷◌, Option, Some, None, option_map, sym, ◌∙◌, ap}
+-- A frame of the source that runs: what a step of the source comes to, by what the source does there.
+use Rattle.std.proofs.Common.{◌≡◌, List, ◌∷◌, Option, Some, None, option_map, sym, ◌∙◌, ap}
 use Rattle.cpc_base.specs.Bytes.{Text}
 use Rattle.cpc_store.specs.Store.{Value, Store}
 use Rattle.cpc_tree.specs.Points.{Found}
@@ -12,34 +12,33 @@ use Rattle.cpc_meaning.specs.Eval.{Slot}
 use Rattle.cpc_meaning.specs.Machine.{next, settled, runs_on, after_done}
 use Rattle.cpc_meaning.specs.Plain.{Frame as CallFrame, Stack, Went, context, perform}
 use Rattle.cpc_meaning.specs.Threads.{Thread, threads_of}
-use Rattle.cpc_forms.specs.Flow.{Place}
-use Rattle.cpc_forms.specs.Split.{Position, InGraph}
+use Rattle.cpc_forms.specs.Split.{Position}
 use Rattle.cpc_lift_laws.specs.Lifted.{tidy}
 use Rattle.cpc_convert_image_laws.specs.Stacks.{frame_of}
 use Rattle.cpc_convert_laws.proofs.Relation.{Source, Shared, source_state}
 use Rattle.cpc_convert_laws.proofs.Setting.{Setting, from_form}
 
-module _ (z : Setting) (f : Text) (l : Place) (n : ℕ) (slots : List Slot) (o : Option Value) (w : Shared) (a : Agenda (Thread Position)) (below : List (CallFrame Position)) where
+module _ (z : Setting) (f : Text) (p : Position) (slots : List Slot) (o : Option Value) (w : Shared) (a : Agenda (Thread Position)) (below : List (CallFrame Position)) where
   -- the stack, and the state
   abbrev pub stack : Stack Position
-  stack = record { frames = frame_of f (InGraph l n) slots ∷ below; arriving = o }
+  stack = record { frames = frame_of f p slots ∷ below; arriving = o }
 
   abbrev pub here : Source
   here = source_state w (Some stack) a
 
   -- what the source does, and what comes of it
   abbrev pub acts_here : Function → Answer Act
-  acts_here g = act (context (from_form z) w.store (frame_of f (InGraph l n) slots)) g.result o ((from_form z).code.stood f (InGraph l n))
+  acts_here g = act (context (from_form z) w.store (frame_of f p slots)) g.result o ((from_form z).code.stood f p)
 
   abbrev pub comes_of : Answer Act → Answer Source
-  comes_of u = (u >>= perform (from_form z) w.store (frame_of f (InGraph l n) slots) below) >>= runs_on (threads_of (from_form z)) here stack
+  comes_of u = (u >>= perform (from_form z) w.store (frame_of f p slots) below) >>= runs_on (threads_of (from_form z)) here stack
 
   -- the step
   abbrev pub settles : Answer Source → Option Source
   settles u = settled (threads_of (from_form z)) here u
 
   abbrev by_function : Option Function → Answer Source
-  by_function g = (needed g >>= λ g. acts_here g >>= perform (from_form z) w.store (frame_of f (InGraph l n) slots) below) >>= runs_on (threads_of (from_form z)) here stack
+  by_function g = (needed g >>= λ g. acts_here g >>= perform (from_form z) w.store (frame_of f p slots) below) >>= runs_on (threads_of (from_form z)) here stack
 
   pub steps_by : (g : Function) → function_named z.source f ≡ Some g → (u : Answer Act) → acts_here g ≡ u → next (threads_of (from_form z)) here ≡ settles (comes_of u)
   steps_by g named u e = ap (λ g. settles (by_function g)) named ∙ ap (λ u. settles (comes_of u)) e
@@ -60,18 +59,18 @@ module _ (z : Setting) (f : Text) (l : Place) (n : ℕ) (slots : List Slot) (o :
     no_state r e stepped = absurd (let h : None ≡ Some x' = sym (ap (λ r. option_map (tidy z.kept) (settles r)) e) ∙ stepped in cc)
 
 -- an answer to the stack, in a state of the source with other things besides
-module _ (z : Setting) (f : Text) (l : Place) (n : ℕ) (slots : List Slot) (o : Option Value) (below : List (CallFrame Position)) (w : Shared) (a : Agenda (Thread Position)) (v : Value) where
+module _ (z : Setting) (f : Text) (p : Position) (slots : List Slot) (o : Option Value) (below : List (CallFrame Position)) (w : Shared) (a : Agenda (Thread Position)) (v : Value) where
   abbrev with_stack : Source
-  with_stack = source_state w (Some (record { frames = frame_of f (InGraph l n) slots ∷ below; arriving = o })) a
+  with_stack = source_state w (Some (record { frames = frame_of f p slots ∷ below; arriving = o })) a
 
   abbrev pub replied_of : Answer Act → Answer Source
-  replied_of u = (u >>= perform (from_form z) w.store (frame_of f (InGraph l n) slots) below) >>= after_done with_stack
+  replied_of u = (u >>= perform (from_form z) w.store (frame_of f p slots) below) >>= after_done with_stack
 
   abbrev pub arrives_at : Found → Answer Act
-  arrives_at g = arrives (context (from_form z) w.store (frame_of f (InGraph l n) slots)) g (Some v)
+  arrives_at g = arrives (context (from_form z) w.store (frame_of f p slots)) g (Some v)
 
   abbrev pub replied_by : Option Found → Answer Source
-  replied_by g = (needed g >>= λ g. arrives_at g >>= perform (from_form z) w.store (frame_of f (InGraph l n) slots) below) >>= after_done with_stack
+  replied_by g = (needed g >>= λ g. arrives_at g >>= perform (from_form z) w.store (frame_of f p slots) below) >>= after_done with_stack
 
   abbrev pub replied_to : Store → List Slot → Option Position → Answer Source
   replied_to t changed to = (needed to >>= λ to. Gives (Went t (record { frames = frame_of f to changed ∷ below; arriving = None }))) >>= after_done with_stack
