@@ -1,5 +1,5 @@
 -- Each state of the lifted run agrees with one of the threads over split graphs, so what these keep holds of it.
-use Rattle.std.proofs.Common.{◌≡◌, ◌⊎◌, inl, inr, ℕ, zero, suc, Bool, true, false, List, [], ◌∷◌, length, slice_get, Option, Some, None, refl, sym, ◌∙◌, ap, subst}
+use Rattle.std.proofs.Common.{◌≡◌, ◌⊎◌, inl, inr, ℕ, zero, suc, Bool, true, false, List, [], ◌∷◌, length, map, slice_get, Option, Some, None, refl, sym, ◌∙◌, ap, subst}
 use Rattle.std.specs.List.{All}
 use Rattle.std.proofs.lemmas.List.Elements.{All-nil, All-cons, All-head, All-tail}
 use Rattle.cpc_base.specs.Bytes.{Text}
@@ -10,14 +10,16 @@ use Rattle.cpc_tree.specs.declared.program.Mode.TheVariants.{Native, Detached}
 use Rattle.cpc_tree.specs.Located.{bare}
 use Rattle.cpc_tree.specs.Registers.{variables}
 use Rattle.cpc_tree.specs.Syntax.{Variable, Function, FunctionItem, Program}
-use Rattle.cpc_tree.specs.Typing.{Meant, AFunction, item_named}
+use Rattle.cpc_tree.specs.Typing.{Meant, AFunction, item_named, function_named, parameter_type, parameter_types}
 use Rattle.cpc_meaning_matching.specs.Systems.{run}
-use Rattle.cpc_meaning.specs.Agenda.{Agenda, Due}
+use Rattle.cpc_meaning.specs.Agenda.{Agenda, Due, OnCondition, OnDescriptor, Timer, OnSection}
 use Rattle.cpc_meaning.specs.Eval.{Slot, Register, Boxed}
 use Rattle.cpc_meaning.specs.History.{History}
 use Rattle.cpc_meaning.specs.Machine.{State}
 use Rattle.cpc_meaning.specs.Matching.{thread_system}
 use Rattle.cpc_meaning.specs.Plain.{Frame, Stack}
+use Rattle.cpc_meaning.specs.Section.{Job}
+use Rattle.cpc_meaning.specs.Start.{main_name}
 use Rattle.cpc_meaning.specs.Threads.{Thread}
 use Rattle.cpc_meaning.proofs.Agendas.{SameDue, SameAgenda}
 use Rattle.cpc_meaning.proofs.Both as B
@@ -36,21 +38,24 @@ use Rattle.cpc_convert_image_laws.specs.Held.{IsHeld, IsHeldSlot, IsHeldStore}
 use Rattle.cpc_convert_image_laws.specs.InPlace.{is_cps}
 use Rattle.cpc_convert_image_laws.specs.Native.{IsHeldIf}
 use Rattle.cpc_meaning_kept_laws.specs.Codes.{IsNative, IsCode, IsCodeIf, IsCodeSlot, IsCodeStore, IsCodeFrame}
-use Rattle.cpc_meaning_kept_laws.specs.Fits.{types_of, FitsFrame, IsInt}
-use Rattle.cpc_meaning_kept_laws.specs.Kept.{KeptStack, KeptThread, KeptAgenda}
+use Rattle.cpc_meaning_kept_laws.specs.Fits.{types_of, FitAll, FitsFrame, IsInt}
+use Rattle.cpc_meaning_kept_laws.specs.Kept.{KeptStack, KeptThread, KeptJob, KeptAgenda}
 use Rattle.cpc_meaning_kept_laws.specs.Laws.{Cleared, Slotted, IsRegister as SlottedRegister, IsBox as SlottedBox}
 use Rattle.cpc_meaning_kept_laws.specs.Layers.{IsOfMode, AllCps, IsLayered, IsLayeredThread, Holds}
 use Rattle.cpc_meaning_kept_laws.proofs.Runs.{nothing_points_to_frames}
 use Rattle.cpc_meaning_kept_laws.proofs.Slots.{cleared_fit, slots_are_known}
 use Rattle.cpc_check_sound_laws.proofs.Accepted.{accepted_facts}
-use Rattle.cpc_meaning_kept_laws.proofs.Trees.{native_there}
+use Rattle.cpc_meaning_kept_laws.proofs.Trees.{native_there, accepted_is_steady}
 use Rattle.cpc_convert.specs.Accepted.{has_marks}
 use Rattle.cpc_convert_event.specs.ClosureLaws.{lifting}
-use Rattle.cpc_convert_accepted_laws.specs.Known.{Stays, HoldsOfNatives, AcceptedCodesStay, KeptSlot, IsRegister, IsBox, FineFrame, FineStack, FineThread, FineState, AcceptedIsFine}
+use Rattle.cpc_convert_accepted_laws.specs.Known.{Stays, HoldsOfNatives, AcceptedCodesStay, KeptSlot, IsRegister, IsBox, FineFrame, FineStack, BeginsWell, FineThread, FineJob, FineState, AcceptedIsFine}
 use Rattle.cpc_convert_accepted_laws.specs.Lifted.{kept_of, lifted_after}
+use Rattle.cpc_convert_accepted_laws.specs.Functions.{HasMain}
+use Rattle.cpc_convert_accepted_laws.proofs.Begins.{CodedJob, Begun, run_begun}
+use Rattle.cpc_convert_accepted_laws.proofs.Functions.{accepted_has_main}
 use Rattle.cpc_convert_accepted_laws.proofs.Lifted.{programs_are_closed}
 use Rattle.cpc_convert_accepted_laws.proofs.Names.{accepted_has_names}
-use Rattle.cpc_convert_accepted_laws.proofs.Steady.{accepted_splits_hold}
+use Rattle.cpc_convert_accepted_laws.proofs.Steady.{splits_steady, accepted_splits_hold}
 
 -- ---- lists
 
@@ -70,6 +75,21 @@ all_beside U V W f _ _ (B.Goes x y xs ys r b) h k = All-cons W y ys (f x y r (Al
 all_both : {X Y : Type 0} {R : X → Y → Type 0} (U : X → Type 0) (W : Y → Type 0) → ((x : X) (y : Y) → R x y → U x → W y) → (xs : List X) (ys : List Y) → B.Both R xs ys → All U xs → All W ys
 all_both U W f xs ys b h = all_beside U U W (λ x y r u v. f x y r u) xs ys b h h
 
+-- nothing is said of a result
+abbrev Any : Value → Type 0
+Any v = Unit {0}
+
+-- what holds of all items of an agenda, and what else does
+both_hold : {T : Type 0} (F G : T → Type 0) (a : Agenda T) → KeptAgenda F Any a → KeptAgenda G Any a → KeptAgenda (λ x. F x × G x) Any a
+both_hold {T = T} F G a h l = record {
+  ready = all_with (λ (d : Due T). F d.item × Any d.result) (λ (d : Due T). G d.item × Any d.result) (λ (d : Due T). (F d.item × G d.item) × Any d.result) (λ d u v. ((u.0, v.0), tt)) a.ready h.ready l.ready;
+  round = all_with (λ (d : Due T). F d.item × Any d.result) (λ (d : Due T). G d.item × Any d.result) (λ (d : Due T). (F d.item × G d.item) × Any d.result) (λ d u v. ((u.0, v.0), tt)) a.round h.round l.round;
+  waiters = all_with (λ (w : OnCondition T). F w.item) (λ (w : OnCondition T). G w.item) (λ (w : OnCondition T). F w.item × G w.item) (λ w u v. (u, v)) a.waiters h.waiters l.waiters;
+  descriptors = all_with (λ (w : OnDescriptor T). F w.item) (λ (w : OnDescriptor T). G w.item) (λ (w : OnDescriptor T). F w.item × G w.item) (λ w u v. (u, v)) a.descriptors h.descriptors l.descriptors;
+  timers = all_with (λ (w : Timer T). F w.item) (λ (w : Timer T). G w.item) (λ (w : Timer T). F w.item × G w.item) (λ w u v. (u, v)) a.timers h.timers l.timers;
+  sections = all_with (λ (w : OnSection T). F w.item) (λ (w : OnSection T). G w.item) (λ (w : OnSection T). F w.item × G w.item) (λ w u v. (u, v)) a.sections h.sections l.sections;
+}
+
 -- ---- slots
 
 one_length : (keep box : ℕ → Bool) (xs ys : List Slot) → SlotsMeet keep box xs ys → length ys ≡ length xs
@@ -88,6 +108,10 @@ cleared keep box (x ∷ xs) (y ∷ ys) m t = (go (keep 0) refl, cleared (λ k. k
     go false e = inr (t 0 y refl e)
 cleared keep box [] (y ∷ ys) m t = absurd m
 cleared keep box (x ∷ xs) [] m t = absurd m
+
+-- calls that are to begin and sections, after so many steps of the threads of split graphs
+abbrev BegunAt : Program → History → ℕ → Type 0
+BegunAt p h n = let s = run (thread_system (split_form p) h) n in Begun (split_form p) s.store s.running s.agenda s.jobs
 
 -- ---- values
 
@@ -179,16 +203,21 @@ module _ (p : Program) (C : Text → Type 0) (natives : HoldsOfNatives p C) wher
     fine_running _ _ NoneBoth tidy h l i e = absurd (cc)
     fine_running _ _ (SomeBoth k j r) tidy h l i e = let same : j ≡ i = cc in subst (FineStack p C) same (fine_stack k j r tidy (h k refl) (l k refl))
 
+    -- ---- sections
+
+    fine_job : (j : Job) → KeptJob p s j → CodedJob p j → FineJob C j
+    fine_job j h c = record { arguments = held_values j.arguments h.arguments c.arguments; cells = held_values j.cells h.cells c.cells; pointer = held j.pointer h.pointer c.pointer }
+
     -- ---- threads
 
-    fine_thread : (x y : Thread Position) → ThreadsMeet StacksMeet x y → KeptThread p s x → IsLayeredThread p x → FineThread p C y
-    fine_thread _ _ (PendingBoth f vs) h l = (h.2, held_values vs h.0 h.1, l)
-    fine_thread _ _ (SuspendedBoth _ _ (StackAgrees us ws o rs)) h l = all_cps us ws rs l
+    fine_thread : (x y : Thread Position) → ThreadsMeet StacksMeet x y → KeptThread p s x → IsLayeredThread p x × BeginsWell p x → FineThread p C y
+    fine_thread _ _ (PendingBoth f vs) h l = (l.1, held_values vs h.0 h.1, l.0)
+    fine_thread _ _ (SuspendedBoth _ _ (StackAgrees us ws o rs)) h l = all_cps us ws rs l.0
 
-    fine_due : (d e : Due (Thread Position)) → SameDue (ThreadsMeet StacksMeet) d e → KeptThread p s d.item × IsInt d.result → IsLayeredThread p d.item × Unit {0} → FineThread p C e.item × IsInt e.result
+    fine_due : (d e : Due (Thread Position)) → SameDue (ThreadsMeet StacksMeet) d e → KeptThread p s d.item × IsInt d.result → (IsLayeredThread p d.item × BeginsWell p d.item) × Any d.result → FineThread p C e.item × IsInt e.result
     fine_due d e r h l = (fine_thread d.item e.item r.item h.0 l.0, subst IsInt r.result h.1)
 
-    fine_agenda : (a b : Agenda (Thread Position)) → SameAgenda (ThreadsMeet StacksMeet) a b → KeptAgenda (KeptThread p s) IsInt a → KeptAgenda (IsLayeredThread p) (λ (v : Value). Unit {0}) a → KeptAgenda (FineThread p C) IsInt b
+    fine_agenda : (a b : Agenda (Thread Position)) → SameAgenda (ThreadsMeet StacksMeet) a b → KeptAgenda (KeptThread p s) IsInt a → KeptAgenda (λ x. IsLayeredThread p x × BeginsWell p x) Any a → KeptAgenda (FineThread p C) IsInt b
     fine_agenda a b r h l = record {
       ready = all_beside _ _ _ fine_due a.ready b.ready r.ready h.ready l.ready;
       round = all_beside _ _ _ fine_due a.round b.round r.round h.round l.round;
@@ -200,20 +229,21 @@ module _ (p : Program) (C : Text → Type 0) (natives : HoldsOfNatives p C) wher
 
   -- ---- states
 
-  fine_state : (x y : State Position (Thread Position)) → StatesMeet (StacksAgree p (is_box p) (lifting p).there (kept_of p)) x y → TidyRunning (kept_of p) y.running → Holds p x → FineState p C y
-  fine_state _ _ (Meet s k j a b jobs h tr o r g) tidy holds = record {
+  fine_state : (x y : State Position (Thread Position)) → StatesMeet (StacksAgree p (is_box p) (lifting p).there (kept_of p)) x y → TidyRunning (kept_of p) y.running → Holds p x → Begun (split_form p) x.store x.running x.agenda x.jobs → FineState p C y
+  fine_state _ _ (Meet s k j a b jobs h tr o r g) tidy holds begun = record {
     no_frames = holds.kept.no_frames;
     store = held_store s holds.kept.no_frames holds.kept.store holds.kept.codes;
     running = fine_running s holds.kept.no_frames k j r tidy holds.kept.running holds.layered.running;
-    agenda = fine_agenda s holds.kept.no_frames a b g holds.kept.agenda holds.layered.agenda;
+    agenda = fine_agenda s holds.kept.no_frames a b g holds.kept.agenda (both_hold (IsLayeredThread p) (BeginsWell p) a holds.layered.agenda begun.0);
+    jobs = all_with (KeptJob p s) (CodedJob p) (FineJob C) (fine_job s holds.kept.no_frames) jobs holds.kept.jobs begun.1;
   }
 
   -- so it is of each state of the lifted run
-  pub runs_are_fine : (h : History) → ((n : ℕ) → Holds p (run (thread_system (split_form p) h) n)) → (n : ℕ) → FineState p C (lifted_after p h n)
-  runs_are_fine h holds n =
+  pub runs_are_fine : (h : History) → ((n : ℕ) → Holds p (run (thread_system (split_form p) h) n)) → ((n : ℕ) → BegunAt p h n) → (n : ℕ) → FineState p C (lifted_after p h n)
+  runs_are_fine h holds begun n =
       fine_state (run (thread_system (split_form p) h) n) (lifted_after p h n)
       (run_agrees (split_form p) (is_box p) (lifting p).there (kept_of p) (programs_have_marks p) (programs_are_closed p) h n)
-      (lifted_is_tidy Position (split_form p) (kept_of p) h n) (holds n)
+      (lifted_is_tidy Position (split_form p) (kept_of p) h n) (holds n) (begun n)
 
 -- ---- accepted programs
 
@@ -229,6 +259,16 @@ accepted_codes_stay list end p read unbroken x h =
     let there = names.there x g.0 g.1 in
     record { unmarked = subst (λ y. has_marks y ≡ false) there.1 (names.items (FunctionItem g.0) there.0).unmarked; not_cps = native_stays (item_named 0 (bare p) x) h }
 
+-- `main` takes no arguments
+main_begins : (p : Program) → HasMain p → (g : Function) → function_named p main_name ≡ Some g → FitAll (parameter_types g) []
+main_begins p main g e =
+    let same : main.function ≡ g = let i : Some main.function ≡ Some g = sym main.named ∙ e in cc in
+    let none : g.parameters ≡ [] = ap (λ (f : Function). f.parameters) (sym same) ∙ main.parameters in
+    subst (λ ps. FitAll (map parameter_type ps) []) (sym none) tt
+
 pub accepted_is_fine : AcceptedIsFine
 accepted_is_fine list end p read unbroken h n =
-    runs_are_fine (bare p) (Stays (bare p)) (accepted_codes_stay list end p read unbroken) h (accepted_splits_hold list end p read unbroken h).runs n
+    let split = accepted_splits_hold list end p read unbroken h in
+    let steady = splits_steady (bare p) (accepted_is_steady list end p read unbroken).1 in
+    runs_are_fine (bare p) (Stays (bare p)) (accepted_codes_stay list end p read unbroken) h split.runs
+    (run_begun (split_form (bare p)) steady (main_begins (bare p) (accepted_has_main list end p read unbroken)) h split.runs) n

@@ -13,3 +13,4 @@ pub mod Points
 pub mod Functions
 pub mod Lives
 pub mod Walk
+pub mod Begins

@@ -1,19 +1,17 @@
 -- What the heap, sections and saved cells leave as it is: which blocks of variables are live.
-use Rattle.std.proofs.Common.{◌≡◌, ℕ, zero, suc, pos, Bool, true, false, cond, ◌&&◌, ◌==◌, List, [], ◌∷◌, ◌++◌, replicate, slice_get, slice_set, Option, Some, None, Result, Ok, Err, refl, sym, ◌∙◌, ap}
+use Rattle.std.proofs.Common.{◌≡◌, ℕ, zero, suc, pos, Bool, true, false, cond, ◌&&◌, ◌==◌, List, [], ◌∷◌, replicate, slice_get, slice_set, Option, Some, None, Ok, Err, refl, sym, ◌∙◌, ap}
 use Rattle.std.specs.Prelude.{is_some, int_lt, unsigned_abs}
 use Rattle.std.specs.Result.{result_map_both}
-use Rattle.cpc_base.specs.Bytes.{Text}
-use Rattle.cpc_num.specs.declared.kinds.Fault.{Fault}
 use Rattle.cpc_num.specs.declared.kinds.Fault.TheVariants as F
 use Rattle.cpc_store.specs.declared.values.Class.{Class}
 use Rattle.cpc_store.specs.declared.values.Class.TheVariants.{Static, Auto, Heap, Frame}
-use Rattle.cpc_store.specs.Store.{Value, Unset, Whole, Null, At, Code, Cond, Blocks, Store, same_class, blocks, with_blocks, cells_of, live, next_block, alloc, free, save_cell, save_in, save}
-use Rattle.cpc_meaning.specs.Answer.{Answer, Gives, Faults, NoAnswer, ◌>>=◌, of_result}
+use Rattle.cpc_store.specs.Store.{Value, Unset, Whole, Null, At, Blocks, Store, same_class, blocks, with_blocks, cells_of, live, next_block, alloc, free, save_in, save}
+use Rattle.cpc_meaning.specs.Answer.{Answer, Gives, Faults, NoAnswer, of_result}
 use Rattle.cpc_meaning.specs.Copies.{job_numbered, write_back, write_to, Collected, AllGave, OneFailed, NotClear, and_value, written, collected, collect_one, collect}
 use Rattle.cpc_meaning.specs.Plain.{Form}
 use Rattle.cpc_meaning.specs.Section.{Job, SectionEnd, Gave, Broke, NoEnd, section_end, allocated, freed}
 use Rattle.cpc_meaning_pointer_laws.proofs.Blocks.{Only, only_then, only_as}
-use Rattle.cpc_convert_chain_laws.specs.Chains.{block, one_if, lives}
+use Rattle.cpc_convert_chain_laws.specs.Chains.{one_if, lives}
 use Rattle.cpc_convert_accepted_laws.specs.Moves.{SameLives}
 
 -- ---- the heap

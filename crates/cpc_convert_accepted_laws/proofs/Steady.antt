@@ -91,7 +91,7 @@ module _ (p : Program) (x : Text) where
 -- ---- split code
 
 module _ (p : Program) where
-  splits_steady : IsSteady (ways p) → IsSteady (split_form p)
+  pub splits_steady : IsSteady (ways p) → IsSteady (split_form p)
   splits_steady h = record {
     scopes = λ x f a e. scopes_like p x (ScopeOf (types_of f)) tt (λ point. h.scopes x f point e) a;
     sections = λ x f a to y es g e stood is. let at = at_point p x a (Detach to y es) stood in h.sections x f at.point to y es g e at.stood is;

@@ -1,27 +1,24 @@
 -- The steps of threads as a few moves: what each move keeps holds of all states of their runs.
 use Rattle.std.proofs.Common.{◌≡◌, ℕ, pos, Bool, true, false, List, [], ◌∷◌, ◌++◌, Option, Some, None, Result, Ok, Err, refl, sym, subst}
 use Rattle.std.specs.Fmt.{signed_decimal}
-use Rattle.std.specs.List.{All}
 use Rattle.cpc_base.specs.Bytes.{Text}
-use Rattle.cpc_base.specs.declared.poll.Direction.{Direction}
 use Rattle.cpc_num.specs.declared.kinds.Fault.{Fault}
 use Rattle.cpc_num.specs.declared.kinds.Kind.TheVariants.{Long}
 use Rattle.cpc_store.specs.declared.values.Class.TheVariants.{Heap}
 use Rattle.cpc_store.specs.Store.{Value, Unset, Whole, Cond, Store}
 use Rattle.cpc_tree.specs.Lists.{is_empty, first_or, rest_of}
 use Rattle.cpc_tree.specs.Primitives.{Primitive, Print, Putc, Puts, Now, CondNew, CondFree, Signal, SignalAll, Exit, Malloc, Free, Yield, Sleep, IoWait, Wait}
-use Rattle.cpc_tree.specs.Syntax.{Function, Program}
-use Rattle.cpc_tree.specs.Trace.{Told, Mark, Output, HostCall, Submitted, Polled, Sleeping, Waiting, Awaiting, Outcome, Going, Ended, Exited, Failed, HistoryEnded, BadHistory}
+use Rattle.cpc_tree.specs.Syntax.{Function}
+use Rattle.cpc_tree.specs.Trace.{Told, Output, HostCall, Sleeping, Waiting, Outcome, Going}
 use Rattle.cpc_tree.specs.Typing.{function_named}
 use Rattle.cpc_meaning.specs.Agenda.{Due, Agenda, begin_round, ready_one, cond_new, cond_free, signal, signal_all, wait, sleep, io, section, needs_poll, completed, out, not_out, poll}
 use Rattle.cpc_meaning.specs.Answer.{Answer, Gives, Faults, NoAnswer, ◌>>=◌, of_result, needed}
 use Rattle.cpc_meaning.specs.Copies.{copy_of, Collected, AllGave, OneFailed, NotClear, collect}
-use Rattle.cpc_meaning.specs.History.{History}
-use Rattle.cpc_meaning.specs.Machine.{State, marks, ends, with_agenda, with_store, after_done, reply, prints, int_of, cond_of, ints_of, first_answer, direction_of, byte_of, replies, acts, primitive, host_call, asked_by, submits, runs, polled, told_state, takes_poll, next_poll, next_round, turns_where, schedules, runs_on, code_step, step_running, settled, try_step, unless_over, next}
-use Rattle.cpc_meaning.specs.Plain.{Form, Frame, Stack, stack_of, Done, Went, Returned, Asks, make_frame, plain, answered, waiting}
+use Rattle.cpc_meaning.specs.Machine.{State, marks, with_agenda, with_store, after_done, reply, prints, int_of, cond_of, ints_of, first_answer, direction_of, replies, acts, primitive, host_call, asked_by, submits, polled, told_state, takes_poll, next_poll, next_round, turns_where, schedules, runs_on, step_running, settled, try_step, unless_over, next}
+use Rattle.cpc_meaning.specs.Plain.{Form, Stack, stack_of, Done, Went, Returned, Asks, make_frame, plain, answered, waiting}
 use Rattle.cpc_meaning.specs.Requests.{Asked, Builtin, Host, ToSpawn, Section}
 use Rattle.cpc_meaning.specs.Section.{Job, allocated, freed}
-use Rattle.cpc_meaning.specs.Threads.{Thread, Pending, Suspended, starts_thread, suspends, thread_primitive, spawns_thread, detaches_thread, threads_of}
+use Rattle.cpc_meaning.specs.Threads.{Thread, Pending, Suspended, starts_thread, suspends, thread_primitive, detaches_thread, threads_of}
 use Rattle.cpc_meaning_pointer_laws.proofs.Blocks.{Only, any_then}
 use Rattle.cpc_convert_accepted_laws.specs.Moves.{Shuffled, MadeCondition, FreedCondition, Signalled, SignalledAll, BeganRound, WasPolled, Added, IsReady, Sleeps, AwaitsIo, WaitsOn, AwaitsSection, SameLives, IsKept}
 use Rattle.cpc_convert_accepted_laws.proofs.Lives.{allocated_lives, freed_lives, CollectedLives, collect_lives}
@@ -39,7 +36,7 @@ result_then Fine (Err fault) h k = tt
 
 module _ {P : Type 0} (p : Form P) (I : Store → Option (Stack P) → Agenda (Thread P) → List Job → Type 0) (Asked_so : Store → Stack P → Asked → List Value → Type 0) (kept : IsKept p I Asked_so) where
   -- a state of which it holds
-  abbrev Good : State P (Thread P) → Type 0
+  abbrev pub Good : State P (Thread P) → Type 0
   Good s = I s.store s.running s.agenda s.jobs
 
   -- it would hold of a state in which this stack ran
@@ -188,7 +185,7 @@ module _ {P : Type 0} (p : Form P) (I : Store → Option (Stack P) → Agenda (T
       known_then Good (plain p s.store k) _ λ d i. runs_on_so s k d e i (asks k e) (subst (λ o. I s.store o s.agenda s.jobs) e h)
 
   -- nothing, or a state of which it holds
-  abbrev Next : Option (State P (Thread P)) → Type 0
+  abbrev pub Next : Option (State P (Thread P)) → Type 0
   Next None = Unit {0}
   Next (Some s) = Good s
 

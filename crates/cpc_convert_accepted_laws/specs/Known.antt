@@ -7,12 +7,13 @@ use Rattle.cpc_store.specs.declared.values.Scalar.{Scalar}
 use Rattle.cpc_store.specs.Store.{Value, Unset, suits}
 use Rattle.cpc_tree.specs.Registers.{variables, is_register}
 use Rattle.cpc_tree.specs.Syntax.{Variable, Function, Program}
-use Rattle.cpc_tree.specs.Typing.{item_named, function_named}
+use Rattle.cpc_tree.specs.Typing.{item_named, function_named, parameter_types}
 use Rattle.cpc_meaning.specs.Eval.{Slot, Register, Boxed}
 use Rattle.cpc_meaning.specs.History.{History}
 use Rattle.cpc_meaning.specs.Layout.{scalar_of}
 use Rattle.cpc_meaning.specs.Machine.{State}
 use Rattle.cpc_meaning.specs.Plain.{Frame, Stack}
+use Rattle.cpc_meaning.specs.Section.{Job}
 use Rattle.cpc_meaning.specs.Threads.{Thread, Pending, Suspended}
 use Rattle.cpc_forms.specs.Split.{Position}
 use Rattle.cpc_convert.specs.Accepted.{has_marks}
@@ -21,7 +22,7 @@ use Rattle.cpc_convert_image_laws.specs.Held.{IsHeld, IsHeldSlot, IsHeldStore}
 use Rattle.cpc_convert_image_laws.specs.InPlace.{is_cps}
 use Rattle.cpc_convert_image_laws.specs.Native.{IsHeldIf}
 use Rattle.cpc_meaning_kept_laws.specs.Codes.{IsNative}
-use Rattle.cpc_meaning_kept_laws.specs.Fits.{types_of, Fits, FitSlots, FitsPending, IsInt}
+use Rattle.cpc_meaning_kept_laws.specs.Fits.{types_of, Fits, FitAll, FitSlots, IsInt}
 use Rattle.cpc_meaning_kept_laws.specs.Kept.{KeptAgenda}
 use Rattle.cpc_meaning_kept_laws.specs.Layers.{AllCps, IsLayered, IsLayeredThread}
 use Rattle.cpc_convert_accepted_laws.specs.Accepted.{OfAccepted}
@@ -62,11 +63,22 @@ pub record FineStack (p : Program) (C : Text → Type 0) (k : Stack Position) : 
   pub layered : IsLayered p k.frames
   pub arriving : IsHeldIf C k.arriving
 
+-- a call that is to begin has an argument for each parameter, which fits its type
+abbrev pub BeginsWell : {P : Type 0} → Program → Thread P → Type 0
+BeginsWell p (Pending f vs) = (g : Function) → function_named p f ≡ Some g → FitAll (parameter_types g) vs
+BeginsWell p (Suspended k) = Unit {0}
+
 -- a thread: the arguments of a call that is to begin fit its parameters and are held, and the call is of `main` or of a cps function; a stack
 -- that waits has frames of cps functions alone
 abbrev pub FineThread : Program → (Text → Type 0) → Thread Position → Type 0
-FineThread p C (Pending f vs) = FitsPending p f vs × All (IsHeld C) vs × IsLayeredThread {P = Position} p (Pending f vs)
+FineThread p C (Pending f vs) = BeginsWell {P = Position} p (Pending f vs) × All (IsHeld C) vs × IsLayeredThread {P = Position} p (Pending f vs)
 FineThread p C (Suspended k) = AllCps p k.frames
+
+-- a section that is out holds such values
+pub record FineJob (C : Text → Type 0) (j : Job) : Type 0 where
+  pub arguments : All (IsHeld C) j.arguments
+  pub cells : All (IsHeld C) j.cells
+  pub pointer : IsHeld C j.pointer
 
 -- a state
 pub record FineState (p : Program) (C : Text → Type 0) (s : State Position (Thread Position)) : Type 0 where
@@ -74,6 +86,7 @@ pub record FineState (p : Program) (C : Text → Type 0) (s : State Position (Th
   pub store : IsHeldStore C s.store
   pub running : (k : Stack Position) → s.running ≡ Some k → FineStack p C k
   pub agenda : KeptAgenda (FineThread p C) IsInt s.agenda
+  pub jobs : All (FineJob C) s.jobs
 
 -- so it is after any number of steps, where the codes are names that stay
 abbrev pub AcceptedIsFine : Type 0
