@@ -55,7 +55,7 @@ pub enum CType {
 
 /// An expression (C11 6.5). `place` is that of the first byte of its literal or of its operator: of `Index`, `CallIn`
 /// and `Cast` that of the opening bracket, of `Choose` that of `?`. Parentheses leave no trace.
-#[derive(Drop, Debug)]
+#[derive(Debug)]
 pub enum Expr {
     Name(Word),
     Integer {
@@ -127,6 +127,98 @@ pub enum Expr {
         function: Box<Expr>,
         arguments: Vec<Expr>,
     },
+}
+
+// What an expression owns is let go of here and not by a derive: a crate that lets go of one then calls this, and does
+// not prove it again.
+impl Drop for Expr {
+    fn drop(self) {
+        match self {
+            Expr::Name(_) => {}
+            Expr::Integer {
+                place: _,
+                kind: _,
+                value: _,
+            } => {}
+            Expr::Character { place: _, value: _ } => {}
+            Expr::Text { place: _, bytes } => drop(bytes),
+            Expr::Unary {
+                place: _,
+                op: _,
+                operand,
+            } => drop(operand),
+            Expr::Binary {
+                place: _,
+                op: _,
+                left,
+                right,
+            } => {
+                drop(left);
+                drop(right);
+            }
+            Expr::And {
+                place: _,
+                left,
+                right,
+            } => {
+                drop(left);
+                drop(right);
+            }
+            Expr::Or {
+                place: _,
+                left,
+                right,
+            } => {
+                drop(left);
+                drop(right);
+            }
+            Expr::Choose {
+                place: _,
+                test,
+                yes,
+                no,
+            } => {
+                drop(test);
+                drop(yes);
+                drop(no);
+            }
+            Expr::Cast {
+                place: _,
+                target,
+                operand,
+            } => {
+                drop(target);
+                drop(operand);
+            }
+            Expr::SizeOf { place: _, target } => drop(target),
+            Expr::Index {
+                place: _,
+                operand,
+                index,
+            } => {
+                drop(operand);
+                drop(index);
+            }
+            Expr::Member {
+                place: _,
+                operand,
+                field: _,
+            } => drop(operand),
+            Expr::Arrow {
+                place: _,
+                operand,
+                field: _,
+            } => drop(operand),
+            Expr::CallIn {
+                place: _,
+                function,
+                arguments,
+            } => {
+                drop(function);
+                drop(arguments);
+            }
+        }
+    }
 }
 
 /// A statement (C11 6.8). `place` is that of its first byte.
