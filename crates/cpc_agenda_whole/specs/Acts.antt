@@ -1,0 +1,27 @@
+-- What the loop's acts come to, and what is left to do of those that wake many.
+use Rattle.std.specs.Prelude.{ℕ, ℤ, Option, Some, None, Result, Ok, Err, List, map, filter}
+use Rattle.cpc_base.specs.declared.poll.Direction.{Direction}
+use Rattle.cpc_base.specs.declared.stop.Stop.{Stop}
+use Rattle.cpc_base.specs.declared.stop.Stop.TheVariants.{Memory, Fault}
+use Rattle.cpc_base.specs.Waiting.{waits_on, waits_for, is_due, without}
+use Rattle.cpc_meaning.specs.Agenda as A
+
+-- what is said of a fault; want of memory says nothing
+abbrev pub IfFault : {X F : Type 0} → Result X (Stop F) → (F → Type 0) → Type 0
+IfFault (Ok x) P = Unit {0}
+IfFault (Err Memory) P = Unit {0}
+IfFault (Err (Fault fault)) P = P fault
+
+-- the same of a refusal that hands an item back
+abbrev pub IfFaultBack : {X T F : Type 0} → Result X (T × Stop F) → (F → Type 0) → Type 0
+IfFaultBack (Ok x) P = Unit {0}
+IfFaultBack (Err e) P = IfFault {X = Unit {0}} (Err e.1) P
+
+-- all waiters of a condition become ready
+abbrev pub waiters_woken : {T : Type 0} → ℕ → A.Agenda T → A.Agenda T
+waiters_woken c a = A.ready_all (map A.waiter (filter (waits_on c) a.waiters)) (record a { waiters = without (waits_on c) a.waiters })
+
+-- all waiters of a descriptor in a direction become ready
+abbrev pub descriptors_woken : {T : Type 0} → ℤ → Direction → A.Agenda T → A.Agenda T
+descriptors_woken fd way a =
+    A.ready_all (map A.descriptor_waiter (filter (waits_for fd way) a.descriptors)) (record a { descriptors = without (waits_for fd way) a.descriptors })
