@@ -4,7 +4,6 @@ use cpc_lexer::{end_of_text, tokens};
 use cpc_parser::parse;
 use cpc_printer::print;
 use std::alloc::Global;
-use std::mem::forget;
 
 /// A program, or refused at a column of the first line with a number, or none of both.
 #[derive(Clone, Copy, Debug, PartialEq, Eq)]
@@ -14,18 +13,14 @@ pub(crate) enum Answer {
     Other,
 }
 
-/// What the text is, and the length of its print where that is asked for. Trees are not let go of: to prove that this is
-/// safe takes longer than all else here.
+/// What the text is. The tree of a program is let go of, however deep it is.
 pub(crate) fn found(alloc: Global, text: &[u8], dialect: Dialect) -> Answer {
     let mut names = Names::new(alloc);
     let Ok(list) = tokens(alloc, text, dialect, &mut names) else {
         return Answer::Other;
     };
     match parse(alloc, list.as_slice(), end_of_text(text), dialect, names) {
-        Ok(program) => {
-            forget(program);
-            Answer::Program
-        }
+        Ok(_) => Answer::Program,
         Err(Stop::Fault(fault)) => Answer::Refused(fault.place.column, fault.number),
         Err(Stop::Memory) => Answer::Other,
     }
@@ -39,11 +34,10 @@ pub(crate) fn printed(alloc: Global, text: &[u8]) -> Vec<u8> {
     };
     let end = end_of_text(text);
     match parse(alloc, list.as_slice(), end, Dialect::Cpc, names) {
-        Ok(program) => {
-            let made = print(alloc, &program);
-            forget(program);
-            made.unwrap_or(Vec::new(alloc))
-        }
+        Ok(program) => match print(alloc, &program) {
+            Ok(bytes) => bytes,
+            Err(_) => Vec::new(alloc),
+        },
         Err(_) => Vec::new(alloc),
     }
 }

@@ -6,7 +6,6 @@ use cpc_parser::parse;
 use cpc_printer::print;
 use cpc_translate::{TextFault, read};
 use std::alloc::{AllocError, Global};
-use std::mem::forget;
 
 /// How the objects behave: the most bytes of a call, and the number of the read, the put on `out` and the put on `err`
 /// that fails, or 0.
@@ -109,15 +108,10 @@ fn printed(alloc: Global, text: &[u8]) -> Result<Vec<u8>, Stop<TextFault>> {
         Err(Stop::Fault(fault)) => return Err(Stop::Fault(TextFault::Lex(fault))),
     };
     match parse(alloc, &list, end_of_text(text), Dialect::Cpc, names) {
-        Ok(program) => {
-            let made = print(alloc, &program);
-            // (a destructor of trees would be proved for this line alone)
-            forget(program);
-            match made {
-                Ok(bytes) => Ok(bytes),
-                Err(_) => Err(Stop::Memory),
-            }
-        }
+        Ok(program) => match print(alloc, &program) {
+            Ok(bytes) => Ok(bytes),
+            Err(_) => Err(Stop::Memory),
+        },
         Err(Stop::Memory) => Err(Stop::Memory),
         Err(Stop::Fault(fault)) => Err(Stop::Fault(TextFault::Parse(fault))),
     }
@@ -138,10 +132,7 @@ fn print_twice(alloc: Global, text: &[u8]) -> Result<Left, AllocError> {
 // A text is read as an event program.
 fn read_event(alloc: Global, text: &[u8]) -> Result<Left, AllocError> {
     match read(alloc, text, Dialect::Event) {
-        Ok(checked) => {
-            forget(checked);
-            Ok(left(0, Vec::new(alloc), Vec::new(alloc)))
-        }
+        Ok(_) => Ok(left(0, Vec::new(alloc), Vec::new(alloc))),
         Err(Stop::Memory) => Err(AllocError),
         Err(Stop::Fault(fault)) => refused(alloc, fault),
     }
