@@ -1,4 +1,7 @@
 //! The table, with ample memory.
+ghost use Rattle.std.specs.Prelude.{◌≡◌, length, Some, codes};
+ghost use Rattle.cpc_hosts.specs.Standard.{standard_answer};
+
 use cpc_base::Stop;
 use cpc_hosts::{
     Answer, HostFault, HostRule, HostTable, StdHosts, abs_diff, clamp, greatest, least, sign,
@@ -9,9 +12,21 @@ use std::test::Fail;
 fn functions_are_taken_and_called(rt: HostRuntime) -> Result<(), Fail> {
     let alloc = rt.alloc();
     let mut hosts: HostTable<StdHosts> = HostTable::new(alloc);
-    let f: Answer = Box::new(alloc, least)?;
+    let f: Answer = Box::new(
+        alloc,
+        |args: &[i64]| -> i64
+            requires { length args.now ≡ 2 }
+            ensures { standard_answer (codes "least") args.now ≡ Some result }
+        { least(args) },
+    )?;
     assert!(rt; hosts.add(alloc, "least", 2, f) == Ok(()));
-    let f: Answer = Box::new(alloc, abs_diff)?;
+    let f: Answer = Box::new(
+        alloc,
+        |args: &[i64]| -> i64
+            requires { length args.now ≡ 2 }
+            ensures { standard_answer (codes "abs_diff") args.now ≡ Some result }
+        { abs_diff(args) },
+    )?;
     assert!(rt; hosts.add(alloc, "abs_diff", 2, f) == Ok(()));
     assert!(rt; hosts.call(b"least", &[4, -3]) == Some(-3));
     assert!(rt; hosts.call(b"abs_diff", &[i64::MIN, 1]) == Some(i64::MAX));
