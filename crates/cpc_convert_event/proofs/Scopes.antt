@@ -23,11 +23,11 @@ abbrev MarkedScope : Scope → Type 0
 MarkedScope [] = Unit {0}
 MarkedScope (l ∷ scope) = (has_marks l.called ≡ true) × MarkedScope scope
 
-abbrev MarkedLoads : List Load → Type 0
+abbrev pub MarkedLoads : List Load → Type 0
 MarkedLoads [] = Unit {0}
 MarkedLoads (l ∷ ls) = (has_marks l.variable ≡ true) × MarkedLoads ls
 
-abbrev MarkedVariables : List Variable → Type 0
+abbrev pub MarkedVariables : List Variable → Type 0
 MarkedVariables [] = Unit {0}
 MarkedVariables (x ∷ xs) = (has_marks x.called ≡ true) × MarkedVariables xs
 
@@ -78,10 +78,10 @@ module _ (p : Program) (r : Routine) (l : Place) where
       go true = (refl, tt)
       go false = tt
 
-  loads_marked : MarkedLoads (loads_of p r l)
+  pub loads_marked : MarkedLoads (loads_of p r l)
   loads_marked = (refl, loads_append (value_load p r l) _ value_marked (local_loads (locals_of r (loaded r l)) (locals_marked r (loaded r l))))
 
-  declares_marked : MarkedVariables (declares_of p r l)
+  pub declares_marked : MarkedVariables (declares_of p r l)
   declares_marked =
       variables_append (words_of p r l) (locals_of r (begun r l)) (words_marked (not (is_empty (stubs_of r l)) || any_node r (λ node. is_wait node.manner node.stood) (rows_nodes r.split l)) (any_node r (λ node. is_entry p node.stood) (rows_nodes r.split l)) (any_node r (λ node. is_result node.stood) (rows_nodes r.split l)) r.function.result) (locals_marked r (begun r l))
 

@@ -5,6 +5,7 @@ ghost use Rattle.cpc_convert_event.specs.StructLaws.{StructsAreThere};
 ghost use Rattle.cpc_convert_event.specs.ClosureLaws.{ClosuresAreLifted};
 ghost use Rattle.cpc_convert_event.specs.ScopeLaws.{NothingIsHidden};
 ghost use Rattle.cpc_convert_event.specs.LocalLaws.{AllLocalsAreMeant};
+ghost use Rattle.cpc_convert_event.specs.AddressLaws.{PiecesAddressNone, VariablesAreRegisters};
 ghost use Rattle.cpc_convert_event.specs.LabelLaws.{AllRowsStandOnce, LabelsLead};
 ghost use Rattle.cpc_convert_event.specs.Mixed.{MixedRunsAlike};
 ghost use Rattle.cpc_convert_event.specs.WrittenBoxes.{ProgramsAreWritten};
@@ -75,4 +76,10 @@ pub fn locals_are_meant()
 pub fn labels_lead()
     ensures rows { AllRowsStandOnce }
     ensures labels { LabelsLead }
+{}
+
+/// A piece takes the address of no local, so that all its variables are registers.
+pub fn variables_are_registers()
+    ensures none { PiecesAddressNone }
+    ensures law { VariablesAreRegisters }
 {}
