@@ -232,7 +232,7 @@ module _ (p : Program) (ok : IsNamed p) (f : Function) (c : IsCps p f) where
       let d = or_false (j == k) (holds_number js k) e in
       (variables_apart j k (variable_of r j).called (variable_of r k).called (small j b) (small k h) (unmarked_name j) (unmarked_name k) (λ (i : j ≡ k). let z : true ≡ false = sym (equal_self k) ∙ (ap (λ m. m == k) (sym i) ∙ d.0) in absurd (cc)), none_var k js h more d.1)
 
-  none_word : (w : Text) (ks : List ℕ) → has_marks w ≡ false → AllBelow count ks → NoneCalled (marked w []) (locals_of r ks)
+  pub none_word : (w : Text) (ks : List ℕ) → has_marks w ≡ false → AllBelow count ks → NoneCalled (marked w []) (locals_of r ks)
   none_word w _ m NoneBelow = tt
   none_word w _ m (OneBelow j js b more) =
       (turned_apart (marked w []) (variable_name j (variable_of r j).called) (word_apart w j (variable_of r j).called m (unmarked_name j) (small j b)), none_word w js m more)
@@ -241,7 +241,7 @@ module _ (p : Program) (ok : IsNamed p) (f : Function) (c : IsCps p f) where
   apart_vars _ NoNumber b = tt
   apart_vars _ (AndOther k ks e o) (OneBelow _ _ h b) = (none_var k ks h b e, apart_vars ks o b)
 
-  locals_scalar : (ks : List ℕ) → AllBelow count ks → Scalars (locals_of r ks)
+  pub locals_scalar : (ks : List ℕ) → AllBelow count ks → Scalars (locals_of r ks)
   locals_scalar _ NoneBelow = NoScalars
   locals_scalar _ (OneBelow k ks h b) = AndScalar _ _ (one k h) (locals_scalar ks b)
     where
@@ -298,7 +298,7 @@ module _ (p : Program) (ok : IsNamed p) (f : Function) (c : IsCps p f) where
 
   -- ---- the numbers of a piece's variables
 
-  closure_rise : (l : Place) → Rises count 0 (closure_of r l)
+  pub closure_rise : (l : Place) → Rises count 0 (closure_of r l)
   closure_rise l = subst (λ n. Rises n 0 (closure_of r l)) (let z : 0 + count ≡ count = omega arith in z) (closure_rises _ _ _ 0 count)
 
   counted : variable_count p f.called ≡ count
@@ -333,7 +333,7 @@ module _ (p : Program) (ok : IsNamed p) (f : Function) (c : IsCps p f) where
       (λ n h. let t = (chosen_is passes_in ks n h).1 in not_in_append (chosen begins_in ks) r.boxes n (chosen_out begins_in ks n (not_begun (is_parameter f n) (is_plain r n) t)) (plain_unboxed (is_parameter f n) n t))
   once_all (At n) = once_append (closure_of r (At n)) [] (rises_once count 0 _ (closure_rise (At n))) NoNumber (λ m h. refl)
 
-  loaded_below : (l : Place) → AllBelow count (loaded r l)
+  pub loaded_below : (l : Place) → AllBelow count (loaded r l)
   loaded_below Start = below_chosen count passes_in _ (rises_below count 0 _ (closure_rise Start))
   loaded_below (At n) = rises_below count 0 _ (closure_rise (At n))
 

@@ -18,6 +18,9 @@ false_or a b e f = ap (λ x. x || b) e ∙ f
 pub equal_is : (m n : ℕ) → (m == n) ≡ true → m ≡ n
 equal_is m n e = grind (arith, nat_tests)
 
+pub lt_is : (m n : ℕ) → nat_lt m n ≡ true → m < n
+lt_is m n e = grind (arith, nat_tests)
+
 pub apart_is : (m n : ℕ) → (m ≡ n → ⊥) → (m == n) ≡ false
 apart_is m n d = go (m == n) refl
   where

@@ -5,6 +5,7 @@ ghost use Rattle.cpc_convert_event.specs.StructLaws.{StructsAreThere};
 ghost use Rattle.cpc_convert_event.specs.ClosureLaws.{ClosuresAreLifted};
 ghost use Rattle.cpc_convert_event.specs.ScopeLaws.{NothingIsHidden};
 ghost use Rattle.cpc_convert_event.specs.LocalLaws.{AllLocalsAreMeant};
+ghost use Rattle.cpc_convert_event.specs.FillLaws.{AllFramesAreFilled};
 ghost use Rattle.cpc_convert_event.specs.AddressLaws.{PiecesAddressNone, VariablesAreRegisters};
 ghost use Rattle.cpc_convert_event.specs.LabelLaws.{AllRowsStandOnce, LabelsLead};
 ghost use Rattle.cpc_convert_event.specs.Mixed.{MixedRunsAlike};
@@ -82,4 +83,9 @@ pub fn labels_lead()
 pub fn variables_are_registers()
     ensures none { PiecesAddressNone }
     ensures law { VariablesAreRegisters }
+{}
+
+/// What a piece saves for a leader are the values of the leader's frame, and what a piece loads are the values of its own.
+pub fn frames_are_filled()
+    ensures law { AllFramesAreFilled }
 {}
