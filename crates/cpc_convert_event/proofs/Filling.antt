@@ -130,7 +130,7 @@ module _ (p : Program) (ok : IsNamed p) (f : Function) (c : IsCps p f) where
   -- ---- arguments
 
   -- the parameters, as they are passed
-  passed_at : (base count : ℕ) (xs : List Variable) → ((i : ℕ) (x : Variable) → i < count → slice_get xs i ≡ Some x → is_scalar x.type ≡ true) → (i : ℕ) (x : Variable) → i < count → slice_get xs i ≡ Some x
+  pub passed_at : (base count : ℕ) (xs : List Variable) → ((i : ℕ) (x : Variable) → i < count → slice_get xs i ≡ Some x → is_scalar x.type ≡ true) → (i : ℕ) (x : Variable) → i < count → slice_get xs i ≡ Some x
       → slice_get (passed_from base count xs) i ≡ Some (record { called = variable_name (base + i) x.called; type = x.type })
   passed_at base zero xs sc i x h e = absurd (omega arith)
   passed_at base (suc n) [] sc i x h e = absurd (cc)
@@ -143,7 +143,7 @@ module _ (p : Program) (ok : IsNamed p) (f : Function) (c : IsCps p f) where
       ∙ (passed_at (suc base) n ys (λ j z g k. sc (suc j) z (omega arith) k) i x (omega arith) e ∙ ap (λ m. Some (record { called = variable_name m x.called; type = x.type })) (let z : suc base + i ≡ base + suc i = omega arith in z))
 
   -- the value of one that fits
-  fit_at : (xs : List Variable) (vs : List Value) (i : ℕ) (x : Variable) → AllFit xs vs → slice_get xs i ≡ Some x → (slice_get vs i ≡ Some (get_or vs i Unset)) × Fits x.type (get_or vs i Unset)
+  pub fit_at : (xs : List Variable) (vs : List Value) (i : ℕ) (x : Variable) → AllFit xs vs → slice_get xs i ≡ Some x → (slice_get vs i ≡ Some (get_or vs i Unset)) × Fits x.type (get_or vs i Unset)
   fit_at _ _ i x NoneFit e = absurd (cc)
   fit_at _ _ zero x (OneFits y v ys vs h more) e = let same : y ≡ x = cc in (refl, subst (λ z. Fits z.type v) same h)
   fit_at _ _ (suc i) x (OneFits y v ys vs h more) e = fit_at ys vs i x more e

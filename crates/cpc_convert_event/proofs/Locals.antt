@@ -1,6 +1,6 @@
 -- The variables of a piece have names of their own, and each is found by its name.
 use Rattle.std.proofs.Common.{◌≡◌, ℕ, zero, suc, ◌+◌, ◌<◌, ◌≤◌, ◌^◌, Bool, true, false, not, ◌&&◌, ◌||◌, ◌==◌, cond, List, [], ◌∷◌, ◌++◌, map, length, get_or, slice_get, bytes_eq, Option, Some, None, refl, sym, ◌∙◌, ap, subst, codes, arith}
-use Rattle.std.proofs.lemmas.Option.{slice_get-get_or}
+use Rattle.std.proofs.lemmas.Option.{slice_get-get_or, slice_get_within}
 use Rattle.cpc_base.specs.Bytes.{Text}
 use Rattle.cpc_num.specs.declared.kinds.Kind.TheVariants.{Int}
 use Rattle.cpc_tree.specs.Lists.{holds_number, is_empty}
@@ -27,7 +27,7 @@ use Rattle.cpc_convert_event.specs.Routines.{Routine, routine_of, closure_of, is
 use Rattle.cpc_convert_event.specs.Frames.{arriving_type}
 use Rattle.cpc_convert_event.specs.Rows.{rows_nodes, stubs_of, piece_statements}
 use Rattle.cpc_convert_event.specs.Pieces.{load_of, below_if, takes_value, value_load, loaded, loads_of, any_node, is_wait, is_entry, is_result, called_so, words_if, words_of, begun, declares_of, boxing_of, piece_body, piece_function}
-use Rattle.cpc_convert_event.specs.FlatLaws.{piece_scope}
+use Rattle.cpc_convert_event.specs.FlatLaws.{piece_scope, piece_count}
 use Rattle.cpc_convert_event.specs.NameLaws.{IsNamed, IsCps, IsOwner}
 use Rattle.cpc_convert_event.specs.LocalLaws.{piece_locals, StandsIn, MeansLocals, AllLocalsAreMeant}
 use Rattle.cpc_convert_event.proofs.Fields.{variables_apart, word_apart, local_scalar, plain_scalar}
@@ -102,6 +102,10 @@ map_length (l ∷ ls) = ap suc (map_length ls)
 append_assoc : (xs ys zs : List Variable) → (xs ++ ys) ++ zs ≡ xs ++ (ys ++ zs)
 append_assoc [] ys zs = refl
 append_assoc (x ∷ xs) ys zs = ap (λ us. x ∷ us) (append_assoc xs ys zs)
+
+length_append : (xs ys : List Variable) → length (xs ++ ys) ≡ length xs + length ys
+length_append [] ys = let z : length ys ≡ 0 + length ys = omega arith in z
+length_append (x ∷ xs) ys = let h = length_append xs ys in let z : suc (length (xs ++ ys)) ≡ suc (length xs) + length ys = omega (arith, h) in z
 
 append_nil : (xs : List Variable) → xs ++ [] ≡ xs
 append_nil [] = refl
@@ -301,7 +305,7 @@ module _ (p : Program) (ok : IsNamed p) (f : Function) (c : IsCps p f) where
   pub closure_rise : (l : Place) → Rises count 0 (closure_of r l)
   closure_rise l = subst (λ n. Rises n 0 (closure_of r l)) (let z : 0 + count ≡ count = omega arith in z) (closure_rises _ _ _ 0 count)
 
-  counted : variable_count p f.called ≡ count
+  pub counted : variable_count p f.called ≡ count
   counted = ap variables_in (ok.found f c.has)
 
   boxes_all : Rises count 0 r.boxes
@@ -391,7 +395,7 @@ module _ (p : Program) (ok : IsNamed p) (f : Function) (c : IsCps p f) where
         ap (λ s. declared_scope s (2 + length (loads_of p r l)) (declares_of p r l)) (loads_declared _ 2 (loads_of p r l))
         ∙ (declared_append _ 2 (2 + length (loads_of p r l)) (map loaded_variable (loads_of p r l)) (declares_of p r l) (ap (λ n. 2 + n) (sym (map_length (loads_of p r l)))) ∙ ap (declared_scope [] 0) locals_are)
 
-    meant : (q : Program) (i : ℕ) (x : Variable) → slice_get (piece_locals p r l) i ≡ Some x → named q (piece_scope p r l) x.called ≡ ALocal i x.type
+    pub meant : (q : Program) (i : ℕ) (x : Variable) → slice_get (piece_locals p r l) i ≡ Some x → named q (piece_scope p r l) x.called ≡ ALocal i x.type
     meant q i x e = ap (λ s. named q s x.called) scope_is ∙ (found_there q [] 0 (piece_locals p r l) i x piece_apart e ∙ ap (λ m. ALocal m x.type) (let z : 0 + i ≡ i = omega arith in z))
 
     -- ---- where they stand
@@ -407,6 +411,15 @@ module _ (p : Program) (ok : IsNamed p) (f : Function) (c : IsCps p f) where
 
     from_words : (x : Variable) → StandsIn x (words_of p r l) → StandsIn x (piece_locals p r l)
     from_words x h = from_rest x (in_back x (locals_of r (loaded r l)) _ (in_front x (words_of p r l) _ h))
+
+    -- each is one of so many
+    pub locals_count : (i : ℕ) (x : Variable) → slice_get (piece_locals p r l) i ≡ Some x → i < piece_count p r l
+    locals_count i x e =
+        let within = slice_get_within (piece_locals p r l) i x e in
+        let a = ap length locals_are in
+        let b = length_append (map loaded_variable (loads_of p r l)) (declares_of p r l) in
+        let d = map_length (loads_of p r l) in
+        omega (arith, within, a, b, d)
 
     value_scalar : (l : Place) → is_scalar (arriving_type p r l) ≡ true
     value_scalar Start = refl
@@ -440,6 +453,15 @@ module _ (p : Program) (ok : IsNamed p) (f : Function) (c : IsCps p f) where
       go true e d i = from_begun Start k (held_right (chosen begins_in ks) r.boxes k e)
       go false e true i = from_loaded Start k (chosen_has passes_in ks k h (ap (λ b. b && is_plain r k) i ∙ ap not e))
       go false e false i = from_begun Start k (held_left (chosen begins_in ks) r.boxes k (chosen_has begins_in ks k h (ap (λ b. not b && is_plain r k) i ∙ ap not e)))
+
+module _ (p : Program) (ok : IsNamed p) (f : Function) (c : IsCps p f) where
+  -- where a box stands at the start, behind the frame below
+  pub box_stands : (k : ℕ) → holds_number (routine_of p f).boxes k ≡ true → StandsIn (local_of (routine_of p f) k) (variable_if (takes_value (routine_of p f) Start) (called_so value_name (arriving_type p (routine_of p f) Start)) (rest p ok f c Start))
+  box_stands k h =
+      let x = local_of (routine_of p f) k in
+      in_if x (takes_value (routine_of p f) Start) (called_so value_name (arriving_type p (routine_of p f) Start)) (rest p ok f c Start)
+      (in_back x (locals_of (routine_of p f) (loaded (routine_of p f) Start)) _ (in_back x (words_of p (routine_of p f) Start) _
+      (in_locals (routine_of p f) k (begun (routine_of p f) Start) (held_right p ok f c (chosen (begins_in p ok f c) (closure_of (routine_of p f) Start)) (routine_of p f).boxes k h))))
 
 pub locals_meant : AllLocalsAreMeant
 locals_meant p ok f c = record {

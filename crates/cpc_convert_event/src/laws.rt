@@ -5,6 +5,7 @@ ghost use Rattle.cpc_convert_event.specs.StructLaws.{StructsAreThere};
 ghost use Rattle.cpc_convert_event.specs.ClosureLaws.{ClosuresAreLifted};
 ghost use Rattle.cpc_convert_event.specs.ScopeLaws.{NothingIsHidden};
 ghost use Rattle.cpc_convert_event.specs.LocalLaws.{AllLocalsAreMeant};
+ghost use Rattle.cpc_convert_event.specs.BoxingLaws.{AllStartsBox};
 ghost use Rattle.cpc_convert_event.specs.FillLaws.{AllFramesAreFilled};
 ghost use Rattle.cpc_convert_event.specs.AddressLaws.{PiecesAddressNone, VariablesAreRegisters};
 ghost use Rattle.cpc_convert_event.specs.LabelLaws.{AllRowsStandOnce, LabelsLead};
@@ -88,4 +89,9 @@ pub fn variables_are_registers()
 /// What a piece saves for a leader are the values of the leader's frame, and what a piece loads are the values of its own.
 pub fn frames_are_filled()
     ensures law { AllFramesAreFilled }
+{}
+
+/// The start of a function makes the boxes that a call makes, from the arguments in its frame.
+pub fn starts_box()
+    ensures law { AllStartsBox }
 {}
