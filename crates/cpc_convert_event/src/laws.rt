@@ -6,6 +6,7 @@ ghost use Rattle.cpc_convert_event.specs.ClosureLaws.{ClosuresAreLifted};
 ghost use Rattle.cpc_convert_event.specs.ScopeLaws.{NothingIsHidden};
 ghost use Rattle.cpc_convert_event.specs.LocalLaws.{AllLocalsAreMeant};
 ghost use Rattle.cpc_convert_event.specs.BoxingLaws.{AllStartsBox};
+ghost use Rattle.cpc_convert_event.specs.CallLaws.{BoxesAreReturned, AllArgumentsAreGiven};
 ghost use Rattle.cpc_convert_event.specs.FillLaws.{AllFramesAreFilled};
 ghost use Rattle.cpc_convert_event.specs.AddressLaws.{PiecesAddressNone, VariablesAreRegisters};
 ghost use Rattle.cpc_convert_event.specs.LabelLaws.{AllRowsStandOnce, LabelsLead};
@@ -94,4 +95,10 @@ pub fn frames_are_filled()
 /// The start of a function makes the boxes that a call makes, from the arguments in its frame.
 pub fn starts_box()
     ensures law { AllStartsBox }
+{}
+
+/// A piece puts the arguments of a call into its first frame, in order, and gives back each box where it returns.
+pub fn calls_and_returns()
+    ensures arguments { AllArgumentsAreGiven }
+    ensures boxes { BoxesAreReturned }
 {}
