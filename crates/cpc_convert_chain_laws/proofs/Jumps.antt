@@ -15,7 +15,7 @@ use Rattle.cpc_meaning.specs.Act.{GoesOn, simple_act}
 use Rattle.cpc_meaning.specs.Plain.{Frame as CallFrame}
 use Rattle.cpc_convert_chain_laws.specs.Chains.{Saved, frame_cells, Top}
 use Rattle.cpc_convert_chain_laws.specs.Flat.{point_at, dropped, onward, arm, label_in, LineAt}
-use Rattle.cpc_convert_chain_laws.specs.Frames.{Holds, frame_through, at}
+use Rattle.cpc_convert_chain_laws.specs.Frames.{Holds, at}
 use Rattle.cpc_convert_chain_laws.specs.Driver.{value_field, head_fields, is_set, patches, patched}
 use Rattle.cpc_convert_chain_laws.specs.Walks.{World, Walk, in_function, at_line}
 use Rattle.cpc_convert_chain_laws.specs.Structs.{IsStruct}

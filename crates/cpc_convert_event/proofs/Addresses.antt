@@ -1,31 +1,30 @@
 -- Pieces take the address of no local, so that their variables are registers.
-use Rattle.std.proofs.Common.{◌≡◌, ℕ, suc, Bool, true, false, not, ◌&&◌, ◌||◌, cond, List, [], ◌∷◌, ◌++◌, map, slice_get, Option, Some, None, refl, sym, ◌∙◌, ap, subst}
+use Rattle.std.proofs.Common.{◌≡◌, ℕ, suc, Bool, true, false, not, ◌&&◌, cond, List, [], ◌∷◌, ◌++◌, map, slice_get, Option, Some, None, refl, sym, ◌∙◌, ap, subst}
 use Rattle.cpc_base.specs.Bytes.{Text}
-use Rattle.cpc_tree.specs.declared.program.UnaryOp.TheVariants.{Minus, Plus, Not, Complement, Dereference, AddressOf}
-use Rattle.cpc_tree.specs.Syntax.{Ty, TyPointer, TyStruct, Expr, ENamed, EInteger, ECharacter, EText, EUnary, EBinary, EAnd, EOr, EChoose, ECast, ESizeOf, EIndex, EMember, EArrow, ECall, Exprs, NoExpr, AndExpr, Stmt, Block, Empty, Declare, Assign, Call, Detach, Spawn, If, While, DoWhile, For, Goto, Label, Break, Continue, Return, Stmts, NoStmt, AndStmt, Variable, Function, Program}
+use Rattle.cpc_tree.specs.declared.program.UnaryOp.TheVariants.{AddressOf}
+use Rattle.cpc_tree.specs.Syntax.{Expr, ENamed, EInteger, ECharacter, EText, EUnary, EBinary, EAnd, EOr, EChoose, ECast, ESizeOf, EIndex, EMember, EArrow, ECall, Exprs, NoExpr, AndExpr, Stmt, Block, Empty, Declare, Assign, Call, Detach, Spawn, If, While, DoWhile, For, Goto, Label, Break, Continue, Return, Stmts, NoStmt, AndStmt, Variable, Function, Program}
 use Rattle.cpc_tree.specs.Points.{Simple, Test, Nothing}
 use Rattle.cpc_tree.specs.Registers.{variables, addressed}
-use Rattle.cpc_tree.specs.Typing.{is_scalar, function_named}
+use Rattle.cpc_tree.specs.Typing.{function_named}
 use Rattle.cpc_meaning.specs.Act.{Stood, AtStatement, AtArrival, AtEnd, target_of}
 use Rattle.cpc_meaning.specs.Ways.{Manner, InPlace, ByFrame, AsCps}
 use Rattle.cpc_convert.specs.Accepted.{has_marks}
 use Rattle.cpc_convert_image_laws.specs.Images.{Reading, AsLocal, AsField, Readings, image_named, image, images, image_if, followed}
-use Rattle.cpc_forms.specs.Graph.{Node, Graph, graph_of, at_node}
+use Rattle.cpc_forms.specs.Graph.{Node, graph_of, at_node}
 use Rattle.cpc_forms.specs.Flow.{Place, Start, At}
 use Rattle.cpc_convert_chain_laws.specs.Addresses.{avoids, avoids_all, avoids_if, avoids_by, avoids_in, AndAmong, NoneAmong}
 use Rattle.cpc_convert_chain_laws.specs.Driver.{drive_name}
 use Rattle.cpc_convert_chain_laws.specs.Flat.{before}
-use Rattle.cpc_convert_chain_laws.specs.Frames.{Load, loads_one, declares_one, frees_frame, Give, gives_one, AreRegisters, Scalars}
+use Rattle.cpc_convert_chain_laws.specs.Frames.{Load, loads_one, declares_one, frees_frame, gives_one, AreRegisters}
 use Rattle.cpc_convert_chain_laws.proofs.Addresses.{none_addressed}
 use Rattle.cpc_convert_chain_laws.proofs.Lines.{both_true}
 use Rattle.cpc_convert_chain_laws.proofs.Pieces.{registers_unaddressed}
-use Rattle.cpc_convert_event.specs.Names.{node_label, variable_name, pointer_name, frame_name, to_name, under_name}
+use Rattle.cpc_convert_event.specs.Names.{node_label, pointer_name, frame_name, to_name, under_name}
 use Rattle.cpc_convert_event.specs.Routines.{Routine, routine_of, readings_of, variable_of}
 use Rattle.cpc_convert_event.specs.Lines.{Line, Does, Goes, Tests, Passes, goes, passes, all_do, frame_lines, frame_lines_if, gives_from, call_lines, waits_lines, unbox_lines, result_lines, patch_lines, leave_lines, simple_lines, cps_lines, test_lines, arrival_lines, framed_lines, stood_lines, node_lines, hands_over}
-use Rattle.cpc_convert_event.specs.Rows.{is_own, Row, stub_lines, lines_by, row_of, numbers_of, rows_of, Put, Plain, Jump, put_line, put_lines, PutRow, first_number, put_rows, put_statement, label_if, is_wanted, is_next, rows_statements, piece_statements}
+use Rattle.cpc_convert_event.specs.Rows.{is_own, Row, lines_by, row_of, numbers_of, rows_of, Put, Plain, Jump, put_line, put_lines, PutRow, first_number, put_rows, put_statement, label_if, is_wanted, is_next, rows_statements, piece_statements}
 use Rattle.cpc_convert_event.specs.Pieces.{loads_of, declares_of, fills_if, box_lines, boxing_lines, boxing_of, piece_body, piece_function}
-use Rattle.cpc_convert_event.specs.NameLaws.{IsNamed, IsCps, IsOwner}
-use Rattle.cpc_convert_event.specs.AddressLaws.{bars, avoids_simple, avoids_found, avoids_stood, AddressesAreBoxes, PiecesAddressNone, VariablesAreRegisters}
+use Rattle.cpc_convert_event.specs.AddressLaws.{bars, avoids_simple, avoids_stood, AddressesAreBoxes, PiecesAddressNone, VariablesAreRegisters}
 use Rattle.cpc_convert_event.proofs.Scopes.{MarkedLoads, MarkedVariables, loads_marked, declares_marked}
 use Rattle.cpc_convert_event.proofs.Locals.{locals_meant}
 

@@ -1,17 +1,17 @@
 -- The boxes of a call, as the start of an event program makes them.
-use Rattle.std.proofs.Common.{◌≡◌, ℕ, zero, suc, ◌+◌, ◌<◌, ◌≤◌, ◌^◌, Bool, true, false, not, ◌&&◌, ◌||◌, ◌==◌, cond, List, [], ◌∷◌, ◌++◌, map, length, slice_get, get_or, nat_lt, pos, Option, Some, None, refl, sym, ◌∙◌, ap, subst, codes, arith}
+use Rattle.std.proofs.Common.{◌≡◌, ℕ, zero, suc, ◌+◌, ◌<◌, ◌≤◌, Bool, true, false, not, ◌&&◌, ◌||◌, ◌==◌, cond, List, [], ◌∷◌, ◌++◌, length, slice_get, nat_lt, pos, Option, Some, None, refl, sym, ◌∙◌, ap, subst, arith}
 use Rattle.std.proofs.lemmas.Bool.Decides.{nat_tests}
 use Rattle.cpc_base.specs.Bytes.{Text}
 use Rattle.cpc_num.specs.declared.kinds.Kind.TheVariants.{ULong}
-use Rattle.cpc_tree.specs.Lists.{holds_number, first_or, rest_of}
-use Rattle.cpc_tree.specs.Syntax.{Ty, TyInt, TyPointer, TyStruct, ESizeOf, Stmt, Variable, Function, Program}
+use Rattle.cpc_tree.specs.Lists.{holds_number, rest_of}
+use Rattle.cpc_tree.specs.Syntax.{TyPointer, TyStruct, ESizeOf, Stmt, Variable, Function, Program}
 use Rattle.cpc_tree.specs.Registers.{variables, is_register}
 use Rattle.cpc_tree.specs.Typing.{Scope, ALocal, named, is_scalar, size, field}
-use Rattle.cpc_store.specs.Store.{Value, Unset, Whole, Store}
+use Rattle.cpc_store.specs.Store.{Value, Whole, Store}
 use Rattle.cpc_meaning.specs.Answer.{Gives}
 use Rattle.cpc_meaning.specs.Eval.{Slot, value}
 use Rattle.cpc_convert.specs.Form.{Has, OnTop, Below}
-use Rattle.cpc_forms.specs.Flow.{Place, Start, At}
+use Rattle.cpc_forms.specs.Flow.{Start}
 use Rattle.cpc_lift_laws.specs.Boxes.{is_box, is_box_in, has_block}
 use Rattle.cpc_lift_laws.specs.Lift.{boxes_from}
 use Rattle.cpc_lift_laws.proofs.Lift.{boxes_exact}
@@ -23,19 +23,19 @@ use Rattle.cpc_convert_chain_laws.specs.Fits.{Fits}
 use Rattle.cpc_convert_chain_laws.specs.Frames.{at}
 use Rattle.cpc_convert_chain_laws.proofs.Structs.{scalar_size}
 use Rattle.cpc_convert_event.specs.Names.{piece_name, frame_name, variable_name, box_tag}
-use Rattle.cpc_convert_event.specs.Routines.{Routine, routine_of, is_plain, variable_of, variable_or, stood_variable, local_of, passed_from, passed, variable_if, is_parameter}
+use Rattle.cpc_convert_event.specs.Routines.{Routine, routine_of, is_plain, variable_of, variable_or, local_of, passed_from, passed, variable_if, is_parameter}
 use Rattle.cpc_convert_event.specs.Pieces.{box_lines, fills_if, boxing_lines, boxing_of}
 use Rattle.cpc_convert_event.specs.Converted.{converted}
 use Rattle.cpc_convert_event.specs.FlatLaws.{piece_scope, piece_count}
-use Rattle.cpc_convert_event.specs.NameLaws.{IsNamed, IsCps, TheStart}
-use Rattle.cpc_convert_event.specs.LocalLaws.{piece_locals, StandsIn}
+use Rattle.cpc_convert_event.specs.NameLaws.{IsNamed, IsCps}
+use Rattle.cpc_convert_event.specs.LocalLaws.{piece_locals}
 use Rattle.cpc_convert_event.specs.StructLaws.{IsBox}
 use Rattle.cpc_convert_event.specs.FillLaws.{AllFit, NoneFit, OneFits, ParametersAreScalar}
-use Rattle.cpc_convert_event.specs.BoxingLaws.{VariablesHaveSizes, ArePlaces, StartBoxes, AllStartsBox}
+use Rattle.cpc_convert_event.specs.BoxingLaws.{VariablesHaveSizes, ArePlaces, AllStartsBox}
 use Rattle.cpc_convert_event.proofs.BoxesThere.{box_there}
 use Rattle.cpc_convert_event.proofs.StructsThere.{start_there}
 use Rattle.cpc_convert_event.proofs.Locals.{meant, box_stands, locals_count, counted}
-use Rattle.cpc_convert_event.proofs.Filling.{passed_at, fit_at}
+use Rattle.cpc_convert_event.proofs.Filling.{passed_at}
 use Rattle.cpc_convert_event.proofs.Numbers.{equal_is}
 
 -- a number that is held stands in the list

@@ -1,22 +1,22 @@
 -- The boxes that a piece gives back, and the arguments that it puts into the first frame of a call.
-use Rattle.std.proofs.Common.{◌≡◌, ℕ, zero, suc, ◌+◌, ◌<◌, Bool, true, false, cond, List, [], ◌∷◌, ◌++◌, map, length, slice_get, Option, Some, refl, sym, ◌∙◌, ap, subst, arith}
+use Rattle.std.proofs.Common.{◌≡◌, ℕ, zero, suc, ◌+◌, ◌<◌, Bool, true, false, cond, List, [], ◌∷◌, ◌++◌, map, length, slice_get, Some, refl, sym, ◌∙◌, ap, subst, arith}
 use Rattle.std.proofs.lemmas.Option.{slice_get_within}
 use Rattle.cpc_base.specs.Bytes.{Text}
 use Rattle.cpc_num.specs.declared.kinds.Fault.{Fault}
 use Rattle.cpc_tree.specs.Lists.{holds_number}
-use Rattle.cpc_tree.specs.Syntax.{Ty, Expr, Exprs, NoExpr, AndExpr, Variable, Parameter, Function, Program}
+use Rattle.cpc_tree.specs.Syntax.{Ty, Exprs, NoExpr, AndExpr, Variable, Parameter, Function, Program}
 use Rattle.cpc_tree.specs.Points.{locals}
 use Rattle.cpc_tree.specs.Registers.{variables, as_variable}
-use Rattle.cpc_tree.specs.Typing.{Scope, parameter_type, parameter_types, field}
+use Rattle.cpc_tree.specs.Typing.{Scope, parameter_type, field}
 use Rattle.cpc_store.specs.Store.{Value, Store}
 use Rattle.cpc_meaning.specs.Eval.{Slot, Register, Boxed}
 use Rattle.cpc_convert_image_laws.specs.Images.{Readings, image, images}
 use Rattle.cpc_forms.specs.Flow.{Start}
 use Rattle.cpc_lift_laws.specs.Boxes.{is_box}
-use Rattle.cpc_lift_laws.specs.Lift.{boxes_from, variable_count}
+use Rattle.cpc_lift_laws.specs.Lift.{boxes_from}
 use Rattle.cpc_lift_laws.proofs.Lift.{boxes_exact}
 use Rattle.cpc_convert_chain_laws.specs.Boxes.{Unboxing, NoUnboxing, PassSlot, AndUnbox}
-use Rattle.cpc_convert_chain_laws.specs.Frames.{Give, Giving, NoGiving, AndGiving, GivingFaults, FirstFaults, LaterFaults}
+use Rattle.cpc_convert_chain_laws.specs.Frames.{Giving, NoGiving, AndGiving, GivingFaults, FirstFaults, LaterFaults}
 use Rattle.cpc_convert_event.specs.Names.{piece_name, variable_name}
 use Rattle.cpc_convert_event.specs.Routines.{Routine, routine_of, local_of}
 use Rattle.cpc_convert_event.specs.Lines.{gives_from}

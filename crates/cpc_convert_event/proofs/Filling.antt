@@ -1,5 +1,5 @@
 -- What is saved in the frames of an event program, and loaded from them.
-use Rattle.std.proofs.Common.{◌≡◌, ℕ, zero, suc, ◌+◌, ◌<◌, Bool, true, false, not, ◌&&◌, ◌||◌, ◌==◌, cond, List, [], ◌∷◌, ◌++◌, map, length, slice_get, get_or, bytes_eq, Option, Some, None, refl, sym, ◌∙◌, ap, subst, codes, arith}
+use Rattle.std.proofs.Common.{◌≡◌, ℕ, zero, suc, ◌+◌, ◌<◌, Bool, true, false, ◌&&◌, ◌||◌, ◌==◌, cond, List, [], ◌∷◌, ◌++◌, map, length, slice_get, get_or, Some, refl, sym, ◌∙◌, ap, subst, codes, arith}
 use Rattle.std.proofs.lemmas.Option.{slice_get-get_or}
 use Rattle.cpc_base.specs.Bytes.{Text}
 use Rattle.cpc_num.specs.declared.kinds.Kind.TheVariants.{Int}
@@ -8,20 +8,19 @@ use Rattle.cpc_tree.specs.Syntax.{Ty, TyVoid, TyInt, TyPointer, TyStruct, Variab
 use Rattle.cpc_tree.specs.Registers.{variables}
 use Rattle.cpc_tree.specs.Typing.{Scope, is_scalar, field}
 use Rattle.cpc_store.specs.Store.{Value, Unset, Whole, Null, At as Pointer, Code, Cond}
-use Rattle.cpc_meaning.specs.Answer.{Gives}
-use Rattle.cpc_meaning.specs.Eval.{Slot, assigned}
+use Rattle.cpc_meaning.specs.Eval.{Slot}
 use Rattle.cpc_convert.specs.Form.{Has}
 use Rattle.cpc_forms.specs.Flow.{Place, Start, At}
 use Rattle.cpc_convert_image_laws.specs.Locals.{local_type}
 use Rattle.cpc_convert_chain_laws.specs.Chains.{frame_cells}
 use Rattle.cpc_convert_chain_laws.specs.Driver.{any_pointer, head_fields}
 use Rattle.cpc_convert_chain_laws.specs.Fits.{Fits}
-use Rattle.cpc_convert_chain_laws.specs.Frames.{Holds, Saving, NoSaving, AndSaving, Load, Loading, NoLoading, AndLoading, Scalars, NoScalars, AndScalar}
+use Rattle.cpc_convert_chain_laws.specs.Frames.{Saving, NoSaving, AndSaving, Load, Loading, NoLoading, AndLoading, Scalars, AndScalar}
 use Rattle.cpc_convert_chain_laws.specs.Structs.{IsStruct}
 use Rattle.cpc_convert_chain_laws.proofs.Lines.{both_true}
 use Rattle.cpc_graph_laws.proofs.Formed.{equal_self}
 use Rattle.cpc_convert_event.specs.Names.{piece_name, value_tag, frame_name, variable_name, box_tag}
-use Rattle.cpc_convert_event.specs.Routines.{Routine, routine_of, closure_of, is_plain, variable_of, variable_or, stood_variable, local_of, locals_of, variable_if, passed_from, passed, is_parameter, chosen}
+use Rattle.cpc_convert_event.specs.Routines.{Routine, routine_of, closure_of, is_plain, variable_of, variable_or, local_of, locals_of, variable_if, passed_from, passed, is_parameter}
 use Rattle.cpc_convert_event.specs.Frames.{arriving_type}
 use Rattle.cpc_convert_event.specs.Lines.{save_of}
 use Rattle.cpc_convert_event.specs.Pieces.{load_of, below_if, takes_value, value_load, loaded, loads_of}

@@ -1,31 +1,30 @@
 -- Each number of a piece has one row, and its label leads to it.
-use Rattle.std.proofs.Common.{◌≡◌, ◌⊎◌, inl, inr, ⊎_elim, ℕ, zero, suc, ◌+◌, ◌<◌, ◌≤◌, ◌^◌, Bool, true, false, not, ◌&&◌, ◌||◌, ◌==◌, cond, List, [], ◌∷◌, ◌++◌, map, reverse, length, decimal, slice_get, nat_le, nat_lt, bytes_eq, Option, Some, None, refl, sym, ◌∙◌, ap, subst, codes, arith}
+use Rattle.std.proofs.Common.{◌≡◌, ◌⊎◌, inl, inr, ⊎_elim, ℕ, zero, suc, ◌+◌, ◌<◌, ◌^◌, Bool, true, false, not, ◌&&◌, ◌||◌, ◌==◌, cond, List, [], ◌∷◌, ◌++◌, map, reverse, length, decimal, slice_get, nat_le, nat_lt, bytes_eq, Option, Some, None, refl, sym, ◌∙◌, ap, subst, codes, arith}
 use Rattle.std.proofs.lemmas.Bool.Decides.{nat_tests}
 use Rattle.std.proofs.lemmas.List.{reverse-append, reverse-reverse}
 use Rattle.cpc_base.specs.Bytes.{Text}
 use Rattle.cpc_tree.specs.Lists.{holds_number}
-use Rattle.cpc_tree.specs.Syntax.{TyPointer, TyStruct, Expr, ENamed, Stmt, Block, Empty, Declare, Assign, Call, Detach, Spawn, If, While, DoWhile, For, Goto, Label, Break, Continue, Return, Stmts, NoStmt, AndStmt, Variable, Function, Program}
-use Rattle.cpc_meaning.proofs.Functions.{text_same, same_text, texts_differ}
+use Rattle.cpc_tree.specs.Syntax.{TyPointer, TyStruct, ENamed, Stmt, Block, Empty, Declare, Assign, Call, Detach, Spawn, If, While, DoWhile, For, Goto, Label, Break, Continue, Return, Stmts, NoStmt, AndStmt, Function, Program}
+use Rattle.cpc_meaning.proofs.Functions.{text_same, texts_differ}
 use Rattle.cpc_convert.specs.Converted.{marked}
-use Rattle.cpc_convert.proofs.Marks.{marked_is, decimal_is}
+use Rattle.cpc_convert.proofs.Marks.{decimal_is}
 use Rattle.cpc_forms.specs.Graph.{graph_of}
 use Rattle.cpc_forms.specs.Flow.{Place, Flow, flow_of, is_leader}
-use Rattle.cpc_forms.specs.Split.{Split, number_if, owners_from, leaders_from, split_of}
+use Rattle.cpc_forms.specs.Split.{Split, number_if, owners_from, leaders_from}
 use Rattle.cpc_forms.specs.Pieces.{is_owned_by, owned_from, without, fronted, first_of, piece_nodes, Once, NoNumber, AndOther}
 use Rattle.cpc_graph_laws.proofs.Formed.{equal_self}
 use Rattle.cpc_graph_laws.proofs.Owning.{pieces_hold_once}
 use Rattle.cpc_convert_chain_laws.specs.Flat.{before, has_label, label_in}
-use Rattle.cpc_convert_chain_laws.specs.Frames.{Load, loads_one, declares_one, frees_frame}
+use Rattle.cpc_convert_chain_laws.specs.Frames.{loads_one, declares_one, frees_frame}
 use Rattle.cpc_convert_chain_laws.proofs.Lines.{both_true}
 use Rattle.cpc_convert_chain_laws.proofs.Labels.{NoLabel, NoneLeft, NotHere, label_behind, label_first}
 use Rattle.cpc_convert_event.specs.Names.{piece_name, node_label, pointer_name, frame_name}
 use Rattle.cpc_convert_event.specs.Routines.{Routine, routine_of, chosen}
-use Rattle.cpc_convert_event.specs.Rows.{owner_at, is_own, has_row, turned, rows_nodes, reached, stubs_of, Row, row_of, falls, number_where, stub_behind, numbers_from, completed, numbers_of, rows_of, Put, first_number, put_lines, PutRow, put_rows, put_statement, is_wanted, label_if, row_statements, rows_statements, piece_statements}
+use Rattle.cpc_convert_event.specs.Rows.{owner_at, is_own, has_row, turned, rows_nodes, reached, stubs_of, Row, row_of, falls, number_where, stub_behind, numbers_from, numbers_of, rows_of, Put, first_number, PutRow, put_rows, put_statement, is_wanted, label_if, row_statements, rows_statements, piece_statements}
 use Rattle.cpc_convert_event.specs.Pieces.{loads_of, declares_of, boxing_of, piece_body}
 use Rattle.cpc_convert_event.specs.FlatLaws.{opening}
-use Rattle.cpc_convert_event.specs.LabelLaws.{put_in, RowsStandOnce, AllRowsStandOnce, LabelsLead}
-use Rattle.cpc_convert_event.proofs.Apart.{no_bar_nothing}
-use Rattle.cpc_convert_event.proofs.Lines.{is_bare, AreBare, AllRows, AllDo, rows_map, lines_done, puts_done}
+use Rattle.cpc_convert_event.specs.LabelLaws.{put_in, AllRowsStandOnce, LabelsLead}
+use Rattle.cpc_convert_event.proofs.Lines.{is_bare, AreBare, AllRows, rows_map, lines_done, puts_done}
 use Rattle.cpc_convert_event.proofs.Flat.{boxes_done, before_append}
 use Rattle.cpc_convert_event.proofs.Numbers.{later, not_true, or_false, false_or, equal_is, apart_is, held_append, held_either, not_in_append, once_append, chosen_is, chosen_has, chosen_out, once_chosen, Rises, NoneRise, OneRise, rises_lower, rises_once}
 

@@ -4,21 +4,20 @@ use Rattle.std.proofs.lemmas.Option.{slice_get-get_or, slice_get_within}
 use Rattle.cpc_base.specs.Bytes.{Text}
 use Rattle.cpc_num.specs.declared.kinds.Kind.TheVariants.{Int}
 use Rattle.cpc_tree.specs.Lists.{holds_number, is_empty}
-use Rattle.cpc_tree.specs.Syntax.{Ty, TyPointer, TyStruct, TyInt, Declare, Stmt, Stmts, NoStmt, AndStmt, Variable, Function, Program}
-use Rattle.cpc_tree.specs.Points.{locals, locals_in}
-use Rattle.cpc_tree.specs.Registers.{variables, outer_scope}
+use Rattle.cpc_tree.specs.Syntax.{Ty, TyPointer, TyStruct, TyInt, Stmt, Stmts, NoStmt, AndStmt, Variable, Function, Program}
+use Rattle.cpc_tree.specs.Points.{locals_in}
+use Rattle.cpc_tree.specs.Registers.{variables}
 use Rattle.cpc_tree.specs.Typing.{Scope, ALocal, named, is_scalar}
 use Rattle.cpc_meaning.proofs.Functions.{texts_differ, text_same}
 use Rattle.cpc_convert.specs.Accepted.{has_marks}
 use Rattle.cpc_convert.specs.Converted.{marked}
-use Rattle.cpc_forms.specs.Graph.{Node, at_node}
 use Rattle.cpc_forms.specs.Flow.{Place, Start, At}
 use Rattle.cpc_forms.specs.Pieces.{Once, NoNumber, AndOther}
 use Rattle.cpc_graph_laws.proofs.Formed.{equal_self}
 use Rattle.cpc_lift_laws.specs.Search.{Link, keepers, closure_from}
 use Rattle.cpc_lift_laws.specs.Lift.{boxes_from, variables_in, variable_count}
 use Rattle.cpc_lift_laws.specs.Boxes.{is_box}
-use Rattle.cpc_convert_chain_laws.specs.Flat.{before, is_line}
+use Rattle.cpc_convert_chain_laws.specs.Flat.{before}
 use Rattle.cpc_convert_chain_laws.specs.Frames.{Load, loads_one, loaded_scope, declares_one, declared_scope, frees_frame, Scalars, NoScalars, AndScalar}
 use Rattle.cpc_convert_chain_laws.specs.Driver.{value_field, any_pointer}
 use Rattle.cpc_convert_chain_laws.proofs.Lines.{both_true, line_one}
@@ -26,15 +25,15 @@ use Rattle.cpc_convert_event.specs.Names.{piece_name, variable_name, pointer_nam
 use Rattle.cpc_convert_event.specs.Routines.{Routine, routine_of, closure_of, is_plain, variable_of, variable_or, stood_variable, local_of, locals_of, variable_if, is_parameter, chosen}
 use Rattle.cpc_convert_event.specs.Frames.{arriving_type}
 use Rattle.cpc_convert_event.specs.Rows.{rows_nodes, stubs_of, piece_statements}
-use Rattle.cpc_convert_event.specs.Pieces.{load_of, below_if, takes_value, value_load, loaded, loads_of, any_node, is_wait, is_entry, is_result, called_so, words_if, words_of, begun, declares_of, boxing_of, piece_body, piece_function}
+use Rattle.cpc_convert_event.specs.Pieces.{load_of, below_if, takes_value, value_load, loaded, loads_of, any_node, is_wait, is_entry, is_result, called_so, words_if, words_of, begun, declares_of, boxing_of, piece_function}
 use Rattle.cpc_convert_event.specs.FlatLaws.{piece_scope, piece_count}
-use Rattle.cpc_convert_event.specs.NameLaws.{IsNamed, IsCps, IsOwner}
-use Rattle.cpc_convert_event.specs.LocalLaws.{piece_locals, StandsIn, MeansLocals, AllLocalsAreMeant}
+use Rattle.cpc_convert_event.specs.NameLaws.{IsNamed, IsCps}
+use Rattle.cpc_convert_event.specs.LocalLaws.{piece_locals, StandsIn, AllLocalsAreMeant}
 use Rattle.cpc_convert_event.proofs.Fields.{variables_apart, word_apart, local_scalar, plain_scalar}
 use Rattle.cpc_convert_event.proofs.Lines.{AreLines, bare_lines, piece_lines}
 use Rattle.cpc_convert_event.proofs.Flat.{boxes_done}
 use Rattle.cpc_convert_event.proofs.StructsThere.{arriving_scalar}
-use Rattle.cpc_convert_event.proofs.Numbers.{later, or_false, false_or, equal_is, held_append, held_either, not_in_append, once_append, chosen_is, chosen_has, chosen_out, once_chosen, not_true, AllBelow, NoneBelow, OneBelow, below_append, below_chosen, Rises, NoneRise, OneRise, rises_lower, rises_below, rises_once}
+use Rattle.cpc_convert_event.proofs.Numbers.{later, or_false, equal_is, held_append, not_in_append, once_append, chosen_is, chosen_has, chosen_out, once_chosen, AllBelow, NoneBelow, OneBelow, below_append, below_chosen, Rises, NoneRise, OneRise, rises_lower, rises_below, rises_once}
 
 -- ---- names apart
 

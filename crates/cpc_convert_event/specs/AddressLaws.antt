@@ -1,7 +1,7 @@
 -- That the variables of pieces are registers, as statements.
 use Rattle.std.specs.Prelude.{◌≡◌, ℕ, Bool, true, false, ◌&&◌, [], slice_get, Option, Some, None}
 use Rattle.cpc_base.specs.Bytes.{Text}
-use Rattle.cpc_tree.specs.Syntax.{Expr, Stmt, Declare, Assign, Call, Detach, Spawn, Return, Function, Program}
+use Rattle.cpc_tree.specs.Syntax.{Stmt, Declare, Assign, Call, Detach, Spawn, Return, Function, Program}
 use Rattle.cpc_tree.specs.Points.{Found, Simple, Test, Nothing}
 use Rattle.cpc_tree.specs.Registers.{variables, addressed}
 use Rattle.cpc_tree.specs.Typing.{is_scalar}

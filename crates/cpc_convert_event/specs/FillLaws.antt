@@ -1,6 +1,5 @@
 -- What is saved in the frames of an event program, and loaded from them, as statements.
 use Rattle.std.specs.Prelude.{◌≡◌, ℕ, ◌<◌, Bool, true, false, List, [], ◌∷◌, map, length, slice_get, get_or, Some}
-use Rattle.cpc_base.specs.Bytes.{Text}
 use Rattle.cpc_tree.specs.Syntax.{Variable, Function, Program}
 use Rattle.cpc_tree.specs.Registers.{variables}
 use Rattle.cpc_tree.specs.Typing.{Scope, is_scalar}
@@ -13,7 +12,7 @@ use Rattle.cpc_convert_chain_laws.specs.Driver.{any_pointer}
 use Rattle.cpc_convert_chain_laws.specs.Fits.{Fits}
 use Rattle.cpc_convert_chain_laws.specs.Frames.{Holds, Saving, Loading}
 use Rattle.cpc_convert_event.specs.Names.{piece_name, frame_name}
-use Rattle.cpc_convert_event.specs.Routines.{Routine, routine_of, closure_of, local_of, locals_of, passed}
+use Rattle.cpc_convert_event.specs.Routines.{routine_of, closure_of, local_of, locals_of, passed}
 use Rattle.cpc_convert_event.specs.Frames.{arriving_type}
 use Rattle.cpc_convert_event.specs.Lines.{save_of}
 use Rattle.cpc_convert_event.specs.Pieces.{takes_value, loaded, loads_of}
