@@ -41,7 +41,7 @@ abbrev store_in : Store → Answer (Store × Value) → Store
 store_in s (Gives r) = r.0
 store_in s _ = s
 
-allocated_boxes : (v : Value) (s t : Store) (u : Value) → allocated Heap v s ≡ Gives (t, u) → t.auto ≡ s.auto
+pub allocated_boxes : (v : Value) (s t : Store) (u : Value) → allocated Heap v s ≡ Gives (t, u) → t.auto ≡ s.auto
 allocated_boxes (Whole kind z) s t u e = go (int_lt z (pos 0)) e
   where
     go : (b : Bool) → cond {A = Answer (Store × Value)} b (Faults F.Length) (Gives (alloc Heap (replicate (unsigned_abs z) Unset) s, Pointer Heap (next_block Heap s) 0)) ≡ Gives (t, u) → t.auto ≡ s.auto
@@ -58,7 +58,7 @@ free_boxes (Pointer d n k) s t e = go (same_class Heap d && is_some (cells_of d 
     go false i = absurd (cc)
 free_boxes _ s t e = absurd (cc)
 
-freed_boxes : (v : Value) (s t : Store) (u : Value) → freed Heap v s ≡ Gives (t, u) → t.auto ≡ s.auto
+pub freed_boxes : (v : Value) (s t : Store) (u : Value) → freed Heap v s ≡ Gives (t, u) → t.auto ≡ s.auto
 freed_boxes v s t u e = go (free Heap v s) refl e
   where
     then_unset : Answer Store → Answer (Store × Value)
