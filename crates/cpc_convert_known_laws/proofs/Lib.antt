@@ -1,0 +1,3 @@
+pub mod BoxStores
+pub mod BoxActs
+pub mod BoxRuns

@@ -1,0 +1,12 @@
+-- What holds of each state of a lifted run, as statements.
+use Rattle.std.specs.Prelude.{ℕ, Bool}
+use Rattle.cpc_base.specs.Bytes.{Text}
+use Rattle.cpc_meaning_matching.specs.Systems.{run}
+use Rattle.cpc_meaning.specs.History.{History}
+use Rattle.cpc_meaning.specs.Plain.{Form}
+use Rattle.cpc_lift_laws.specs.Lifted.{lifted_system}
+use Rattle.cpc_convert_laws.specs.Boxes.{OwnsBoxes}
+
+-- the boxes of all frames of all threads are live, and no two of them are one block
+abbrev pub LiftedBoxesStay : (P : Type 0) → Type 0
+LiftedBoxesStay P = (p : Form P) (kept : Text → P → ℕ → Bool) (h : History) (n : ℕ) → OwnsBoxes (run (lifted_system kept p h) n)

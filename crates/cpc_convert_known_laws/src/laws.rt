@@ -1,0 +1,7 @@
+//! The laws, each as the contract of a function that does nothing.
+ghost use Rattle.cpc_convert_known_laws.specs.Laws.{LiftedBoxesStay};
+
+/// In each state of a lifted run the boxes of all frames of all threads are live, and no two of them are one block.
+pub fn lifted_boxes_stay<P>()
+    ensures law { LiftedBoxesStay P }
+{}
