@@ -25,7 +25,7 @@ use Rattle.cpc_convert_laws.proofs.Setting.{Setting, from_form}
 
 -- The piece of this name is entered with the pointer to block b, over these frame blocks and the store s. Some steps, at most so many, lead
 -- to where it stands for a frame of f at node n of owner l, with these variables and the store t; block b is then free, and so are blocks
--- that were made besides (as by the start of a function whose first node is a leader).
+-- that were made besides; the driver may hold another frame by then (so it is with the start of a function whose first node is a leader).
 pub record Opens (z : Setting) (bound : ℕ) (name : Text) (w : World) (bs : Blocks) (s : Store) (b : ℕ) (f : Text) (l : Place) (n : ℕ) (slots : List Slot) (o : Option Value) (next : Value) (t : Store) : Type 0 where
   pub function : Function
   pub is_piece : IsPiece z.target name function
@@ -35,8 +35,9 @@ pub record Opens (z : Setting) (bound : ℕ) (name : Text) (w : World) (bs : Blo
   pub within : steps ≤ bound
   pub piece : CallFrame Point
   pub more : ℕ
+  pub taken : Value → Value
   pub leads : (pointer result frame : Value) → Walk z.target w.trace steps (entered z.target w (beside bs s) function locals pointer result frame)
-      (running w (beside (beyond more (slice_set bs b None)) t) (piece ∷ driving pointer result frame ∷ []) None)
+      (running w (beside (beyond more (slice_set bs b None)) t) (piece ∷ driving pointer result (taken frame) ∷ []) None)
   pub stands : z.there f l n slots o next piece None
 
 -- what is known of the driver, and of the beginning of pieces, whose steps are at most so many

@@ -3,7 +3,7 @@ use Rattle.std.proofs.Common.{◌≡◌, ℕ, ◌+◌, List, [], ◌∷◌, ◌+
 use Rattle.cpc_base.specs.Bytes.{Text}
 use Rattle.cpc_num.specs.declared.kinds.Kind.TheVariants.{Int}
 use Rattle.cpc_store.specs.declared.values.Class.TheVariants.{Frame}
-use Rattle.cpc_store.specs.Store.{Value, At as Pointer, Blocks, Store}
+use Rattle.cpc_store.specs.Store.{Value, Unset, At as Pointer, Blocks, Store}
 use Rattle.cpc_tree.specs.Syntax.{TyInt}
 use Rattle.cpc_meaning.specs.Answer.{Gives}
 use Rattle.cpc_meaning.specs.Agenda.{Agenda, Due}
@@ -27,7 +27,7 @@ use Rattle.cpc_convert_laws.specs.Fresh.{AllFresh, beyond}
 use Rattle.cpc_convert_laws.specs.Sums.{sum, total}
 use Rattle.cpc_convert_laws.specs.Items.{Cut, FramesWait, Tagged, ItemFor, IsUntagged, owned_in}
 use Rattle.cpc_convert_laws.specs.Running.{AtNode, PieceRuns}
-use Rattle.cpc_convert_laws.proofs.Fresh.{agenda_beyond, chain_beyond, owns_beyond, fresh_beyond, fresh_taken}
+use Rattle.cpc_convert_laws.proofs.Fresh.{agenda_beyond, chain_beyond, owns_beyond, fresh_beyond, fresh_taken, set_same}
 use Rattle.cpc_convert_laws.proofs.Items.{count_owned, agenda_changed, item_kept}
 use Rattle.cpc_convert_laws.proofs.Relation.{Source, Shared, AgendaFor, source_state, target_state, world_of, Goes}
 use Rattle.cpc_convert_laws.proofs.Rows.{RowFor, Reached, reached_after, row_reached}
@@ -37,6 +37,10 @@ use Rattle.cpc_convert_laws.proofs.Entry.{Opens}
 -- the frame blocks where a value was given to a frame
 abbrev pub given_value : Blocks → ℕ → Saved → (next value : Value) → Blocks
 given_value bs b f next v = slice_set bs b (Some (frame_cells f next v))
+
+-- nothing is changed where the value is unset, as it is at a frame that waits
+pub unset_given : (bs : Blocks) (f : Saved) (fs : List Saved) (b : ℕ) (next : Value) (owned : List ℕ) → Top bs f fs b next Unset owned → given_value bs b f next Unset ≡ bs
+unset_given bs f fs b next owned top = set_same bs b (frame_cells f next Unset) top.cells
 
 -- ---- the agenda without the first of its round
 
@@ -111,11 +115,11 @@ module _ (z : Setting) (bound : ℕ) (driver : DriverFacts z.target) (w : Shared
     opened pointer result frame = record {
       steps = opens.steps;
       within = opens.within;
-      last = running (world_of w c) (beside freed_blocks t) (opens.piece ∷ driving pointer result frame ∷ []) None;
+      last = running (world_of w c) (beside freed_blocks t) (opens.piece ∷ driving pointer result (opens.taken frame) ∷ []) None;
       leads = opens.leads pointer result frame;
       ends =
           Goes (record w { store = t }) freed_blocks _ _ owned a tags c
-          (PieceRuns _ o _ None owned (AtNode x l n slots o below opens.piece None opens.stands frames fs owned waits (chain_beyond opens.more (slice_set cs b None) fs below owned (chain_taken cs f fs b below v owned top)) pointer result frame))
+          (PieceRuns _ o _ None owned (AtNode x l n slots o below opens.piece None opens.stands frames fs owned waits (chain_beyond opens.more (slice_set cs b None) fs below owned (chain_taken cs f fs b below v owned top)) pointer result (opens.taken frame)))
           (agenda_beyond opens.more z.cut (slice_set cs b None) a tags c
           (record { items = agenda_changed (λ (t : Tagged). count b t.owned) (λ i t r e. item_kept z.cut cs (slice_set cs b None) i t (λ p saved h. chain_set cs b None saved p t.owned e h) r) a tags apart g.items; untagged = g.untagged }))
           (owns_beyond opens.more (slice_set cs b None) (owned ++ owned_in tags) (owns_free cs b (owned ++ owned_in tags) owns))
