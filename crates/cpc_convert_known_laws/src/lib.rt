@@ -3,4 +3,4 @@
 
 mod laws;
 
-pub use laws::lifted_boxes_stay;
+pub use laws::{lifted_boxes_stay, lifted_jobs_stay};
