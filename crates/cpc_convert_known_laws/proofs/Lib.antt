@@ -3,3 +3,4 @@ pub mod BoxActs
 pub mod BoxRuns
 pub mod JobActs
 pub mod JobRuns
+pub mod Known
