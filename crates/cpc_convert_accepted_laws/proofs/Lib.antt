@@ -14,3 +14,6 @@ pub mod Functions
 pub mod Lives
 pub mod Walk
 pub mod Begins
+pub mod Cells
+pub mod Addressed
+pub mod Pieces

@@ -113,7 +113,7 @@ item_no_local n (GlobalItem g u start ∷ items) x = neither (bytes_eq g x) _ _ 
 item_no_local n (PrototypeItem mode f r ps ∷ items) x = neither (bytes_eq f x) _ _ refl (item_no_local n items x)
 item_no_local n (FunctionItem f ∷ items) x = neither (bytes_eq f.called x) _ _ refl (item_no_local n items x)
 
-no_local : (n : ℕ) (items : Program) (x : Text) (k : ℕ) (t : Ty) → item_named n items x ≡ ALocal k t → ⊥
+pub no_local : (n : ℕ) (items : Program) (x : Text) (k : ℕ) (t : Ty) → item_named n items x ≡ ALocal k t → ⊥
 no_local n items x k t e = let i : true ≡ false = sym (ap is_local e) ∙ item_no_local n items x in cc
 
 -- where these names are the variables of their numbers, a name that means a variable is its name

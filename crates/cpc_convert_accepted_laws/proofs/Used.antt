@@ -101,7 +101,7 @@ module _ (p : Program) (names : HasNames p) (scope : Scope) where
   -- ---- expressions
 
   -- two operands with types of which something is made
-  two_parts : (a b : Option Typed) (rest : Ty → Ty → Option Typed) (d : Typed) → (a >>= λ x. used x >>= λ t. b >>= λ y. used y >>= λ u. rest t u) ≡ Some d
+  pub two_parts : (a b : Option Typed) (rest : Ty → Ty → Option Typed) (d : Typed) → (a >>= λ x. used x >>= λ t. b >>= λ y. used y >>= λ u. rest t u) ≡ Some d
       → ((x : Typed) × (a ≡ Some x)) × ((y : Typed) × (b ≡ Some y))
   two_parts None b rest d h = no_some d h
   two_parts (Some x) b rest d h = ((x, refl), second (used x) b h)

@@ -6,3 +6,4 @@ pub mod Known
 pub mod Points
 pub mod Functions
 pub mod Moves
+pub mod Pieces

@@ -3,6 +3,7 @@ ghost use Rattle.cpc_convert_accepted_laws.specs.Functions.{AcceptedHasMain, Acc
 ghost use Rattle.cpc_convert_accepted_laws.specs.Known.{AcceptedCodesStay, AcceptedIsFine};
 ghost use Rattle.cpc_convert_accepted_laws.specs.Lifted.{LiftedRunsAreKnown, ProgramsAreClosed, ProgramsAreSplit, ThreadsFollow};
 ghost use Rattle.cpc_convert_accepted_laws.specs.Names.{AcceptedHasNames, AcceptedIsNamed};
+ghost use Rattle.cpc_convert_accepted_laws.specs.Pieces.{AcceptedSuitsPieces};
 ghost use Rattle.cpc_convert_accepted_laws.specs.Points.{AcceptedPositionsKnown};
 ghost use Rattle.cpc_convert_accepted_laws.specs.Steady.{AcceptedNeverStuck, AcceptedSplitsHold, SplitsAreSteady};
 
@@ -80,4 +81,10 @@ pub fn accepted_is_shown()
 /// The `main` of an accepted program is native or cps, takes nothing and gives an int.
 pub fn accepted_has_main()
     ensures law { AcceptedHasMain }
+{}
+
+/// Each function of an accepted program is as its pieces ask: in its code `&` is applied to boxes, globals and functions alone,
+/// what it gives and what it is called with is scalar, and its variables have cells.
+pub fn accepted_suits_pieces()
+    ensures law { AcceptedSuitsPieces }
 {}
