@@ -1,6 +1,6 @@
 -- The loop's lists where items that wait become ready.
-use Rattle.std.proofs.Common.{◌≡◌, ℕ, ◌+◌, ◌≤◌, ◌⊎◌, Bool, true, false, List, [], ◌∷◌, ◌++◌, map, length, Option, Some, None, Result, Ok, Err, inl, inr, refl, sym, ap, ◌∙◌, arith, suc}
-use Rattle.std.specs.Prelude.{ℤ, pos, filter, if◌then◌else◌}
+use Rattle.std.proofs.Common.{◌≡◌, ℕ, ◌+◌, ◌≤◌, ◌⊎◌, Bool, true, false, List, [], ◌∷◌, ◌++◌, map, length, Some, None, Ok, Err, inl, inr, refl, sym, ap, ◌∙◌, arith}
+use Rattle.std.specs.Prelude.{ℤ, pos, if◌then◌else◌}
 use Rattle.std.specs.Option.{option_map}
 use Rattle.std.specs.List.{list_any}
 use Rattle.std.specs.Prelude.{◌==◌}
@@ -16,12 +16,11 @@ use Rattle.cpc_tree.specs.Lists.{holds_number, is_empty}
 use Rattle.cpc_base.specs.declared.stop.Stop.{Stop}
 use Rattle.cpc_base.specs.declared.stop.Stop.TheVariants.{Memory, Fault}
 use Rattle.cpc_agenda_queues.specs.Queued.{first_of}
-use Rattle.cpc_agenda_queues.proofs.QueueLemmas.{bool_cases}
 use Rattle.cpc_conds.specs.Conditions as C
 use Rattle.cpc_descr.specs.Descriptors as D
 use Rattle.cpc_timers.specs.Timing as M
 use Rattle.cpc_meaning.specs.Agenda as A
-use Rattle.cpc_agenda.specs.Lists.{due_of, value_of}
+use Rattle.cpc_agenda.specs.Lists.{due_of}
 use Rattle.cpc_agenda_whole.specs.Acts.{waiters_woken, descriptors_woken}
 use Rattle.cpc_agenda_whole.specs.Lists.{listed}
 use Rattle.cpc_agenda_whole.specs.Sectioning as S
@@ -45,7 +44,7 @@ room_moves len now cap cap' n n' h i j k = omega (arith, h, i, j, k)
 
 -- ---- acts on a condition
 
-pub does : {T : Type 0} (c : ℕ) (a b : A.Agenda T) → list_any (λ n. n == c) a.live ≡ true → A.where_live c a b ≡ Ok b
+does : {T : Type 0} (c : ℕ) (a b : A.Agenda T) → list_any (λ n. n == c) a.live ≡ true → A.where_live c a b ≡ Ok b
 does c a b h = let g : holds_number a.live c ≡ true = sym (any_held a.live c) ∙ h in rw g refl
 
 pub fails : {T : Type 0} (c : ℕ) (a b : A.Agenda T) → list_any (λ n. n == c) a.live ≡ false → A.where_live c a b ≡ Err F.CondVar
@@ -55,7 +54,7 @@ pub not_live : {F : Type 0} (s : Stop F) (fault : F) (live : Bool) → s ≡ Fau
 not_live s fault live h (inl e) = cc
 not_live s fault live h (inr f) = f
 
-pub frees : {T : Type 0} (c : ℕ) (a : A.Agenda T) → list_any (λ n. n == c) a.live ≡ true → first_passing (waits_on c) a.waiters ≡ [] → A.cond_free c a ≡ Ok (record a { live = without (λ n. n == c) a.live })
+frees : {T : Type 0} (c : ℕ) (a : A.Agenda T) → list_any (λ n. n == c) a.live ≡ true → first_passing (waits_on c) a.waiters ≡ [] → A.cond_free c a ≡ Ok (record a { live = without (λ n. n == c) a.live })
 frees c a l h = ap (λ ws. if is_empty ws then A.where_live c a (record a { live = without (λ n. n == c) a.live }) else Err F.CondVar) h ∙ does c a (record a { live = without (λ n. n == c) a.live }) l
 
 pub frees_not : {T : Type 0} (c : ℕ) (a : A.Agenda T) → (list_any (λ n. n == c) a.live ≡ false) ⊎ (¬ (first_passing (waits_on c) a.waiters ≡ [])) → A.cond_free c a ≡ Err F.CondVar
@@ -95,7 +94,7 @@ module _ {T : Type 0} (names : Names) (round : List (T × Value)) (d : D.Descrip
   nobody c s h = nothing C.item_of (waits_on c) first_of refl (λ w. refl) s.waiters h
 
   -- the longest waiter becomes ready
-  pub signalled : (c : ℕ) (r r' : List (T × Value)) (s s' : C.Conditions T) (item : T) → r' ≡ r ++ (item, nothing_told) ∷ [] → s' ≡ C.take_first c s
+  signalled : (c : ℕ) (r r' : List (T × Value)) (s s' : C.Conditions T) (item : T) → r' ≡ r ++ (item, nothing_told) ∷ [] → s' ≡ C.take_first c s
       → Some item ≡ option_map C.item_of (first_of (C.first_waiter c s))
       → A.ready_all (map A.waiter (first_passing (waits_on c) s.waiters)) (record (in_conds r s) { waiters = without_first (waits_on c) s.waiters }) ≡ in_conds r' s'
   signalled c r r' s s' item e h f =
@@ -104,11 +103,34 @@ module _ {T : Type 0} (names : Names) (round : List (T × Value)) (d : D.Descrip
       ∙ ap see (sym (ready_more names r item)) ∙ ap (λ y. in_conds y (C.take_first c s)) (sym e) ∙ ap (in_conds r') (sym h)
 
   -- nobody waits
-  pub signal_lost : (c : ℕ) (r : List (T × Value)) (s s' : C.Conditions T) → s' ≡ C.take_first c s → None ≡ option_map C.item_of (first_of (C.first_waiter c s))
+  signal_lost : (c : ℕ) (r : List (T × Value)) (s s' : C.Conditions T) → s' ≡ C.take_first c s → None ≡ option_map C.item_of (first_of (C.first_waiter c s))
       → A.ready_all (map A.waiter (first_passing (waits_on c) s.waiters)) (record (in_conds r s) { waiters = without_first (waits_on c) s.waiters }) ≡ in_conds r s'
   signal_lost c r s s' h f =
       let see : List (A.Due T) → A.Agenda T = λ ds. record (in_conds r (C.take_first c s)) { ready = ds } in
       ap (λ ws. see (map (due_of names) r ++ map plain (map A.waiter ws))) (nobody c s f) ∙ ap see (append-nil (map (due_of names) r)) ∙ ap (in_conds r) (sym h)
+
+  -- ---- the acts as a whole
+
+  pub signal_wakes : (c : ℕ) (r q r' : List (T × Value)) (s s' : C.Conditions T) (item : T) → list_any (λ n. n == c) s.live ≡ true → q ≡ r → r' ≡ q ++ (item, nothing_told) ∷ [] → s' ≡ C.take_first c s
+      → Some item ≡ option_map C.item_of (first_of (C.first_waiter c s)) → A.signal c (in_conds r s) ≡ Ok (in_conds r' s')
+  signal_wakes c r q r' s s' item l k e h f =
+      does c (in_conds r s) (A.ready_all (map A.waiter (first_passing (waits_on c) s.waiters)) (record (in_conds r s) { waiters = without_first (waits_on c) s.waiters })) l
+      ∙ ap Ok (signalled c r r' s s' item (e ∙ ap (λ y. y ++ (item, nothing_told) ∷ []) k) h f)
+
+  pub signal_is_lost : (c : ℕ) (r q : List (T × Value)) (s s' : C.Conditions T) → list_any (λ n. n == c) s.live ≡ true → q ≡ r → s' ≡ C.take_first c s
+      → None ≡ option_map C.item_of (first_of (C.first_waiter c s)) → A.signal c (in_conds r s) ≡ Ok (in_conds q s')
+  signal_is_lost c r q s s' l k h f =
+      does c (in_conds r s) (A.ready_all (map A.waiter (first_passing (waits_on c) s.waiters)) (record (in_conds r s) { waiters = without_first (waits_on c) s.waiters })) l
+      ∙ ap Ok (signal_lost c r s s' h f ∙ ap (λ y. in_conds y s') (sym k))
+
+  pub all_signalled : (c : ℕ) (r q : List (T × Value)) (s : C.Conditions T) (new : A.Agenda T) → list_any (λ n. n == c) s.live ≡ true → q ≡ r → new ≡ waiters_woken c (in_conds q s) → A.signal_all c (in_conds r s) ≡ Ok new
+  all_signalled c r q s new l k h = does c (in_conds r s) (waiters_woken c (in_conds r s)) l ∙ ap Ok (ap (λ y. waiters_woken c (in_conds y s)) (sym k) ∙ sym h)
+
+  pub waits : (c : ℕ) (r : List (T × Value)) (s s' : C.Conditions T) (item : T) → list_any (λ n. n == c) s.live ≡ true → s' ≡ C.wait c item s → A.wait c item (in_conds r s) ≡ Ok (in_conds r s')
+  waits c r s s' item l h = does c (in_conds r s) (record (in_conds r s) { waiters = s.waiters ++ record { item = item; condition = c } ∷ [] }) l ∙ ap (λ y. Ok (in_conds r y)) (sym h)
+
+  pub releases : (c : ℕ) (r : List (T × Value)) (s s' : C.Conditions T) → list_any (λ n. n == c) s.live ≡ true → first_passing (waits_on c) s.waiters ≡ [] → s' ≡ C.release c s → A.cond_free c (in_conds r s) ≡ Ok (in_conds r s')
+  releases c r s s' l n h = frees c (in_conds r s) l n ∙ ap (λ y. Ok (in_conds r y)) (sym h)
 
   -- the longest of those that become ready
   pub waiter_woken : (c : ℕ) (r r' : List (T × Value)) (s s' : C.Conditions T) (item : T) → r' ≡ r ++ (item, nothing_told) ∷ [] → s' ≡ C.take_first c s

@@ -1,9 +1,9 @@
 -- What the loop's acts come to, and what is left to do of those that wake many.
-use Rattle.std.specs.Prelude.{ℕ, ℤ, Option, Some, None, Result, Ok, Err, List, map, filter}
+use Rattle.std.specs.Prelude.{ℕ, ℤ, Result, Ok, Err, map, filter}
 use Rattle.cpc_base.specs.declared.poll.Direction.{Direction}
 use Rattle.cpc_base.specs.declared.stop.Stop.{Stop}
 use Rattle.cpc_base.specs.declared.stop.Stop.TheVariants.{Memory, Fault}
-use Rattle.cpc_base.specs.Waiting.{waits_on, waits_for, is_due, without}
+use Rattle.cpc_base.specs.Waiting.{waits_on, waits_for, without}
 use Rattle.cpc_meaning.specs.Agenda as A
 
 -- what is said of a fault; want of memory says nothing

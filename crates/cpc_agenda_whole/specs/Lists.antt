@@ -1,5 +1,5 @@
 -- The lists of the loop, as the definitions have them.
-use Rattle.std.specs.Prelude.{◌≡◌, ◌+◌, ◌≤◌, ℕ, Option, Some, None, List, length, map}
+use Rattle.std.specs.Prelude.{◌≡◌, ◌+◌, ◌≤◌, ℕ, List, length, map}
 use Rattle.std.specs.VecDeque.{deque_len, deque_capacity}
 use Rattle.cpc_tree.specs.Erase.{Names}
 use Rattle.cpc_meaning.specs.Agenda as A
