@@ -1,6 +1,7 @@
 //! Items that are ready, those of the round, and those that wait.
 ghost use Rattle.std.specs.Prelude.{◌≡◌, ◌+◌, ◌<◌, ◌^◌, IsTrue, [], ◌∷◌, IfErr, IfSome, IfNone, length, OnOk, OnErr};
 ghost use Rattle.cpc_tree.specs.Erase.{Names};
+ghost use Rattle.cpc_tree.specs.Lists.{is_empty};
 ghost use Rattle.cpc_meaning.specs.Agenda as A;
 ghost use Rattle.cpc_agenda.specs.Lists.{due_of};
 ghost use Rattle.cpc_agenda_whole.specs.Lists.{lists_of, counters_of, IsAsBefore};
@@ -87,6 +88,13 @@ impl<T: Drop> Agenda<T> {
         ensures counters { counters_of self.new ≡ counters_of self.old }
     {
         self.round.pop_front()
+    }
+
+    /// Whether nothing is ready.
+    pub fn is_idle(&self) -> bool
+        ensures { (names : Names) → result ≡ is_empty (lists_of names self.now).ready }
+    {
+        self.ready.is_empty()
     }
 
     /// Whether a timer, a descriptor wait or a section is outstanding, so that a new round waits for a poll.
