@@ -57,7 +57,9 @@ boxed_points p f = map (boxed_point p f) (points f.body)
 abbrev pub point_seen : Names → List Variable → B.BoxedPoint → BoxedPoint
 point_seen names vs b = record { stood = stood_seen names b.stood; scope = scope_seen names vs b.scope; manner = manner_seen b.manner }
 
--- these are the variables and the points of a function of a program, by any texts that tell its names
+-- these are the variables and the points of a function of a program, by any texts that tell its names, and there are such texts
 pub record IsBoxed (p : Program) (f : Function) (vs : List Variable) (bs : List B.BoxedPoint) : Type 0 where
+  pub names : Names
+  pub spelled : IsSpelled names p f
   pub variables : (names : Names) → IsSpelled names p f → map (variable_seen names) vs ≡ marked (function_of names f)
   pub points : (names : Names) → IsSpelled names p f → map (point_seen names vs) bs ≡ boxed_points (program_by names p) (function_of names f)

@@ -1,5 +1,5 @@
 -- The parts of forms, as the definitions have them.
-use Rattle.std.specs.Prelude.{ℕ, zero, suc, List, [], ◌∷◌, length, slice_get, Option, Some, None, option_map}
+use Rattle.std.specs.Prelude.{◌≡◌, ℕ, zero, suc, false, bytes_eq, List, [], ◌∷◌, length, slice_get, Option, Some, None, option_map}
 use Rattle.std.specs.Borrow.{Bor}
 use Rattle.cpc_base.specs.declared.names.Name.{Name}
 use Rattle.cpc_tree.specs.Erase.{Names, type_of, expr_of, stmt_of, text_of}
@@ -50,3 +50,7 @@ scope_within names vs (suc d) (Some k) = scope_behind names (scope_within names 
 -- the names in scope where a variable of these is the innermost one
 abbrev pub scope_seen : Names → List Variable → Option ℕ → T.Scope
 scope_seen names vs o = scope_within names vs (length vs) o
+
+-- no name has the text of a variable without a name
+pub record AreNamed (names : Names) (vs : List Variable) : Type 0 where
+  pub each : (k : ℕ) (v : Variable) → slice_get vs k ≡ Some v → v.name ≡ None → (x : Name) → bytes_eq [] (names x) ≡ false

@@ -4,8 +4,10 @@
 
 mod boxed;
 mod graph;
+mod scopes;
 mod split;
 
 pub use boxed::{Boxed, BoxedFunction, BoxedPoint, Manner, Stood, Variable};
 pub use graph::{Graph, GraphFunction, Node};
+pub use scopes::slot;
 pub use split::{Owner, SplitFunction, SplitProgram};

@@ -1,0 +1,5 @@
+pub mod Ends
+pub mod Labels
+pub mod Ways
+pub mod Joined
+pub mod Headers
