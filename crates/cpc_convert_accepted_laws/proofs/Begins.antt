@@ -2,6 +2,7 @@
 use Rattle.std.proofs.Common.{◌≡◌, ℕ, zero, suc, Bool, true, false, cond, List, [], ◌∷◌, slice_get, Option, Some, None, Result, Ok, Err, refl, subst}
 use Rattle.std.specs.List.{All}
 use Rattle.std.proofs.lemmas.List.Elements.{All-nil, All-cons, All-head, All-tail, All-push}
+use Rattle.cpc_base.specs.Bytes.{Text}
 use Rattle.cpc_store.specs.declared.values.Class.{Class}
 use Rattle.cpc_store.specs.declared.values.Scalar.{Scalar}
 use Rattle.cpc_store.specs.Store.{Value, Unset, At, Store, cells_of, load, load_cell, load_block, suits}
@@ -31,8 +32,9 @@ use Rattle.cpc_meaning_kept_laws.specs.Layers.{Holds}
 use Rattle.cpc_meaning_kept_laws.proofs.Agendas as A
 use Rattle.cpc_meaning_kept_laws.proofs.CodeActs.{DoneCode, plain_code}
 use Rattle.cpc_meaning_kept_laws.proofs.Steps.{DoneSo, plain_so}
-use Rattle.cpc_convert_accepted_laws.specs.Known.{BeginsWell}
+use Rattle.cpc_convert_accepted_laws.specs.Known.{AreScalar, BeginsWell}
 use Rattle.cpc_convert_accepted_laws.specs.Moves.{Shuffled, MadeCondition, FreedCondition, Signalled, SignalledAll, BeganRound, WasPolled, Added, IsReady, Sleeps, AwaitsIo, WaitsOn, AwaitsSection, IsKept}
+use Rattle.cpc_convert_accepted_laws.proofs.Spawns.{Spawning, step_spawns}
 use Rattle.cpc_convert_accepted_laws.proofs.Walk.{Next, next_so}
 
 -- nothing is said of a result
@@ -102,9 +104,9 @@ module _ {P : Type 0} (p : Form P) where
   abbrev pub Begun : Store → Option (Stack P) → Agenda (Thread P) → List Job → Type 0
   Begun s o a jobs = Lists a × All (CodedJob p.program) jobs
 
-  -- the arguments of what is spawned fit, and those of a section are no codes of cps functions
+  -- the arguments of what is spawned fit scalar types, and those of a section are no codes of cps functions
   abbrev pub AskedWell : Store → Stack P → Asked → List Value → Type 0
-  AskedWell s k (ToSpawn f) vs = (g : Function) → function_named p.program f ≡ Some g → FitAll (parameter_types g) vs
+  AskedWell s k (ToSpawn f) vs = (g : Function) → function_named p.program f ≡ Some g → FitAll (parameter_types g) vs × AreScalar (parameter_types g)
   AskedWell s k (Section f) vs = All (IsCode p.program) vs × IsCodeStore p.program s
   AskedWell s k asked vs = Unit {0}
 
@@ -149,14 +151,20 @@ module _ {P : Type 0} (p : Form P) where
 
   -- ---- runs
 
-  module _ (steady : IsSteady p) where
+  -- what is spawned takes scalars
+  abbrev pub SpawnsScalars : Type 0
+  SpawnsScalars = (f : Text) → Spawning p f → (g : Function) → function_named p.program f ≡ Some g → AreScalar (parameter_types g)
+
+  module _ (steady : IsSteady p) (spawns : SpawnsScalars) where
     asks_well : (s : State P (Thread P)) → Holds p.program s → (k : Stack P) → s.running ≡ Some k → (asked : Asked) (vs : List Value) → plain p s.store k ≡ Gives (Asks (record { asked = asked; arguments = vs })) → AskedWell s.store k asked vs
-    asks_well s holds k e (ToSpawn f) vs i = (subst (Only (DoneSo p s.store k.frames)) i (plain_so p steady s.store k)).0
+    asks_well s holds k e (ToSpawn f) vs i =
+        let fit = (subst (Only (DoneSo p s.store k.frames)) i (plain_so p steady s.store k)).0 in
+        λ g j. (fit g j, spawns f (step_spawns p s.store k.arriving k.frames f vs i) g j)
     asks_well s holds k e (Section f) vs i = (subst (Only (DoneCode p.program)) i (plain_code p s.store k holds.kept.codes (holds.kept.running k e).codes), holds.kept.codes)
     asks_well s holds k e (Builtin prim) vs i = tt
     asks_well s holds k e (Host x) vs i = tt
 
-    module _ (main : (g : Function) → function_named p.program main_name ≡ Some g → FitAll (parameter_types g) []) (h : History) (holds : (n : ℕ) → Holds p.program (run (thread_system p h) n)) where
+    module _ (main : (g : Function) → function_named p.program main_name ≡ Some g → FitAll (parameter_types g) [] × AreScalar (parameter_types g)) (h : History) (holds : (n : ℕ) → Holds p.program (run (thread_system p h) n)) where
       abbrev BegunState : State P (Thread P) → Type 0
       BegunState s = Begun s.store s.running s.agenda s.jobs
 

@@ -9,7 +9,8 @@ use Rattle.cpc_base.specs.declared.stop.Dialect.TheVariants as D
 use Rattle.cpc_tree.specs.declared.program.Mode.TheVariants.{Native, Detached}
 use Rattle.cpc_tree.specs.Located.{bare}
 use Rattle.cpc_tree.specs.Registers.{variables}
-use Rattle.cpc_tree.specs.Syntax.{Variable, Function, FunctionItem, Program}
+use Rattle.cpc_tree.specs.Points.{Simple}
+use Rattle.cpc_tree.specs.Syntax.{Spawn, Variable, Function, FunctionItem, Program}
 use Rattle.cpc_tree.specs.Typing.{Meant, AFunction, item_named, function_named, parameter_type, parameter_types}
 use Rattle.cpc_meaning_matching.specs.Systems.{run}
 use Rattle.cpc_meaning.specs.Agenda.{Agenda, Due, OnCondition, OnDescriptor, Timer, OnSection}
@@ -48,13 +49,16 @@ use Rattle.cpc_check_sound_laws.proofs.Accepted.{accepted_facts}
 use Rattle.cpc_meaning_kept_laws.proofs.Trees.{native_there, accepted_is_steady}
 use Rattle.cpc_convert.specs.Accepted.{has_marks}
 use Rattle.cpc_convert_event.specs.ClosureLaws.{lifting}
-use Rattle.cpc_convert_accepted_laws.specs.Known.{Stays, HoldsOfNatives, AcceptedCodesStay, KeptSlot, IsRegister, IsBox, FineFrame, FineStack, BeginsWell, FineThread, FineJob, FineState, AcceptedIsFine}
+use Rattle.cpc_convert_accepted_laws.specs.Known.{AreScalar, Stays, HoldsOfNatives, AcceptedCodesStay, KeptSlot, IsRegister, IsBox, FineFrame, FineStack, BeginsWell, FineThread, FineJob, FineState, AcceptedIsFine}
 use Rattle.cpc_convert_accepted_laws.specs.Lifted.{kept_of, lifted_after}
 use Rattle.cpc_convert_accepted_laws.specs.Functions.{HasMain}
-use Rattle.cpc_convert_accepted_laws.proofs.Begins.{CodedJob, Begun, run_begun}
+use Rattle.cpc_convert_accepted_laws.specs.Points.{PositionsKnown}
+use Rattle.cpc_convert_accepted_laws.proofs.Begins.{CodedJob, Begun, SpawnsScalars, run_begun}
 use Rattle.cpc_convert_accepted_laws.proofs.Functions.{accepted_has_main}
 use Rattle.cpc_convert_accepted_laws.proofs.Lifted.{programs_are_closed}
 use Rattle.cpc_convert_accepted_laws.proofs.Names.{accepted_has_names}
+use Rattle.cpc_convert_accepted_laws.proofs.Pieces.{all_scalar}
+use Rattle.cpc_convert_accepted_laws.proofs.Points.{accepted_positions_known}
 use Rattle.cpc_convert_accepted_laws.proofs.Steady.{splits_steady, accepted_splits_hold}
 
 -- ---- lists
@@ -260,15 +264,22 @@ accepted_codes_stay list end p read unbroken x h =
     record { unmarked = subst (λ y. has_marks y ≡ false) there.1 (names.items (FunctionItem g.0) there.0).unmarked; not_cps = native_stays (item_named 0 (bare p) x) h }
 
 -- `main` takes no arguments
-main_begins : (p : Program) → HasMain p → (g : Function) → function_named p main_name ≡ Some g → FitAll (parameter_types g) []
+main_begins : (p : Program) → HasMain p → (g : Function) → function_named p main_name ≡ Some g → FitAll (parameter_types g) [] × AreScalar (parameter_types g)
 main_begins p main g e =
     let same : main.function ≡ g = let i : Some main.function ≡ Some g = sym main.named ∙ e in cc in
     let none : g.parameters ≡ [] = ap (λ (f : Function). f.parameters) (sym same) ∙ main.parameters in
-    subst (λ ps. FitAll (map parameter_type ps) []) (sym none) tt
+    subst (λ ps. FitAll (map parameter_type ps) [] × AreScalar (map parameter_type ps)) (sym none) (tt, tt)
+
+-- and what is spawned takes scalars
+spawns_scalars : (p : Program) → PositionsKnown p → SpawnsScalars (split_form p)
+spawns_scalars p known f w g e =
+    let t = known.typed w.name w.function w.at (Simple (Spawn f w.arguments)) w.named w.stood in
+    let same : t.1.0 ≡ g = let i : Some t.1.0 ≡ Some g = sym t.1.1 ∙ e in cc in
+    subst (λ (k : Function). AreScalar (parameter_types k)) same (all_scalar p _ (parameter_types t.1.0) w.arguments t.1.2)
 
 pub accepted_is_fine : AcceptedIsFine
 accepted_is_fine list end p read unbroken h n =
     let split = accepted_splits_hold list end p read unbroken h in
     let steady = splits_steady (bare p) (accepted_is_steady list end p read unbroken).1 in
     runs_are_fine (bare p) (Stays (bare p)) (accepted_codes_stay list end p read unbroken) h split.runs
-    (run_begun (split_form (bare p)) steady (main_begins (bare p) (accepted_has_main list end p read unbroken)) h split.runs) n
+    (run_begun (split_form (bare p)) steady (spawns_scalars (bare p) (accepted_positions_known list end p read unbroken)) (main_begins (bare p) (accepted_has_main list end p read unbroken)) h split.runs) n

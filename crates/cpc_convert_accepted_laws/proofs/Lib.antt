@@ -13,6 +13,7 @@ pub mod Points
 pub mod Functions
 pub mod Lives
 pub mod Walk
+pub mod Spawns
 pub mod Begins
 pub mod Cells
 pub mod Addressed

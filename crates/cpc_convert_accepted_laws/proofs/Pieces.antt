@@ -20,6 +20,7 @@ use Rattle.cpc_forms.specs.Order.{points}
 use Rattle.cpc_convert_event.specs.AddressLaws.{bars, avoids_stood, AddressesAreBoxes}
 use Rattle.cpc_convert_event.specs.Pieces.{any_node, is_result}
 use Rattle.cpc_convert_event.specs.Routines.{routine_of, readings_of}
+use Rattle.cpc_convert_accepted_laws.specs.Known.{AreScalar}
 use Rattle.cpc_convert_accepted_laws.specs.Names.{HasNames}
 use Rattle.cpc_convert_accepted_laws.specs.Pieces.{AcceptedSuitsPieces}
 use Rattle.cpc_convert_accepted_laws.proofs.Addressed.{found_avoids, path_held}
@@ -40,12 +41,16 @@ converts_scalar (TyStruct tag) u e = absurd (cc)
 converts_scalar (TyArray t n) u e = absurd (cc)
 
 -- what arguments are assigned to is scalar
-pub got_scalars : (p : Program) (scope : Scope) (ts : List Ty) (es : Exprs) → AllGet p scope ts es → (k : ℕ) (t : Ty) → slice_get ts k ≡ Some t → is_scalar t ≡ true
-got_scalars p scope [] NoExpr h k t e = absurd (cc)
-got_scalars p scope (u ∷ ts) (AndExpr x es) h zero t e = let i : u ≡ t = cc in subst (λ t. is_scalar t ≡ true) i (converts_scalar u h.0.type h.0.converts)
-got_scalars p scope (u ∷ ts) (AndExpr x es) h (suc k) t e = got_scalars p scope ts es h.1 k t e
-got_scalars p scope [] (AndExpr x es) h k t e = absurd h
-got_scalars p scope (u ∷ ts) NoExpr h k t e = absurd h
+pub all_scalar : (p : Program) (scope : Scope) (ts : List Ty) (es : Exprs) → AllGet p scope ts es → AreScalar ts
+all_scalar p scope [] NoExpr h = tt
+all_scalar p scope (u ∷ ts) (AndExpr x es) h = (converts_scalar u h.0.type h.0.converts, all_scalar p scope ts es h.1)
+all_scalar p scope [] (AndExpr x es) h = absurd h
+all_scalar p scope (u ∷ ts) NoExpr h = absurd h
+
+scalar_at : (ts : List Ty) → AreScalar ts → (k : ℕ) (t : Ty) → slice_get ts k ≡ Some t → is_scalar t ≡ true
+scalar_at [] h k t e = absurd (cc)
+scalar_at (u ∷ ts) h zero t e = let i : u ≡ t = cc in subst (λ t. is_scalar t ≡ true) i h.0
+scalar_at (u ∷ ts) h (suc k) t e = scalar_at ts h.1 k t e
 
 -- a parameter among the variables
 parameter_at : (ps : List Parameter) (ys : List Variable) (k : ℕ) (x : Variable) → k < length ps → slice_get (map as_variable ps ++ ys) k ≡ Some x → slice_get (map parameter_type ps) k ≡ Some x.type
@@ -116,5 +121,6 @@ accepted_suits_pieces list end p read unbroken f has =
       addresses = addresses_are_boxes (bare p) names f is typed;
       results = λ l i. nodes_scalar (bare p) names f is typed _ i;
       cells = variables_have (bare p) p.items (items_shape list p.items read.1 read.3) refl (split (items_breaks D.Cpc (bare p) [] p.items) _ unbroken).0 f has;
-      parameters = λ scope es h k x lt e. got_scalars (bare p) scope (parameter_types f) es h k x.type (parameter_at f.parameters _ k x lt e);
+      passed = λ scope es h. all_scalar (bare p) scope (parameter_types f) es h;
+      parameters = λ h k x lt e. scalar_at (parameter_types f) h k x.type (parameter_at f.parameters _ k x lt e);
     }

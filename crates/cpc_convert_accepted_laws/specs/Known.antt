@@ -1,13 +1,13 @@
 -- What is known of each state of the lifted run of an accepted program, as statements: what its values are, what its frames keep, which
 -- threads wait and which are to begin.
-use Rattle.std.specs.Prelude.{◌≡◌, ℕ, true, false, [], length, slice_get, Some}
+use Rattle.std.specs.Prelude.{◌≡◌, ℕ, true, false, List, [], ◌∷◌, length, slice_get, Some}
 use Rattle.std.specs.List.{All}
 use Rattle.cpc_base.specs.Bytes.{Text}
 use Rattle.cpc_store.specs.declared.values.Scalar.{Scalar}
 use Rattle.cpc_store.specs.Store.{Value, Unset, suits}
 use Rattle.cpc_tree.specs.Registers.{variables, is_register}
-use Rattle.cpc_tree.specs.Syntax.{Variable, Function, Program}
-use Rattle.cpc_tree.specs.Typing.{item_named, function_named, parameter_types}
+use Rattle.cpc_tree.specs.Syntax.{Ty, Variable, Function, Program}
+use Rattle.cpc_tree.specs.Typing.{is_scalar, item_named, function_named, parameter_types}
 use Rattle.cpc_meaning.specs.Eval.{Slot, Register, Boxed}
 use Rattle.cpc_meaning.specs.History.{History}
 use Rattle.cpc_meaning.specs.Layout.{scalar_of}
@@ -63,9 +63,14 @@ pub record FineStack (p : Program) (C : Text → Type 0) (k : Stack Position) : 
   pub layered : IsLayered p k.frames
   pub arriving : IsHeldIf C k.arriving
 
--- a call that is to begin has an argument for each parameter, which fits its type
+-- these types are scalar
+abbrev pub AreScalar : List Ty → Type 0
+AreScalar [] = Unit {0}
+AreScalar (t ∷ ts) = (is_scalar t ≡ true) × AreScalar ts
+
+-- a call that is to begin has an argument for each parameter, which fits its type, and these are scalar
 abbrev pub BeginsWell : {P : Type 0} → Program → Thread P → Type 0
-BeginsWell p (Pending f vs) = (g : Function) → function_named p f ≡ Some g → FitAll (parameter_types g) vs
+BeginsWell p (Pending f vs) = (g : Function) → function_named p f ≡ Some g → FitAll (parameter_types g) vs × AreScalar (parameter_types g)
 BeginsWell p (Suspended k) = Unit {0}
 
 -- a thread: the arguments of a call that is to begin fit its parameters and are held, and the call is of `main` or of a cps function; a stack

@@ -10,6 +10,7 @@ use Rattle.cpc_convert_event.specs.AddressLaws.{AddressesAreBoxes, ResultsAreSca
 use Rattle.cpc_convert_event.specs.FillLaws.{ParametersAreScalar}
 use Rattle.cpc_convert_event.specs.Routines.{routine_of}
 use Rattle.cpc_convert_accepted_laws.specs.Accepted.{OfAccepted}
+use Rattle.cpc_convert_accepted_laws.specs.Known.{AreScalar}
 
 -- each variable has cells: one at least, and 2^16 at most
 abbrev pub VariablesHaveCells : Program → Function → Type 0
@@ -21,7 +22,8 @@ pub record SuitsPieces (p : Program) (f : Function) : Type 0 where
   pub addresses : AddressesAreBoxes p f
   pub results : (l : Place) → ResultsAreScalar (routine_of p f) l
   pub cells : VariablesHaveCells p f
-  pub parameters : (scope : Scope) (es : Exprs) → AllGet p scope (parameter_types f) es → ParametersAreScalar f
+  pub passed : (scope : Scope) (es : Exprs) → AllGet p scope (parameter_types f) es → AreScalar (parameter_types f)
+  pub parameters : AreScalar (parameter_types f) → ParametersAreScalar f
 
 -- so it is of each function of an accepted program
 abbrev pub AcceptedSuitsPieces : Type 0
