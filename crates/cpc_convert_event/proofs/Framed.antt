@@ -20,7 +20,7 @@ use Rattle.cpc_convert_event.specs.Names.{piece_name, value_tag, box_tag}
 use Rattle.cpc_convert_event.specs.Routines.{routine_of}
 use Rattle.cpc_convert_event.specs.Frames.{any_frame, value_struct, value_struct_if, start_struct, leader_struct, structs_of, box_of, boxes_of}
 use Rattle.cpc_convert_event.specs.Converted.{routine_if, routines_in, all_structs, all_boxes}
-use Rattle.cpc_convert_event.specs.NameLaws.{IsNamed}
+use Rattle.cpc_convert_event.specs.NameLaws.{IsNamed, IsCps}
 use Rattle.cpc_convert_event.proofs.Apart.{behind, piece_is, value_is, box_is, frame_is, no_bar, differ_at, no_bar_behind, no_bar_nothing, piece_nothing, Small, StartIsSmall, NumberIsSmall, behind_is}
 use Rattle.cpc_convert_event.proofs.Made.{Mapped, OfNumber, map_has, has_map}
 
@@ -164,7 +164,7 @@ module _ (p : Program) (ok : IsNamed p) where
   unmarked : (f : Function) → Has (FunctionItem f) p → has_marks f.called ≡ false
   unmarked f h = ok.unmarked (FunctionItem f) h
 
-  small : (f : Function) → Has (FunctionItem f) p → (n : ℕ) → Has n (routine_of p f).split.leaders → Small (At n)
+  small : (f : Function) → IsCps p f → (n : ℕ) → Has n (routine_of p f).split.leaders → Small (At n)
   small f h n k = NumberIsSmall n (ok.small f h n k)
 
   one_function : (f g : Function) → Has (FunctionItem f) p → Has (FunctionItem g) p → f.called ≡ g.called → f ≡ g
@@ -237,11 +237,11 @@ module _ (p : Program) (ok : IsNamed p) where
   framed_once _ _ (AStart f h c) AnyFrame e = absurd (piece_any f Start h (sym e))
   framed_once _ _ (AStart f h c) (AValue g k d) e = absurd (value_start g f Start k h e)
   framed_once _ _ (AStart f h c) (AStart g k d) e = ap start_struct (pieces_same g f Start Start k h StartIsSmall StartIsSmall e).0
-  framed_once _ _ (AStart f h c) (OfLeader g m k d j) e = absurd (let s = (pieces_same g f (At m) Start k h (small g k m j) StartIsSmall e).1 in cc)
+  framed_once _ _ (AStart f h c) (OfLeader g m k d j) e = absurd (let s = (pieces_same g f (At m) Start k h (small g (record { has = k; mode = d }) m j) StartIsSmall e).1 in cc)
   framed_once _ _ (OfLeader f n h c i) AnyFrame e = absurd (piece_any f (At n) h (sym e))
   framed_once _ _ (OfLeader f n h c i) (AValue g k d) e = absurd (value_start g f (At n) k h e)
-  framed_once _ _ (OfLeader f n h c i) (AStart g k d) e = absurd (let s = (pieces_same g f Start (At n) k h StartIsSmall (small f h n i) e).1 in cc)
+  framed_once _ _ (OfLeader f n h c i) (AStart g k d) e = absurd (let s = (pieces_same g f Start (At n) k h StartIsSmall (small f (record { has = h; mode = c }) n i) e).1 in cc)
   framed_once _ _ (OfLeader f n h c i) (OfLeader g m k d j) e =
-      let s = pieces_same g f (At m) (At n) k h (small g k m j) (small f h n i) e in
+      let s = pieces_same g f (At m) (At n) k h (small g (record { has = k; mode = d }) m j) (small f (record { has = h; mode = c }) n i) e in
       let numbers : m ≡ n = cc in
       ap (λ z. leader_struct p (routine_of p z) m) s.0 ∙ ap (leader_struct p (routine_of p f)) numbers

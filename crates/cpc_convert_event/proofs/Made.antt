@@ -95,7 +95,7 @@ module _ (p : Program) (ok : IsNamed p) where
   unmarked : (f : Function) → Has (FunctionItem f) p → has_marks f.called ≡ false
   unmarked f h = ok.unmarked (FunctionItem f) h
 
-  small : (f : Function) → Has (FunctionItem f) p → (l : Place) → IsOwner (routine_of p f) l → Small l
+  small : (f : Function) → IsCps p f → (l : Place) → IsOwner (routine_of p f) l → Small l
   small f h _ TheStart = StartIsSmall
   small f h _ (ALeader n k) = NumberIsSmall n (ok.small f h n k)
 
@@ -116,7 +116,7 @@ module _ (p : Program) (ok : IsNamed p) where
       absurd (piece_spawn l (sym m.1))
   made_once _ _ (MadePiece f l has c o) (MadePiece e n has' c' o') k =
       let m = marked_is e.called f.called (behind n) (behind l) (unmarked e has') (unmarked f has) (no_bar_behind n) (no_bar_behind l) (sym (piece_is e.called n) ∙ k ∙ piece_is f.called l) in
-      let same = behind_is n l (small e has' n o') (small f has l o) m.1 in
+      let same = behind_is n l (small e (record { has = has'; mode = c' }) n o') (small f (record { has = has; mode = c }) l o) m.1 in
       ap (λ x. piece_function p (routine_of p x) n) (one_function e f has' has m.0) ∙ ap (piece_function p (routine_of p f)) same
 
   pub made_one_name : (g : Function) → Has g (all_made p (routines p)) → (h : Function) → Has h (all_made p (routines p)) → bytes_eq h.called g.called ≡ true → h ≡ g

@@ -33,15 +33,6 @@ pub data IsOwner (r : Routine) : Place → Type 0 where
   TheStart : IsOwner r Start
   ALeader : (n : ℕ) → Has n r.split.leaders → IsOwner r (At n)
 
--- what the conversion asks of the names of a program: they are not marked, nor are those of variables, each function is found by its name, which means it, and the numbers of leaders can be told apart
-pub record IsNamed (p : Program) : Type 0 where
-  pub unmarked : (item : Item) → Has item p → IsUnmarked item
-  pub found : (f : Function) → Has (FunctionItem f) p → function_named p f.called ≡ Some f
-  pub meant : (f : Function) → Has (FunctionItem f) p → item_named 0 p f.called ≡ AFunction f.mode f.result (map parameter_type f.parameters)
-  pub unmarked_variables : (f : Function) → Has (FunctionItem f) p → (k : ℕ) (x : Variable) → slice_get (variables f) k ≡ Some x → has_marks x.called ≡ false
-  pub few : (f : Function) → Has (FunctionItem f) p → length (variables f) < 2 ^ 63
-  pub small : (f : Function) → Has (FunctionItem f) p → (n : ℕ) → Has n (routine_of p f).split.leaders → n < 2 ^ 63
-
 -- a cps function of a program
 pub record IsCps (p : Program) (f : Function) : Type 0 where
   pub has : Has (FunctionItem f) p
@@ -51,6 +42,15 @@ pub record IsCps (p : Program) (f : Function) : Type 0 where
 pub record IsKept (p : Program) (f : Function) : Type 0 where
   pub has : Has (FunctionItem f) p
   pub mode : is_cps_mode f.mode ≡ false
+
+-- what the conversion asks of the names of a program: they are not marked, nor are those of variables, each function is found by its name, which means it, and the numbers of the leaders of cps functions can be told apart
+pub record IsNamed (p : Program) : Type 0 where
+  pub unmarked : (item : Item) → Has item p → IsUnmarked item
+  pub found : (f : Function) → Has (FunctionItem f) p → function_named p f.called ≡ Some f
+  pub meant : (f : Function) → Has (FunctionItem f) p → item_named 0 p f.called ≡ AFunction f.mode f.result (map parameter_type f.parameters)
+  pub unmarked_variables : (f : Function) → Has (FunctionItem f) p → (k : ℕ) (x : Variable) → slice_get (variables f) k ≡ Some x → has_marks x.called ≡ false
+  pub few : (f : Function) → Has (FunctionItem f) p → length (variables f) < 2 ^ 63
+  pub small : (f : Function) → IsCps p f → (n : ℕ) → Has n (routine_of p f).split.leaders → n < 2 ^ 63
 
 -- ---- functions
 
