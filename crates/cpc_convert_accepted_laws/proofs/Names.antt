@@ -17,7 +17,6 @@ use Rattle.cpc_check_rules.specs.ItemRules.{Signature, outside, is_clash, clashe
 use Rattle.cpc_check_rules.specs.Rule.{at_if}
 use Rattle.cpc_check_rules.specs.Rules.{has_main, broad_breaks}
 use Rattle.cpc_meaning.proofs.Functions.{same_text, text_same}
-use Rattle.cpc_meaning.specs.Threads.{is_cps_mode}
 use Rattle.cpc_check_sound_laws.proofs.Agendas.{Each}
 use Rattle.cpc_check_sound_laws.proofs.Answers.{not_true}
 use Rattle.cpc_check_sound_laws.proofs.Bodies.{either_false}
@@ -33,7 +32,7 @@ use Rattle.cpc_forms.specs.Order.{points}
 use Rattle.cpc_forms.specs.Split.{number_if, leaders_from}
 use Rattle.cpc_convert_event.specs.NameLaws.{IsUnmarked}
 use Rattle.cpc_convert_event.specs.Routines.{routine_of}
-use Rattle.cpc_convert_accepted_laws.specs.Names.{IsPlain, name_of, IsFound, HasNames, AcceptedHasNames, KeptAreSmall, AcceptedIsNamed}
+use Rattle.cpc_convert_accepted_laws.specs.Names.{IsPlain, name_of, IsFound, AcceptedHasNames, AcceptedIsNamed}
 use Rattle.cpc_convert_accepted_laws.proofs.Counts.{few_variables, points_within}
 use Rattle.cpc_convert_accepted_laws.proofs.Marks.{texts, first_plain, AllPlain, all_plain, front_unreserved, both_plain}
 
@@ -251,7 +250,7 @@ leader_within p f few n h =
     omega (arith, k, e, few)
 
 pub accepted_is_named : AcceptedIsNamed
-accepted_is_named list end p read h small =
+accepted_is_named list end p read h =
     let names = accepted_has_names list end p read h in
     record {
       unmarked = λ i has. unmarked i (names.items i has);
@@ -259,7 +258,7 @@ accepted_is_named list end p read h small =
       meant = λ f has. (names.functions f has).meant;
       unmarked_variables = λ f has k x e. ((names.functions f has).plain k x e).unmarked;
       few = λ f has. let i = (names.functions f has).few in omega (arith, i);
-      small = λ f has n k. by_mode (bare p) names small f has n k (is_cps_mode f.mode) refl;
+      small = λ f c n k. leader_within (bare p) f (names.points f c.has c.mode) n k;
     }
   where
     unmarked : (i : Item) → IsPlain (name_of i) → IsUnmarked i
@@ -267,7 +266,3 @@ accepted_is_named list end p read h small =
     unmarked (GlobalItem x t start) h = h.unmarked
     unmarked (PrototypeItem m f r ps) h = h.unmarked
     unmarked (FunctionItem f) h = h.unmarked
-
-    by_mode : (p : Program) → HasNames p → KeptAreSmall p → (f : Function) → Has (FunctionItem f) p → (n : ℕ) → Has n (routine_of p f).split.leaders → (b : Bool) → is_cps_mode f.mode ≡ b → n < 2 ^ 63
-    by_mode p names small f has n k true c = leader_within p f (names.points f has c) n k
-    by_mode p names small f has n k false c = small f (record { has = has; mode = c }) n k

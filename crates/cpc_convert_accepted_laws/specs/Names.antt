@@ -1,5 +1,5 @@
 -- What is known of the names of an accepted program, as statements.
-use Rattle.std.specs.Prelude.{◌≡◌, ◌<◌, ◌≤◌, ◌^◌, ℕ, true, false, length, map, slice_get, Some}
+use Rattle.std.specs.Prelude.{◌≡◌, ◌≤◌, ℕ, true, false, length, map, slice_get, Some}
 use Rattle.cpc_base.specs.Bytes.{Text}
 use Rattle.cpc_tree.specs.Syntax.{Variable, Function, Item, StructItem, GlobalItem, PrototypeItem, FunctionItem, Program}
 use Rattle.cpc_tree.specs.Primitives.{Primitive, primitive_named}
@@ -10,8 +10,7 @@ use Rattle.cpc_meaning.specs.Threads.{is_cps_mode}
 use Rattle.cpc_convert.specs.Accepted.{has_marks}
 use Rattle.cpc_convert.specs.Form.{Has}
 use Rattle.cpc_forms.specs.Order.{points}
-use Rattle.cpc_convert_event.specs.NameLaws.{IsKept, IsNamed}
-use Rattle.cpc_convert_event.specs.Routines.{routine_of}
+use Rattle.cpc_convert_event.specs.NameLaws.{IsNamed}
 use Rattle.cpc_convert_accepted_laws.specs.Accepted.{OfAccepted}
 
 -- a name in which no two bars stand side by side, and which the language does not keep for itself
@@ -46,10 +45,6 @@ pub record HasNames (p : Program) : Type 0 where
 abbrev pub AcceptedHasNames : Type 0
 AcceptedHasNames = OfAccepted HasNames
 
--- the numbers of the leaders of functions that are not converted can be told apart too
-abbrev pub KeptAreSmall : Program → Type 0
-KeptAreSmall p = (f : Function) → IsKept p f → (n : ℕ) → Has n (routine_of p f).split.leaders → n < 2 ^ 63
-
 -- then the names are what the conversion asks
 abbrev pub AcceptedIsNamed : Type 0
-AcceptedIsNamed = OfAccepted (λ p. KeptAreSmall p → IsNamed p)
+AcceptedIsNamed = OfAccepted IsNamed
