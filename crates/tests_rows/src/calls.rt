@@ -79,7 +79,7 @@ fn command(alloc: Global, line: &str, text: &[u8], setting: Setting) -> Result<L
 }
 
 // What is left where a stage of reading ends with these bytes.
-fn left(status: u8, out: Vec<u8>, err: Vec<u8>) -> Left {
+fn ended(status: u8, out: Vec<u8>, err: Vec<u8>) -> Left {
     Left {
         out,
         err,
@@ -96,7 +96,7 @@ fn refused(alloc: Global, fault: TextFault) -> Result<Left, AllocError> {
     let number = fault.number();
     let name = fault.name();
     let told = format!(in alloc; "refused {line}:{column} {stage} {number} {name}\n")?;
-    Ok(left(3, Vec::new(alloc), told.into_bytes()))
+    Ok(ended(3, Vec::new(alloc), told.into_bytes()))
 }
 
 // The print of a text, whatever rules it breaks.
@@ -121,8 +121,8 @@ fn printed(alloc: Global, text: &[u8]) -> Result<Vec<u8>, Stop<TextFault>> {
 fn print_twice(alloc: Global, text: &[u8]) -> Result<Left, AllocError> {
     match printed(alloc, text) {
         Ok(once) => match printed(alloc, &once) {
-            Ok(twice) if twice == once => Ok(left(0, once, Vec::new(alloc))),
-            _ => Ok(left(1, once, Vec::new(alloc))),
+            Ok(twice) if twice == once => Ok(ended(0, once, Vec::new(alloc))),
+            _ => Ok(ended(1, once, Vec::new(alloc))),
         },
         Err(Stop::Memory) => Err(AllocError),
         Err(Stop::Fault(fault)) => refused(alloc, fault),
@@ -132,7 +132,7 @@ fn print_twice(alloc: Global, text: &[u8]) -> Result<Left, AllocError> {
 // A text is read as an event program.
 fn read_event(alloc: Global, text: &[u8]) -> Result<Left, AllocError> {
     match read(alloc, text, Dialect::Event) {
-        Ok(_) => Ok(left(0, Vec::new(alloc), Vec::new(alloc))),
+        Ok(_) => Ok(ended(0, Vec::new(alloc), Vec::new(alloc))),
         Err(Stop::Memory) => Err(AllocError),
         Err(Stop::Fault(fault)) => refused(alloc, fault),
     }
