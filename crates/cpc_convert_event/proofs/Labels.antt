@@ -189,7 +189,7 @@ not_own : (a b : Bool) → (a && not b) ≡ true → b ≡ false
 not_own a true e = absurd (let z = both_true a false e in cc)
 not_own a false e = refl
 
-leaders_rise : (flow : Flow) (k n : ℕ) → Rises (k + n) k (leaders_from flow k n)
+pub leaders_rise : (flow : Flow) (k n : ℕ) → Rises (k + n) k (leaders_from flow k n)
 leaders_rise flow k zero = NoneRise k
 leaders_rise flow k (suc n) = go (is_leader flow k) (subst (λ m. Rises m (suc k) (leaders_from flow (suc k) n)) (let z : suc k + n ≡ k + suc n = omega arith in z) (leaders_rise flow (suc k) n))
   where

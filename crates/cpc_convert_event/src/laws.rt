@@ -9,6 +9,7 @@ ghost use Rattle.cpc_convert_event.specs.BoxingLaws.{AllStartsBox};
 ghost use Rattle.cpc_convert_event.specs.CallLaws.{BoxesAreReturned, AllArgumentsAreGiven};
 ghost use Rattle.cpc_convert_event.specs.FillLaws.{AllFramesAreFilled};
 ghost use Rattle.cpc_convert_event.specs.AddressLaws.{PiecesAddressNone, VariablesAreRegisters};
+ghost use Rattle.cpc_convert_event.specs.HeadLaws.{PiecesBegin};
 ghost use Rattle.cpc_convert_event.specs.LabelLaws.{AllRowsStandOnce, LabelsLead};
 ghost use Rattle.cpc_convert_event.specs.Mixed.{MixedRunsAlike};
 ghost use Rattle.cpc_convert_event.specs.WrittenBoxes.{ProgramsAreWritten};
@@ -101,4 +102,9 @@ pub fn starts_box()
 pub fn calls_and_returns()
     ensures arguments { AllArgumentsAreGiven }
     ensures boxes { BoxesAreReturned }
+{}
+
+/// A piece begins with its first node; where the first node of a function leads, its start is the way to it.
+pub fn pieces_begin()
+    ensures law { PiecesBegin }
 {}
