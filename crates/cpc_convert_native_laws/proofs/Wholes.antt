@@ -1,0 +1,36 @@
+-- Native and detached functions are found by their names in both programs.
+use Rattle.std.proofs.Common.{◌≡◌, Bool, true, false, not, Option, Some, None, refl, sym, ◌∙◌, ap, subst}
+use Rattle.cpc_base.specs.Bytes.{Text}
+use Rattle.cpc_tree.specs.Syntax.{Function, Program}
+use Rattle.cpc_tree.specs.Typing.{function_named}
+use Rattle.cpc_meaning.specs.Threads.{is_cps_mode}
+use Rattle.cpc_convert_event.specs.Converted.{kept_function, converted}
+use Rattle.cpc_convert_event.specs.NameLaws.{IsNamed, IsKept}
+use Rattle.cpc_convert_event.proofs.Lookups.{functions_found}
+use Rattle.cpc_convert_accepted_laws.specs.Names.{HasNames}
+use Rattle.cpc_convert_native_laws.specs.Instance.{stays_whole, is_whole}
+use Rattle.cpc_convert_native_laws.specs.Laws.{IsWhole, WholesAreFound}
+
+not_cps : (b : Bool) → not b ≡ true → b ≡ false
+not_cps true e = absurd (cc)
+not_cps false e = refl
+
+-- a function that is there and not cps
+pub kept_whole : (p : Program) → HasNames p → IsNamed p → (x : Text) (f : Function) → function_named p x ≡ Some f → is_cps_mode f.mode ≡ false → IsWhole p x
+kept_whole p names ok x f e c =
+    let there = names.there x f e in
+    let kept : IsKept p f = record { has = there.0; mode = c } in
+    record {
+      function = f;
+      named = e;
+      kept = kept;
+      called = there.1;
+      stays = ap (function_named (converted p)) (sym there.1) ∙ (functions_found p ok).kept f kept;
+    }
+
+pub wholes_are_found : WholesAreFound
+wholes_are_found p names ok x h = go (function_named p x) refl h
+  where
+    go : (o : Option Function) → function_named p x ≡ o → stays_whole o ≡ true → IsWhole p x
+    go None e h = absurd (cc)
+    go (Some f) e h = kept_whole p names ok x f e (not_cps (is_cps_mode f.mode) h)

@@ -1,0 +1,6 @@
+//! Native and detached functions run alike in a program and its event program. Laws alone: nothing of this crate runs.
+#![tactic(auto)]
+
+mod laws;
+
+pub use laws::wholes_are_found;
