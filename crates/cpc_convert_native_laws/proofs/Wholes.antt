@@ -15,22 +15,19 @@ not_cps : (b : Bool) → not b ≡ true → b ≡ false
 not_cps true e = absurd (cc)
 not_cps false e = refl
 
--- a function that is there and not cps
-pub kept_whole : (p : Program) → HasNames p → IsNamed p → (x : Text) (f : Function) → function_named p x ≡ Some f → is_cps_mode f.mode ≡ false → IsWhole p x
-kept_whole p names ok x f e c =
-    let there = names.there x f e in
-    let kept : IsKept p f = record { has = there.0; mode = c } in
-    record {
-      function = f;
-      named = e;
-      kept = kept;
-      called = there.1;
-      stays = ap (function_named (converted p)) (sym there.1) ∙ (functions_found p ok).kept f kept;
-    }
+-- a function that is there and not cps stays
+pub kept_there : (p : Program) → HasNames p → (x : Text) (f : Function) → function_named p x ≡ Some f → is_cps_mode f.mode ≡ false → IsKept p f
+kept_there p names x f e c = record { has = (names.there x f e).0; mode = c }
+
+-- and is found
+pub kept_named : (p : Program) → HasNames p → IsNamed p → (x : Text) (f : Function) → function_named p x ≡ Some f → is_cps_mode f.mode ≡ false → function_named (converted p) x ≡ Some (kept_function f)
+kept_named p names ok x f e c = ap (function_named (converted p)) (sym (names.there x f e).1) ∙ (functions_found p ok).kept f (kept_there p names x f e c)
 
 pub wholes_are_found : WholesAreFound
 wholes_are_found p names ok x h = go (function_named p x) refl h
   where
     go : (o : Option Function) → function_named p x ≡ o → stays_whole o ≡ true → IsWhole p x
     go None e h = absurd (cc)
-    go (Some f) e h = kept_whole p names ok x f e (not_cps (is_cps_mode f.mode) h)
+    go (Some f) e h =
+        let c = not_cps (is_cps_mode f.mode) h in
+        record { function = f; named = e; kept = kept_there p names x f e c; called = (names.there x f e).1; stays = kept_named p names ok x f e c }

@@ -2,9 +2,9 @@
 use Rattle.std.specs.Prelude.{◌≡◌, ℕ, Bool, true, false, not, List, [], Option, Some, None}
 use Rattle.cpc_base.specs.Bytes.{Text}
 use Rattle.cpc_check_rules.specs.Operators.{is_detached}
-use Rattle.cpc_tree.specs.Points.{Point}
+use Rattle.cpc_tree.specs.Points.{Point, Arrival}
 use Rattle.cpc_tree.specs.Syntax.{Ty, Function, Program}
-use Rattle.cpc_tree.specs.Typing.{AFunction, item_named, function_named}
+use Rattle.cpc_tree.specs.Typing.{Scope, AFunction, named, function_named}
 use Rattle.cpc_tree.specs.declared.program.Mode.{Mode}
 use Rattle.cpc_meaning.specs.Threads.{is_cps_mode}
 use Rattle.cpc_convert.specs.Converted.{spawner_name}
@@ -14,7 +14,8 @@ use Rattle.cpc_convert_event.specs.Names.{piece_name}
 use Rattle.cpc_convert_event.specs.Routines.{routine_of, closure_of}
 use Rattle.cpc_convert_laws.specs.Items.{Cut}
 use Rattle.cpc_forms.specs.Flow.{Place}
-use Rattle.cpc_forms.specs.Split.{InTree, split_form}
+use Rattle.cpc_forms.specs.Split.{Position, InTree, InGraph, split_form}
+use Rattle.cpc_meaning.specs.Ways.{arrives_later, manner_at}
 use Rattle.cpc_convert_accepted_laws.specs.Points.{UsedName}
 
 -- ---- functions
@@ -62,8 +63,24 @@ cut_of p = record {
 
 -- ---- names
 
+-- a name in scope that is that of a detached function, where it is that of a function
+abbrev pub ClosedName : Program → Scope → Text → Type 0
+ClosedName p scope x = (mode : Mode) (r : Ty) (ps : List Ty) → named p scope x ≡ AFunction mode r ps → NamesDetached p x
+
 -- a name that occurs at a point of a native or detached function: of a variable, or of an item that stays; a function that a detached one
 -- names is detached
 pub record UsedAt (p : Program) (f : Text) (b : Point) (x : Text) : Type 0 where
   pub used : UsedName p ((split_form p).code.scope f (InTree b)) x
-  pub closed : NamesDetached p f → (mode : Mode) (r : Ty) (ps : List Ty) → item_named 0 p x ≡ AFunction mode r ps → NamesDetached p x
+  pub closed : NamesDetached p f → ClosedName p ((split_form p).code.scope f (InTree b)) x
+
+-- ---- where code stands
+
+-- whether native code may stand at a point: where a value arrives only if the value of what stands there does
+abbrev pub may_be_at : Program → Option Function → Point → Bool
+may_be_at p (Some f) (Arrival path) = arrives_later (manner_at p f path)
+may_be_at p o b = true
+
+-- whether code may stand at a position; nothing is said of nodes
+abbrev pub may_be : Program → Text → Position → Bool
+may_be p x (InTree b) = may_be_at p (function_named p x) b
+may_be p x (InGraph l n) = true

@@ -3,4 +3,6 @@
 
 mod laws;
 
-pub use laws::wholes_are_found;
+pub use laws::{
+    accepted_is_convertible, frames_may_be, globals_stay, wholes_are_found,
+};

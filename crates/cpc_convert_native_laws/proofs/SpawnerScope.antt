@@ -1,0 +1,87 @@
+-- What names mean in a spawner: its parameters and its frame hide no name of an item.
+use Rattle.std.proofs.Common.{◌≡◌, ℕ, suc, ◌<◌, ◌≤◌, ◌^◌, Bool, true, false, cond, List, [], ◌∷◌, ◌++◌, map, length, decimal, bytes_eq, Some, refl, sym, ◌∙◌, ap, subst, codes, arith}
+use Rattle.std.proofs.lemmas.Fmt.{decimal_is_IsNumeral}
+use Rattle.std.specs.Str.Parse.{AllDigits}
+use Rattle.std.specs.Char.{digit_value}
+use Rattle.cpc_base.specs.Bytes.{Text}
+use Rattle.cpc_tree.specs.Registers.{parameter_scope}
+use Rattle.cpc_tree.specs.Syntax.{TyPointer, TyStruct, Variable, Function, Program}
+use Rattle.cpc_tree.specs.Typing.{Local, Scope, ALocal, named, item_named}
+use Rattle.cpc_meaning.proofs.Functions.{text_same, texts_differ}
+use Rattle.cpc_convert.specs.Accepted.{has_marks}
+use Rattle.cpc_convert.specs.Converted.{marked}
+use Rattle.cpc_convert.proofs.Marks.{differs_marked, marked_is, no_bar_decimal}
+use Rattle.cpc_forms.specs.Flow.{Start}
+use Rattle.cpc_convert_chain_laws.specs.Driver.{drive_name}
+use Rattle.cpc_convert_chain_laws.specs.Structs.{NotCalled, NoneSo, NotSo}
+use Rattle.cpc_convert_event.specs.Names.{piece_name, frame_name, variable_name}
+use Rattle.cpc_convert_event.specs.Pieces.{parameter_of}
+use Rattle.cpc_convert_event.proofs.Apart.{behind, piece_is, driver_is, no_bar_behind, no_bar_nothing, piece_nothing}
+use Rattle.cpc_convert_event.proofs.Fields.{word_apart, Rising, NoneRises, OneRises}
+
+-- ---- texts
+
+turned : (x y : Text) → bytes_eq x y ≡ false → bytes_eq y x ≡ false
+turned x y h = texts_differ y x (λ (k : y ≡ x). absurd (let i : true ≡ false = sym (text_same x) ∙ (sym (ap (bytes_eq x) k) ∙ h) in cc))
+
+variable_is : (k : ℕ) (x : Text) → variable_name k x ≡ marked x (decimal k)
+unfolding variable_name
+variable_is k x = refl
+
+not_digits : (c : ℕ) (d e : Text) → (digit_value c < 10 → ⊥) → AllDigits 10 d → d ≡ c ∷ e → ⊥
+not_digits c d e h a k = h (subst (AllDigits 10) k a).0
+
+too_large : (n : ℕ) → 10 ≤ n → n < 10 → ⊥
+too_large n h g = absurd (omega arith)
+
+-- a number is not spelled so
+no_start : (n : ℕ) → n < 2 ^ 63 → decimal n ≡ codes "start" → ⊥
+no_start n h k = not_digits 115 (decimal n) _ (too_large 28 (omega arith)) (decimal_is_IsNumeral n (omega arith)).0.1 k
+
+-- ---- names that no variable has
+
+none_called : (y : Text) → ((k : ℕ) (x : Text) → k < 2 ^ 63 → has_marks x ≡ false → bytes_eq y (variable_name k x) ≡ false) → (low : ℕ) (vs : List Variable) → Rising low vs → NotCalled y vs
+none_called y apart low _ (NoneRises _) = NoneSo
+none_called y apart low _ (OneRises _ k x t vs l hk hx s r) = NotSo _ _ (apart k x hk hx) (none_called y apart (suc k) vs r)
+
+module _ (low : ℕ) (vs : List Variable) (rising : Rising low vs) where
+  pub no_plain : (y : Text) → has_marks y ≡ false → NotCalled y vs
+  no_plain y hy = none_called y (λ k x hk hx. ap (bytes_eq y) (variable_is k x) ∙ differs_marked x (decimal k) y hy) low vs rising
+
+  pub no_frame : NotCalled frame_name vs
+  no_frame = none_called (marked (codes "e") []) (λ k x hk hx. word_apart (codes "e") k x refl hx hk) low vs rising
+
+  pub no_driver : NotCalled drive_name vs
+  no_driver = none_called drive_name (λ k x hk hx. ap (λ y. bytes_eq y (variable_name k x)) driver_is ∙ word_apart (codes "drive") k x refl hx hk) low vs rising
+
+  pub no_piece : (f : Text) → has_marks f ≡ false → NotCalled (piece_name f Start) vs
+  no_piece f hf =
+      none_called (piece_name f Start) (λ k x hk hx. texts_differ (piece_name f Start) (variable_name k x)
+      (λ (e : piece_name f Start ≡ variable_name k x). no_start k hk (sym (marked_is f x (behind Start) (decimal k) hf hx (no_bar_behind Start) (no_bar_decimal k hk) (sym (piece_is f Start) ∙ e ∙ variable_is k x)).1))) low vs rising
+
+-- nor has the frame
+pub frame_piece : (f : Text) → has_marks f ≡ false → bytes_eq frame_name (piece_name f Start) ≡ false
+frame_piece f hf =
+    texts_differ (marked (codes "e") []) (piece_name f Start)
+    (λ (e : marked (codes "e") [] ≡ piece_name f Start). piece_nothing Start (sym (marked_is (codes "e") f [] (behind Start) refl hf no_bar_nothing (no_bar_behind Start) (e ∙ piece_is f Start)).1))
+
+-- ---- scopes
+
+-- a name that no parameter has
+pub past : (q : Program) (y : Text) (k : ℕ) (xs : List Variable) (scope : Scope) → NotCalled y xs → named q (parameter_scope k (map parameter_of xs) scope) y ≡ named q scope y
+past q y k _ scope NoneSo = refl
+past q y k _ scope (NotSo v vs e more) =
+    past q y (suc k) vs (record { called = v.called; type = v.type; slot = k } ∷ scope) more ∙ ap (λ b. cond b (ALocal k v.type) (named q scope y)) (turned y v.called e)
+
+-- nor the variable on top
+pub past_both : (q : Program) (top : Local) (xs : List Variable) (y : Text) → bytes_eq top.called y ≡ false → NotCalled y xs → named q (top ∷ parameter_scope 0 (map parameter_of xs) []) y ≡ item_named 0 q y
+past_both q top xs y e n = ap (λ b. cond b (ALocal top.slot top.type) (named q (parameter_scope 0 (map parameter_of xs) []) y)) e ∙ past q y 0 xs [] n
+
+-- where a name means no variable in a program, it means an item in each
+pub unhidden : (p q : Program) (scope : Scope) (x : Text) → ((k : ℕ) (t : _) → named p scope x ≡ ALocal k t → ⊥) → named q scope x ≡ item_named 0 q x
+unhidden p q [] x none = refl
+unhidden p q (l ∷ scope) x none = go (bytes_eq l.called x) none (unhidden p q scope x)
+  where
+    go : (b : Bool) → ((k : ℕ) (t : _) → cond b (ALocal l.slot l.type) (named p scope x) ≡ ALocal k t → ⊥) → (((k : ℕ) (t : _) → named p scope x ≡ ALocal k t → ⊥) → named q scope x ≡ item_named 0 q x) → cond b (ALocal l.slot l.type) (named q scope x) ≡ item_named 0 q x
+    go true none rest = absurd (none l.slot l.type refl)
+    go false none rest = rest none
