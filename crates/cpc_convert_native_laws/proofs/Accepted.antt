@@ -1,30 +1,31 @@
--- Programs that are accepted have what is asked of a program: the types of their globals are complete.
+-- The types of an accepted program's globals are complete.
 use Rattle.std.proofs.Common.{◌≡◌, ◌⊎◌, inl, inr, ℕ, not, Bool, true, false, List, [], ◌∷◌, ◌++◌, map, Option, Some, None, refl, sym, ◌∙◌, ap, subst}
 use Rattle.std.proofs.lemmas.List.{append-nil}
 use Rattle.cpc_base.specs.Bytes.{Text}
 use Rattle.cpc_base.specs.declared.stop.Dialect.TheVariants as D
+use Rattle.cpc_base.specs.declared.stop.Place.{Place}
 use Rattle.cpc_check_rules.specs.declared.rule.Rule.TheVariants.{Twice, Incomplete}
 use Rattle.cpc_check_rules.specs.FunctionRules.{reserved_breaks}
 use Rattle.cpc_check_rules.specs.ItemRules.{outside, is_struct, is_item, item_breaks, items_breaks}
 use Rattle.cpc_check_rules.specs.Rule.{at_if}
+use Rattle.cpc_check_rules.specs.Rules.{breaks}
 use Rattle.cpc_check_rules.specs.Scopes.{is_sized}
 use Rattle.cpc_check_sound_laws.proofs.Agreement.{Grows}
 use Rattle.cpc_check_sound_laws.proofs.Bodies.{size_of}
 use Rattle.cpc_check_sound_laws.proofs.Growing.{IsFresh, grows_step, grows_same, grows_on}
 use Rattle.cpc_check_sound_laws.proofs.Options.{then_some}
 use Rattle.cpc_check_sound_laws.proofs.Unbroken.{split, holds_not, holds_then}
-use Rattle.cpc_tree.specs.Located.{LItem, LStruct, LGlobal, LPrototype, LFunctionItem, bare_item, bare}
+use Rattle.cpc_tree.specs.Grammar.{IsProgram}
+use Rattle.cpc_tree.specs.Tokens.{Placed}
+use Rattle.cpc_tree.specs.Located.{LProgram, LItem, LStruct, LGlobal, LPrototype, LFunctionItem, bare_item, bare}
 use Rattle.cpc_tree.specs.Syntax.{Ty, Expr, Item, GlobalItem, Program}
 use Rattle.cpc_tree.specs.Typing.{cells}
 use Rattle.cpc_convert.specs.Form.{Has, OnTop, Below}
-use Rattle.cpc_convert_accepted_laws.proofs.Functions.{accepted_is_shown, accepted_has_main}
-use Rattle.cpc_convert_accepted_laws.proofs.Names.{accepted_has_names, accepted_is_named}
-use Rattle.cpc_convert_accepted_laws.proofs.Points.{accepted_positions_known}
-use Rattle.cpc_convert_native_laws.specs.Laws.{AcceptedIsConvertible}
+use Rattle.cpc_convert_native_laws.specs.Convertible.{GlobalsComplete}
 
 -- ---- items so far
 
-one_more : (before xs : List Item) (i : Item) → (before ++ i ∷ []) ++ xs ≡ before ++ i ∷ xs
+pub one_more : (before xs : List Item) (i : Item) → (before ++ i ∷ []) ++ xs ≡ before ++ i ∷ xs
 one_more [] xs i = refl
 one_more (y ∷ ys) xs i = ap (λ zs. y ∷ zs) (one_more ys xs i)
 
@@ -37,7 +38,7 @@ fresh_item program before (LPrototype q mode x r ps) h = tt
 fresh_item program before (LFunctionItem f) h = tt
 
 -- they grow to the whole program
-grown : (program before : Program) (xs : List LItem) → items_breaks D.Cpc program before xs ≡ [] → Grows before (before ++ map bare_item xs)
+pub grown : (program before : Program) (xs : List LItem) → items_breaks D.Cpc program before xs ≡ [] → Grows before (before ++ map bare_item xs)
 grown program before [] h = subst (Grows before) (sym (append-nil before)) (grows_same before)
 grown program before (x ∷ xs) h =
     let k = split (item_breaks D.Cpc program before x) (items_breaks D.Cpc program (before ++ bare_item x ∷ []) xs) h in
@@ -77,15 +78,5 @@ module _ (program : Program) where
       go (inl e) rest = here_complete before x xs h y t start e
       go (inr i) rest = let w = rest i in (w.0, ap (λ items. cells items t) (sym (one_more before (map bare_item xs) (bare_item x))) ∙ w.1)
 
--- ---- all of it
-
-pub accepted_is_convertible : AcceptedIsConvertible
-accepted_is_convertible list end p read unbroken small closes = record {
-  names = accepted_has_names list end p read unbroken;
-  named = accepted_is_named list end p read unbroken small;
-  positions = accepted_positions_known list end p read unbroken;
-  shown = accepted_is_shown list end p read unbroken;
-  main = accepted_has_main list end p read unbroken;
-  closes = closes;
-  globals = globals_complete (bare p) [] p.items (split (items_breaks D.Cpc (bare p) [] p.items) _ unbroken).0;
-}
+pub accepted_globals : (list : List Placed) (end : Place) (p : LProgram) → IsProgram D.Cpc list end p → breaks D.Cpc p ≡ [] → GlobalsComplete (bare p)
+accepted_globals list end p read unbroken = globals_complete (bare p) [] p.items (split (items_breaks D.Cpc (bare p) [] p.items) _ unbroken).0

@@ -16,3 +16,6 @@ pub mod Spawners
 pub mod Accepted
 pub mod CpsMains
 pub mod Instances
+pub mod Closing
+pub mod Declared
+pub mod Convertible

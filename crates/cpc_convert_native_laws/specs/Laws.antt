@@ -39,6 +39,10 @@ FramesMayBe =
 abbrev pub GlobalsStay : Type 0
 GlobalsStay = (p : Program) → Convertible p → globals (make_globals (converted p) (converted p) empty_store) ≡ beside [] (globals (make_globals p p empty_store))
 
--- an accepted program is so, where the numbers of leaders are small in functions that are not converted too, and detached functions are closed
+-- detached functions of an accepted program name no other functions
+abbrev pub AcceptedCloses : Type 0
+AcceptedCloses = OfAccepted DetachedCloses
+
+-- an accepted program has all of it, where the numbers of leaders are small in functions that are not converted too
 abbrev pub AcceptedIsConvertible : Type 0
-AcceptedIsConvertible = OfAccepted (λ p. KeptAreSmall p → DetachedCloses p → Convertible p)
+AcceptedIsConvertible = OfAccepted (λ p. KeptAreSmall p → Convertible p)

@@ -1,5 +1,5 @@
 //! The laws, each as the contract of a function that does nothing.
-ghost use Rattle.cpc_convert_native_laws.specs.Laws.{AcceptedIsConvertible, FramesMayBe, GlobalsStay, WholesAreFound};
+ghost use Rattle.cpc_convert_native_laws.specs.Laws.{AcceptedCloses, AcceptedIsConvertible, FramesMayBe, GlobalsStay, WholesAreFound};
 
 /// Each name of a native or detached function finds it in both programs.
 pub fn wholes_are_found()
@@ -16,7 +16,12 @@ pub fn globals_stay()
     ensures law { GlobalsStay }
 {}
 
-/// An accepted program is as the conversion of its native code asks, where the numbers of leaders are small and detached functions closed.
+/// Detached functions of an accepted program name no other functions.
+pub fn accepted_closes()
+    ensures law { AcceptedCloses }
+{}
+
+/// An accepted program has all that the conversion of its native code asks, where the numbers of leaders are small.
 pub fn accepted_is_convertible()
     ensures law { AcceptedIsConvertible }
 {}

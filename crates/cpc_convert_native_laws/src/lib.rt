@@ -4,5 +4,5 @@
 mod laws;
 
 pub use laws::{
-    accepted_is_convertible, frames_may_be, globals_stay, wholes_are_found,
+    accepted_closes, accepted_is_convertible, frames_may_be, globals_stay, wholes_are_found,
 };

@@ -1,4 +1,4 @@
-use Rattle.cpc_convert_native_laws.proofs.Accepted as L
+use Rattle.cpc_convert_native_laws.proofs.Convertible as L
 use Rattle.cpc_convert_native_laws.proofs.laws.accepted_is_convertible.Goals as goal
 
 pub returns : goal.returns
