@@ -1,0 +1,4 @@
+pub mod Rows
+pub mod Tidied
+pub mod Places
+pub mod Scopes

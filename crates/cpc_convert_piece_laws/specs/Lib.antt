@@ -1,0 +1,4 @@
+pub mod Rows
+pub mod Stood
+pub mod Known
+pub mod Laws
