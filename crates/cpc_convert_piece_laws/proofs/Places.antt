@@ -26,7 +26,7 @@ use Rattle.cpc_convert_event.proofs.Numbers.{equal_is, later}
 use Rattle.cpc_convert_piece_laws.specs.Rows.{next_number, put_row, RowAt, row_index, row_rest, row_point}
 use Rattle.cpc_convert_piece_laws.proofs.Rows.{rows_stand, only_row}
 
-append_assoc : {X : Type 0} (xs ys zs : List X) → (xs ++ ys) ++ zs ≡ xs ++ (ys ++ zs)
+pub append_assoc : {X : Type 0} (xs ys zs : List X) → (xs ++ ys) ++ zs ≡ xs ++ (ys ++ zs)
 append_assoc [] ys zs = refl
 append_assoc (x ∷ xs) ys zs = ap (λ us. x ∷ us) (append_assoc xs ys zs)
 
@@ -43,7 +43,7 @@ rows_apart : (all front back : List PutRow) → rows_statements all (front ++ ba
 rows_apart all [] back = refl
 rows_apart all (r ∷ front) back = ap (λ ss. row_statements all r ++ ss) (rows_apart all front back) ∙ sym (append_assoc (row_statements all r) (rows_statements all front) (rows_statements all back))
 
-wanted_in : (n : ℕ) (front back : List PutRow) (r : PutRow) → any_leads n r.puts ≡ true → is_wanted n (front ++ r ∷ back) ≡ true
+pub wanted_in : (n : ℕ) (front back : List PutRow) (r : PutRow) → any_leads n r.puts ≡ true → is_wanted n (front ++ r ∷ back) ≡ true
 wanted_in n [] back r e = ap (λ b. b || is_wanted n back) e
 wanted_in n (x ∷ front) back r e = later (any_leads n x.puts) (is_wanted n (front ++ r ∷ back)) (wanted_in n front back r e)
 
@@ -131,19 +131,19 @@ module _ (p : Program) (f : Function) (l : Place) where
       go true i = with_line (Label (node_label n) s) (ap (λ b. label_if b (node_label n) (map put_statement this.puts)) i ∙ ap (label_if true (node_label n)) e) is_bare lined
       go false i = with_line s (ap (λ b. label_if b (node_label n) (map put_statement this.puts)) i ∙ ap (label_if false (node_label n)) e) is_bare lined
 
-  next_is : (m : ℕ) (o : Option ℕ) → is_next m o ≡ true → o ≡ Some m
+  pub next_is : (m : ℕ) (o : Option ℕ) → is_next m o ≡ true → o ≡ Some m
   next_is m None e = absurd (cc)
   next_is m (Some k) e = ap Some (equal_is k m e)
 
   module _ (q : Program) (is_code : function_named q name ≡ Some code) (few : length (graph_of p f).nodes < 2 ^ 63) where
-    -- some steps from a position of the piece to the row of a number
-    pub record ToRow (m : ℕ) (b : RowAt p r l m) (most k : ℕ) (left : Stmts) : Type 0 where
+    -- some steps from a point of the piece to the row of a number
+    pub record ToRow (m : ℕ) (b : RowAt p r l m) (most : ℕ) (from : Point) : Type 0 where
       pub steps : ℕ
       pub within : steps ≤ most
-      pub walk : (w : World) (below : List (Frame Point)) (slots : List Slot) (s : Store) → Walk q w.trace steps (at_line w name below k left slots s) (running w s (frame_at name (row_point p r l m b) slots ∷ below) None)
+      pub walk : (w : World) (below : List (Frame Point)) (slots : List Slot) (s : Store) → Walk q w.trace steps (running w s (frame_at name from slots ∷ below) None) (running w s (frame_at name (row_point p r l m b) slots ∷ below) None)
 
     -- a goto leads there
-    pub jumps_row : (m : ℕ) (b : RowAt p r l m) → IsFilled m b → is_wanted m all ≡ true → (k : ℕ) (rest : Stmts) (line : LineAt code body k (piece_scope p r l) (piece_count p r l) (Goto (node_label m)) rest) → ToRow m b 1 k (AndStmt line.statement rest)
+    pub jumps_row : (m : ℕ) (b : RowAt p r l m) → IsFilled m b → is_wanted m all ≡ true → (k : ℕ) (rest : Stmts) (line : LineAt code body k (piece_scope p r l) (piece_count p r l) (Goto (node_label m)) rest) → ToRow m b 1 (point_at k (AndStmt line.statement rest))
     jumps_row m b filled wanted k rest line = record {
       steps = 1;
       within = omega arith;
@@ -152,7 +152,7 @@ module _ (p : Program) (f : Function) (l : Place) where
     }
 
     -- where the row stands next, it is there
-    pub falls_row : (m : ℕ) (b : RowAt p r l m) (k : ℕ) (left : Stmts) → row_index p r l m b ≡ k → row_rest p r l m b ≡ left → ToRow m b 0 k left
+    pub falls_row : (m : ℕ) (b : RowAt p r l m) (k : ℕ) (left : Stmts) → row_index p r l m b ≡ k → row_rest p r l m b ≡ left → ToRow m b 0 (point_at k left)
     falls_row m b k left e i = record {
       steps = 0;
       within = omega arith;
@@ -163,12 +163,12 @@ module _ (p : Program) (f : Function) (l : Place) where
     pub goes_row : (n : ℕ) (at : RowAt p r l n) (m : ℕ) (b : RowAt p r l m) → IsFilled m b → (is_next m (next_number at.back) ≡ false → is_wanted m all ≡ true)
         → (k : ℕ) → Before k (before (map put_statement (put_line (next_number at.back) (Goes m))) (before (rows_statements all at.back) NoStmt))
         → k + length (map put_statement (put_line (next_number at.back) (Goes m))) ≡ row_index p r l n at + length (row_statements all (put_row p r l n at.back))
-        → ToRow m b 1 k (before (map put_statement (put_line (next_number at.back) (Goes m))) (before (rows_statements all at.back) NoStmt))
+        → ToRow m b 1 (point_at k (before (map put_statement (put_line (next_number at.back) (Goes m))) (before (rows_statements all at.back) NoStmt)))
     goes_row n at m b filled wanted k st ends = go (is_next m (next_number at.back)) refl wanted st ends
       where
         go : (d : Bool) → is_next m (next_number at.back) ≡ d → (d ≡ false → is_wanted m all ≡ true) → Before k (before (map put_statement (cond d [] (Jump m ∷ []))) (before (rows_statements all at.back) NoStmt))
             → k + length (map put_statement (cond d [] (Jump m ∷ []))) ≡ row_index p r l n at + length (row_statements all (put_row p r l n at.back))
-            → ToRow m b 1 k (before (map put_statement (cond d [] (Jump m ∷ []))) (before (rows_statements all at.back) NoStmt))
+            → ToRow m b 1 (point_at k (before (map put_statement (cond d [] (Jump m ∷ []))) (before (rows_statements all at.back) NoStmt)))
         go true e w st i =
             let there = next_row n at m b (next_is m (next_number at.back) e) in
             let x = there.0 in

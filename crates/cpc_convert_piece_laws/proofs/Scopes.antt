@@ -93,6 +93,11 @@ boxes_rise p f k (suc n) = go (is_box p f k) (subst (λ m. Rises m (suc k) (boxe
     go true r = OneRise k k _ (omega arith) (omega arith) r
     go false r = rises_lower (k + suc n) k (suc k) _ (omega arith) r
 
+below_length : (xs : List Variable) (i : ℕ) (x : Variable) → slice_get xs i ≡ Some x → i < length xs
+below_length [] i x e = absurd (cc)
+below_length (y ∷ ys) zero x e = omega arith
+below_length (y ∷ ys) (suc i) x e = let d = below_length ys i x e in omega (arith, d)
+
 module _ (p : Program) (f : Function) (known : CpsKnown p f) where
   abbrev pub r : Routine
   r = routine_of p f
@@ -106,7 +111,7 @@ module _ (p : Program) (f : Function) (known : CpsKnown p f) where
   pub cps : IsCps p f
   cps = known.found.cps
 
-  unmarked_name : (k : ℕ) → has_marks (variable_of r k).called ≡ false
+  pub unmarked_name : (k : ℕ) → has_marks (variable_of r k).called ≡ false
   unmarked_name k = go (slice_get (variables f) k) refl
     where
       go : (o : Option Variable) → slice_get (variables f) k ≡ o → has_marks (variable_or o).called ≡ false
@@ -194,16 +199,11 @@ module _ (p : Program) (f : Function) (known : CpsKnown p f) where
     meant = (locals_meant p known.names f known.found.cps).pieces l owner
 
     -- a local holds some value
-    pub local_holds : (slots : List Slot) → AllRegisters slots → length slots ≡ length (piece_locals p r l) → (i : ℕ) (x : Variable) → slice_get (piece_locals p r l) i ≡ Some x → (v : Value) × Holds q (piece_scope p r l) slots x.called x.type v
-    local_holds slots all number i x e =
-        let less = below_length (piece_locals p r l) i x e in
-        let at = register_at slots i all (omega (arith, less, number)) in
-        (at.0, record { slot = i; is_local = meant.meant q i x e; is_slot = at.1 })
-      where
-        below_length : (xs : List Variable) (i : ℕ) (x : Variable) → slice_get xs i ≡ Some x → i < length xs
-        below_length [] i x e = absurd (cc)
-        below_length (y ∷ ys) zero x e = omega arith
-        below_length (y ∷ ys) (suc i) x e = let d = below_length ys i x e in omega (arith, d)
+    pub local_slot : (slots : List Slot) → AllRegisters slots → length slots ≡ length (piece_locals p r l) → (i : ℕ) (x : Variable) → slice_get (piece_locals p r l) i ≡ Some x → (v : Value) × (slice_get slots i ≡ Some (Register v))
+    local_slot slots all number i x e = let less = below_length (piece_locals p r l) i x e in register_at slots i all (omega (arith, less, number))
+
+    pub local_holds : (slots : List Slot) → (i : ℕ) (x : Variable) → slice_get (piece_locals p r l) i ≡ Some x → (v : Value) → slice_get slots i ≡ Some (Register v) → Holds q (piece_scope p r l) slots x.called x.type v
+    local_holds slots i x e v at = record { slot = i; is_local = meant.meant q i x e; is_slot = at }
 
     -- the pointer to the frames below
     pub next_holds : (slots slots' : List Slot) (lower : Value) → LocalsStand p r l slots slots' lower → Holds q (piece_scope p r l) slots' next_name (below_if (is_scalar f.result) f.called) lower

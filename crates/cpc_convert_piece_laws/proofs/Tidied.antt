@@ -54,7 +54,7 @@ module _ (p : Program) (ok : IsNamed p) (g : Function) (c : IsCps p g) (l : Plac
   }
 
 pub stood_tidied : StoodIsTidied
-stood_tidied p ok _ l n slots o lower _ _ (AtRow g _ _ _ _ _ slots' is node at locals arrives) =
-    AtRow g l n (tidy_slots (kept_of p g.called (InGraph l n)) slots) o lower slots' is node at (locals_tidied p ok g is.cps l node.keeps n slots slots' lower locals) arrives
+stood_tidied p ok _ l n slots o lower _ _ (AtRow g _ _ _ _ _ slots' is node has at locals arrives) =
+    AtRow g l n (tidy_slots (kept_of p g.called (InGraph l n)) slots) o lower slots' is node has at (locals_tidied p ok g is.cps l node.keeps n slots slots' lower locals) arrives
 stood_tidied p ok _ l n slots _ lower _ _ (AtCall g _ m _ _ v _ slots' is node at call back locals) =
     AtCall g l m n (tidy_slots (kept_of p g.called (InGraph l n)) slots) v lower slots' is node at call back (locals_tidied p ok g is.cps l node.keeps n slots slots' lower locals)

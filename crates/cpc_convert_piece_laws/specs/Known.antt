@@ -10,6 +10,12 @@ use Rattle.cpc_forms.specs.Graph.{graph_of}
 use Rattle.cpc_convert_event.specs.AddressLaws.{AddressesAreBoxes, ResultsAreScalar}
 use Rattle.cpc_convert_event.specs.NameLaws.{IsNamed}
 use Rattle.cpc_convert_event.specs.Routines.{routine_of}
+use Rattle.cpc_convert_event.specs.Converted.{converted}
+use Rattle.cpc_convert_image_laws.specs.Relations.{Common}
+use Rattle.cpc_convert_accepted_laws.specs.Functions.{IsShown}
+use Rattle.cpc_convert_accepted_laws.specs.Known.{Stays}
+use Rattle.cpc_convert_accepted_laws.specs.Points.{PositionsKnown}
+use Rattle.cpc_convert_native_laws.specs.Instance.{StaysAs}
 use Rattle.cpc_convert_piece_laws.specs.Stood.{IsFound}
 
 -- names are what the conversion asks, the function is found by its name, its nodes and variables are few, no item has the name of a primitive,
@@ -22,3 +28,9 @@ pub record CpsKnown (p : Program) (f : Function) : Type 0 where
   pub primitives : (x : Text) (prim : Primitive) → primitive_named x ≡ Some prim → item_named 0 p x ≡ NotMeant
   pub addresses : AddressesAreBoxes p f
   pub results : (l : Place) → ResultsAreScalar (routine_of p f) l
+
+-- what is known of a whole program: what stands at its positions, what it has in common with its event program, and how faults name its functions
+pub record ProgramKnown (p : Program) : Type 0 where
+  pub positions : PositionsKnown p
+  pub common : Common (Stays p) (StaysAs p) p (converted p)
+  pub shown : IsShown p

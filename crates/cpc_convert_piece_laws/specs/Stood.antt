@@ -12,7 +12,7 @@ use Rattle.cpc_meaning.specs.Act.{AtStatement}
 use Rattle.cpc_meaning.specs.Eval.{Slot, Register}
 use Rattle.cpc_meaning.specs.Plain.{Frame}
 use Rattle.cpc_meaning.specs.Ways.{ByFrame}
-use Rattle.cpc_forms.specs.Flow.{Place}
+use Rattle.cpc_forms.specs.Flow.{Place, At}
 use Rattle.cpc_forms.specs.Graph.{Node}
 use Rattle.cpc_convert_image_laws.specs.Locals.{Stands, FitsAt}
 use Rattle.cpc_convert_chain_laws.specs.Boxes.{AllRegisters}
@@ -23,6 +23,7 @@ use Rattle.cpc_convert_event.specs.Names.{piece_name, value_name}
 use Rattle.cpc_convert_event.specs.Routines.{Routine, routine_of, keeper, closure_of, is_plain, local_of, variable_of}
 use Rattle.cpc_convert_event.specs.Frames.{arriving_type}
 use Rattle.cpc_convert_event.specs.Pieces.{takes_value, called_so}
+use Rattle.cpc_convert_event.specs.Rows.{has_row}
 use Rattle.cpc_convert_event.specs.LocalLaws.{piece_locals}
 use Rattle.cpc_convert_event.specs.NameLaws.{IsCps, IsOwner}
 use Rattle.cpc_convert_piece_laws.specs.Rows.{RowAt, row_index, row_rest, row_point}
@@ -50,10 +51,10 @@ pub record LocalsStand (p : Program) (r : Routine) (l : Place) (slots slots' : L
   pub kept : (k i : ℕ) → holds_number (closure_of r l) k ≡ true → slice_get (piece_locals p r l) i ≡ Some (local_of r k) → Stands slots slots' (is_plain r k) k i
   pub fits : (k : ℕ) → holds_number (closure_of r l) k ≡ true → FitsAt slots (variable_of r k).type k
 
--- a value that arrives where a piece begins stands in its local, if it is put somewhere
-pub data Arrives (p : Program) (r : Routine) (l : Place) (slots' : List Slot) : Option Value → Type 0 where
-  NoneArrives : Arrives p r l slots' None
-  OneArrives : (v : Value) → (takes_value r l ≡ true → (i : ℕ) → slice_get (piece_locals p r l) i ≡ Some (called_so value_name (arriving_type p r l)) → slice_get slots' i ≡ Some (Register v)) → Arrives p r l slots' (Some v)
+-- a value arrives at the node at which a piece begins; it stands in its local, if it is put somewhere
+pub data Arrives (p : Program) (r : Routine) (l : Place) (n : ℕ) (slots' : List Slot) : Option Value → Type 0 where
+  NoneArrives : Arrives p r l n slots' None
+  OneArrives : (v : Value) → l ≡ At n → (takes_value r l ≡ true → (i : ℕ) → slice_get (piece_locals p r l) i ≡ Some (called_so value_name (arriving_type p r l)) → slice_get slots' i ≡ Some (Register v)) → Arrives p r l n slots' (Some v)
 
 -- a row begins with the image of a call, and then come these statements
 pub record CallAt (p : Program) (g : Function) (l : Place) (m : ℕ) (at : RowAt p (routine_of p g) l m) : Type 0 where
@@ -73,8 +74,8 @@ call_point p g l m at call = Arrival (Nth (row_index p (routine_of p g) l m at) 
 
 -- where pieces stand for frames of a program
 pub data Stood (p : Program) : (f : Text) → (l : Place) → (n : ℕ) → (slots : List Slot) → (arriving : Option Value) → (next : Value) → (piece : Frame Point) → (arriving' : Option Value) → Type 0 where
-  AtRow : (g : Function) (l : Place) (n : ℕ) (slots : List Slot) (o : Option Value) (lower : Value) (slots' : List Slot) → IsFound p g → NodeAt p g l n → (at : RowAt p (routine_of p g) l n)
-      → LocalsStand p (routine_of p g) l slots slots' lower → Arrives p (routine_of p g) l slots' o
+  AtRow : (g : Function) (l : Place) (n : ℕ) (slots : List Slot) (o : Option Value) (lower : Value) (slots' : List Slot) → IsFound p g → NodeAt p g l n → has_row (routine_of p g).split n ≡ true → (at : RowAt p (routine_of p g) l n)
+      → LocalsStand p (routine_of p g) l slots slots' lower → Arrives p (routine_of p g) l n slots' o
       → Stood p g.called l n slots o lower (frame_at (piece_name g.called l) (row_point p (routine_of p g) l n at) slots') None
   AtCall : (g : Function) (l : Place) (m n : ℕ) (slots : List Slot) (v lower : Value) (slots' : List Slot) → IsFound p g → NodeAt p g l n → (at : RowAt p (routine_of p g) l m) → (call : CallAt p g l m at)
       → call.node.node.arrival ≡ Some n → LocalsStand p (routine_of p g) l slots slots' lower
