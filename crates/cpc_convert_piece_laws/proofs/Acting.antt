@@ -1,28 +1,23 @@
 -- What is known where a piece stands before the row of a node: what the source does there, and the images of what occurs there.
-use Rattle.std.proofs.Common.{◌≡◌, ℕ, Bool, true, false, List, [], ◌∷◌, ◌++◌, Option, Some, None, refl, sym, ◌∙◌, ap, subst}
-use Rattle.std.specs.List.{All}
-use Rattle.cpc_base.specs.Bytes.{Text}
+use Rattle.std.proofs.Common.{◌≡◌, ℕ, true, List, Option, ◌∙◌, ap, subst}
 use Rattle.cpc_tree.specs.Lists.{holds_number}
-use Rattle.cpc_tree.specs.Points.{Point, Found, Simple}
-use Rattle.cpc_tree.specs.Syntax.{Ty, Expr, Stmt, Function, Program}
-use Rattle.cpc_store.specs.Store.{Value, Blocks, Store}
-use Rattle.cpc_meaning.specs.Act.{Act, GoesOn, Stood, AtStatement, act, assign, assigns}
+use Rattle.cpc_tree.specs.Points.{Found}
+use Rattle.cpc_tree.specs.Syntax.{Ty, Expr, Function, Program}
+use Rattle.cpc_store.specs.Store.{Value, Store}
+use Rattle.cpc_meaning.specs.Act.{GoesOn, Stood, AtStatement, act, assign, assigns}
 use Rattle.cpc_meaning.specs.Answer.{Answer, Gives, Faults, NoAnswer, ◌>>=◌}
 use Rattle.cpc_meaning.specs.Eval.{Slot, Context, value}
 use Rattle.cpc_meaning.specs.Plain.{context}
 use Rattle.cpc_meaning.specs.Ways.{Manner}
-use Rattle.cpc_convert_image_laws.specs.Frames.{StandsIn}
-use Rattle.cpc_convert_image_laws.specs.Held.{IsHeldSlot, IsHeldStore, BoxesLive}
 use Rattle.cpc_convert_image_laws.specs.Stacks.{frame_of}
 use Rattle.cpc_forms.specs.Flow.{Place}
 use Rattle.cpc_forms.specs.Split.{InGraph, split_form}
 use Rattle.cpc_lift_laws.specs.Used.{used_at}
 use Rattle.cpc_convert_chain_laws.specs.Frames.{at as Here_at}
-use Rattle.cpc_convert_event.specs.Lines.{Line, node_lines, stood_lines}
+use Rattle.cpc_convert_event.specs.Lines.{node_lines, stood_lines}
 use Rattle.cpc_convert_event.specs.NameLaws.{IsOwner}
 use Rattle.cpc_convert_event.specs.Routines.{Routine, routine_of, closure_of, readings_of}
-use Rattle.cpc_convert_accepted_laws.specs.Known.{Stays}
-use Rattle.cpc_convert_accepted_laws.specs.Points.{StatementKnown, FoundKnown}
+use Rattle.cpc_convert_accepted_laws.specs.Points.{FoundKnown}
 use Rattle.cpc_convert_laws.proofs.Relation.{Shared}
 use Rattle.cpc_convert_piece_laws.specs.Known.{CpsKnown, ProgramKnown}
 use Rattle.cpc_convert_piece_laws.specs.Stood.{NodeAt, LocalsStand}

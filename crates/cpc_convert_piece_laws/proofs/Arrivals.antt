@@ -1,15 +1,15 @@
 -- Where the value of a cps statement arrives: the piece of its leader assigns it from a local, if it has a place.
-use Rattle.std.proofs.Common.{◌≡◌, ℕ, suc, ◌<◌, ◌≤◌, Bool, true, false, List, [], ◌∷◌, ◌++◌, slice_get, Option, Some, None, refl, sym, ◌∙◌, ap, subst}
+use Rattle.std.proofs.Common.{◌≡◌, ℕ, ◌<◌, ◌≤◌, true, false, List, ◌++◌, slice_get, Option, Some, None, refl, sym, ◌∙◌, ap, subst}
 use Rattle.std.specs.List.{All}
 use Rattle.cpc_base.specs.Bytes.{Text}
-use Rattle.cpc_tree.specs.Points.{Point, Found, Simple, Test, Nothing}
-use Rattle.cpc_tree.specs.Syntax.{Ty, Expr, ENamed, Exprs, Stmt, Assign, Call, Detach, Spawn, Function, Program}
+use Rattle.cpc_tree.specs.Points.{Found, Simple, Test, Nothing}
+use Rattle.cpc_tree.specs.Syntax.{Ty, Expr, ENamed, Assign, Call, Detach, Spawn, Function, Program}
 use Rattle.cpc_tree.specs.Lists.{holds_number}
-use Rattle.cpc_tree.specs.Typing.{Scope, is_scalar}
+use Rattle.cpc_tree.specs.Typing.{Scope}
 use Rattle.cpc_store.specs.Store.{Value, Blocks, Store}
 use Rattle.cpc_meaning.specs.Act.{AtArrival, Act, GoesOn, act, assign, deliver, target_of}
 use Rattle.cpc_meaning.specs.Agenda.{Agenda}
-use Rattle.cpc_meaning.specs.Answer.{Answer, Gives, Faults, NoAnswer, ◌>>=◌, needed}
+use Rattle.cpc_meaning.specs.Answer.{Answer, Gives, ◌>>=◌, needed}
 use Rattle.cpc_meaning.specs.Eval.{Slot, Register, Context}
 use Rattle.cpc_meaning.specs.Events.{Callback}
 use Rattle.cpc_meaning.specs.Plain.{Frame as CallFrame, context}
@@ -29,7 +29,7 @@ use Rattle.cpc_forms.specs.Split.{Position, InGraph, split_form}
 use Rattle.cpc_lift_laws.specs.Used.{used_place}
 use Rattle.cpc_convert_chain_laws.specs.Frames.{at as Here_at}
 use Rattle.cpc_convert_event.specs.Frames.{arriving_type}
-use Rattle.cpc_convert_event.specs.Lines.{arrival_lines, node_lines, Does, goes}
+use Rattle.cpc_convert_event.specs.Lines.{arrival_lines}
 use Rattle.cpc_convert_event.specs.LocalLaws.{piece_locals}
 use Rattle.cpc_convert_event.specs.NameLaws.{IsOwner}
 use Rattle.cpc_convert_event.specs.Names.{piece_name, value_name}
@@ -47,7 +47,7 @@ use Rattle.cpc_convert_piece_laws.specs.Rows.{RowAt}
 use Rattle.cpc_convert_piece_laws.specs.Stood.{NodeAt, LocalsStand, Arrives, NoneArrives, OneArrives}
 use Rattle.cpc_convert_piece_laws.proofs.Acting.{given_only, kept_here, source_act, lines_are}
 use Rattle.cpc_convert_piece_laws.proofs.Environment.{InLocal, Used, names_mean, scope_is}
-use Rattle.cpc_convert_piece_laws.proofs.Frames.{Target, code, scope}
+use Rattle.cpc_convert_piece_laws.proofs.Frames.{Target, scope}
 use Rattle.cpc_convert_piece_laws.proofs.Passes.{passes_there}
 use Rattle.cpc_convert_piece_laws.proofs.Rowed.{DoesHere, in_place}
 use Rattle.cpc_convert_piece_laws.proofs.Scopes.{meant}

@@ -1,27 +1,25 @@
 -- What the names of a node mean in the piece of its owner, and that the locals stand after an act of both.
-use Rattle.std.proofs.Common.{◌≡◌, ℕ, suc, ◌<◌, ◌≤◌, ◌^◌, Bool, true, false, not, ◌==◌, cond, List, [], ◌∷◌, map, length, codes, slice_get, slice_set, bytes_eq, Option, Some, None, refl, sym, ◌∙◌, ap, subst, arith}
+use Rattle.std.proofs.Common.{◌≡◌, ℕ, suc, ◌<◌, ◌^◌, Bool, true, false, not, ◌==◌, cond, List, [], ◌∷◌, map, length, codes, slice_get, bytes_eq, Some, refl, sym, ◌∙◌, ap, subst, arith}
 use Rattle.cpc_base.specs.Bytes.{Text}
-use Rattle.cpc_tree.specs.declared.program.Mode.{Mode}
 use Rattle.cpc_tree.specs.declared.program.Mode.TheVariants.{Native, Detached, Extern, Cps}
 use Rattle.cpc_tree.specs.Lists.{holds_number}
 use Rattle.cpc_tree.specs.Registers.{variables}
 use Rattle.cpc_tree.specs.Syntax.{Ty, StructItem, GlobalItem, PrototypeItem, FunctionItem, Variable, Function, Program}
-use Rattle.cpc_tree.specs.Typing.{Scope, Meant, ALocal, AGlobal, AFunction, NotMeant, named, item_named, parameter_type, is_scalar}
+use Rattle.cpc_tree.specs.Typing.{Meant, ALocal, AGlobal, AFunction, NotMeant, named, item_named, parameter_type, is_scalar}
 use Rattle.cpc_store.specs.Store.{Value}
-use Rattle.cpc_meaning.specs.Eval.{Slot, Register, assigned}
-use Rattle.cpc_meaning.specs.Answer.{Gives}
+use Rattle.cpc_meaning.specs.Eval.{Slot, Register}
 use Rattle.cpc_meaning.specs.Ways.{ways}
 use Rattle.cpc_meaning.proofs.Functions.{text_same}
 use Rattle.cpc_convert.specs.Accepted.{has_marks}
 use Rattle.cpc_convert_image_laws.specs.InPlace.{is_cps}
-use Rattle.cpc_convert_image_laws.specs.Locals.{Stands, HasField, StandsFor, local_type}
+use Rattle.cpc_convert_image_laws.specs.Locals.{HasField, StandsFor, local_type}
 use Rattle.cpc_convert_image_laws.specs.Native.{KeptItem, KeptGlobal, KeptFunction, LeftOut, KeptNothing}
 use Rattle.cpc_convert_image_laws.specs.Relations.{Means, Changed, NoneChanged, BothChanged, OneToOne}
 use Rattle.cpc_convert_image_laws.proofs.Locals.{scope_means, stands_kept, fits_kept}
 use Rattle.cpc_convert_image_laws.proofs.Slots.{got_other}
 use Rattle.cpc_forms.specs.Flow.{Place}
 use Rattle.cpc_forms.specs.Graph.{at_node}
-use Rattle.cpc_forms.specs.Split.{Split, InGraph, split_form, position_scope}
+use Rattle.cpc_forms.specs.Split.{InGraph, split_form, position_scope}
 use Rattle.cpc_graph_laws.proofs.Formed.{equal_self}
 use Rattle.cpc_convert_chain_laws.specs.Boxes.{AllRegisters}
 use Rattle.cpc_convert_chain_laws.proofs.Boxes.{registers_set, slots_length}

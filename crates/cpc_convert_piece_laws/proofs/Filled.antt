@@ -10,11 +10,11 @@ use Rattle.cpc_convert_image_laws.specs.Images.{Readings}
 use Rattle.cpc_forms.specs.Flow.{Place, At}
 use Rattle.cpc_forms.specs.Graph.{Node, node_of, graph_of, at_node}
 use Rattle.cpc_graph_laws.proofs.Formed.{node_comes}
-use Rattle.cpc_convert_event.specs.Lines.{Line, Does, Tests, Passes, passes, goes, all_do, frame_lines, frame_lines_if, hands_over, hands_nothing, waits_lines, cps_lines, unbox_lines, result_lines, patch_lines, leave_lines, simple_lines, test_lines, arrival_lines, behind_arrival, framed_lines, stood_lines, node_lines}
+use Rattle.cpc_convert_event.specs.Lines.{Line, passes, all_do, frame_lines, frame_lines_if, hands_over, hands_nothing, waits_lines, cps_lines, unbox_lines, result_lines, patch_lines, leave_lines, simple_lines, test_lines, arrival_lines, behind_arrival, framed_lines, stood_lines, node_lines}
 use Rattle.cpc_convert_event.specs.Names.{next_name, to_name, under_name}
 use Rattle.cpc_convert_event.specs.Routines.{Routine, routine_of, readings_of}
 use Rattle.cpc_convert_event.specs.Rows.{Put, Plain, Jump, JumpIf, is_next, put_lines, is_own, lines_by}
-use Rattle.cpc_convert_piece_laws.specs.Rows.{next_number, put_row, RowAt}
+use Rattle.cpc_convert_piece_laws.specs.Rows.{next_number, RowAt}
 use Rattle.cpc_convert_piece_laws.proofs.Places.{IsFilled}
 
 -- these lines begin with one, whatever stands next
@@ -86,14 +86,14 @@ module _ (p : Program) (r : Routine) (names : Readings) where
   stood_start w (AtStatement Nothing) n m a h = passes_start n
 
 -- what stands where a statement does
-abbrev what_stands : Stood → Found
+abbrev pub what_stands : Stood → Found
 what_stands (AtStatement x) = x
 what_stands s = Nothing
 
-no_arrival : (x y : Found) → AtArrival x ≡ AtStatement y → ⊥
+pub no_arrival : (x y : Found) → AtArrival x ≡ AtStatement y → ⊥
 no_arrival x y e = absurd (cc)
 
-no_end : (y : Found) → AtEnd ≡ AtStatement y → ⊥
+pub no_end : (y : Found) → AtEnd ≡ AtStatement y → ⊥
 no_end y e = absurd (cc)
 
 module _ (p : Program) (f : Function) where

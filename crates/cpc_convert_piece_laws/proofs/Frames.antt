@@ -1,15 +1,13 @@
 -- A piece makes the frame of a leader, and gives it to the driver.
-use Rattle.std.proofs.Common.{◌≡◌, ℕ, zero, suc, ◌+◌, ◌<◌, ◌≤◌, ◌^◌, Bool, true, false, not, ◌&&◌, ◌||◌, ◌==◌, List, [], ◌∷◌, ◌++◌, map, length, slice_get, slice_set, bytes_eq, Option, Some, None, refl, sym, ◌∙◌, ap, subst, codes, arith}
+use Rattle.std.proofs.Common.{◌≡◌, ℕ, suc, ◌+◌, ◌<◌, ◌≤◌, ◌^◌, Bool, true, false, ◌||◌, ◌==◌, List, [], ◌∷◌, ◌++◌, map, length, slice_get, slice_set, bytes_eq, Option, Some, refl, sym, ◌∙◌, ap, subst, codes, arith}
 use Rattle.cpc_base.specs.Bytes.{Text}
-use Rattle.cpc_tree.specs.declared.program.Mode.TheVariants.{Native}
-use Rattle.cpc_tree.specs.Lists.{holds_number, is_empty}
+use Rattle.cpc_tree.specs.Lists.{holds_number}
 use Rattle.cpc_tree.specs.Points.{Point}
 use Rattle.cpc_tree.specs.Registers.{variables}
-use Rattle.cpc_tree.specs.Syntax.{Ty, TyPointer, TyStruct, TyInt, NoTy, AndTy, ENamed, Stmt, Stmts, NoStmt, AndStmt, Variable, Function, Program}
-use Rattle.cpc_num.specs.declared.kinds.Kind.TheVariants.{Int}
+use Rattle.cpc_tree.specs.Syntax.{Ty, TyStruct, NoTy, AndTy, ENamed, Stmt, Stmts, AndStmt, Variable, Function, Program}
 use Rattle.cpc_tree.specs.Primitives.{RtFrame}
 use Rattle.cpc_tree.specs.Typing.{Scope, function_named, is_scalar}
-use Rattle.cpc_store.specs.declared.values.Class.TheVariants.{Auto, Frame}
+use Rattle.cpc_store.specs.declared.values.Class.TheVariants.{Frame}
 use Rattle.cpc_store.specs.Store.{Value, Unset, At as Pointer, Blocks, Store}
 use Rattle.cpc_meaning.specs.Eval.{Slot, Register}
 use Rattle.cpc_meaning.specs.Plain.{Frame as CallFrame}
@@ -23,40 +21,33 @@ use Rattle.cpc_convert_image_laws.proofs.Slots.{got_other}
 use Rattle.cpc_forms.specs.Flow.{Place, At}
 use Rattle.cpc_graph_laws.proofs.Formed.{equal_self}
 use Rattle.cpc_convert_chain_laws.specs.Chains.{frame_cells}
-use Rattle.cpc_convert_chain_laws.specs.Driver.{code_field, next_field, any_pointer, frame_tag, driving}
+use Rattle.cpc_convert_chain_laws.specs.Driver.{code_field, next_field, any_pointer, frame_tag}
 use Rattle.cpc_convert_chain_laws.specs.Fits.{Fits}
-use Rattle.cpc_convert_chain_laws.specs.Flat.{before, point_at, LineAt}
+use Rattle.cpc_convert_chain_laws.specs.Flat.{before, LineAt}
 use Rattle.cpc_convert_chain_laws.specs.Frames.{Holds, Save, asks_block, fills_frame, frame_through, pointed_slots}
-use Rattle.cpc_convert_chain_laws.specs.Walks.{World, Walk, at_line, running, frame_at}
-use Rattle.cpc_convert_chain_laws.proofs.Boxes.{registers_set, free_all, slots_length}
+use Rattle.cpc_convert_chain_laws.specs.Walks.{World, Walk, at_line}
+use Rattle.cpc_convert_chain_laws.proofs.Boxes.{registers_set, slots_length}
 use Rattle.cpc_convert_chain_laws.proofs.Fields.{held, named_pointer, cast_pointer}
 use Rattle.cpc_convert_chain_laws.proofs.Making.{makes_frame, past_made, holds_new}
-use Rattle.cpc_convert_chain_laws.proofs.Pieces.{return_step}
-use Rattle.cpc_convert_chain_laws.proofs.Rows.{before_append}
-use Rattle.cpc_convert_chain_laws.proofs.Walks.{walk_append}
 use Rattle.cpc_convert_event.specs.FillLaws.{AllHold, NoneHold, OneHolds}
 use Rattle.cpc_convert_event.specs.FlatLaws.{piece_scope, piece_count}
-use Rattle.cpc_convert_event.specs.Frames.{arriving_type}
-use Rattle.cpc_convert_event.specs.LabelLaws.{put_in}
-use Rattle.cpc_convert_event.specs.Lines.{save_of, all_do, hands_over, frame_lines}
-use Rattle.cpc_convert_event.specs.LocalLaws.{piece_locals, StandsIn}
+use Rattle.cpc_convert_event.specs.Lines.{save_of, all_do}
+use Rattle.cpc_convert_event.specs.LocalLaws.{piece_locals}
 use Rattle.cpc_convert_event.specs.NameLaws.{IsOwner, ALeader}
-use Rattle.cpc_convert_event.specs.Names.{piece_name, box_tag, next_name, to_name, variable_name}
-use Rattle.cpc_convert_event.specs.Pieces.{called_so, to_frame, below_if, words_of, words_if, any_node, is_wait, is_entry, is_result, piece_body, piece_function}
+use Rattle.cpc_convert_event.specs.Names.{piece_name, box_tag, next_name, variable_name}
+use Rattle.cpc_convert_event.specs.Pieces.{called_so, to_frame, below_if, piece_body, piece_function}
 use Rattle.cpc_convert_event.specs.Routines.{Routine, routine_of, closure_of, is_plain, variable_of, local_of, locals_of}
-use Rattle.cpc_convert_event.specs.Rows.{rows_nodes, stubs_of, reached, is_own, stub_lines, lines_by, put_lines, put_statement, rows_statements}
-use Rattle.cpc_convert_event.proofs.Fields.{word_apart}
+use Rattle.cpc_convert_event.specs.Rows.{put_lines, put_statement}
 use Rattle.cpc_convert_event.proofs.Filling.{frames_filled}
 use Rattle.cpc_convert_event.proofs.Locals.{closure_rise}
 use Rattle.cpc_convert_event.proofs.Lookups.{functions_found}
 use Rattle.cpc_convert_event.proofs.BoxesThere.{structs_there}
-use Rattle.cpc_convert_event.proofs.Numbers.{equal_is, later, chosen_is, AllBelow, NoneBelow, OneBelow, Rises, NoneRise, OneRise, rises_below}
+use Rattle.cpc_convert_event.proofs.Numbers.{equal_is, later, AllBelow, NoneBelow, OneBelow, Rises, NoneRise, OneRise, rises_below}
 use Rattle.cpc_convert_laws.specs.Items.{value_in, copied}
 use Rattle.cpc_convert_piece_laws.specs.Known.{CpsKnown}
-use Rattle.cpc_convert_piece_laws.specs.Rows.{next_number, put_row, RowAt, row_index, row_rest, row_point}
 use Rattle.cpc_convert_piece_laws.specs.Stood.{LocalsStand}
-use Rattle.cpc_convert_piece_laws.proofs.Places.{Before, first_line}
-use Rattle.cpc_convert_piece_laws.proofs.Scopes.{q, cps, unmarked_name, piece_meant, primitive_meant, meant, local_slot, next_holds}
+use Rattle.cpc_convert_piece_laws.proofs.Places.{Before}
+use Rattle.cpc_convert_piece_laws.proofs.Scopes.{q, unmarked_name, piece_meant, primitive_meant, meant, local_slot, next_holds}
 
 -- ---- numbers
 

@@ -1,11 +1,10 @@
 -- Assignments and declarations in place: the piece assigns as the source does.
-use Rattle.std.proofs.Common.{◌≡◌, ℕ, suc, ◌<◌, ◌≤◌, true, false, List, [], ◌∷◌, Option, Some, None, refl, sym, ◌∙◌, ap, subst}
+use Rattle.std.proofs.Common.{◌≡◌, ℕ, ◌<◌, ◌≤◌, true, List, Option, Some, refl, sym, subst}
 use Rattle.std.specs.List.{All}
 use Rattle.cpc_base.specs.Bytes.{Text}
 use Rattle.cpc_num.specs.declared.kinds.Op.{Op}
 use Rattle.cpc_tree.specs.Points.{Simple}
-use Rattle.cpc_tree.specs.Syntax.{Ty, Expr, ENamed, Stmt, Declare, Assign, Function, Program}
-use Rattle.cpc_tree.specs.Points.{Point}
+use Rattle.cpc_tree.specs.Syntax.{Ty, Expr, ENamed, Declare, Assign, Function, Program}
 use Rattle.cpc_store.specs.Store.{Value, Blocks}
 use Rattle.cpc_meaning.specs.Act.{AtStatement, act, simple_act, right_side}
 use Rattle.cpc_meaning.specs.Agenda.{Agenda}
@@ -16,7 +15,7 @@ use Rattle.cpc_meaning.specs.Start.{before_bars}
 use Rattle.cpc_meaning.specs.Threads.{shown_in}
 use Rattle.cpc_meaning.specs.Ways.{InPlace}
 use Rattle.cpc_convert_image_laws.specs.Held.{IsHeldSlot, IsHeldStore, BoxesLive}
-use Rattle.cpc_convert_image_laws.specs.Images.{image, image_stmt}
+use Rattle.cpc_convert_image_laws.specs.Images.{image_stmt}
 use Rattle.cpc_convert_image_laws.specs.Stacks.{frame_of}
 use Rattle.cpc_convert_image_laws.proofs.Live.{read_live}
 use Rattle.cpc_convert_image_laws.proofs.Statements.{simple_alike}

@@ -1,5 +1,5 @@
 -- What a frame keeps where a leader begins is kept there, and pieces stand for frames by what these keep.
-use Rattle.std.proofs.Common.{◌≡◌, ℕ, Bool, true, false, not, cond, List, [], is_some, Option, Some, None, option_map, refl, sym, ◌∙◌, ap, subst}
+use Rattle.std.proofs.Common.{◌≡◌, ℕ, Bool, true, false, not, cond, List, is_some, Option, Some, None, option_map, refl, ◌∙◌, ap, subst}
 use Rattle.cpc_base.specs.Bytes.{Text}
 use Rattle.cpc_tree.specs.Lists.{holds_number}
 use Rattle.cpc_tree.specs.Syntax.{Function, Program}
@@ -9,7 +9,7 @@ use Rattle.cpc_meaning.specs.Plain.{Frame}
 use Rattle.cpc_meaning.specs.Threads.{is_cps_mode}
 use Rattle.cpc_forms.specs.Flow.{At}
 use Rattle.cpc_forms.specs.Graph.{graph_if, graph_where}
-use Rattle.cpc_forms.specs.Split.{Position, InGraph, split_of, splits, split_form}
+use Rattle.cpc_forms.specs.Split.{Position, InGraph, split_of, split_form}
 use Rattle.cpc_lift_laws.specs.Lift.{closure_in}
 use Rattle.cpc_convert_event.specs.ClosureLaws.{lifting}
 use Rattle.cpc_convert_event.specs.NameLaws.{IsNamed}
@@ -19,7 +19,6 @@ use Rattle.cpc_convert_accepted_laws.specs.Names.{HasNames}
 use Rattle.cpc_convert_laws.specs.Bounds.{Bounds}
 use Rattle.cpc_convert_laws.proofs.Setting.{KeepsFacts}
 use Rattle.cpc_convert_native_laws.specs.Instance.{keeps_in}
-use Rattle.cpc_convert_piece_laws.specs.Stood.{Stood}
 use Rattle.cpc_convert_piece_laws.proofs.Onwards.{z}
 use Rattle.cpc_convert_piece_laws.proofs.Tidied.{closure_kept, stood_tidied}
 

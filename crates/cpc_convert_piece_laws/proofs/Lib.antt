@@ -18,3 +18,4 @@ pub mod Arrivals
 pub mod Keeps
 pub mod Live
 pub mod Nodes
+pub mod TestWays

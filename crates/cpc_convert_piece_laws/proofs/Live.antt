@@ -1,12 +1,9 @@
 -- The boxes of the frame that runs are live.
-use Rattle.std.proofs.Common.{◌≡◌, ℕ, zero, suc, ◌+◌, ◌≤◌, Bool, true, false, List, [], ◌∷◌, ◌++◌, is_some, Option, Some, refl, subst, arith}
-use Rattle.std.specs.List.{All}
+use Rattle.std.proofs.Common.{◌≡◌, ℕ, zero, suc, ◌≤◌, Bool, true, false, List, [], ◌∷◌, ◌++◌, is_some, Option, Some, refl, subst, arith}
 use Rattle.std.proofs.lemmas.List.Elements.{All-nil, All-cons}
 use Rattle.cpc_store.specs.Store.{Value, Blocks, Store}
 use Rattle.cpc_meaning.specs.Eval.{Slot, Register, Boxed}
-use Rattle.cpc_meaning.specs.Agenda.{Agenda}
 use Rattle.cpc_meaning.specs.Plain.{Frame as CallFrame}
-use Rattle.cpc_meaning.specs.Threads.{Thread}
 use Rattle.cpc_convert_image_laws.specs.Held.{IsLiveSlot, BoxesLive}
 use Rattle.cpc_convert_chain_laws.specs.Chains.{same, count, lives, block, one_if}
 use Rattle.cpc_convert_chain_laws.proofs.Chains.{count_append}

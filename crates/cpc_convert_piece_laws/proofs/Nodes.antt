@@ -1,9 +1,9 @@
 -- What a piece does before the row of a node, by what stands there. What is proved of other kinds of statements is asked for.
-use Rattle.std.proofs.Common.{◌≡◌, ℕ, suc, ◌<◌, ◌≤◌, Bool, true, false, List, [], ◌∷◌, Option, Some, None, refl, sym, ◌∙◌, ap, subst}
+use Rattle.std.proofs.Common.{◌≡◌, ℕ, ◌<◌, ◌≤◌, true, List, Option, Some, None, refl, sym, ◌∙◌, ap, subst}
 use Rattle.std.specs.List.{All}
 use Rattle.cpc_base.specs.Bytes.{Text}
-use Rattle.cpc_tree.specs.Points.{Point, Found, Simple, Test, Nothing}
-use Rattle.cpc_tree.specs.Syntax.{Ty, Expr, Exprs, Stmt, Block, Empty, Declare, Assign, Call, Detach, Spawn, If, While, DoWhile, For, Goto, Label, Break, Continue, Return, Function, Program}
+use Rattle.cpc_tree.specs.Points.{Found, Simple, Test, Nothing}
+use Rattle.cpc_tree.specs.Syntax.{Ty, Expr, Exprs, Stmt, Declare, Assign, Call, Detach, Spawn, Return, Function, Program}
 use Rattle.cpc_store.specs.Store.{Value, Blocks}
 use Rattle.cpc_meaning.specs.Act.{Stood, AtStatement, AtArrival, AtEnd, act}
 use Rattle.cpc_meaning.specs.Agenda.{Agenda}
@@ -19,7 +19,7 @@ use Rattle.cpc_forms.specs.Flow.{Place}
 use Rattle.cpc_forms.specs.Split.{Position, InGraph, split_form}
 use Rattle.cpc_convert_event.specs.NameLaws.{IsOwner}
 use Rattle.cpc_convert_event.specs.Names.{piece_name}
-use Rattle.cpc_convert_event.specs.Routines.{Routine, routine_of}
+use Rattle.cpc_convert_event.specs.Routines.{routine_of}
 use Rattle.cpc_convert_event.specs.Rows.{has_row}
 use Rattle.cpc_convert_event.proofs.Apart.{behind, piece_is}
 use Rattle.cpc_convert_accepted_laws.specs.Known.{Stays}
@@ -36,6 +36,7 @@ use Rattle.cpc_convert_piece_laws.proofs.Onwards.{z}
 use Rattle.cpc_convert_piece_laws.proofs.Passes.{idles_there, no_test_there}
 use Rattle.cpc_convert_piece_laws.proofs.Rowed.{DoesHere, standing_piece}
 use Rattle.cpc_convert_piece_laws.proofs.Tests.{tests_there}
+use Rattle.cpc_convert_piece_laws.proofs.TestWays.{test_goes}
 
 -- a fault names a piece as it names its function
 pub piece_shown : (p : Program) → ProgramKnown p → (f : Function) → CpsKnown p f → (l : Place) → before_bars (piece_name f.called l) ≡ shown_in p f.called
@@ -53,8 +54,8 @@ module _ (p : Program) (facts : ProgramKnown p) (fine : CallFrame Position → O
   abbrev pub There : Ty → Type 0
   There result' = DoesHere p fine given bounds f known enough begins l owner shown lower pointer result frame n at has row w bs c slots slots' o (act (context (split_form p) w.store (frame_of f.called (InGraph l n) slots)) result' o ((split_form p).code.stood f.called (InGraph l n)))
 
-  -- what is known of the other kinds: calls, sections and spawns in place, returns and the end, calls that are left over a frame, cps statements; that
-  -- a test has a way where it holds; and that what arrives is held, and arrives from a cps statement
+  -- what is known of the other kinds: calls, sections and spawns in place, returns and the end, calls that are left over a frame, cps statements; and
+  -- that what arrives is held, and arrives from a cps statement
   pub record OtherKinds (result' : Ty) : Type 0 where
     pub calls : (to : Option Expr) (g : Expr) (es : Exprs) → at.node.manner ≡ InPlace → at.node.stood ≡ AtStatement (Simple (Call to g es)) → There result'
     pub sections : (to : Option Expr) (g : Text) (es : Exprs) → at.node.manner ≡ InPlace → at.node.stood ≡ AtStatement (Simple (Detach to g es)) → There result'
@@ -63,7 +64,6 @@ module _ (p : Program) (facts : ProgramKnown p) (fine : CallFrame Position → O
     pub ends : at.node.stood ≡ AtEnd → There result'
     pub framed : (s : Stmt) → at.node.manner ≡ ByFrame → at.node.stood ≡ AtStatement (Simple s) → There result'
     pub waits : (s : Stmt) → at.node.manner ≡ AsCps → at.node.stood ≡ AtStatement (Simple s) → There result'
-    pub tests : (e : Expr) → at.node.stood ≡ AtStatement (Test (Some e)) → (m : ℕ) × (at.node.yes ≡ Some m)
     pub arrived : (x : Found) → at.node.stood ≡ AtArrival x → (v : Value) → o ≡ Some v → IsHeld (Stays p) v × (at.node.manner ≡ AsCps)
 
   module _ (result' : Ty) (others : OtherKinds result') where
@@ -97,7 +97,7 @@ module _ (p : Program) (facts : ProgramKnown p) (fine : CallFrame Position → O
     stood_there (AtStatement Nothing) i =
         subst (DoesHere p fine given bounds f known enough begins l owner shown lower pointer result frame n at has row w bs c slots slots' o) (sym (source_act p facts f known l owner n at slots slots' lower stands w result' o (AtStatement Nothing) i)) Sticks
     stood_there (AtStatement (Test None)) i = no_test_there p facts fine given bounds f known enough begins l owner shown lower pointer result frame n at has row w bs c slots slots' stands o i result'
-    stood_there (AtStatement (Test (Some e))) i = let way = others.tests e i in tests_there p facts fine given bounds f known enough begins l owner shown lower pointer result frame n at has row w bs c slots slots' stands o store held live e i way.0 way.1 result'
+    stood_there (AtStatement (Test (Some e))) i = let way = test_goes p f known.stays e n at.node at.is_node i in tests_there p facts fine given bounds f known enough begins l owner shown lower pointer result frame n at has row w bs c slots slots' stands o store held live e i way.0 way.1 result'
     stood_there (AtStatement (Simple s)) i = by_manner s at.node.manner refl i
 
     pub node_there : There result'

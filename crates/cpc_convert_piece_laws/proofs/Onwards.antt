@@ -1,8 +1,7 @@
 -- Where control goes on in a piece: to the row of a node of its own, or through the row of another leader to the driver.
-use Rattle.std.proofs.Common.{◌≡◌, ℕ, suc, ◌+◌, ◌≤◌, Bool, true, false, List, [], ◌∷◌, ◌++◌, length, slice_get, Option, Some, None, refl, sym, ◌∙◌, ap, subst, arith}
+use Rattle.std.proofs.Common.{◌≡◌, ℕ, suc, ◌+◌, ◌≤◌, Bool, true, false, List, [], ◌∷◌, ◌++◌, length, Option, Some, None, refl, sym, ◌∙◌, ap, subst, arith}
 use Rattle.cpc_base.specs.Bytes.{Text}
 use Rattle.cpc_tree.specs.Points.{Point}
-use Rattle.cpc_tree.specs.Registers.{variables}
 use Rattle.cpc_tree.specs.Syntax.{Function, Program}
 use Rattle.cpc_store.specs.declared.values.Class.TheVariants.{Frame}
 use Rattle.cpc_store.specs.Store.{Value, Unset, At as Pointer, Blocks, Store}
@@ -16,7 +15,7 @@ use Rattle.cpc_graph_laws.proofs.Splits.{owner_there}
 use Rattle.cpc_convert_image_laws.specs.Held.{beside}
 use Rattle.cpc_convert_chain_laws.specs.Chains.{frame_cells}
 use Rattle.cpc_convert_chain_laws.specs.Driver.{driving}
-use Rattle.cpc_convert_chain_laws.specs.Walks.{World, Walk, running, frame_at}
+use Rattle.cpc_convert_chain_laws.specs.Walks.{Walk, running, frame_at}
 use Rattle.cpc_convert_chain_laws.proofs.Walks.{walk_append}
 use Rattle.cpc_convert_event.specs.NameLaws.{IsOwner}
 use Rattle.cpc_convert_event.specs.Names.{piece_name}

@@ -1,8 +1,8 @@
 -- Nodes at which nothing changes: the piece falls to the next row, or goes to another.
-use Rattle.std.proofs.Common.{◌≡◌, ℕ, suc, ◌+◌, ◌<◌, ◌≤◌, Bool, true, false, ◌||◌, ◌==◌, cond, List, [], ◌∷◌, ◌++◌, length, Option, Some, None, option_map, refl, sym, ◌∙◌, ap, subst, arith}
+use Rattle.std.proofs.Common.{◌≡◌, ℕ, suc, ◌<◌, ◌≤◌, Bool, true, false, ◌||◌, cond, List, [], ◌∷◌, ◌++◌, Option, Some, None, option_map, refl, sym, ◌∙◌, ap, subst, arith}
 use Rattle.cpc_base.specs.Bytes.{Text}
 use Rattle.cpc_tree.specs.Points.{Point, Simple, Test}
-use Rattle.cpc_tree.specs.Syntax.{Ty, Stmt, Block, Empty, Declare, Assign, Call, Detach, Spawn, If, While, DoWhile, For, Goto, Label, Break, Continue, Return, Function, Program}
+use Rattle.cpc_tree.specs.Syntax.{Ty, Stmt, Empty, Declare, Assign, Call, Detach, Spawn, Goto, Return, Function, Program}
 use Rattle.cpc_store.specs.Store.{Value, Blocks}
 use Rattle.cpc_meaning.specs.Act.{AtStatement, Act, GoesOn, act, simple_act}
 use Rattle.cpc_meaning.specs.Agenda.{Agenda}
@@ -19,29 +19,29 @@ use Rattle.cpc_convert_image_laws.specs.Stacks.{frame_of}
 use Rattle.cpc_forms.specs.Flow.{Place, is_leader, owner_by}
 use Rattle.cpc_forms.specs.Split.{Position, InGraph, split_form}
 use Rattle.cpc_graph_laws.specs.Laws.{flow_in}
-use Rattle.cpc_graph_laws.proofs.Formed.{mapped, equal_self}
+use Rattle.cpc_graph_laws.proofs.Formed.{equal_self}
 use Rattle.cpc_convert_chain_laws.specs.Flat.{dropped, point_at}
 use Rattle.cpc_convert_chain_laws.specs.Walks.{frame_at}
 use Rattle.cpc_convert_chain_laws.proofs.AtLine.{line_next, line_goes}
 use Rattle.cpc_convert_event.specs.FlatLaws.{piece_count}
 use Rattle.cpc_convert_event.specs.LabelLaws.{put_in}
-use Rattle.cpc_convert_event.specs.Lines.{Line, Passes, passes, simple_lines, node_lines, stood_lines}
+use Rattle.cpc_convert_event.specs.Lines.{Passes, passes, simple_lines, node_lines}
 use Rattle.cpc_convert_event.specs.NameLaws.{IsOwner}
 use Rattle.cpc_convert_event.specs.Names.{piece_name, node_label}
 use Rattle.cpc_convert_event.specs.Routines.{Routine, routine_of, readings_of}
-use Rattle.cpc_convert_event.specs.Rows.{has_row, Put, Plain, Jump, is_next, put_lines, any_leads, is_wanted}
+use Rattle.cpc_convert_event.specs.Rows.{has_row, Plain, Jump, is_next, put_lines, any_leads, is_wanted}
 use Rattle.cpc_convert_laws.specs.Bounds.{Bounds}
 use Rattle.cpc_convert_laws.proofs.Inside.{Onward, Moves}
 use Rattle.cpc_convert_laws.proofs.Relation.{Shared, world_of}
 use Rattle.cpc_convert_piece_laws.specs.Known.{CpsKnown, ProgramKnown}
-use Rattle.cpc_convert_piece_laws.specs.Rows.{next_number, put_row, RowAt, row_index, row_rest}
+use Rattle.cpc_convert_piece_laws.specs.Rows.{next_number, put_row, RowAt, row_index}
 use Rattle.cpc_convert_piece_laws.specs.Stood.{NodeAt, LocalsStand}
 use Rattle.cpc_convert_piece_laws.proofs.Acting.{source_act, lines_are}
 use Rattle.cpc_convert_piece_laws.proofs.Filled.{row_filled}
 use Rattle.cpc_convert_piece_laws.proofs.Frames.{Target, code, body, scope, is_code}
 use Rattle.cpc_convert_piece_laws.proofs.Onwards.{z, goes_onward}
 use Rattle.cpc_convert_piece_laws.proofs.Places.{wanted_in, next_row, next_is, row_stands, row_label, falls_row, ToRow}
-use Rattle.cpc_convert_piece_laws.proofs.Rowed.{row_puts, DoesHere, tail, others, rest, first, first_step}
+use Rattle.cpc_convert_piece_laws.proofs.Rowed.{row_puts, DoesHere, tail, first, first_step}
 use Rattle.cpc_convert_piece_laws.proofs.Ways.{way_next, onwards_way, row_for, goes_is}
 
 -- a statement that does nothing where it stands

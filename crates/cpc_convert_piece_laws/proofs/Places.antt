@@ -1,5 +1,5 @@
 -- The rows of a piece among its statements: where one stands, how control falls from one to the next, and where gotos lead.
-use Rattle.std.proofs.Common.{◌≡◌, ℕ, suc, ◌+◌, ◌<◌, ◌≤◌, ◌^◌, Bool, true, false, ◌||◌, ◌==◌, cond, List, [], ◌∷◌, ◌++◌, map, length, Option, Some, None, refl, sym, ◌∙◌, ap, subst, arith}
+use Rattle.std.proofs.Common.{◌≡◌, ℕ, suc, ◌+◌, ◌<◌, ◌≤◌, ◌^◌, Bool, true, false, ◌||◌, cond, List, [], ◌∷◌, ◌++◌, map, length, Option, Some, None, refl, sym, ◌∙◌, ap, subst, arith}
 use Rattle.cpc_base.specs.Bytes.{Text}
 use Rattle.cpc_store.specs.Store.{Store}
 use Rattle.cpc_tree.specs.Points.{Point}
@@ -16,7 +16,7 @@ use Rattle.cpc_convert_chain_laws.proofs.Rows.{before_append}
 use Rattle.cpc_convert_event.specs.Names.{piece_name, node_label}
 use Rattle.cpc_convert_event.specs.Routines.{Routine, routine_of}
 use Rattle.cpc_convert_event.specs.Lines.{Goes}
-use Rattle.cpc_convert_event.specs.Rows.{Put, Jump, is_next, put_line, PutRow, any_leads, is_wanted, put_statement, label_if, row_statements, rows_statements, piece_statements}
+use Rattle.cpc_convert_event.specs.Rows.{Put, Jump, is_next, put_line, PutRow, any_leads, is_wanted, put_statement, label_if, row_statements, rows_statements}
 use Rattle.cpc_convert_event.specs.Pieces.{piece_body, piece_function}
 use Rattle.cpc_convert_event.specs.FlatLaws.{opening, piece_scope, piece_count}
 use Rattle.cpc_convert_event.specs.LabelLaws.{put_in}

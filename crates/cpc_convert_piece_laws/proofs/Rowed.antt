@@ -1,25 +1,24 @@
 -- A piece stands before the row of a node: its first line does what the node does, and control goes on behind it.
-use Rattle.std.proofs.Common.{◌≡◌, ℕ, suc, ◌+◌, ◌<◌, ◌≤◌, Bool, true, false, ◌||◌, ◌==◌, cond, List, [], ◌∷◌, ◌++◌, map, length, Option, Some, None, option_map, refl, sym, ◌∙◌, ap, subst, arith}
+use Rattle.std.proofs.Common.{◌≡◌, ℕ, suc, ◌+◌, ◌<◌, ◌≤◌, Bool, true, false, ◌||◌, cond, List, [], ◌∷◌, ◌++◌, map, length, Option, Some, None, refl, sym, ◌∙◌, ap, subst, arith}
 use Rattle.cpc_base.specs.Bytes.{Text}
 use Rattle.cpc_num.specs.declared.kinds.Fault.{Fault}
-use Rattle.cpc_tree.specs.Points.{Point, Here, Found, Simple, Test, Out, Nth, enter, next_point}
-use Rattle.cpc_tree.specs.Syntax.{Stmt, Stmts, NoStmt, AndStmt, Function, Program}
+use Rattle.cpc_tree.specs.Points.{Point, Here, Found, Simple, Out, enter, next_point}
+use Rattle.cpc_tree.specs.Syntax.{Stmt, Stmts, NoStmt, Function, Program}
 use Rattle.cpc_tree.specs.Trace.{Failed}
 use Rattle.cpc_store.specs.Store.{Value, Blocks, Store}
-use Rattle.cpc_meaning.specs.Act.{Act, GoesOn, AtStatement, act, simple_act, found_act}
+use Rattle.cpc_meaning.specs.Act.{Act, GoesOn, simple_act, found_act}
 use Rattle.cpc_meaning.specs.Agenda.{Agenda}
-use Rattle.cpc_meaning.specs.Answer.{Answer, Gives, Faults, NoAnswer}
-use Rattle.cpc_meaning.specs.Eval.{Slot, Context}
+use Rattle.cpc_meaning.specs.Answer.{Answer, Gives, Faults}
+use Rattle.cpc_meaning.specs.Eval.{Slot}
 use Rattle.cpc_meaning.specs.Events.{Callback, callbacks}
 use Rattle.cpc_meaning.specs.Machine.{next, ends}
-use Rattle.cpc_meaning.specs.Plain.{Frame as CallFrame, context}
+use Rattle.cpc_meaning.specs.Plain.{Frame as CallFrame}
 use Rattle.cpc_meaning.specs.Start.{before_bars}
 use Rattle.cpc_meaning.specs.Threads.{shown_in}
 use Rattle.cpc_convert_image_laws.specs.Held.{beside}
 use Rattle.cpc_convert_image_laws.specs.Relations.{Meets, BothGive, BothFault, Stuck, SameAct, BothGo, BothEnter, BothLeave, BothAsk}
-use Rattle.cpc_convert_image_laws.specs.Stacks.{frame_of}
 use Rattle.cpc_forms.specs.Flow.{Place, is_leader, owner_by}
-use Rattle.cpc_forms.specs.Graph.{Node, graph_of, way, at_node}
+use Rattle.cpc_forms.specs.Graph.{way, at_node}
 use Rattle.cpc_forms.specs.Pieces.{is_owned_by}
 use Rattle.cpc_forms.specs.Split.{Position, InGraph, split_form}
 use Rattle.cpc_graph_laws.specs.Laws.{flow_in}
@@ -27,7 +26,7 @@ use Rattle.cpc_graph_laws.proofs.Formed.{mapped, equal_self}
 use Rattle.cpc_convert_chain_laws.specs.Driver.{driving}
 use Rattle.cpc_convert_chain_laws.specs.Flat.{before, point_at, bare, is_line, is_test, standing, onward}
 use Rattle.cpc_convert_chain_laws.specs.Frames.{at as Here_at}
-use Rattle.cpc_convert_chain_laws.specs.Walks.{World, Walk, Stay, running, frame_at, in_function}
+use Rattle.cpc_convert_chain_laws.specs.Walks.{World, Stay, running, frame_at}
 use Rattle.cpc_convert_chain_laws.proofs.AtLine.{line_path, line_found, line_scope, line_next, line_passed}
 use Rattle.cpc_convert_chain_laws.proofs.Steps.{step_on, step_faults}
 use Rattle.cpc_convert_event.specs.FlatLaws.{piece_count}
@@ -40,17 +39,17 @@ use Rattle.cpc_convert_event.specs.Rows.{owner_at, is_own, has_row, lines_by, Pu
 use Rattle.cpc_convert_event.proofs.Numbers.{later}
 use Rattle.cpc_convert_accepted_laws.specs.Known.{Stays}
 use Rattle.cpc_convert_laws.specs.Bounds.{Bounds}
-use Rattle.cpc_convert_laws.proofs.Inside.{Onward, Does as Performs, Sticks, Breaks, Moves, inside}
+use Rattle.cpc_convert_laws.proofs.Inside.{Onward, Does as Performs, Sticks, Breaks, Moves}
 use Rattle.cpc_convert_laws.proofs.Relation.{Shared, world_of}
 use Rattle.cpc_convert_native_laws.specs.Instance.{StaysAs}
 use Rattle.cpc_convert_piece_laws.specs.Known.{CpsKnown}
-use Rattle.cpc_convert_piece_laws.specs.Rows.{next_number, put_row, RowAt, row_index, row_rest, row_point}
+use Rattle.cpc_convert_piece_laws.specs.Rows.{next_number, put_row, RowAt, row_index, row_point}
 use Rattle.cpc_convert_piece_laws.specs.Stood.{NodeAt, LocalsStand}
 use Rattle.cpc_convert_piece_laws.proofs.Environment.{InLocal, changed_stand}
 use Rattle.cpc_convert_piece_laws.proofs.Filled.{row_filled}
-use Rattle.cpc_convert_piece_laws.proofs.Frames.{Target, name, code, body, scope, is_code}
+use Rattle.cpc_convert_piece_laws.proofs.Frames.{Target, code, body, scope, is_code}
 use Rattle.cpc_convert_piece_laws.proofs.Onwards.{z, goes_onward}
-use Rattle.cpc_convert_piece_laws.proofs.Places.{Before, FirstLine, first_line, wanted_in, goes_row, ToRow}
+use Rattle.cpc_convert_piece_laws.proofs.Places.{Before, FirstLine, first_line, wanted_in, goes_row}
 use Rattle.cpc_convert_piece_laws.proofs.Ways.{way_next, onwards_way, row_for, goes_is, place_self}
 
 append_nil : {X : Type 0} (xs : List X) → xs ++ [] ≡ xs

@@ -1,21 +1,20 @@
 -- What names mean in a piece: words, primitives, pieces, the driver and spawners; and what its locals hold.
-use Rattle.std.proofs.Common.{◌≡◌, ℕ, zero, suc, ◌+◌, ◌<◌, ◌≤◌, ◌^◌, Bool, true, false, not, ◌||◌, cond, List, [], ◌∷◌, ◌++◌, map, length, decimal, slice_get, bytes_eq, Option, Some, None, refl, sym, ◌∙◌, ap, subst, codes, arith}
+use Rattle.std.proofs.Common.{◌≡◌, ℕ, zero, suc, ◌+◌, ◌<◌, ◌≤◌, ◌^◌, Bool, true, false, cond, List, [], ◌∷◌, ◌++◌, map, length, decimal, slice_get, bytes_eq, Option, Some, None, refl, sym, ◌∙◌, ap, subst, codes, arith}
 use Rattle.std.proofs.lemmas.Fmt.{decimal_is_IsNumeral}
 use Rattle.std.specs.Str.Parse.{AllDigits}
 use Rattle.std.specs.Char.{digit_value}
 use Rattle.cpc_base.specs.Bytes.{Text}
 use Rattle.cpc_tree.specs.declared.program.Mode.TheVariants.{Native}
-use Rattle.cpc_tree.specs.Lists.{holds_number, is_empty}
 use Rattle.cpc_tree.specs.Primitives.{Primitive, primitive_named}
 use Rattle.cpc_tree.specs.Registers.{variables, outer_scope}
 use Rattle.cpc_tree.specs.Syntax.{Ty, TyPointer, TyStruct, Variable, Function, Program}
 use Rattle.cpc_tree.specs.Typing.{Scope, ALocal, AFunction, NotMeant, named, item_named, is_scalar}
 use Rattle.cpc_store.specs.Store.{Value}
 use Rattle.cpc_meaning.specs.Eval.{Slot, Register}
-use Rattle.cpc_meaning.proofs.Functions.{texts_differ, text_same}
+use Rattle.cpc_meaning.proofs.Functions.{texts_differ}
 use Rattle.cpc_convert.specs.Accepted.{has_marks}
 use Rattle.cpc_convert.specs.Converted.{marked}
-use Rattle.cpc_convert.proofs.Marks.{NoBar, marked_is, no_bar_decimal}
+use Rattle.cpc_convert.proofs.Marks.{marked_is, no_bar_decimal}
 use Rattle.cpc_convert_image_laws.specs.InPlace.{is_cps}
 use Rattle.cpc_forms.specs.Flow.{Place, Start, At}
 use Rattle.cpc_lift_laws.specs.Boxes.{is_box}
@@ -25,14 +24,14 @@ use Rattle.cpc_convert_chain_laws.specs.Driver.{any_pointer}
 use Rattle.cpc_convert_chain_laws.specs.Frames.{Holds, Load, declared_scope}
 use Rattle.cpc_convert_chain_laws.proofs.Boxes.{register_at}
 use Rattle.cpc_convert_chain_laws.proofs.Scopes.{NotLoaded, NoneLoaded, NotThisLoad, loaded_other}
-use Rattle.cpc_convert_event.specs.Names.{piece_name, variable_name, frame_name, next_name}
-use Rattle.cpc_convert_event.specs.Routines.{Routine, routine_of, variable_of, variable_or, local_of, locals_of}
+use Rattle.cpc_convert_event.specs.Names.{piece_name, variable_name, next_name}
+use Rattle.cpc_convert_event.specs.Routines.{Routine, routine_of, variable_of, variable_or, locals_of}
 use Rattle.cpc_convert_event.specs.Pieces.{load_of, takes_value, value_load, loaded, loads_of, words_if, words_of, begun, declares_of, below_if, called_so, piece_function}
 use Rattle.cpc_convert_event.specs.Frames.{arriving_type}
 use Rattle.cpc_convert_event.specs.Converted.{converted}
 use Rattle.cpc_convert_event.specs.FlatLaws.{piece_scope}
 use Rattle.cpc_convert_event.specs.LocalLaws.{piece_locals, MeansLocals}
-use Rattle.cpc_convert_event.specs.NameLaws.{IsNamed, IsCps, IsOwner}
+use Rattle.cpc_convert_event.specs.NameLaws.{IsCps, IsOwner}
 use Rattle.cpc_convert_event.proofs.Apart.{behind, piece_is, no_bar_behind, no_bar_nothing, piece_nothing}
 use Rattle.cpc_convert_event.proofs.Locals.{NoneCalled, closure_rise, loaded_below, locals_meant}
 use Rattle.cpc_convert_event.proofs.Meanings.{items_meant}

@@ -1,14 +1,10 @@
 -- A piece goes to another leader: its row makes the leader's frame, and gives it to the driver.
-use Rattle.std.proofs.Common.{◌≡◌, ℕ, suc, ◌+◌, ◌≤◌, Bool, true, false, not, ◌&&◌, ◌||◌, List, [], ◌∷◌, ◌++◌, map, length, slice_get, Option, Some, None, refl, sym, ◌∙◌, ap, subst, codes, arith}
-use Rattle.cpc_base.specs.Bytes.{Text}
+use Rattle.std.proofs.Common.{◌≡◌, ℕ, suc, ◌+◌, Bool, true, false, not, ◌&&◌, ◌||◌, List, [], ◌∷◌, ◌++◌, map, length, slice_get, Some, None, refl, sym, ◌∙◌, ap, subst, codes}
 use Rattle.cpc_tree.specs.Lists.{holds_number, is_empty}
-use Rattle.cpc_tree.specs.Points.{Point}
-use Rattle.cpc_tree.specs.Registers.{variables}
 use Rattle.cpc_tree.specs.Syntax.{Ty, ENamed, Stmt, Stmts, NoStmt, AndStmt, Function, Program}
 use Rattle.cpc_store.specs.declared.values.Class.TheVariants.{Frame}
 use Rattle.cpc_store.specs.Store.{Value, At as Pointer, Blocks, Store}
 use Rattle.cpc_meaning.specs.Eval.{Slot, Register}
-use Rattle.cpc_meaning.specs.Plain.{Frame as CallFrame}
 use Rattle.cpc_convert.specs.Form.{Has}
 use Rattle.cpc_convert_image_laws.specs.Held.{beside}
 use Rattle.cpc_convert_image_laws.proofs.Slots.{got_set}
@@ -19,28 +15,27 @@ use Rattle.cpc_convert_chain_laws.specs.Frames.{Holds, asks_block, pointed_slots
 use Rattle.cpc_convert_chain_laws.specs.Walks.{World, Walk, at_line, running, frame_at}
 use Rattle.cpc_convert_chain_laws.proofs.Boxes.{free_all}
 use Rattle.cpc_convert_chain_laws.proofs.Fields.{held}
-use Rattle.cpc_convert_chain_laws.proofs.Making.{holds_new}
 use Rattle.cpc_convert_chain_laws.proofs.Pieces.{return_step}
 use Rattle.cpc_convert_chain_laws.proofs.Rows.{before_append}
 use Rattle.cpc_convert_chain_laws.proofs.Walks.{walk_append}
 use Rattle.cpc_convert_chain_laws.proofs.Lines.{both_true}
-use Rattle.cpc_convert_event.specs.FlatLaws.{piece_scope, piece_count}
+use Rattle.cpc_convert_event.specs.FlatLaws.{piece_count}
 use Rattle.cpc_convert_event.specs.LabelLaws.{put_in}
 use Rattle.cpc_convert_event.specs.Lines.{hands_over, frame_lines}
 use Rattle.cpc_convert_event.specs.LocalLaws.{piece_locals, StandsIn}
 use Rattle.cpc_convert_event.specs.NameLaws.{IsOwner}
 use Rattle.cpc_convert_event.specs.Names.{piece_name, to_name}
-use Rattle.cpc_convert_event.specs.Pieces.{called_so, to_frame, words_of, words_if, any_node, is_wait, is_entry, is_result}
+use Rattle.cpc_convert_event.specs.Pieces.{called_so, to_frame, words_if, any_node, is_wait, is_entry, is_result}
 use Rattle.cpc_convert_event.specs.Routines.{Routine, routine_of, closure_of}
 use Rattle.cpc_convert_event.specs.Rows.{rows_nodes, stubs_of, reached, is_own, lines_by, put_lines, put_statement, rows_statements}
 use Rattle.cpc_convert_event.proofs.Fields.{word_apart}
 use Rattle.cpc_convert_event.proofs.Numbers.{chosen_is}
 use Rattle.cpc_convert_piece_laws.specs.Known.{CpsKnown}
-use Rattle.cpc_convert_piece_laws.specs.Rows.{next_number, put_row, RowAt, row_index, row_rest, row_point}
+use Rattle.cpc_convert_piece_laws.specs.Rows.{next_number, put_row, RowAt, row_index, row_point}
 use Rattle.cpc_convert_piece_laws.specs.Stood.{LocalsStand}
 use Rattle.cpc_convert_piece_laws.proofs.Places.{first_line}
 use Rattle.cpc_convert_piece_laws.proofs.Scopes.{meant, local_slot, local_holds}
-use Rattle.cpc_convert_piece_laws.proofs.Frames.{held_has, puts_do, Target, name, code, body, scope, is_code, Word, word_set, saves_of, fills_of, with_frame, frame_passed, frame_walk}
+use Rattle.cpc_convert_piece_laws.proofs.Frames.{held_has, puts_do, Target, code, body, scope, is_code, Word, word_set, saves_of, fills_of, with_frame, frame_passed, frame_walk}
 
 some_there : (xs : List ℕ) (n : ℕ) → holds_number xs n ≡ true → not (is_empty xs) ≡ true
 some_there [] n h = absurd (cc)

@@ -1,10 +1,8 @@
 -- Tests: where the test holds a goto leads on, and else control goes on behind it.
-use Rattle.std.proofs.Common.{◌≡◌, ℕ, suc, ◌+◌, ◌<◌, ◌≤◌, Bool, true, false, ◌||◌, ◌==◌, List, [], ◌∷◌, ◌++◌, Option, Some, None, option_map, refl, sym, ◌∙◌, ap, subst, arith}
+use Rattle.std.proofs.Common.{◌≡◌, ℕ, suc, ◌<◌, ◌≤◌, Bool, true, false, ◌||◌, List, ◌∷◌, Option, Some, None, option_map, refl, sym, ◌∙◌, ap, subst, arith}
 use Rattle.std.specs.List.{All}
 use Rattle.cpc_base.specs.Bytes.{Text}
-use Rattle.cpc_tree.specs.Lists.{holds_number}
 use Rattle.cpc_tree.specs.Points.{Point, Here, Nth, Simple, Test}
-use Rattle.cpc_tree.specs.Registers.{slot_of}
 use Rattle.cpc_tree.specs.Syntax.{Ty, Expr, Stmt, Stmts, If, Goto, Absent, Function, Program}
 use Rattle.cpc_store.specs.Store.{Value, Blocks, Store}
 use Rattle.cpc_meaning.specs.Act.{AtStatement, Act, GoesOn, act, test_act}
@@ -26,16 +24,15 @@ use Rattle.cpc_forms.specs.Graph.{way}
 use Rattle.cpc_forms.specs.Split.{Position, InGraph, split_form}
 use Rattle.cpc_graph_laws.specs.Laws.{flow_in}
 use Rattle.cpc_graph_laws.proofs.Formed.{equal_self}
-use Rattle.cpc_lift_laws.specs.Used.{used_in}
 use Rattle.cpc_convert_chain_laws.specs.Flat.{point_at, dropped, arm}
 use Rattle.cpc_convert_chain_laws.specs.Frames.{at as Here_at}
-use Rattle.cpc_convert_chain_laws.specs.Walks.{World, Walk, Stay, running, frame_at}
+use Rattle.cpc_convert_chain_laws.specs.Walks.{Walk, Stay, running, frame_at}
 use Rattle.cpc_convert_chain_laws.proofs.AtLine.{line_scope, test_holds, test_fails, arm_found, arm_goes}
 use Rattle.cpc_convert_chain_laws.proofs.Steps.{step_on}
 use Rattle.cpc_convert_chain_laws.proofs.Walks.{walk_one}
 use Rattle.cpc_convert_event.specs.FlatLaws.{piece_count}
 use Rattle.cpc_convert_event.specs.LabelLaws.{put_in}
-use Rattle.cpc_convert_event.specs.Lines.{Line, Tests, goes, test_lines, node_lines}
+use Rattle.cpc_convert_event.specs.Lines.{Tests, goes, test_lines, node_lines}
 use Rattle.cpc_convert_event.specs.NameLaws.{IsOwner}
 use Rattle.cpc_convert_event.specs.Names.{piece_name, node_label}
 use Rattle.cpc_convert_event.specs.Routines.{Routine, routine_of, readings_of}
@@ -47,7 +44,7 @@ use Rattle.cpc_convert_laws.proofs.Inside.{Onward, Sticks, Breaks, Moves}
 use Rattle.cpc_convert_laws.proofs.Relation.{Shared, world_of}
 use Rattle.cpc_convert_native_laws.specs.Instance.{StaysAs}
 use Rattle.cpc_convert_piece_laws.specs.Known.{CpsKnown, ProgramKnown}
-use Rattle.cpc_convert_piece_laws.specs.Rows.{next_number, put_row, RowAt, row_index, row_rest, row_point}
+use Rattle.cpc_convert_piece_laws.specs.Rows.{next_number, put_row, RowAt, row_index}
 use Rattle.cpc_convert_piece_laws.specs.Stood.{NodeAt, LocalsStand}
 use Rattle.cpc_convert_piece_laws.proofs.Acting.{found_known, kept_here, source_act, lines_are}
 use Rattle.cpc_convert_piece_laws.proofs.Environment.{InLocal, Used, names_mean, changed_stand}

@@ -1,23 +1,20 @@
 -- What a piece knows of a frame is not touched where the frame forgets what it need not keep.
-use Rattle.std.proofs.Common.{◌≡◌, ℕ, zero, suc, Bool, true, false, List, [], ◌∷◌, cond, slice_get, Option, Some, None, refl, sym, ◌∙◌, ap, subst}
-use Rattle.cpc_base.specs.Bytes.{Text}
+use Rattle.std.proofs.Common.{◌≡◌, ℕ, zero, suc, Bool, true, false, List, [], ◌∷◌, cond, slice_get, Some, refl, sym, ◌∙◌, ap}
 use Rattle.cpc_store.specs.Store.{Value}
 use Rattle.cpc_tree.specs.Lists.{holds_number}
-use Rattle.cpc_tree.specs.Points.{Point}
 use Rattle.cpc_tree.specs.Syntax.{Function, Program}
-use Rattle.cpc_meaning.specs.Eval.{Slot, Register}
-use Rattle.cpc_meaning.specs.Plain.{Frame}
-use Rattle.cpc_forms.specs.Flow.{Place, Start, At}
+use Rattle.cpc_meaning.specs.Eval.{Slot}
+use Rattle.cpc_forms.specs.Flow.{Place}
 use Rattle.cpc_forms.specs.Split.{InGraph, split_form}
 use Rattle.cpc_lift_laws.specs.Lift.{closure_in}
 use Rattle.cpc_lift_laws.specs.Lifted.{tidy_slot, tidy_slots}
-use Rattle.cpc_convert_image_laws.specs.Locals.{Stands, AsValue, AsBlock, FitsAt}
-use Rattle.cpc_convert_event.specs.Routines.{Routine, routine_of, closure_of, keeper, owner_number}
+use Rattle.cpc_convert_image_laws.specs.Locals.{Stands, AsValue, AsBlock}
+use Rattle.cpc_convert_event.specs.Routines.{routine_of, closure_of, keeper, owner_number}
 use Rattle.cpc_convert_event.specs.ClosureLaws.{lifting}
 use Rattle.cpc_convert_event.specs.NameLaws.{IsNamed, IsCps}
 use Rattle.cpc_convert_event.proofs.Closures.{closures_lifted}
 use Rattle.cpc_convert_accepted_laws.specs.Lifted.{kept_of}
-use Rattle.cpc_convert_piece_laws.specs.Stood.{IsFound, NodeAt, LocalsStand, Stood, AtRow, AtCall}
+use Rattle.cpc_convert_piece_laws.specs.Stood.{LocalsStand, AtRow, AtCall}
 use Rattle.cpc_convert_piece_laws.specs.Laws.{StoodIsTidied}
 
 tidied_slot : (keep : ℕ → Bool) (slots : List Slot) (k : ℕ) → keep k ≡ true → slice_get (tidy_slots keep slots) k ≡ slice_get slots k

@@ -1,8 +1,8 @@
 -- The names that occur at a node are of variables that its owner keeps, or of items that stay.
-use Rattle.std.proofs.Common.{◌≡◌, ℕ, Bool, true, false, ◌||◌, ◌==◌, cond, List, [], ◌∷◌, ◌++◌, slice_get, bytes_eq, Option, Some, None, refl, sym, ◌∙◌, ap, subst}
+use Rattle.std.proofs.Common.{◌≡◌, ℕ, Bool, true, false, ◌||◌, ◌==◌, cond, List, [], ◌∷◌, ◌++◌, bytes_eq, Option, Some, None, sym, ◌∙◌, ap}
 use Rattle.cpc_base.specs.Bytes.{Text}
 use Rattle.cpc_tree.specs.Lists.{holds_number}
-use Rattle.cpc_tree.specs.Points.{Found, Simple, Test, Nothing}
+use Rattle.cpc_tree.specs.Points.{Nothing}
 use Rattle.cpc_tree.specs.Registers.{slot_of}
 use Rattle.cpc_tree.specs.Syntax.{Ty, Expr, ENamed, EInteger, ECharacter, EText, EUnary, EBinary, EAnd, EOr, EChoose, ECast, ESizeOf, EIndex, EMember, EArrow, ECall, Exprs, NoExpr, AndExpr, Function, Program}
 use Rattle.cpc_tree.specs.Typing.{Scope, ALocal, named}

@@ -1,7 +1,6 @@
 -- Where ways lead in a piece: to a node of the piece, or to another leader, each of which has its row; and what is kept along them.
-use Rattle.std.proofs.Common.{◌≡◌, ◌⊎◌, ℕ, suc, ◌<◌, Bool, true, false, not, ◌&&◌, ◌||◌, ◌==◌, cond, List, [], ◌∷◌, ◌++◌, slice_get, is_some, nat_le, nat_lt, Option, Some, None, option_map, refl, sym, ◌∙◌, ap, subst, arith}
+use Rattle.std.proofs.Common.{◌≡◌, ℕ, Bool, true, false, not, ◌&&◌, ◌||◌, ◌==◌, cond, List, [], ◌∷◌, slice_get, is_some, nat_le, nat_lt, Some, option_map, refl, sym, ◌∙◌, ap, subst, arith}
 use Rattle.std.proofs.lemmas.Bool.Decides.{nat_tests}
-use Rattle.cpc_base.specs.Bytes.{Text}
 use Rattle.cpc_tree.specs.Lists.{holds_number}
 use Rattle.cpc_tree.specs.Points.{Point, Here, Arrival, End}
 use Rattle.cpc_tree.specs.Syntax.{Function, Program}
@@ -27,7 +26,7 @@ use Rattle.cpc_convert_event.specs.Routines.{Routine, routine_of, keeper, closur
 use Rattle.cpc_convert_event.specs.Rows.{owner_at, is_own, stands_with, has_row, turned, rows_nodes, onwards, onwards_all, reached, stubs_of}
 use Rattle.cpc_convert_event.proofs.Closures.{closures_lifted}
 use Rattle.cpc_convert_event.proofs.Labels.{rows_stand_once}
-use Rattle.cpc_convert_event.proofs.Numbers.{equal_is, later, held_append, chosen_has}
+use Rattle.cpc_convert_event.proofs.Numbers.{equal_is, later, chosen_has}
 use Rattle.cpc_convert_accepted_laws.specs.Lifted.{kept_of}
 use Rattle.cpc_convert_accepted_laws.proofs.Lifted.{programs_are_closed}
 use Rattle.cpc_convert_piece_laws.specs.Known.{CpsKnown}

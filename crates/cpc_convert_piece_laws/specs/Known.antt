@@ -1,10 +1,11 @@
 -- What is known of a cps function of an accepted program, so that pieces can stand for its frames.
-use Rattle.std.specs.Prelude.{◌≡◌, ◌<◌, ◌≤◌, ◌^◌, ℕ, length, Some}
+use Rattle.std.specs.Prelude.{◌≡◌, ◌<◌, ◌≤◌, ◌^◌, length, Some}
 use Rattle.cpc_base.specs.Bytes.{Text}
 use Rattle.cpc_tree.specs.Primitives.{Primitive, primitive_named}
 use Rattle.cpc_tree.specs.Registers.{variables}
 use Rattle.cpc_tree.specs.Syntax.{Function, Program}
 use Rattle.cpc_tree.specs.Typing.{NotMeant, item_named}
+use Rattle.cpc_check_sound_laws.specs.Control.{StaysIn}
 use Rattle.cpc_forms.specs.Flow.{Place}
 use Rattle.cpc_forms.specs.Graph.{graph_of}
 use Rattle.cpc_convert_event.specs.AddressLaws.{AddressesAreBoxes, ResultsAreScalar}
@@ -19,7 +20,7 @@ use Rattle.cpc_convert_native_laws.specs.Instance.{StaysAs}
 use Rattle.cpc_convert_piece_laws.specs.Stood.{IsFound}
 
 -- names are what the conversion asks, the function is found by its name, its nodes and variables are few, no item has the name of a primitive,
--- only boxes have their addresses taken, and values that are returned are scalar
+-- only boxes have their addresses taken, control stays in the body, and values that are returned are scalar
 pub record CpsKnown (p : Program) (f : Function) : Type 0 where
   pub names : IsNamed p
   pub found : IsFound p f
@@ -27,6 +28,7 @@ pub record CpsKnown (p : Program) (f : Function) : Type 0 where
   pub few_variables : length (variables f) ≤ 255
   pub primitives : (x : Text) (prim : Primitive) → primitive_named x ≡ Some prim → item_named 0 p x ≡ NotMeant
   pub addresses : AddressesAreBoxes p f
+  pub stays : StaysIn f.body
   pub results : (l : Place) → ResultsAreScalar (routine_of p f) l
 
 -- what is known of a whole program: what stands at its positions, what it has in common with its event program, and how faults name its functions

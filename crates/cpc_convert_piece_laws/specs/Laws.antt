@@ -14,7 +14,7 @@ use Rattle.cpc_convert_event.specs.Routines.{routine_of}
 use Rattle.cpc_convert_event.specs.Rows.{numbers_of}
 use Rattle.cpc_convert_accepted_laws.specs.Lifted.{kept_of}
 use Rattle.cpc_convert_event.specs.NameLaws.{IsNamed}
-use Rattle.cpc_convert_piece_laws.specs.Rows.{RowAt, row_index, row_rest}
+use Rattle.cpc_convert_piece_laws.specs.Rows.{RowAt}
 use Rattle.cpc_convert_piece_laws.specs.Stood.{Stood}
 
 -- each number of a piece has its row, and any two rows of one number are one

@@ -1,11 +1,11 @@
 -- Where the piece of an owner stands for a frame of its function: before the row of the frame's node, or at the native call whose value is to
 -- arrive there, with the variables that the owner keeps in its locals.
-use Rattle.std.specs.Prelude.{◌≡◌, ℕ, true, List, ◌∷◌, ◌++◌, length, slice_get, Option, Some, None}
+use Rattle.std.specs.Prelude.{◌≡◌, ℕ, true, List, ◌∷◌, length, slice_get, Option, Some, None}
 use Rattle.cpc_base.specs.Bytes.{Text}
 use Rattle.cpc_store.specs.Store.{Value}
 use Rattle.cpc_tree.specs.Lists.{holds_number}
 use Rattle.cpc_tree.specs.Points.{Nth, Point, Arrival, enter}
-use Rattle.cpc_tree.specs.Syntax.{Expr, ENamed, Exprs, Stmt, Call, Stmts, AndStmt, Function, Program}
+use Rattle.cpc_tree.specs.Syntax.{Expr, Exprs, Stmt, Call, Stmts, AndStmt, Function, Program}
 use Rattle.cpc_tree.specs.Points.{Simple}
 use Rattle.cpc_tree.specs.Typing.{function_named}
 use Rattle.cpc_meaning.specs.Act.{AtStatement}
