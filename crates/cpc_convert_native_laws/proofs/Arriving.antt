@@ -121,17 +121,19 @@ abbrev there : Program → Text → Position → Bool
 there p x a = (lifting p).there x a && may_be p x a
 
 stays_closed : (p : Program) → Closed (split_form p) (is_box p) (there p) (kept_of p)
-stays_closed p = record { inside = λ x. let c = (programs_are_closed p).inside x in record {
-  stands = record {
-    first = both _ _ c.stands.first (first_may p x (splits p x) (function_named p x) refl);
-    goes = λ a b t h e. both _ _ (c.stands.goes a b t (and_left _ _ h) e) (goes_may p x a b t e);
-    arrival = λ a b h e. both _ _ (c.stands.arrival a b (and_left _ _ h) e) (arrival_may p x a b e);
+stays_closed p = record {
+  inside = λ x. let c = (programs_are_closed p).inside x in record {
+    stands = record {
+      first = both _ _ c.stands.first (first_may p x (splits p x) (function_named p x) refl);
+      goes = λ a b t h e. both _ _ (c.stands.goes a b t (and_left _ _ h) e) (goes_may p x a b t e);
+      arrival = λ a b h e. both _ _ (c.stands.arrival a b (and_left _ _ h) e) (arrival_may p x a b e);
+    };
+    used = λ a k h u. c.used a k (and_left _ _ h) u;
+    left = λ a k h l b. c.left a k (and_left _ _ h) l b;
+    along = λ a b t k h e i. c.along a b t k (and_left _ _ h) e i;
+    over = λ a b k h e i. c.over a b k (and_left _ _ h) e i;
   };
-  used = λ a k h u. c.used a k (and_left _ _ h) u;
-  left = λ a k h l b. c.left a k (and_left _ _ h) l b;
-  along = λ a b t k h e i. c.along a b t k (and_left _ _ h) e i;
-  over = λ a b k h e i. c.over a b k (and_left _ _ h) e i;
-} }
+}
 
 pub frames_may_be : FramesMayBe
 frames_may_be p h n frame below o e =

@@ -7,9 +7,9 @@ use Rattle.cpc_convert_native_laws.proofs.Accepted.{accepted_globals}
 use Rattle.cpc_convert_native_laws.proofs.Declared.{accepted_closes}
 
 pub accepted_is_convertible : AcceptedIsConvertible
-accepted_is_convertible list end p read unbroken small = record {
+accepted_is_convertible list end p read unbroken = record {
   names = accepted_has_names list end p read unbroken;
-  named = accepted_is_named list end p read unbroken small;
+  named = accepted_is_named list end p read unbroken;
   positions = accepted_positions_known list end p read unbroken;
   shown = accepted_is_shown list end p read unbroken;
   main = accepted_has_main list end p read unbroken;

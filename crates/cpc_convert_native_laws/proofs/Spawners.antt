@@ -190,21 +190,23 @@ module _ (p : Program) (h : Convertible p) (g : Function) (cps : IsCps p g) wher
     spawner_runs there fine given =
         let struct = (structs_there p h.named).start g cps in
         let is_g = (functions_found p h.named).spawners g cps in
-        let fields : ScalarFields (passed g) = behind_head (TyInt Int) (passed g) (frame_fields (TyInt Int) 0 (passed g) refl rising) in
-        (record {
-          entered = slots;
-          made = spawner_called g q (beside bs w.store) vs rising fits;
-          steps = steps;
-          leads =
-              subst (λ a. Walk q w.trace steps (running (world_of w c) (beside bs w.store) (frame_of (spawner_name g.called) a slots ∷ frame ∷ others) None)
-              (running (world_of w (ready_one (CallWith drive_name (Pointer Frame (length bs) 0)) c)) (beside (bs ++ Some (frame_cells (first_saved (cut_of p) g.called vs) Null Unset) ∷ []) w.store) (frame ∷ others) (Some Unset)))
-              (sym (ap first_point is_g))
-              (spawner_walk q (world_of w c) (spawner_name g.called) spawner body frame others is_g (outer_scope spawner) count (map Register vs) (beside bs w.store) frame_name tag code_field next_field tag (map save_of (passed g)) stands
-              vs (same_number (passed g) vs fits) (all_registers vs) means_frame means_ready means_driver
-              (struct.size ∙ ap (λ n. Some (suc (suc (suc n)))) (sym (same_length save_of (passed g)))) (let a = few in omega (arith, a))
-              any_pointer any_pointer (any_pointer ∷ []) (AndTy any_pointer NoTy) means_piece (struct.field 0 _ refl) TyVoid (struct.field 1 _ refl)
-              (saves_all q scope_in pointed tag (TyInt Int) (passed g) vs struct (holds_all q top pointed 0 (passed g) vs (Register (Pointer Frame (length bs) 0) ∷ []) [] fields (no_frame 0 (passed g) rising) fits pointed_is)));
-        }, refl)
+        let fields : ScalarFields (passed g) = behind_head (TyInt Int) (passed g) (frame_fields (TyInt Int) 0 (passed g) refl rising) in (
+          record {
+            entered = slots;
+            made = spawner_called g q (beside bs w.store) vs rising fits;
+            steps = steps;
+            leads =
+                subst (λ a. Walk q w.trace steps (running (world_of w c) (beside bs w.store) (frame_of (spawner_name g.called) a slots ∷ frame ∷ others) None)
+                (running (world_of w (ready_one (CallWith drive_name (Pointer Frame (length bs) 0)) c)) (beside (bs ++ Some (frame_cells (first_saved (cut_of p) g.called vs) Null Unset) ∷ []) w.store) (frame ∷ others) (Some Unset)))
+                (sym (ap first_point is_g))
+                (spawner_walk q (world_of w c) (spawner_name g.called) spawner body frame others is_g (outer_scope spawner) count (map Register vs) (beside bs w.store) frame_name tag code_field next_field tag (map save_of (passed g)) stands
+                vs (same_number (passed g) vs fits) (all_registers vs) means_frame means_ready means_driver
+                (struct.size ∙ ap (λ n. Some (suc (suc (suc n)))) (sym (same_length save_of (passed g)))) (let a = few in omega (arith, a))
+                any_pointer any_pointer (any_pointer ∷ []) (AndTy any_pointer NoTy) means_piece (struct.field 0 _ refl) TyVoid (struct.field 1 _ refl)
+                (saves_all q scope_in pointed tag (TyInt Int) (passed g) vs struct (holds_all q top pointed 0 (passed g) vs (Register (Pointer Frame (length bs) 0) ∷ []) [] fields (no_frame 0 (passed g) rising) fits pointed_is)));
+          },
+          refl,
+        )
 
 -- ---- the point of a spawn
 

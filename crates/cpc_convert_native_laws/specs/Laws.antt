@@ -12,7 +12,7 @@ use Rattle.cpc_convert_image_laws.specs.Held.{beside}
 use Rattle.cpc_convert_event.specs.Converted.{kept_function, converted}
 use Rattle.cpc_convert_event.specs.NameLaws.{IsNamed, IsKept}
 use Rattle.cpc_convert_accepted_laws.specs.Accepted.{OfAccepted}
-use Rattle.cpc_convert_accepted_laws.specs.Names.{HasNames, KeptAreSmall}
+use Rattle.cpc_convert_accepted_laws.specs.Names.{HasNames}
 use Rattle.cpc_convert_accepted_laws.specs.Lifted.{lifted_after}
 use Rattle.cpc_convert_native_laws.specs.Convertible.{DetachedCloses, Convertible}
 use Rattle.cpc_convert_native_laws.specs.Instance.{is_whole, may_be}
@@ -43,6 +43,6 @@ GlobalsStay = (p : Program) → Convertible p → globals (make_globals (convert
 abbrev pub AcceptedCloses : Type 0
 AcceptedCloses = OfAccepted DetachedCloses
 
--- an accepted program has all of it, where the numbers of leaders are small in functions that are not converted too
+-- an accepted program has all that is asked of a program
 abbrev pub AcceptedIsConvertible : Type 0
-AcceptedIsConvertible = OfAccepted (λ p. KeptAreSmall p → Convertible p)
+AcceptedIsConvertible = OfAccepted Convertible

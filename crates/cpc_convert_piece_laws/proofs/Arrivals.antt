@@ -116,7 +116,7 @@ module _ (p : Program) (facts : ProgramKnown p) (fine : CallFrame Position → O
     place_there e is =
         let at_local = taken e is in
         let place = place_known p at.node.scope x e is
-            (subst (λ sc. FoundKnown p sc x) (scope_is p f known l owner n at slots slots' lower stands) (facts.positions.arriving f.called f (InGraph l n) x known.found.named (stood_is p f known l owner n at slots slots' lower stands ∙ stood))) in
+        (subst (λ sc. FoundKnown p sc x) (scope_is p f known l owner n at slots slots' lower stands) (facts.positions.arriving f.called f (InGraph l n) x known.found.named (stood_is p f known l owner n at slots slots' lower stands ∙ stood))) in
         let kept = kept_here p facts f known l owner n at slots slots' lower stands (AtArrival x) stood in
         in_place p fine given bounds f known enough begins l owner shown lower pointer result frame n at has row (Assign (image (readings_of r at.node.scope) e) None (ENamed value_name))
         (lines_are p facts f known l owner n at slots slots' lower stands at.node.manner (AtArrival x) refl stood ∙ ap (λ t. arrival_lines (readings_of r at.node.scope) t at.node.yes) is) refl refl refl refl refl w bs c slots slots' stands (Some v)

@@ -73,9 +73,10 @@ module _ (p : Program) (facts : ProgramKnown p) (fine : CallFrame Position → O
       (lines_are p facts f known l owner n at slots slots' lower stands InPlace (AtStatement (Simple s)) manner stood) refl refl refl refl refl w bs c slots slots' stands o
       (simple_act (Here_at p at.node.scope slots w.store) result' s) (assigns_only (Here_at p at.node.scope slots w.store) e (right_side op e v))
       (simple_alike (Stays p) (StaysAs p) (InLocal p f known l owner) p (Target p f known l owner) facts.common Names (readings_of r at.node.scope) at.node.scope (scope p f known l owner) slots slots' (names_mean p f known l owner n at slots slots' lower stands) w.store store held (λ x. read_live w.store slots (readings_of r at.node.scope x) live) bs
-      result' (code p f known l owner).result s (known_here.written slots w.store)
-      (names_kept (UsedName p at.node.scope) Names at.node.scope (IsKept p f known l owner n at slots slots' lower stands) more e names.0 (λ k h. kept k (in_left k (used_in at.node.scope e) (used_in at.node.scope v) h)),
-      names_kept (UsedName p at.node.scope) Names at.node.scope (IsKept p f known l owner n at slots slots' lower stands) more v names.1 (λ k h. kept k (in_right k (used_in at.node.scope e) (used_in at.node.scope v) h)))))
+      result' (code p f known l owner).result s (known_here.written slots w.store) (
+        names_kept (UsedName p at.node.scope) Names at.node.scope (IsKept p f known l owner n at slots slots' lower stands) more e names.0 (λ k h. kept k (in_left k (used_in at.node.scope e) (used_in at.node.scope v) h)),
+        names_kept (UsedName p at.node.scope) Names at.node.scope (IsKept p f known l owner n at slots slots' lower stands) more v names.1 (λ k h. kept k (in_right k (used_in at.node.scope e) (used_in at.node.scope v) h)),
+      )))
 
   -- a declaration with a start
   pub declares_there : (x : Text) (t : Ty) (e : Expr) → at.node.stood ≡ AtStatement (Simple (Declare x t (Some e))) → (result' : Ty) → There result'
@@ -89,6 +90,7 @@ module _ (p : Program) (facts : ProgramKnown p) (fine : CallFrame Position → O
       (lines_are p facts f known l owner n at slots slots' lower stands InPlace (AtStatement (Simple s)) manner stood) refl refl refl refl refl w bs c slots slots' stands o
       (simple_act (Here_at p at.node.scope slots w.store) result' s) (assigns_only (Here_at p at.node.scope slots w.store) (ENamed x) e)
       (simple_alike (Stays p) (StaysAs p) (InLocal p f known l owner) p (Target p f known l owner) facts.common Names (readings_of r at.node.scope) at.node.scope (scope p f known l owner) slots slots' (names_mean p f known l owner n at slots slots' lower stands) w.store store held (λ x. read_live w.store slots (readings_of r at.node.scope x) live) bs
-      result' (code p f known l owner).result s (known_here.written slots w.store)
-      (more x names.0 (λ k h. kept k (in_left k (slot_of at.node.scope x) (used_in at.node.scope e) h)),
-      names_kept (UsedName p at.node.scope) Names at.node.scope (IsKept p f known l owner n at slots slots' lower stands) more e names.1 (λ k h. kept k (in_right k (slot_of at.node.scope x) (used_in at.node.scope e) h)))))
+      result' (code p f known l owner).result s (known_here.written slots w.store) (
+        more x names.0 (λ k h. kept k (in_left k (slot_of at.node.scope x) (used_in at.node.scope e) h)),
+        names_kept (UsedName p at.node.scope) Names at.node.scope (IsKept p f known l owner n at slots slots' lower stands) more e names.1 (λ k h. kept k (in_right k (slot_of at.node.scope x) (used_in at.node.scope e) h)),
+      )))

@@ -96,7 +96,7 @@ module _ (p : Program) (f : Function) (l : Place) where
           let one = (only_row p f l m b (at.front ++ this ∷ []) back x split is_m).0 in
           let behind : at.back ≡ put_row p r l m b.back ∷ b.back = i ∙ same_behind (at.front ++ this ∷ []) (x ∷ back) (put_row p r l m b.back ∷ b.back) (sym split ∙ (b.is_split ∙ ap (λ fs. fs ++ put_row p r l m b.back ∷ b.back) one)) in
           let counted : length (rows_statements all (at.front ++ this ∷ [])) ≡ length (rows_statements all at.front) + length (row_statements all this) =
-              ap length (rows_apart all at.front (this ∷ [])) ∙ (append_length (rows_statements all at.front) (row_statements all this ++ []) ∙ ap (λ k. length (rows_statements all at.front) + k) (append_length (row_statements all this) [] ∙ (let z : length (row_statements all this) + 0 ≡ length (row_statements all this) = omega arith in z))) in
+          ap length (rows_apart all at.front (this ∷ [])) ∙ (append_length (rows_statements all at.front) (row_statements all this ++ []) ∙ ap (λ k. length (rows_statements all at.front) + k) (append_length (row_statements all this) [] ∙ (let z : length (row_statements all this) + 0 ≡ length (row_statements all this) = omega arith in z))) in
           let counted_b : length (rows_statements all b.front) ≡ length (rows_statements all at.front) + length (row_statements all this) = ap (λ fs. length (rows_statements all fs)) one ∙ counted in
           ((let z : opening p r l + length (rows_statements all b.front) ≡ (opening p r l + length (rows_statements all at.front)) + length (row_statements all this) = omega (arith, counted_b) in z), ap (λ bs. before (rows_statements all bs) NoStmt) (sym behind))
 
@@ -124,7 +124,7 @@ module _ (p : Program) (f : Function) (l : Place) where
       with_line : (x : Stmt) → row_statements all this ≡ x ∷ ss → bare x ≡ s → is_line x ≡ true → FirstLine n at s ss rest
       with_line x i bared is =
           let whole : row_rest p r l n at ≡ AndStmt x rest =
-              before_append (row_statements all this) (rows_statements all at.back) NoStmt ∙ (ap (λ xs. before xs (before (rows_statements all at.back) NoStmt)) i ∙ ap (AndStmt x) same) in
+          before_append (row_statements all this) (rows_statements all at.back) NoStmt ∙ (ap (λ xs. before xs (before (rows_statements all at.back) NoStmt)) i ∙ ap (AndStmt x) same) in
           record { line = record { statement = x; stands = subst (Before (row_index p r l n at)) whole (row_stands n at); is_bare = bared; is_line = is }; is_rest = whole; counted = ap length i }
 
       go : (b : Bool) → is_wanted n all ≡ b → FirstLine n at s ss rest

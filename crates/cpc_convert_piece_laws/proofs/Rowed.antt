@@ -156,13 +156,13 @@ module _ (p : Program) (fine : CallFrame Position → Option Value → Type 0) (
             let counted = line.counted in
             let same_length : length (others y (goes (way at.node h))) ≡ length (map put_statement ps) = ap (λ xs. length (map put_statement xs)) same_puts in
             let wanted : is_next m following ≡ false → is_wanted m (put_in p r l) ≡ true = λ other.
-                ap (is_wanted m) row.is_split
-                ∙ wanted_in m row.front row.back (put_row p r l n row.back)
-                (ap (any_leads m) puts
-                ∙ later (leads m y) (any_leads m (put_lines following (goes (way at.node h)))) (ap (any_leads m) same_puts ∙ (ap (λ d. any_leads m (cond d [] (Jump m ∷ []))) other ∙ ap (λ d. d || false) (equal_self m)))) in
+            ap (is_wanted m) row.is_split
+            ∙ wanted_in m row.front row.back (put_row p r l n row.back)
+            (ap (any_leads m) puts
+            ∙ later (leads m y) (any_leads m (put_lines following (goes (way at.node h)))) (ap (any_leads m) same_puts ∙ (ap (λ d. any_leads m (cond d [] (Jump m ∷ []))) other ∙ ap (λ d. d || false) (equal_self m)))) in
             let st = subst (Before p f l (suc k)) same_left (line_passed (code p f known l owner) (body p f known l owner) k (scope p f known l owner) (piece_count p r l) (put_statement y) left_over line.line) in
             let to_row = goes_row p f l q (is_code p f known l owner) known.few_nodes n row m there (row_filled p f l m next.node next.is_node there) wanted (suc k) st
-                (let z : suc k + length (map put_statement ps) ≡ k + length (row_statements (put_in p r l) (put_row p r l n row.back)) = omega (arith, counted, same_length) in z) in
+            (let z : suc k + length (map put_statement ps) ≡ k + length (row_statements (put_in p r l) (put_row p r l n row.back)) = omega (arith, counted, same_length) in z) in
             subst (λ xs. Onward (z p fine given bounds) bounds f.called l lower pointer result frame bs t slots (frame_at (piece_name f.called l) (point_at (suc k) xs) b) (InGraph (owner_by (is_leader (flow_in p f) m) l m) m)) (sym same_left)
             (goes_onward p fine given bounds f known enough l owner lower pointer result frame n at has h m there_is there (point_at (suc k) left) to_row slots b stands bs t)
 

@@ -55,9 +55,11 @@ module _ (p : Program) (f : Function) (known : CpsKnown p f) (l : Place) (owner 
 
   stub_word : (m : ℕ) → holds_number (stubs_of r l) m ≡ true → StandsIn (called_so to_name to_frame) (piece_locals p r l)
   stub_word m h =
-      (meant p f known l owner).words (called_so to_name to_frame)
-      (0, first_word _ (any_node r (λ node. is_entry p node.stood) (rows_nodes r.split l)) (any_node r (λ node. is_result node.stood) (rows_nodes r.split l)) f.result
-      (ap (λ b. b || any_node r (λ node. is_wait node.manner node.stood) (rows_nodes r.split l)) (some_there (stubs_of r l) m h)))
+      (meant p f known l owner).words (called_so to_name to_frame) (
+        0,
+        first_word _ (any_node r (λ node. is_entry p node.stood) (rows_nodes r.split l)) (any_node r (λ node. is_result node.stood) (rows_nodes r.split l)) f.result
+            (ap (λ b. b || any_node r (λ node. is_wait node.manner node.stood) (rows_nodes r.split l)) (some_there (stubs_of r l) m h)),
+      )
 
   module _ (m : ℕ) (h : holds_number (stubs_of r l) m ≡ true) (at : RowAt p r l m) (keeps : (k : ℕ) → holds_number (closure_of r (At m)) k ≡ true → holds_number (closure_of r l) k ≡ true) where
     listed : (holds_number r.split.leaders m ≡ true) × ((holds_number (reached r l) m && not (is_own r.split l m)) ≡ true)
@@ -106,7 +108,7 @@ module _ (p : Program) (f : Function) (known : CpsKnown p f) (l : Place) (owner 
         let at_slot = got_set slots' there.0 there.0 (Register (old_value slots' stands there).0) (Register (Pointer Frame (length bs) 0)) refl (old_value slots' stands there).1 in
         let hold : Holds (Target p f known l owner) (scope p f known l owner) slots'' to_name to_frame (Pointer Frame (length bs) 0) = local_holds p f known l owner slots'' there.0 (called_so to_name to_frame) there.1 (Pointer Frame (length bs) 0) at_slot in
         let gives = return_step (Target p f known l owner) w fn (code p f known l owner) (body p f known l owner) (driving pointer result frame) [] (is_code p f known l owner) j (scope p f known l owner) (piece_count p r l) tail slots'' made (ENamed to_name) line
-            (Pointer Frame (length bs) 0) (Pointer Frame (length bs) 0) made (held (Target p f known l owner) (scope p f known l owner) slots'' made to_name to_frame (Pointer Frame (length bs) 0) hold) refl (free_all slots'' made after.registers) in
+        (Pointer Frame (length bs) 0) (Pointer Frame (length bs) 0) made (held (Target p f known l owner) (scope p f known l owner) slots'' made to_name to_frame (Pointer Frame (length bs) 0) hold) refl (free_all slots'' made after.registers) in
         walk_append (suc (suc (suc (length (saves_of p f known l owner m))))) 1 _ _ _
         (subst (λ left. Walk (Target p f known l owner) w.trace (suc (suc (suc (length (saves_of p f known l owner m))))) (at_line w fn below k left slots' (beside bs t)) (at_line w fn below j (AndStmt hands tail) slots'' made)) (sym first.is_rest) walk) gives
       where

@@ -17,7 +17,7 @@ module _ (p : Program) (f : Function) (stays : StaysIn f.body) (e : Expr) where
   here_goes path is =
       let next = goes_next f.body path true stays (subst GoesOnward (sym is) tt) in
       let way : way_from p (Some f) (Here path) true ≡ Some next.0 =
-          ap (λ x. only_if (goes_in_step (manner_of p (scope_in_function f path) x) x true) (next_point f.body (Here path) true)) is ∙ next.1 in
+      ap (λ x. only_if (goes_in_step (manner_of p (scope_in_function f path) x) x true) (next_point f.body (Here path) true)) is ∙ next.1 in
       (number_of f.body next.0, ap (option_map (number_of f.body)) way)
 
   point_goes : (point : Point) → (node_of p f point).stood ≡ AtStatement (Test (Some e)) → (m : ℕ) × ((node_of p f point).yes ≡ Some m)

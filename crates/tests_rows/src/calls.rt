@@ -99,6 +99,14 @@ fn refused(alloc: Global, fault: TextFault) -> Result<Left, AllocError> {
     Ok(ended(3, Vec::new(alloc), told.into_bytes()))
 }
 
+// What is left where a text is not read.
+fn stopped(alloc: Global, stop: Stop<TextFault>) -> Result<Left, AllocError> {
+    match stop {
+        Stop::Memory => Err(AllocError),
+        Stop::Fault(fault) => refused(alloc, fault),
+    }
+}
+
 // The print of a text, whatever rules it breaks.
 fn printed(alloc: Global, text: &[u8]) -> Result<Vec<u8>, Stop<TextFault>> {
     let mut names = Names::new(alloc);
@@ -124,8 +132,7 @@ fn print_twice(alloc: Global, text: &[u8]) -> Result<Left, AllocError> {
             Ok(twice) if twice == once => Ok(ended(0, once, Vec::new(alloc))),
             _ => Ok(ended(1, once, Vec::new(alloc))),
         },
-        Err(Stop::Memory) => Err(AllocError),
-        Err(Stop::Fault(fault)) => refused(alloc, fault),
+        Err(stop) => stopped(alloc, stop),
     }
 }
 
@@ -133,8 +140,7 @@ fn print_twice(alloc: Global, text: &[u8]) -> Result<Left, AllocError> {
 fn read_event(alloc: Global, text: &[u8]) -> Result<Left, AllocError> {
     match read(alloc, text, Dialect::Event) {
         Ok(_) => Ok(ended(0, Vec::new(alloc), Vec::new(alloc))),
-        Err(Stop::Memory) => Err(AllocError),
-        Err(Stop::Fault(fault)) => refused(alloc, fault),
+        Err(stop) => stopped(alloc, stop),
     }
 }
 
