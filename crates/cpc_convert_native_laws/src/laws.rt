@@ -21,7 +21,7 @@ pub fn accepted_closes()
     ensures law { AcceptedCloses }
 {}
 
-/// An accepted program has all that the conversion of its native code asks, where the numbers of leaders are small.
+/// An accepted program has all that the conversion of its native code asks.
 pub fn accepted_is_convertible()
     ensures law { AcceptedIsConvertible }
 {}

@@ -3,3 +3,4 @@ pub mod Seen
 pub mod Points
 pub mod Graphs
 pub mod Splits
+pub mod Lifts

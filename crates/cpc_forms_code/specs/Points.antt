@@ -15,7 +15,7 @@ use Rattle.cpc_forms.specs.Graph.{manner_from}
 use Rattle.cpc_forms_code.specs.declared.boxed.Variable.{Variable}
 use Rattle.cpc_forms_code.specs.declared.boxed.BoxedPoint as B
 use Rattle.cpc_forms_code.specs.Programs.{program_by, IsSpelled}
-use Rattle.cpc_forms_code.specs.Seen.{manner_seen, stood_seen, scope_seen}
+use Rattle.cpc_forms_code.specs.Seen.{manner_seen, stood_seen, scope_seen, AreNamed}
 
 -- ---- variables
 
@@ -61,5 +61,6 @@ point_seen names vs b = record { stood = stood_seen names b.stood; scope = scope
 pub record IsBoxed (p : Program) (f : Function) (vs : List Variable) (bs : List B.BoxedPoint) : Type 0 where
   pub names : Names
   pub spelled : IsSpelled names p f
+  pub named : (names : Names) → IsSpelled names p f → AreNamed names vs
   pub variables : (names : Names) → IsSpelled names p f → map (variable_seen names) vs ≡ marked (function_of names f)
   pub points : (names : Names) → IsSpelled names p f → map (point_seen names vs) bs ≡ boxed_points (program_by names p) (function_of names f)

@@ -4,10 +4,12 @@
 
 mod boxed;
 mod graph;
+mod lifted;
 mod scopes;
 mod split;
 
 pub use boxed::{Boxed, BoxedFunction, BoxedPoint, Manner, Stood, Variable};
 pub use graph::{Graph, GraphFunction, Node};
+pub use lifted::{LiftedFunction, LiftedProgram};
 pub use scopes::slot;
 pub use split::{Owner, SplitFunction, SplitProgram};
