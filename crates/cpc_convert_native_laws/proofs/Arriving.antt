@@ -1,24 +1,21 @@
 -- In each state of the lifted run, native frames stand where a value arrives only if the value of what stands there does.
-use Rattle.std.proofs.Common.{◌≡◌, ℕ, ◌&&◌, Bool, true, false, List, [], ◌∷◌, Option, Some, None, option_map, refl, sym, ◌∙◌, ap, subst}
+use Rattle.std.proofs.Common.{◌≡◌, ℕ, ◌&&◌, Bool, true, false, Option, Some, None, option_map, refl, ◌∙◌, ap, subst}
 use Rattle.cpc_base.specs.Bytes.{Text}
-use Rattle.cpc_store.specs.Store.{Value}
-use Rattle.cpc_tree.specs.Points.{Path, Point, Here, Arrival, End, found, Move, Into, Out, ToLabel, Broken, Continued, NoMove, at_label, arrived, after, labelled, next_point}
+use Rattle.cpc_tree.specs.Points.{Path, Point, Here, Arrival, End, found, Move, Into, Out, ToLabel, Broken, Continued, NoMove, at_label, arrived, after, labelled}
 use Rattle.cpc_tree.specs.Syntax.{Stmt, Function, Program}
 use Rattle.cpc_tree.specs.Typing.{function_named}
-use Rattle.cpc_meaning.specs.History.{History}
-use Rattle.cpc_meaning.specs.Plain.{Frame, Stack}
 use Rattle.cpc_meaning.specs.Trees.{first_point}
 use Rattle.cpc_meaning.specs.Ways.{only_if, way_from, arrival_from, goes_in_step, arrives_later, manner_at}
-use Rattle.cpc_forms.specs.Flow.{Place, Start}
+use Rattle.cpc_forms.specs.Flow.{Place}
 use Rattle.cpc_forms.specs.Graph.{at_node, way}
 use Rattle.cpc_forms.specs.Split.{Split, splits, Position, InTree, InGraph, come_to, split_node, first_position, split_form}
 use Rattle.cpc_lift_laws.specs.Boxes.{is_box}
-use Rattle.cpc_lift_laws.specs.Closed.{Stands, Closed}
-use Rattle.cpc_lift_laws.specs.Standing.{StateStands, RunningStands}
+use Rattle.cpc_lift_laws.specs.Closed.{Closed}
+use Rattle.cpc_lift_laws.specs.Standing.{RunningStands}
 use Rattle.cpc_lift_laws.proofs.Boxes.{programs_have_marks}
 use Rattle.cpc_lift_laws.proofs.Standing.{lifted_stands}
 use Rattle.cpc_convert_event.specs.ClosureLaws.{lifting}
-use Rattle.cpc_convert_accepted_laws.specs.Lifted.{kept_of, lifted_after}
+use Rattle.cpc_convert_accepted_laws.specs.Lifted.{kept_of}
 use Rattle.cpc_convert_accepted_laws.proofs.Lifted.{programs_are_closed}
 use Rattle.cpc_convert_native_laws.specs.Instance.{may_be_at, may_be}
 use Rattle.cpc_convert_native_laws.specs.Laws.{FramesMayBe}

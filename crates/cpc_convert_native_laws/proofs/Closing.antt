@@ -1,9 +1,8 @@
 -- What a detached function names: where a statement in it breaks no rule, each function that it names is detached.
-use Rattle.std.proofs.Common.{◌≡◌, not, ◌&&◌, ℕ, zero, suc, ◌+◌, Bool, true, false, cond, List, [], ◌∷◌, ◌++◌, length, option_map, Option, Some, None, refl, sym, ◌∙◌, ap, subst}
+use Rattle.std.proofs.Common.{◌≡◌, not, ◌&&◌, ℕ, zero, suc, ◌+◌, true, false, cond, List, [], ◌∷◌, length, option_map, Option, Some, None, refl, sym, ◌∙◌, ap}
 use Rattle.cpc_base.specs.Bytes.{Text}
 use Rattle.cpc_base.specs.declared.stop.Place.{Place}
 use Rattle.cpc_base.specs.declared.stop.Dialect.TheVariants as D
-use Rattle.cpc_tree.specs.declared.program.Mode.{Mode}
 use Rattle.cpc_tree.specs.declared.program.Mode.TheVariants.{Extern, Native, Cps, Detached}
 use Rattle.cpc_tree.specs.declared.program.UnaryOp.TheVariants.{AddressOf, Minus, Plus, Not, Complement, Dereference}
 use Rattle.cpc_num.specs.declared.kinds.Op.{Op}
@@ -13,19 +12,19 @@ use Rattle.cpc_tree.specs.Points.{Path, Nth, TheTest, TheYes, TheNo, TheStep, Th
 use Rattle.cpc_tree.specs.Syntax.{Ty, Expr, Exprs, Function, Program}
 use Rattle.cpc_tree.specs.Typing.{Scope, Meant, ALocal, AGlobal, AFunction, NotMeant, named}
 use Rattle.cpc_check_rules.specs.declared.rule.Rule.TheVariants.{NotClosed, Twice, Incomplete}
-use Rattle.cpc_check_rules.specs.Calls.{Wanted, Integer, Of, Callback, String, ForSection, callee, wanted, result, number_breaks}
+use Rattle.cpc_check_rules.specs.Calls.{Wanted, String, callee, wanted, result, number_breaks}
 use Rattle.cpc_check_rules.specs.ExprRules.{called_breaks, arg_breaks, expr_breaks, args_breaks, call_breaks}
-use Rattle.cpc_check_rules.specs.Operators.{Where, name_breaks, is_detached, is_cps}
+use Rattle.cpc_check_rules.specs.Operators.{Where, name_breaks, is_detached}
 use Rattle.cpc_check_rules.specs.Rule.{at_if}
 use Rattle.cpc_check_rules.specs.Scopes.{meant, is_here, is_sized, with_name}
-use Rattle.cpc_check_rules.specs.StmtRules.{in_scope, inner, variable, behind, all_behind, target_breaks, to_breaks, test_breaks, maybe_test, return_breaks, stmt_breaks, stmts_breaks, maybe_breaks}
+use Rattle.cpc_check_rules.specs.StmtRules.{in_scope, inner, variable, behind, all_behind, target_breaks, to_breaks, test_breaks, maybe_test, stmt_breaks, stmts_breaks, maybe_breaks}
 use Rattle.cpc_check_sound_laws.specs.Typed.{Calls, CallsHost, CallsFunction, CallsPrimitive, CallsPointer}
 use Rattle.cpc_check_sound_laws.proofs.Agreement.{Matches, Facts, At, item_of}
 use Rattle.cpc_check_sound_laws.proofs.Bodies.{at_name, stmt_here}
 use Rattle.cpc_check_sound_laws.proofs.Shapes.{StepWritten, Written, AllWritten, MaybeWritten, all_first_written}
 use Rattle.cpc_check_sound_laws.proofs.Unbroken.{split, not_broken, holds_not}
 use Rattle.cpc_convert_image_laws.specs.Names.{AllNames, AllNamesIf, AllNamesAmong, AllNamesFound}
-use Rattle.cpc_convert_native_laws.specs.Instance.{NamesDetached, ClosedName}
+use Rattle.cpc_convert_native_laws.specs.Instance.{ClosedName}
 
 module _ (p : Program) (facts : Facts p) (f : Function) (det : is_detached f.mode ≡ true) where
   -- ---- expressions

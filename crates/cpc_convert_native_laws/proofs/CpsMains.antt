@@ -1,17 +1,16 @@
 -- A cps `main`: what stands for it calls the spawner, which makes the first frame and makes it ready, and returns.
-use Rattle.std.proofs.Common.{◌≡◌, ℕ, suc, ◌+◌, ◌≤◌, true, List, [], ◌∷◌, ◌++◌, map, length, Some, None, refl, sym, ◌∙◌, ap, subst, arith, pos}
+use Rattle.std.proofs.Common.{◌≡◌, suc, ◌+◌, ◌≤◌, true, List, [], ◌∷◌, map, length, Some, None, refl, sym, ◌∙◌, ap, subst}
 use Rattle.cpc_base.specs.Bytes.{Text}
-use Rattle.cpc_num.specs.declared.kinds.Kind.TheVariants.{Int}
 use Rattle.cpc_store.specs.declared.values.Class.TheVariants.{Frame}
-use Rattle.cpc_store.specs.Store.{Value, Unset, Null, At as Pointer, Store}
+use Rattle.cpc_store.specs.Store.{Value, Unset, At as Pointer, Store}
 use Rattle.cpc_tree.specs.declared.program.Mode.TheVariants.{Native}
-use Rattle.cpc_tree.specs.Points.{Nth, Path, Point, Here, Arrival, Simple}
-use Rattle.cpc_tree.specs.Syntax.{Ty, TyVoid, ENamed, EInteger, NoExpr, Call, Return, Variable, Function, Program}
+use Rattle.cpc_tree.specs.Points.{Nth, Path, Here, Arrival, Simple}
+use Rattle.cpc_tree.specs.Syntax.{TyVoid, ENamed, NoExpr, Call, Function, Program}
 use Rattle.cpc_tree.specs.Typing.{AFunction, item_named, function_named, parameter_type, parameter_types}
-use Rattle.cpc_meaning.specs.Agenda.{Agenda, new_agenda, begin_round, ready_one}
+use Rattle.cpc_meaning.specs.Agenda.{new_agenda, begin_round, ready_one}
 use Rattle.cpc_meaning.specs.Answer.{Gives}
 use Rattle.cpc_meaning.specs.Eval.{Slot}
-use Rattle.cpc_meaning.specs.Events.{Callback, CallMain, CallWith, callbacks}
+use Rattle.cpc_meaning.specs.Events.{CallMain, CallWith, callbacks}
 use Rattle.cpc_meaning.specs.Machine.{next}
 use Rattle.cpc_meaning.specs.Plain.{Frame as CallFrame}
 use Rattle.cpc_meaning.specs.Slots.{call_slots}
@@ -22,7 +21,6 @@ use Rattle.cpc_convert.specs.Converted.{spawner_name}
 use Rattle.cpc_forms.specs.Split.{Position}
 use Rattle.std.proofs.Common.{Option}
 use Rattle.cpc_convert_image_laws.specs.Held.{beside}
-use Rattle.cpc_convert_chain_laws.specs.Chains.{frame_cells}
 use Rattle.cpc_convert_chain_laws.specs.Driver.{drive_name}
 use Rattle.cpc_convert_chain_laws.specs.Walks.{World, Walk, frame_at, running, idle, in_function}
 use Rattle.cpc_convert_chain_laws.proofs.Steps.{step_enters, step_arrives}
@@ -39,7 +37,7 @@ use Rattle.cpc_tree.specs.Registers.{variables}
 use Rattle.cpc_convert_laws.specs.Bounds.{Bounds}
 use Rattle.cpc_convert_laws.specs.Running.{Places}
 use Rattle.cpc_convert_laws.proofs.Joined.{MainIs, ACpsMain}
-use Rattle.cpc_convert_laws.proofs.Mains.{CpsMain, with_first}
+use Rattle.cpc_convert_laws.proofs.Mains.{with_first}
 use Rattle.cpc_convert_laws.proofs.Relation.{Shared, target_state, with_main, world_of}
 use Rattle.cpc_convert_laws.proofs.Setting.{Setting}
 use Rattle.cpc_convert_laws.proofs.Spawning.{SpawnerRuns}

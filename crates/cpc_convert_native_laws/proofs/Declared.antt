@@ -1,14 +1,13 @@
 -- Detached functions of an accepted program name no other functions: what the rules know of each item in turn.
 use Rattle.std.proofs.Common.{◌≡◌, ◌&&◌, not, ℕ, suc, Bool, true, false, cond, List, [], ◌∷◌, ◌++◌, map, reverse, length, Option, Some, None, bytes_eq, refl, sym, ◌∙◌, ap, subst}
 use Rattle.std.specs.Prelude.{is_some}
-use Rattle.std.proofs.lemmas.List.{append-nil}
 use Rattle.cpc_base.specs.Bytes.{Text}
 use Rattle.cpc_base.specs.declared.stop.Place.{Place}
 use Rattle.cpc_base.specs.declared.stop.Dialect.TheVariants as D
 use Rattle.cpc_tree.specs.declared.program.Mode.{Mode}
 use Rattle.cpc_tree.specs.declared.program.Mode.TheVariants.{Extern, Native, Cps, Detached}
-use Rattle.cpc_tree.specs.Syntax.{Ty, Function, Item, FunctionItem, Program}
-use Rattle.cpc_tree.specs.Located.{Ident, LStmt, Block, LStmts, NoLStmt, AndLStmt, LParameter, LFunction, LItem, LStruct, LGlobal, LPrototype, LFunctionItem, bare_stmt, bare_parameter, bare_function, bare_item, bare}
+use Rattle.cpc_tree.specs.Syntax.{Ty, Function, FunctionItem, Program}
+use Rattle.cpc_tree.specs.Located.{Ident, LStmt, Block, NoLStmt, AndLStmt, LParameter, LFunction, LItem, LStruct, LGlobal, LPrototype, LFunctionItem, bare_stmt, bare_parameter, bare_function, bare_item, bare}
 use Rattle.cpc_tree.specs.ItemGrammar.{all_named}
 use Rattle.cpc_tree.specs.Points.{Path, Nth, found, scope_at}
 use Rattle.cpc_tree.specs.Typing.{Scope, Meant, ALocal, AGlobal, AFunction, NotMeant, item_named, function_named, parameter_type, parameter_types}
@@ -28,7 +27,7 @@ use Rattle.cpc_check_sound_laws.proofs.Answers.{some_is, no_some, not_true}
 use Rattle.cpc_check_sound_laws.proofs.Bodies.{either_false, at_name}
 use Rattle.cpc_check_sound_laws.proofs.Grammar.{items_shape}
 use Rattle.cpc_check_sound_laws.proofs.Items.{signed, named_more, function_there}
-use Rattle.cpc_check_sound_laws.proofs.Knowing.{Same, Known, nothing_known, known_struct, known_global, known_function, primitive_kept}
+use Rattle.cpc_check_sound_laws.proofs.Knowing.{Same, Known, nothing_known, known_struct, known_global, known_function}
 use Rattle.cpc_check_sound_laws.proofs.Programs.{BodyShape, ItemShape}
 use Rattle.cpc_check_sound_laws.proofs.Accepted.{accepted_facts}
 use Rattle.cpc_check_sound_laws.proofs.Unbroken.{split, holds_not, have_all, negated}

@@ -1,15 +1,15 @@
 -- A native or detached function is entered alike in both programs.
-use Rattle.std.proofs.Common.{◌≡◌, ◌++◌, length, ℕ, not, ◌&&◌, Bool, true, false, map, option_map, Option, Some, None, refl, sym, ◌∙◌, ap, subst}
+use Rattle.std.proofs.Common.{◌≡◌, ◌++◌, length, not, ◌&&◌, false, map, option_map, Some, None, refl, sym, ◌∙◌, ap, subst}
 use Rattle.cpc_base.specs.Bytes.{Text}
 use Rattle.cpc_tree.specs.Points.{Point, begin, Here}
-use Rattle.cpc_tree.specs.Registers.{as_variable, outer_scope, variables, is_register}
-use Rattle.cpc_tree.specs.Syntax.{Variable, Function, Program}
+use Rattle.cpc_tree.specs.Registers.{as_variable, outer_scope}
+use Rattle.cpc_tree.specs.Syntax.{Function, Program}
 use Rattle.cpc_tree.specs.Typing.{is_scalar, function_named}
 use Rattle.cpc_meaning.specs.Threads.{is_cps_mode}
 use Rattle.cpc_meaning.specs.Trees.{trees, first_point}
 use Rattle.cpc_convert.proofs.Respawn.{enters, same_locals, takes}
 use Rattle.cpc_forms.specs.Graph.{graph_where, graph_if}
-use Rattle.cpc_forms.specs.Split.{Split, split_of, splits, Position, InTree, first_position, split_form}
+use Rattle.cpc_forms.specs.Split.{split_of, splits, Position, InTree, first_position, split_form}
 use Rattle.cpc_convert_image_laws.specs.Stacks.{EntersAlike}
 use Rattle.cpc_convert_event.specs.Converted.{kept_function, converted}
 use Rattle.cpc_convert_accepted_laws.specs.Names.{HasNames}

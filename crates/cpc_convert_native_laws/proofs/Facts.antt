@@ -1,40 +1,33 @@
 -- What the rows ask of native code: functions and names are found alike, faults are shown alike, and sections come to the same.
-use Rattle.std.proofs.Common.{◌≡◌, ℕ, Bool, true, false, not, cond, List, Option, Some, None, refl, sym, ◌∙◌, ap, subst}
+use Rattle.std.proofs.Common.{◌≡◌, ℕ, true, false, not, cond, List, Option, Some, refl, sym, ◌∙◌, ap, subst}
 use Rattle.std.specs.Prelude.{is_some}
 use Rattle.cpc_base.specs.Bytes.{Text}
-use Rattle.cpc_base.specs.declared.stop.Dialect.TheVariants as D
 use Rattle.cpc_check_rules.specs.Operators as O
-use Rattle.cpc_check_sound_laws.specs.Typed.{FoundTyped}
-use Rattle.cpc_store.specs.Store.{Value, Store, Blocks}
+use Rattle.cpc_store.specs.Store.{Value}
 use Rattle.cpc_tree.specs.Lists.{holds_number}
 use Rattle.cpc_tree.specs.Points.{Path, Point, Here, Arrival, End, Found, Simple, found}
 use Rattle.cpc_tree.specs.Syntax.{Exprs, Spawn, Function, Program}
-use Rattle.cpc_tree.specs.Typing.{named, function_named}
+use Rattle.cpc_tree.specs.Typing.{function_named}
 use Rattle.cpc_tree.specs.declared.program.Mode.{Mode}
 use Rattle.cpc_tree.specs.declared.program.Mode.TheVariants.{Extern, Native, Cps, Detached}
-use Rattle.cpc_meaning.specs.Act.{AtStatement, AtArrival}
-use Rattle.cpc_meaning.specs.Eval.{Slot}
+use Rattle.cpc_meaning.specs.Act.{AtStatement}
 use Rattle.cpc_meaning.specs.Plain.{Frame}
-use Rattle.cpc_meaning.specs.Section.{Job}
 use Rattle.cpc_meaning.specs.Start.{before_bars}
 use Rattle.cpc_meaning.specs.Threads.{is_cps_mode, shown_in}
 use Rattle.cpc_meaning.specs.Trees.{trees, stood_at}
-use Rattle.cpc_forms.specs.Split.{Position, InTree, splits, split_form}
+use Rattle.cpc_forms.specs.Split.{Position, InTree, split_form}
 use Rattle.cpc_lift_laws.specs.Lift.{closure_in}
-use Rattle.cpc_convert_image_laws.specs.Native.{KeptName}
 use Rattle.cpc_convert_image_laws.specs.Relations as R
 use Rattle.cpc_convert_image_laws.specs.Stacks.{EntersAlike}
 use Rattle.cpc_convert_event.specs.ClosureLaws.{lifting}
 use Rattle.cpc_convert_event.specs.Converted.{kept_function, converted}
-use Rattle.cpc_convert_event.specs.NameLaws.{IsKept}
 use Rattle.cpc_convert_event.proofs.BoxesThere.{structs_there}
-use Rattle.cpc_convert_accepted_laws.specs.Known.{Stays}
 use Rattle.cpc_convert_accepted_laws.specs.Lifted.{kept_of}
 use Rattle.cpc_convert_laws.specs.Running.{Places, SamePoint}
 use Rattle.cpc_convert_laws.proofs.Sections.{InSection, SectionFacts, sections_alike}
 use Rattle.cpc_convert_laws.proofs.Setting.{Setting, NativeFacts}
 use Rattle.cpc_convert_native_laws.specs.Convertible.{Convertible}
-use Rattle.cpc_convert_native_laws.specs.Instance.{stays_whole, is_whole, StaysAs, NamesDetached, DetachedAs, cut_of, UsedAt}
+use Rattle.cpc_convert_native_laws.specs.Instance.{stays_whole, is_whole, StaysAs, NamesDetached, DetachedAs, cut_of}
 use Rattle.cpc_convert_native_laws.proofs.Codes.{codes_found}
 use Rattle.cpc_convert_native_laws.proofs.Entering.{no_graph, entered_alike}
 use Rattle.cpc_convert_native_laws.proofs.Instance.{setting_of}

@@ -18,7 +18,7 @@ use Rattle.cpc_convert_event.specs.Converted.{kept_function, item_unless, kept_i
 use Rattle.cpc_convert_event.specs.Routines.{Routine}
 use Rattle.cpc_convert_event.proofs.BoxesThere.{structs_there}
 use Rattle.cpc_convert_event.proofs.Structs.{AreStructs, NoneAre, OneIs, all_structs_are, all_boxes_are}
-use Rattle.cpc_convert_native_laws.specs.Convertible.{Convertible, GlobalsComplete}
+use Rattle.cpc_convert_native_laws.specs.Convertible.{GlobalsComplete}
 use Rattle.cpc_convert_native_laws.specs.Laws.{GlobalsStay}
 use Rattle.cpc_convert_native_laws.proofs.Layouts.{layout_same}
 

@@ -1,5 +1,5 @@
 -- The facts of the rows, where those of pieces are known: the native half is had of the program alone.
-use Rattle.std.proofs.Common.{◌≡◌, ℕ, ◌<◌, ◌≤◌, Bool, true, false, List, ◌∷◌, Option, Some, refl}
+use Rattle.std.proofs.Common.{◌≡◌, ℕ, ◌<◌, ◌≤◌, Bool, true, false, List, Option, Some, refl}
 use Rattle.cpc_base.specs.Bytes.{Text}
 use Rattle.cpc_store.specs.Store.{Value, Blocks}
 use Rattle.cpc_tree.specs.Points.{Point, Found}

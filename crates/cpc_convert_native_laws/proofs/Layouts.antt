@@ -1,5 +1,5 @@
 -- What the cells of a type hold is the same where the type is complete in both programs.
-use Rattle.std.proofs.Common.{◌≡◌, List, Option, Some, None, refl, sym, ap}
+use Rattle.std.proofs.Common.{◌≡◌, List, Option, Some, refl, ap}
 use Rattle.cpc_tree.specs.Syntax.{Ty, Program}
 use Rattle.cpc_tree.specs.Typing.{cells, ◌>>=◌}
 use Rattle.cpc_meaning.specs.Layout.{scalars, layout}

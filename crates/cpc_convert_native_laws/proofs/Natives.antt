@@ -1,15 +1,15 @@
 -- What native code does at each of its points, and how a native `main` is found.
-use Rattle.std.proofs.Common.{◌≡◌, ℕ, ◌+◌, ◌<◌, Bool, true, false, List, [], ◌∷◌, length, Option, Some, None, refl, sym, ◌∙◌, ap, subst}
+use Rattle.std.proofs.Common.{◌≡◌, true, false, List, ◌∷◌, Option, Some, refl, sym, ◌∙◌, ap, subst}
 use Rattle.std.specs.List.{All}
 use Rattle.cpc_base.specs.Bytes.{Text}
 use Rattle.cpc_base.specs.declared.stop.Dialect.TheVariants as D
 use Rattle.cpc_check_rules.specs.Calls.{gives_up}
 use Rattle.cpc_check_sound_laws.specs.Typed.{is_for}
-use Rattle.cpc_store.specs.Store.{Value, Store, Blocks}
+use Rattle.cpc_store.specs.Store.{Value, Blocks}
 use Rattle.cpc_tree.specs.Points.{Path, Point, Here, Arrival, End, Found, Simple, found}
 use Rattle.cpc_tree.specs.Registers.{scope_in_function}
 use Rattle.cpc_tree.specs.Syntax.{Exprs, Spawn, Function, Program}
-use Rattle.cpc_tree.specs.Typing.{named, function_named}
+use Rattle.cpc_tree.specs.Typing.{function_named}
 use Rattle.cpc_meaning.specs.Act.{Stood, AtStatement}
 use Rattle.cpc_meaning.specs.Agenda.{Agenda}
 use Rattle.cpc_meaning.specs.Eval.{Slot}
@@ -33,7 +33,7 @@ use Rattle.cpc_convert_laws.proofs.Relation.{Shared, source_state}
 use Rattle.cpc_convert_laws.proofs.Setting.{Setting, Known, NativeAt, is_common, is_answered}
 use Rattle.cpc_convert_laws.proofs.Spawning.{SpawnAt}
 use Rattle.cpc_convert_native_laws.specs.Convertible.{Convertible}
-use Rattle.cpc_convert_native_laws.specs.Instance.{is_whole, StaysAs, cut_of, UsedAt, may_be_at, may_be}
+use Rattle.cpc_convert_native_laws.specs.Instance.{is_whole, StaysAs, cut_of, may_be_at, may_be}
 use Rattle.cpc_convert_native_laws.proofs.Instance.{setting_of}
 use Rattle.cpc_convert_native_laws.proofs.Names.{used_kept}
 use Rattle.cpc_convert_native_laws.proofs.Points.{is_no_cps, Good, good_here, good_arrival, good_end, native_point}

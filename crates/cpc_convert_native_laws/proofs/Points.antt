@@ -1,5 +1,5 @@
 -- The points of native code at which nothing is spawned: the same stands there in both programs, and control goes on alike.
-use Rattle.std.proofs.Common.{◌≡◌, ◌⊎◌, inl, inr, ℕ, Bool, true, false, List, [], option_map, Option, Some, None, refl, sym, ◌∙◌, ap, subst}
+use Rattle.std.proofs.Common.{◌≡◌, ◌⊎◌, inl, inr, Bool, true, false, List, option_map, Option, Some, None, refl, sym, ◌∙◌, ap, subst}
 use Rattle.cpc_base.specs.Bytes.{Text}
 use Rattle.cpc_check_rules.specs.Operators as O
 use Rattle.cpc_store.specs.Store.{Store}
@@ -9,8 +9,8 @@ use Rattle.cpc_tree.specs.Syntax.{Exprs, Stmt, Call, Detach, Spawn, Function, Pr
 use Rattle.cpc_tree.specs.Typing.{Scope, named, function_named}
 use Rattle.cpc_tree.specs.declared.program.Mode.{Mode}
 use Rattle.cpc_tree.specs.declared.program.Mode.TheVariants.{Extern, Native, Cps, Detached}
-use Rattle.cpc_meaning.specs.Act.{Stood, AtStatement, AtArrival, AtEnd}
-use Rattle.cpc_meaning.specs.Eval.{Slot, Context}
+use Rattle.cpc_meaning.specs.Act.{Stood, AtStatement, AtArrival}
+use Rattle.cpc_meaning.specs.Eval.{Slot}
 use Rattle.cpc_meaning.specs.Plain.{context, asking}
 use Rattle.cpc_meaning.specs.Threads.{is_cps_mode}
 use Rattle.cpc_meaning.specs.Trees.{trees, stood_at, scope_from, point_after, arrival_at}
@@ -25,7 +25,7 @@ use Rattle.cpc_convert_image_laws.specs.Stacks.{frame_of, Onwards, BothGoTo, Goe
 use Rattle.cpc_convert_event.specs.Converted.{kept_function, converted}
 use Rattle.cpc_convert_accepted_laws.specs.Points.{UsedName, StaysItself, FoundKnown, IsSpawn}
 use Rattle.cpc_convert_native_laws.specs.Convertible.{Convertible}
-use Rattle.cpc_convert_native_laws.specs.Instance.{NamesDetached, ClosedName, UsedAt}
+use Rattle.cpc_convert_native_laws.specs.Instance.{ClosedName, UsedAt}
 use Rattle.cpc_convert_native_laws.proofs.Names.{names_grow, names_join}
 use Rattle.cpc_convert_native_laws.proofs.Respawned.{same_next, same_scope_from}
 use Rattle.cpc_convert_native_laws.proofs.Wholes.{kept_named}

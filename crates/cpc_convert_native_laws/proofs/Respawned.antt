@@ -1,8 +1,8 @@
 -- What stands at the points of a native function, and in it with its spawns as calls of spawners.
-use Rattle.std.proofs.Common.{◌≡◌, ℕ, zero, suc, Bool, List, [], ◌∷◌, Option, refl, sym, ◌∙◌, ap, length, Some}
+use Rattle.std.proofs.Common.{◌≡◌, ℕ, zero, suc, Bool, [], ◌∷◌, refl, ◌∙◌, ap, length, Some}
 use Rattle.cpc_base.specs.Bytes.{Text}
-use Rattle.cpc_tree.specs.Syntax.{Exprs, Stmt, Block, Empty, Declare, Assign, Call, Detach, Spawn, If, While, DoWhile, For, Goto, Label, Break, Continue, Return, Stmts, NoStmt, AndStmt, MaybeStmt, Absent, Present, Function}
-use Rattle.cpc_tree.specs.Points.{Nth, TheTest, TheYes, TheNo, TheStep, TheBody, Path, Point, Here, Arrival, End, Found, Simple, Test, Nothing, found, found_in, found_arm, after, Move, Into, Out, ToLabel, Broken, Continued, NoMove, at_label, arrived, next_point}
+use Rattle.cpc_tree.specs.Syntax.{Exprs, Stmt, Block, Spawn, If, While, DoWhile, For, Label, Stmts, NoStmt, AndStmt, MaybeStmt, Absent, Present, Function}
+use Rattle.cpc_tree.specs.Points.{Nth, TheTest, TheYes, TheNo, TheStep, TheBody, Path, Point, Here, Arrival, End, Found, Simple, found, found_in, found_arm, after, Move, Into, Out, ToLabel, Broken, Continued, NoMove, at_label, arrived, next_point}
 use Rattle.cpc_tree.specs.Registers.{outer_scope}
 use Rattle.cpc_meaning.specs.Trees.{scope_from}
 use Rattle.cpc_convert.specs.Converted.{respawned}

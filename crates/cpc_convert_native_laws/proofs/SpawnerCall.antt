@@ -1,15 +1,14 @@
 -- The call of a spawner: its variables are registers that hold the arguments, each found by its name.
-use Rattle.std.proofs.Common.{◌≡◌, ℕ, zero, suc, ◌+◌, ◌<◌, ◌≤◌, ◌&&◌, Bool, true, false, cond, List, [], ◌∷◌, ◌++◌, map, length, slice_get, slice_set, bytes_eq, Option, Some, None, refl, sym, ◌∙◌, ap, subst, codes, arith, pos}
+use Rattle.std.proofs.Common.{◌≡◌, ℕ, zero, suc, ◌+◌, ◌≤◌, Bool, true, false, cond, List, [], ◌∷◌, ◌++◌, map, length, slice_get, Some, refl, sym, ◌∙◌, ap, subst, arith}
 use Rattle.cpc_base.specs.Bytes.{Text}
-use Rattle.cpc_num.specs.declared.kinds.Kind.TheVariants.{Int}
 use Rattle.cpc_check_sound_laws.specs.Suits.{converts}
 use Rattle.cpc_check_sound_laws.specs.Typed.{AllGet}
 use Rattle.cpc_store.specs.Store.{Value, Unset, Store}
 use Rattle.cpc_tree.specs.Points.{locals_in, declared}
-use Rattle.cpc_tree.specs.Registers.{as_variable, variables, outer_scope, addresses_in, addressed, parameter_scope, or_empty}
-use Rattle.cpc_tree.specs.Syntax.{Ty, TyVoid, TyInt, TyCondvar, TyPointer, TyCode, TyStruct, TyArray, Expr, ENamed, EInteger, Exprs, NoExpr, AndExpr, Stmts, NoStmt, AndStmt, Variable, Parameter, Function, Program}
+use Rattle.cpc_tree.specs.Registers.{as_variable, variables, addresses_in, addressed, parameter_scope, or_empty}
+use Rattle.cpc_tree.specs.Syntax.{Ty, TyVoid, TyInt, TyCondvar, TyPointer, TyCode, TyStruct, TyArray, Expr, ENamed, Exprs, NoExpr, AndExpr, Stmts, NoStmt, AndStmt, Variable, Parameter, Function, Program}
 use Rattle.cpc_tree.specs.Typing.{Local, Scope, ALocal, named, field, is_scalar, parameter_type, parameter_types}
-use Rattle.cpc_meaning.specs.Answer.{Gives, ◌>>=◌}
+use Rattle.cpc_meaning.specs.Answer.{Gives}
 use Rattle.cpc_meaning.specs.Eval.{Slot, Register, assigned}
 use Rattle.cpc_meaning.specs.Requests.{arguments}
 use Rattle.cpc_meaning.specs.Slots.{call_slots}
@@ -17,8 +16,8 @@ use Rattle.cpc_meaning.proofs.Functions.{text_same, gives_then}
 use Rattle.cpc_convert_chain_laws.specs.Boxes.{AllRegisters, NoSlot, AndSlot}
 use Rattle.cpc_convert_chain_laws.specs.Driver.{head_fields, readies}
 use Rattle.cpc_convert_chain_laws.specs.Flat.{before, are_flat}
-use Rattle.cpc_convert_chain_laws.specs.Frames.{Save, Holds, Saving, NoSaving, AndSaving, saves_one, register_slots, AreRegisters, Scalars, NoScalars, AndScalar}
-use Rattle.cpc_convert_chain_laws.specs.Structs.{NotCalled, NoneSo, NotSo, ScalarFields, NoFields, AndField, IsStruct}
+use Rattle.cpc_convert_chain_laws.specs.Frames.{Save, Saving, NoSaving, AndSaving, saves_one, register_slots, Scalars, NoScalars, AndScalar}
+use Rattle.cpc_convert_chain_laws.specs.Structs.{NotCalled, NotSo, ScalarFields, AndField, IsStruct}
 use Rattle.cpc_convert_chain_laws.proofs.Fits.{assigned_fits}
 use Rattle.cpc_convert_chain_laws.proofs.Pieces.{registers_call, registers_unaddressed}
 use Rattle.cpc_convert_event.specs.FillLaws.{AllFit, NoneFit, OneFits, AllHold, NoneHold, OneHolds}

@@ -1,11 +1,11 @@
 -- What names mean in a spawner: its parameters and its frame hide no name of an item.
-use Rattle.std.proofs.Common.{◌≡◌, ℕ, suc, ◌<◌, ◌≤◌, ◌^◌, Bool, true, false, cond, List, [], ◌∷◌, ◌++◌, map, length, decimal, bytes_eq, Some, refl, sym, ◌∙◌, ap, subst, codes, arith}
+use Rattle.std.proofs.Common.{◌≡◌, ℕ, suc, ◌<◌, ◌≤◌, ◌^◌, Bool, true, false, cond, List, [], ◌∷◌, map, decimal, bytes_eq, refl, sym, ◌∙◌, ap, subst, codes, arith}
 use Rattle.std.proofs.lemmas.Fmt.{decimal_is_IsNumeral}
 use Rattle.std.specs.Str.Parse.{AllDigits}
 use Rattle.std.specs.Char.{digit_value}
 use Rattle.cpc_base.specs.Bytes.{Text}
 use Rattle.cpc_tree.specs.Registers.{parameter_scope}
-use Rattle.cpc_tree.specs.Syntax.{TyPointer, TyStruct, Variable, Function, Program}
+use Rattle.cpc_tree.specs.Syntax.{Variable, Program}
 use Rattle.cpc_tree.specs.Typing.{Local, Scope, ALocal, named, item_named}
 use Rattle.cpc_meaning.proofs.Functions.{text_same, texts_differ}
 use Rattle.cpc_convert.specs.Accepted.{has_marks}

@@ -1,26 +1,25 @@
 -- Spawns of native code: the spawner is called with the arguments, makes the first frame of the call, and makes it ready.
-use Rattle.std.proofs.Common.{◌≡◌, ℕ, suc, ◌+◌, ◌<◌, ◌≤◌, ◌^◌, Bool, true, false, cond, List, [], ◌∷◌, ◌++◌, map, length, slice_get, slice_set, option_map, Option, Some, None, refl, sym, ◌∙◌, ap, subst, codes, arith}
+use Rattle.std.proofs.Common.{◌≡◌, ℕ, suc, ◌+◌, ◌<◌, ◌≤◌, true, false, List, [], ◌∷◌, ◌++◌, map, length, slice_get, slice_set, option_map, Option, Some, None, refl, sym, ◌∙◌, ap, subst, codes, arith}
 use Rattle.std.specs.List.{All}
 use Rattle.cpc_base.specs.Bytes.{Text}
-use Rattle.cpc_base.specs.declared.stop.Dialect.TheVariants as D
 use Rattle.cpc_num.specs.declared.kinds.Kind.TheVariants.{Int}
 use Rattle.cpc_check_rules.specs.Operators as O
 use Rattle.cpc_check_sound_laws.specs.Typed.{AllGet}
 use Rattle.cpc_tree.specs.declared.program.Mode.{Mode}
 use Rattle.cpc_tree.specs.declared.program.Mode.TheVariants.{Extern, Native, Cps, Detached}
 use Rattle.cpc_store.specs.declared.values.Class.TheVariants.{Frame}
-use Rattle.cpc_store.specs.Store.{Value, Unset, Null, At as Pointer, Blocks, Store}
-use Rattle.cpc_tree.specs.Points.{Path, Point, Here, Arrival, Found, Simple, found, next_point}
+use Rattle.cpc_store.specs.Store.{Value, Unset, Null, At as Pointer, Blocks}
+use Rattle.cpc_tree.specs.Points.{Path, Point, Here, Arrival, Simple, found, next_point}
 use Rattle.cpc_tree.specs.Primitives.{Primitive, RtFrame, RtReady, primitive_named}
 use Rattle.cpc_tree.specs.Registers.{outer_scope, scope_in_function}
-use Rattle.cpc_tree.specs.Syntax.{Ty, TyVoid, TyInt, TyPointer, TyStruct, AndTy, NoTy, ENamed, Exprs, Call, Spawn, Stmts, Variable, Function, Program}
-use Rattle.cpc_tree.specs.Typing.{Local, Scope, Meant, ALocal, AFunction, NotMeant, named, item_named, function_named, parameter_type, parameter_types}
+use Rattle.cpc_tree.specs.Syntax.{TyVoid, TyInt, TyPointer, TyStruct, AndTy, NoTy, ENamed, Exprs, Call, Spawn, Stmts, Function, Program}
+use Rattle.cpc_tree.specs.Typing.{Local, Scope, AFunction, NotMeant, named, item_named, function_named, parameter_type, parameter_types}
 use Rattle.cpc_meaning.specs.Act.{AtStatement, AtArrival, AsksFor, asks, spawns, calls_expr}
 use Rattle.cpc_meaning.specs.Agenda.{Agenda, ready_one}
-use Rattle.cpc_meaning.specs.Answer.{Answer, Gives, ◌>>=◌, needed}
+use Rattle.cpc_meaning.specs.Answer.{Gives, ◌>>=◌, needed}
 use Rattle.cpc_meaning.specs.Eval.{Slot, Register, Context, values}
 use Rattle.cpc_meaning.specs.Events.{Callback, CallWith}
-use Rattle.cpc_meaning.specs.Plain.{Frame as CallFrame, context}
+use Rattle.cpc_meaning.specs.Plain.{Frame as CallFrame}
 use Rattle.cpc_meaning.specs.Requests.{Request, ToSpawn, arguments}
 use Rattle.cpc_meaning.specs.Threads.{Thread, is_cps_mode}
 use Rattle.cpc_meaning.specs.Trees.{trees, first_point, stood_at, scope_from, point_after}
@@ -29,7 +28,6 @@ use Rattle.cpc_meaning.proofs.Functions.{gives_then}
 use Rattle.cpc_meaning.proofs.SameValues.{at}
 use Rattle.cpc_convert.specs.Accepted.{has_marks}
 use Rattle.cpc_convert.specs.Converted.{spawner_name}
-use Rattle.cpc_convert.specs.Form.{Has}
 use Rattle.cpc_convert.proofs.Marks.{marked_has}
 use Rattle.cpc_convert.proofs.Respawn.{founds, respawned_found}
 use Rattle.cpc_forms.specs.Flow.{Start}

@@ -1,5 +1,5 @@
 -- Native and detached functions are found by their names in both programs.
-use Rattle.std.proofs.Common.{◌≡◌, Bool, true, false, not, Option, Some, None, refl, sym, ◌∙◌, ap, subst}
+use Rattle.std.proofs.Common.{◌≡◌, Bool, true, false, not, Option, Some, None, refl, sym, ◌∙◌, ap}
 use Rattle.cpc_base.specs.Bytes.{Text}
 use Rattle.cpc_tree.specs.Syntax.{Function, Program}
 use Rattle.cpc_tree.specs.Typing.{function_named}
@@ -8,7 +8,7 @@ use Rattle.cpc_convert_event.specs.Converted.{kept_function, converted}
 use Rattle.cpc_convert_event.specs.NameLaws.{IsNamed, IsKept}
 use Rattle.cpc_convert_event.proofs.Lookups.{functions_found}
 use Rattle.cpc_convert_accepted_laws.specs.Names.{HasNames}
-use Rattle.cpc_convert_native_laws.specs.Instance.{stays_whole, is_whole}
+use Rattle.cpc_convert_native_laws.specs.Instance.{stays_whole}
 use Rattle.cpc_convert_native_laws.specs.Laws.{IsWhole, WholesAreFound}
 
 not_cps : (b : Bool) → not b ≡ true → b ≡ false
