@@ -19,3 +19,4 @@ pub mod Keeps
 pub mod Live
 pub mod Nodes
 pub mod TestWays
+pub mod Words

@@ -41,7 +41,7 @@ some_there : (xs : List ℕ) (n : ℕ) → holds_number xs n ≡ true → not (i
 some_there [] n h = absurd (cc)
 some_there (x ∷ xs) n h = refl
 
-first_word : (a b c : Bool) (t : Ty) → a ≡ true → slice_get (words_if a b c t) 0 ≡ Some (called_so to_name to_frame)
+pub first_word : (a b c : Bool) (t : Ty) → a ≡ true → slice_get (words_if a b c t) 0 ≡ Some (called_so to_name to_frame)
 first_word true b c t e = refl
 first_word false b c t e = absurd (cc)
 
