@@ -1,5 +1,5 @@
 //! The graphs of a program.
-ghost use Rattle.std.specs.Prelude.{◌≡◌, IfOk};
+ghost use Rattle.std.specs.Prelude.{◌≡◌, IfOk, map};
 
 use crate::joining::nodes;
 use crate::labels::Labels;
@@ -26,7 +26,8 @@ fn graph_function<'a>(
 
 /// The graphs of the cps functions of a program. `NoMemory` is want of memory.
 pub fn graph<'a>(alloc: Global, boxed: &'a Boxed<'a>) -> Result<Graph<'a>, NoMemory>
-    ensures { IfOk result (λ g. g.source.now ≡ boxed.now.source.now) }
+    ensures source { IfOk result (λ g. g.source.now ≡ boxed.now.source.now) }
+    ensures functions { IfOk result (λ g. map (λ f. f.boxed.now) g.functions.items ≡ boxed.now.functions.items) }
 {
     let mut functions = Vec::new(alloc);
     for function in &boxed.functions {

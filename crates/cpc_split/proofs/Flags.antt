@@ -6,7 +6,7 @@ use Rattle.cpc_forms.specs.Split.{number_if, leaders_from}
 use Rattle.cpc_forms.specs.Spread.{Spread, visit, leader_mark, leader_marks, with_leaders, IsSpread}
 use Rattle.cpc_graph_laws.proofs.Spreads.{spread_begins}
 use Rattle.cpc_split.specs.declared.steps.Step.{Step}
-use Rattle.cpc_split.specs.declared.steps.Owner.{Owner}
+use Rattle.cpc_forms_code.specs.declared.split.Owner.{Owner}
 use Rattle.cpc_split.specs.Steps.{flow_by}
 use Rattle.cpc_split.specs.Seen.{places_of}
 use Rattle.cpc_split.specs.Flags.{flag_marks, flag_leaders, flag_spread}

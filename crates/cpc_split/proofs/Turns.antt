@@ -9,7 +9,7 @@ use Rattle.cpc_forms.specs.Spread.{Spread, known, mark_at, visit_all, IsSpread, 
 use Rattle.cpc_graph_laws.proofs.Formed.{in_right}
 use Rattle.cpc_graph_laws.proofs.Spreads.{spread_ends, spread_goes_on}
 use Rattle.cpc_split.specs.declared.steps.Step.{Step}
-use Rattle.cpc_split.specs.declared.steps.Owner.{Owner}
+use Rattle.cpc_forms_code.specs.declared.split.Owner.{Owner}
 use Rattle.cpc_split.specs.Steps.{step_leads, leads_of, flow_by}
 use Rattle.cpc_split.specs.Seen.{place_of, places_of}
 use Rattle.cpc_split.proofs.Visits.{spread}

@@ -2,7 +2,7 @@
 use Rattle.std.proofs.Common.{◌≡◌, ℕ, zero, suc, List, [], ◌∷◌, ◌++◌, map, slice_get, slice_set, is_some, Option, Some, None, option_map, refl, sym, ◌∙◌, ap}
 use Rattle.cpc_forms.specs.Flow.{Place}
 use Rattle.cpc_forms.specs.Spread.{Spread, known, visit, visit_if}
-use Rattle.cpc_split.specs.declared.steps.Owner.{Owner}
+use Rattle.cpc_forms_code.specs.declared.split.Owner.{Owner}
 use Rattle.cpc_split.specs.Seen.{place_of, places_of}
 
 map_set : {A B : Type 0} (f : A → B) (xs : List A) (n : ℕ) (x : A) → map f (slice_set xs n x) ≡ slice_set (map f xs) n (f x)

@@ -5,8 +5,8 @@ ghost use Rattle.cpc_split.specs.Seen.{place_of, places_of, spread_of};
 ghost use Rattle.cpc_split.specs.Flags.{flag_marks, flag_leaders, flag_spread};
 
 use crate::marks::Marks;
-use crate::steps::Owner;
 use cpc_base::NoMemory;
+use cpc_forms_code::Owner;
 use std::alloc::Global;
 
 // A leader is marked with itself.

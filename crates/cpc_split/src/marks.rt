@@ -5,8 +5,9 @@ ghost use Rattle.cpc_forms.specs.Spread as S;
 ghost use Rattle.cpc_split.specs.Steps.{step_leads};
 ghost use Rattle.cpc_split.specs.Seen.{place_of, spread_of};
 
-use crate::steps::{Owner, Step};
+use crate::steps::Step;
 use cpc_base::NoMemory;
+use cpc_forms_code::Owner;
 
 /// The owner of each node, where it is known, and the nodes from which it is still to be handed on.
 #[derive(Drop)]

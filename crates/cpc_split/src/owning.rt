@@ -10,8 +10,9 @@ use crate::beginning::{begun, leader_numbers};
 use crate::counting::step_at;
 use crate::leading::leaders;
 use crate::marks::Marks;
-use crate::steps::{Owner, Step};
+use crate::steps::Step;
 use cpc_base::NoMemory;
+use cpc_forms_code::Owner;
 use std::alloc::Global;
 
 // The last node that waits hands on its owner; whether one waited.
@@ -59,7 +60,7 @@ pub struct Pieces {
 }
 
 /// The owners and leaders of a function that begins at `entry`. `NoMemory` is want of memory.
-pub fn split(alloc: Global, entry: usize, steps: &[Step]) -> Result<Pieces, NoMemory>
+pub fn split_steps(alloc: Global, entry: usize, steps: &[Step]) -> Result<Pieces, NoMemory>
     requires { Inside (flow_by entry steps.now) }
     ensures owners { IfOk result (λ pieces. places_of pieces.owners.items ≡ owners_from (flow_by entry steps.now) 0 (length steps.now)) }
     ensures leaders { IfOk result (λ pieces. pieces.leaders.items ≡ leaders_from (flow_by entry steps.now) 0 (length steps.now)) }

@@ -1,7 +1,7 @@
 use Rattle.std.proofs.Common.{◌∙◌, ap}
 use Rattle.cpc_split.specs.Flags.{flag_leaders}
 use Rattle.cpc_split.proofs.Flags.{numbers_told}
-use Rattle.cpc_split.proofs.owning.split.Goals as goal
+use Rattle.cpc_split.proofs.owning.split_steps.Goals as goal
 
 pub returns-clause-leaders : goal.returns-clause-leaders
 returns-clause-leaders c =

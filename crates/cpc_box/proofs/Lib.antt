@@ -1,0 +1,10 @@
+pub mod Scopes
+pub mod Going
+pub mod Outlined
+pub mod Marks
+pub mod Rows
+pub mod Named
+pub mod Statements
+pub mod Parameters
+pub mod Finished
+pub mod Items

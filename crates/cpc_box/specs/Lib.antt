@@ -1,0 +1,3 @@
+pub mod Manners
+pub mod Outline
+pub mod Walked

@@ -1,0 +1,116 @@
+//! Programs, boxed.
+ghost use Rattle.std.specs.Prelude.{◌≡◌, All, ◌++◌, ◌∷◌, [], false, IfOk, OnOk, Some, ℕ, slice_get, map, length};
+ghost use Rattle.cpc_tree.specs.Erase.{Names, function_of, stmt_of, parameter_of};
+ghost use Rattle.cpc_tree.specs.Registers as R;
+ghost use Rattle.cpc_check_rules.specs.Apart.{Spells};
+ghost use Rattle.cpc_eval_index.specs.Indexed.{program_items, items_of};
+ghost use Rattle.cpc_eval_variables.specs.Told.{IsTold};
+ghost use Rattle.cpc_meaning.specs.Threads.{is_cps_mode};
+ghost use Rattle.cpc_forms_code.specs.Points.{variable_seen};
+ghost use Rattle.cpc_forms_code.specs.Seen.{AreNamed};
+ghost use Rattle.cpc_forms_code.specs.Programs.{cps_functions, IsSpelled, IsSpeakable};
+ghost use Rattle.cpc_box.specs.Outline.{outline, the_end, declares};
+ghost use Rattle.cpc_box.specs.Walked.{marked_by, AreSeen};
+
+use crate::around::Around;
+use crate::walk::{Known, Walk};
+use cpc_base::NoMemory;
+use cpc_eval_index::Index;
+use cpc_eval_variables::variables;
+use cpc_forms_code::{Boxed, BoxedFunction};
+use cpc_tree::program::{Function, Item, Mode, Program};
+use std::alloc::Global;
+
+// The walk through a function.
+fn walked<'a>(alloc: Global, function: &'a Function, known: Known<'_>) -> Result<Walk<'a>, NoMemory>
+    ensures variables { IfOk result (λ walk. (names : Names) → Spells known.entry.around.texts.now names → IsTold names function.now.parameters.items
+        → map (variable_seen names) walk.variables.items ≡ marked_by known.entry.kept.now 0 (R.variables (function_of names function.now))) }
+    ensures named { IfOk result (λ walk. (names : Names) → Spells known.entry.around.texts.now names → IsTold names function.now.parameters.items → AreNamed names walk.variables.items) }
+    ensures points { IfOk result (λ walk. (names : Names) → Spells known.entry.around.texts.now names → IsTold names function.now.parameters.items
+        → AreSeen names walk.variables.items walk.points.items
+        (outline (items_of names known.entry.around.index.now) false (R.outer_scope (function_of names function.now)) (length function.now.parameters.items) (stmt_of names function.now.body) ++ the_end ∷ [])) }
+{
+    let mut walk = Walk::new(alloc);
+    let scope = walk.parameters(&function.parameters, known.kept)?;
+    walk.inside(&function.body, false, scope, known)?;
+    walk.push_end()?;
+    Ok(walk)
+}
+
+// A cps function, boxed.
+fn boxed_function<'a>(
+    alloc: Global,
+    source: &'a Program,
+    index: &Index<'_>,
+    function: &'a Function,
+) -> Result<BoxedFunction<'a>, NoMemory>
+    requires index { program_items index.now ≡ source.now.items.items }
+    requires told { ∥ ((names : Names) × IsSpelled names source.now function.now) ∥₁ }
+    ensures source { IfOk result (λ boxed. boxed.source.now ≡ source.now) }
+    ensures function { IfOk result (λ boxed. boxed.function.now ≡ function.now) }
+{
+    let kept = variables(alloc, function)?;
+    let known = Known {
+        around: Around {
+            index,
+            texts: &source.names,
+        },
+        kept: &kept,
+    };
+    let walk = walked(alloc, function, known)?;
+    Ok(BoxedFunction {
+        source,
+        function,
+        variables: walk.variables,
+        points: walk.points,
+    })
+}
+
+// Whether the functions of a mode may give up the processor.
+fn is_cps(mode: Mode) -> bool
+    ensures { result ≡ is_cps_mode mode }
+{
+    match mode {
+        Mode::Cps => true,
+        Mode::Extern | Mode::Native | Mode::Detached => false,
+    }
+}
+
+// Adds what an item defines, where that is a cps function.
+fn add<'a>(
+    alloc: Global,
+    source: &'a Program,
+    index: &Index<'_>,
+    item: &'a Item,
+    functions: &mut Vec<BoxedFunction<'a>>,
+) -> Result<(), NoMemory>
+    requires index { program_items index.now ≡ source.now.items.items }
+    requires told { IsSpeakable source.now }
+    requires there { (k : ℕ) × (slice_get source.now.items.items k ≡ Some item.now) }
+    ensures functions { OnOk result (map (λ f. f.function.now) functions.new.items ≡ map (λ f. f.function.now) functions.old.items ++ cps_functions (item.now ∷ [])) }
+    ensures sources { OnOk result (All (λ f. f.source.now ≡ source.now) functions.old.items → All (λ f. f.source.now ≡ source.now) functions.new.items) }
+{
+    match item {
+        Item::Function(function) => {
+            if is_cps(function.mode) {
+                functions.push(boxed_function(alloc, source, index, function)?)?;
+            }
+            Ok(())
+        }
+        _ => Ok(()),
+    }
+}
+
+/// The cps functions of a program, boxed; all are of this program. `NoMemory` is want of memory.
+pub fn boxed<'a>(alloc: Global, source: &'a Program) -> Result<Boxed<'a>, NoMemory>
+    requires { IsSpeakable source.now }
+    ensures source { IfOk result (λ boxed. boxed.source.now ≡ source.now) }
+    ensures functions { IfOk result (λ boxed. All (λ f. f.source.now ≡ source.now) boxed.functions.items) }
+{
+    let index = Index::of(alloc, source)?;
+    let mut functions = Vec::new(alloc);
+    for item in &source.items {
+        add(alloc, source, &index, item, &mut functions)?;
+    }
+    Ok(Boxed { source, functions })
+}

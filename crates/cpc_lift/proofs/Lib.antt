@@ -1,0 +1,4 @@
+mod Along
+mod Linked
+mod Ranged
+mod Parts
