@@ -1,9 +1,10 @@
 -- The facts of the rows, where those of pieces are known: the native half is had of the program alone.
-use Rattle.std.proofs.Common.{◌≡◌, ℕ, ◌<◌, ◌≤◌, Bool, true, false, List, Option, Some, refl}
+use Rattle.std.proofs.Common.{◌≡◌, ℕ, ◌+◌, ◌<◌, ◌≤◌, Bool, true, false, List, length, Option, Some, refl}
 use Rattle.cpc_base.specs.Bytes.{Text}
 use Rattle.cpc_store.specs.Store.{Value, Blocks}
 use Rattle.cpc_tree.specs.Points.{Point, Found}
-use Rattle.cpc_tree.specs.Syntax.{Program}
+use Rattle.cpc_tree.specs.Registers.{variables}
+use Rattle.cpc_tree.specs.Syntax.{Function, Program}
 use Rattle.cpc_meaning.specs.Act.{AtArrival}
 use Rattle.cpc_meaning.specs.Agenda.{Agenda}
 use Rattle.cpc_meaning.specs.Eval.{Slot}
@@ -12,6 +13,7 @@ use Rattle.cpc_meaning.specs.Plain.{Frame as CallFrame}
 use Rattle.cpc_meaning.specs.Threads.{Thread, is_cps_mode}
 use Rattle.cpc_forms.specs.Flow.{Place}
 use Rattle.cpc_forms.specs.Split.{Position, InGraph}
+use Rattle.cpc_convert_event.specs.NameLaws.{IsCps}
 use Rattle.cpc_convert_laws.specs.Bounds.{Bounds}
 use Rattle.cpc_convert_laws.specs.Running.{Places}
 use Rattle.cpc_convert_laws.proofs.Entry.{EntryFacts}
@@ -38,7 +40,7 @@ pub record PieceFacts (z : Setting) (bounds : Bounds) : Type 0 where
       → z.there f l n slots o lower piece o' → Beside z bs a c below lower → Known z (here z f (InGraph l n) slots o w a below) → PieceAt z bounds f l lower pointer result frame w bs c n slots o piece o'
   pub arrivals : (f : Text) (l : Place) (n : ℕ) (slots : List Slot) (v lower : Value) (piece : CallFrame Point) → z.there f l n slots (Some v) lower piece (Some v) → (g : Found) × ((from_form z).code.stood f (InGraph l n) ≡ AtArrival g)
 
-module _ (p : Program) (h : Convertible p) (there : Places) (fine : CallFrame Position → Option Value → Type 0) (given : Text → List Value → Type 0) (bounds : Bounds) (leads : 262 < bounds.leads) (mains : 9 ≤ bounds.mains) where
+module _ (p : Program) (h : Convertible p) (there : Places) (fine : CallFrame Position → Option Value → Type 0) (given : Text → List Value → Type 0) (bounds : Bounds) (leads : (g : Function) → IsCps p g → 7 + length (variables g) < bounds.leads) (mains : 9 ≤ bounds.mains) where
   abbrev z : Setting
   z = setting_of p there fine given
 

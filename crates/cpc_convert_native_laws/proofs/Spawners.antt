@@ -11,7 +11,7 @@ use Rattle.cpc_store.specs.declared.values.Class.TheVariants.{Frame}
 use Rattle.cpc_store.specs.Store.{Value, Unset, Null, At as Pointer, Blocks}
 use Rattle.cpc_tree.specs.Points.{Path, Point, Here, Arrival, Simple, found, next_point}
 use Rattle.cpc_tree.specs.Primitives.{Primitive, RtFrame, RtReady, primitive_named}
-use Rattle.cpc_tree.specs.Registers.{outer_scope, scope_in_function}
+use Rattle.cpc_tree.specs.Registers.{outer_scope, scope_in_function, variables}
 use Rattle.cpc_tree.specs.Syntax.{TyVoid, TyInt, TyPointer, TyStruct, AndTy, NoTy, ENamed, Exprs, Call, Spawn, Stmts, Function, Program}
 use Rattle.cpc_tree.specs.Typing.{Local, Scope, AFunction, NotMeant, named, item_named, function_named, parameter_type, parameter_types}
 use Rattle.cpc_meaning.specs.Act.{AtStatement, AtArrival, AsksFor, asks, spawns, calls_expr}
@@ -85,8 +85,8 @@ cps_mode Native e = absurd (cc)
 cps_mode Detached e = absurd (cc)
 
 -- the steps of a spawner are few
-enough : (n steps leads : ℕ) → suc (suc (suc n)) ≤ 258 → steps ≡ suc (suc (suc (suc n)) + 2) → 262 < leads → steps + 1 < leads
-enough n steps leads a b c = omega (arith, a, b, c)
+enough : (n v steps leads : ℕ) → n ≤ v → steps ≡ suc (suc (suc (suc n)) + 2) → 7 + v < leads → steps + 1 < leads
+enough n v steps leads a b c = omega (arith, a, b, c)
 
 same_length : {A B : Type 0} (f : A → B) (xs : List A) → length (map f xs) ≡ length xs
 same_length f [] = refl
@@ -161,6 +161,9 @@ module _ (p : Program) (h : Convertible p) (g : Function) (cps : IsCps p g) wher
 
   -- ---- the walk
 
+  number : length (map save_of (passed g)) ≤ length (variables g)
+  number = let a = passed_few g in let c = same_length save_of (passed g) in omega (arith, a, c)
+
   few : suc (suc (suc (length (map save_of (passed g))))) ≤ 258
   few = let a = passed_few g in let b = (h.names.functions g cps.has).few in let c = same_length save_of (passed g) in omega (arith, a, b, c)
 
@@ -208,7 +211,7 @@ module _ (p : Program) (h : Convertible p) (g : Function) (cps : IsCps p g) wher
 
 -- ---- the point of a spawn
 
-module _ (p : Program) (h : Convertible p) (there : Places) (fine : CallFrame Position → Option Value → Type 0) (given : Text → List Value → Type 0) (bounds : Bounds) (wide : 262 < bounds.leads) where
+module _ (p : Program) (h : Convertible p) (there : Places) (fine : CallFrame Position → Option Value → Type 0) (given : Text → List Value → Type 0) (bounds : Bounds) (wide : (g : Function) → IsCps p g → 7 + length (variables g) < bounds.leads) where
   abbrev z : Setting
   z = setting_of p there fine given
 
@@ -294,7 +297,7 @@ module _ (p : Program) (h : Convertible p) (there : Places) (fine : CallFrame Po
       onwards = goes_there;
       runs = λ vs i.
           let r = spawner_runs p h k cps vs (fitting vs i) w bs c (frame_of f (Arrival path) slots) ys there fine given in
-          (r.0, enough (length (map save_of (passed k))) r.0.steps bounds.leads (few p h k cps) r.1 wide);
+          (r.0, enough (length (map save_of (passed k))) (length (variables k)) r.0.steps bounds.leads (number p h k cps) r.1 (wide k cps));
     }
 
   -- each spawn of native code

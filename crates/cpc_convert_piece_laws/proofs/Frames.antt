@@ -106,8 +106,8 @@ module _ (p : Program) (f : Function) (known : CpsKnown p f) (l : Place) (owner 
   pub kept_small : (m : Place) (k : ℕ) → holds_number (closure_of r m) k ≡ true → k < length (variables f)
   kept_small m k h = below_held (length (variables f)) (closure_of r m) k (rises_below (length (variables f)) 0 _ (closure_rise p known.names f known.found.cps m)) h
 
-  pub kept_number : (m : Place) → length (closure_of r m) ≤ 255
-  kept_number m = let d = rises_length (length (variables f)) 0 (closure_of r m) (closure_rise p known.names f known.found.cps m) (omega arith) in let few = known.few_variables in omega (arith, d, few)
+  pub kept_number : (m : Place) → length (closure_of r m) ≤ length (variables f)
+  kept_number m = let d = rises_length (length (variables f)) 0 (closure_of r m) (closure_rise p known.names f known.found.cps m) (omega arith) in omega (arith, d)
 
   -- two locals of different names stand in two slots
   locals_differ : (i j : ℕ) (x y : Variable) → slice_get (piece_locals p r l) i ≡ Some x → slice_get (piece_locals p r l) j ≡ Some y → bytes_eq y.called x.called ≡ false → ¬ (j ≡ i)
@@ -202,7 +202,9 @@ module _ (p : Program) (f : Function) (known : CpsKnown p f) (l : Place) (owner 
         let head = structs.any f known.found.cps in
         let its = structs.leader f known.found.cps m leader in
         let same : length (locals_of r (closure_of r (At m))) ≡ length (saves_of m) = map_length (local_of r) (closure_of r (At m)) ∙ sym (map_length (λ i. save_of (local_of r i)) (closure_of r (At m))) in
-        let few = kept_number (At m) in
+        let all = kept_number (At m) in
+        let some = known.few_variables in
+        let few : length (closure_of r (At m)) ≤ 255 = omega (arith, all, some) in
         let counted = map_length (λ i. save_of (local_of r i)) (closure_of r (At m)) in
         makes_frame Target w name code body below is_code k scope (piece_count p r l) rest slots' (beside bs t) to tag frame_tag code_field next_field tag (ENamed to) (frame_through to tag) (ENamed next_name) (saves_of m) (copied slots (closure_of r (At m))) line
         (primitive_meant p f known l (codes "rt_frame") RtFrame refl refl) (its.size ∙ ap (λ n. Some (suc (suc (suc n)))) same) (omega (arith, few, counted)) (TyStruct frame_tag) old.0 hold

@@ -1,5 +1,5 @@
 -- Assignments and declarations in place: the piece assigns as the source does.
-use Rattle.std.proofs.Common.{◌≡◌, ℕ, ◌<◌, ◌≤◌, true, List, Option, Some, refl, sym, subst}
+use Rattle.std.proofs.Common.{◌≡◌, ℕ, ◌+◌, ◌<◌, ◌≤◌, true, List, length, Option, Some, refl, sym, subst}
 use Rattle.std.specs.List.{All}
 use Rattle.cpc_base.specs.Bytes.{Text}
 use Rattle.cpc_num.specs.declared.kinds.Op.{Op}
@@ -22,7 +22,7 @@ use Rattle.cpc_convert_image_laws.proofs.Statements.{simple_alike}
 use Rattle.cpc_forms.specs.Flow.{Place}
 use Rattle.cpc_forms.specs.Split.{Position, InGraph, split_form}
 use Rattle.cpc_tree.specs.Lists.{holds_number}
-use Rattle.cpc_tree.specs.Registers.{slot_of}
+use Rattle.cpc_tree.specs.Registers.{slot_of, variables}
 use Rattle.cpc_graph_laws.proofs.Formed.{in_left, in_right}
 use Rattle.cpc_lift_laws.specs.Used.{used_in}
 use Rattle.cpc_convert_chain_laws.specs.Frames.{at as Here_at}
@@ -44,7 +44,7 @@ use Rattle.cpc_convert_piece_laws.proofs.Frames.{Target, code, scope}
 use Rattle.cpc_convert_piece_laws.proofs.Rowed.{DoesHere, in_place}
 use Rattle.cpc_convert_piece_laws.proofs.Uses.{names_kept, use_kept, IsKept}
 
-module _ (p : Program) (facts : ProgramKnown p) (fine : CallFrame Position → Option Value → Type 0) (given : Text → List Value → Type 0) (bounds : Bounds) (f : Function) (known : CpsKnown p f) (enough : 260 ≤ bounds.onward) (begins : 0 < bounds.leads) (l : Place) (owner : IsOwner (routine_of p f) l)
+module _ (p : Program) (facts : ProgramKnown p) (fine : CallFrame Position → Option Value → Type 0) (given : Text → List Value → Type 0) (bounds : Bounds) (f : Function) (known : CpsKnown p f) (enough : 5 + length (variables f) ≤ bounds.onward) (begins : 0 < bounds.leads) (l : Place) (owner : IsOwner (routine_of p f) l)
     (shown : before_bars (piece_name f.called l) ≡ shown_in p f.called) (lower pointer result frame : Value)
     (n : ℕ) (at : NodeAt p f l n) (has : has_row (routine_of p f).split n ≡ true) (row : RowAt p (routine_of p f) l n)
     (w : Shared) (bs : Blocks) (c : Agenda Callback) (slots slots' : List Slot) (stands : LocalsStand p (routine_of p f) l slots slots' lower) (o : Option Value)

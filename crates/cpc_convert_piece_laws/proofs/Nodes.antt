@@ -1,8 +1,9 @@
 -- What a piece does before the row of a node, by what stands there. What is proved of other kinds of statements is asked for.
-use Rattle.std.proofs.Common.{◌≡◌, ℕ, ◌<◌, ◌≤◌, true, List, Option, Some, None, refl, sym, ◌∙◌, ap, subst}
+use Rattle.std.proofs.Common.{◌≡◌, ℕ, ◌+◌, ◌<◌, ◌≤◌, true, List, length, Option, Some, None, refl, sym, ◌∙◌, ap, subst}
 use Rattle.std.specs.List.{All}
 use Rattle.cpc_base.specs.Bytes.{Text}
 use Rattle.cpc_tree.specs.Points.{Found, Simple, Test, Nothing}
+use Rattle.cpc_tree.specs.Registers.{variables}
 use Rattle.cpc_tree.specs.Syntax.{Ty, Expr, Exprs, Stmt, Declare, Assign, Call, Detach, Spawn, Return, Function, Program}
 use Rattle.cpc_store.specs.Store.{Value, Blocks}
 use Rattle.cpc_meaning.specs.Act.{Stood, AtStatement, AtArrival, AtEnd, act}
@@ -42,7 +43,7 @@ use Rattle.cpc_convert_piece_laws.proofs.TestWays.{test_goes}
 pub piece_shown : (p : Program) → ProgramKnown p → (f : Function) → CpsKnown p f → (l : Place) → before_bars (piece_name f.called l) ≡ shown_in p f.called
 piece_shown p facts f known l = ap before_bars (piece_is f.called l) ∙ facts.shown.made f.called f known.found.named known.found.cps.mode (behind l)
 
-module _ (p : Program) (facts : ProgramKnown p) (fine : CallFrame Position → Option Value → Type 0) (given : Text → List Value → Type 0) (bounds : Bounds) (f : Function) (known : CpsKnown p f) (enough : 260 ≤ bounds.onward) (begins : 0 < bounds.leads) (l : Place) (owner : IsOwner (routine_of p f) l)
+module _ (p : Program) (facts : ProgramKnown p) (fine : CallFrame Position → Option Value → Type 0) (given : Text → List Value → Type 0) (bounds : Bounds) (f : Function) (known : CpsKnown p f) (enough : 5 + length (variables f) ≤ bounds.onward) (begins : 0 < bounds.leads) (l : Place) (owner : IsOwner (routine_of p f) l)
     (lower pointer result frame : Value)
     (n : ℕ) (at : NodeAt p f l n) (has : has_row (routine_of p f).split n ≡ true) (row : RowAt p (routine_of p f) l n)
     (w : Shared) (bs : Blocks) (c : Agenda Callback) (slots slots' : List Slot) (stands : LocalsStand p (routine_of p f) l slots slots' lower) (o : Option Value) (arrives : Arrives p (routine_of p f) l n slots' o)

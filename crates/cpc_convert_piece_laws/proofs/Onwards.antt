@@ -2,6 +2,7 @@
 use Rattle.std.proofs.Common.{◌≡◌, ℕ, suc, ◌+◌, ◌≤◌, Bool, true, false, List, [], ◌∷◌, ◌++◌, length, Option, Some, None, refl, sym, ◌∙◌, ap, subst, arith}
 use Rattle.cpc_base.specs.Bytes.{Text}
 use Rattle.cpc_tree.specs.Points.{Point}
+use Rattle.cpc_tree.specs.Registers.{variables}
 use Rattle.cpc_tree.specs.Syntax.{Function, Program}
 use Rattle.cpc_store.specs.declared.values.Class.TheVariants.{Frame}
 use Rattle.cpc_store.specs.Store.{Value, Unset, At as Pointer, Blocks, Store}
@@ -42,7 +43,7 @@ module _ (p : Program) (fine : CallFrame Position → Option Value → Type 0) (
   abbrev pub z : Setting
   z = setting_of p (Stood p) fine given
 
-  module _ (f : Function) (known : CpsKnown p f) (enough : 260 ≤ bounds.onward) (l : Place) (owner : IsOwner (routine_of p f) l) (lower pointer result frame : Value) where
+  module _ (f : Function) (known : CpsKnown p f) (enough : 5 + length (variables f) ≤ bounds.onward) (l : Place) (owner : IsOwner (routine_of p f) l) (lower pointer result frame : Value) where
     abbrev r : Routine
     r = routine_of p f
 

@@ -3,6 +3,7 @@ use Rattle.std.proofs.Common.{◌≡◌, ℕ, suc, ◌+◌, ◌<◌, ◌≤◌, 
 use Rattle.cpc_base.specs.Bytes.{Text}
 use Rattle.cpc_num.specs.declared.kinds.Fault.{Fault}
 use Rattle.cpc_tree.specs.Points.{Point, Here, Found, Simple, Out, enter, next_point}
+use Rattle.cpc_tree.specs.Registers.{variables}
 use Rattle.cpc_tree.specs.Syntax.{Stmt, Stmts, NoStmt, Function, Program}
 use Rattle.cpc_tree.specs.Trace.{Failed}
 use Rattle.cpc_store.specs.Store.{Value, Blocks, Store}
@@ -60,7 +61,7 @@ append_nil (x ∷ xs) = ap (λ us. x ∷ us) (append_nil xs)
 abbrev pub OnlyGoes : Answer Act → Type 0
 OnlyGoes u = (a : Act) → u ≡ Gives a → (t : Store) × (changed : List Slot) × (a ≡ GoesOn true t changed)
 
-module _ (p : Program) (fine : CallFrame Position → Option Value → Type 0) (given : Text → List Value → Type 0) (bounds : Bounds) (f : Function) (known : CpsKnown p f) (enough : 260 ≤ bounds.onward) (begins : 0 < bounds.leads) (l : Place) (owner : IsOwner (routine_of p f) l)
+module _ (p : Program) (fine : CallFrame Position → Option Value → Type 0) (given : Text → List Value → Type 0) (bounds : Bounds) (f : Function) (known : CpsKnown p f) (enough : 5 + length (variables f) ≤ bounds.onward) (begins : 0 < bounds.leads) (l : Place) (owner : IsOwner (routine_of p f) l)
     (shown : before_bars (piece_name f.called l) ≡ shown_in p f.called) (lower pointer result frame : Value)
     (n : ℕ) (at : NodeAt p f l n) (has : has_row (routine_of p f).split n ≡ true) (row : RowAt p (routine_of p f) l n) where
   abbrev r : Routine

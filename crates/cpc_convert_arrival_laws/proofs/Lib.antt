@@ -1,0 +1,4 @@
+pub mod Acts
+pub mod Runs
+pub mod Split
+pub mod Accepted

@@ -1,0 +1,12 @@
+pub mod Framed
+pub mod Arrivals
+pub mod Steps
+pub mod Calls
+pub mod Behind
+pub mod Native
+pub mod Entering
+pub mod Returned
+pub mod Asking
+pub mod Shown
+pub mod Spawns
+pub mod AtNodes

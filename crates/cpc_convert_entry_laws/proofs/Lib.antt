@@ -1,0 +1,11 @@
+pub mod Leaders
+pub mod Opening
+pub mod Standing
+pub mod Resuming
+pub mod Counting
+pub mod Boxes
+pub mod Marks
+pub mod Starting
+pub mod Begins
+pub mod Entries
+pub mod Fine

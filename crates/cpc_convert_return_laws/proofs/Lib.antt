@@ -1,0 +1,4 @@
+pub mod Kept
+pub mod Unboxed
+pub mod Boxes
+pub mod Returns

@@ -1,0 +1,12 @@
+mod Accepted
+mod Bounds
+mod Known
+mod Join
+mod Signed
+mod Sections
+mod Called
+mod Pass
+mod Natives
+mod Had
+mod Pieces
+mod Theorem

@@ -1,0 +1,14 @@
+pub mod Meant
+pub mod Behind
+pub mod Suiting
+pub mod Given
+pub mod Storing
+pub mod Preparing
+pub mod Entering
+pub mod Calling
+pub mod Asking
+pub mod Handing
+pub mod Pausing
+pub mod Submitting
+pub mod Waits
+pub mod Fitting
