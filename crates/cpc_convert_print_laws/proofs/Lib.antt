@@ -1,0 +1,16 @@
+pub mod Names
+pub mod Images
+pub mod Types
+pub mod Source
+pub mod Made
+pub mod Known
+pub mod Lines
+pub mod Rows
+pub mod Respawned
+pub mod Items
+pub mod Functions
+pub mod Pieces
+pub mod Variables
+pub mod Graphs
+pub mod Programs
+pub mod Back

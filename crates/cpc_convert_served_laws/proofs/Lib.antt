@@ -1,0 +1,4 @@
+pub mod Names
+pub mod Sources
+pub mod Lines
+pub mod Served

@@ -1,0 +1,223 @@
+-- The items of an event program ask only for what the loop answers.
+use Rattle.std.proofs.Common.{◌≡◌, ℕ, Bool, true, false, not, List, [], ◌∷◌, ◌++◌, map, pos, None, Some, refl, subst, ap}
+use Rattle.cpc_base.specs.Bytes.{Text}
+use Rattle.cpc_num.specs.declared.kinds.Kind.TheVariants.{Int}
+use Rattle.cpc_tree.specs.Primitives.{Primitive, primitive_named}
+use Rattle.cpc_tree.specs.declared.program.Mode.{Mode}
+use Rattle.cpc_tree.specs.declared.program.Mode.TheVariants.{Native, Cps, Detached, Extern}
+use Rattle.cpc_tree.specs.Located.{LItem, LStruct, LGlobal, LPrototype, LFunctionItem, LFunction, bare, bare_item, bare_function}
+use Rattle.cpc_tree.specs.Syntax.{Expr, ENamed, EInteger, Variable, Function, Item, FunctionItem, Program, Stmts, NoStmt, AndStmt}
+use Rattle.cpc_tree.specs.Typing.{NotMeant, item_named, is_scalar}
+use Rattle.cpc_meaning.specs.Start.{main_name}
+use Rattle.cpc_meaning.specs.Threads.{is_cps_mode}
+use Rattle.cpc_check_rules.specs.Operators.{is_cps as is_cps_function}
+use Rattle.cpc_convert.specs.Converted.{function_item, prototype}
+use Rattle.cpc_convert_accepted_laws.specs.Names.{HasNames}
+use Rattle.cpc_convert_accepted_laws.proofs.Names.{accepted_has_names}
+use Rattle.cpc_forms.specs.Flow.{Place, Start, At}
+use Rattle.cpc_convert_chain_laws.specs.Flat.{before}
+use Rattle.cpc_convert_chain_laws.specs.Frames.{Load, fills_frame, loads_one, declares_one, frees_frame}
+use Rattle.cpc_convert_chain_laws.specs.Driver.{code_field, next_field, readies}
+use Rattle.cpc_convert_event.specs.Converted.{kept_function, item_unless, kept_items, routine_if, routines_in, routines, all_structs, all_boxes, all_made, main_if, converted_with, converted}
+use Rattle.cpc_convert_event.specs.Routines.{Routine, routine_of, variable_of, passed}
+use Rattle.cpc_convert_event.specs.Frames.{value_struct_if, start_struct, leader_struct, structs_of, box_of, boxes_of}
+use Rattle.cpc_convert_event.specs.Pieces.{loads_of, declares_of, fills_if, box_lines, boxing_lines, boxing_of, piece_function, spawner_function, leader_function, made_of}
+use Rattle.cpc_convert_event.specs.Names.{start_name, frame_name, pointer_name}
+use Rattle.cpc_convert_event.specs.Lines.{save_of}
+use Rattle.cpc_convert_event.specs.Rows.{piece_statements}
+use Rattle.cpc_native_builtins.specs.Served.{is_served_stmt, are_served, is_extern, is_served_item, is_served_program}
+use Rattle.cpc_convert_served_laws.specs.Serving.{unless, runs, is_taken_head, unserved_stmt, unserved_item, unserved_items}
+use Rattle.cpc_convert_served_laws.specs.Laws.{ConvertedAreServed}
+use Rattle.cpc_convert_served_laws.proofs.Names.{both, left, spawner_serves}
+use Rattle.cpc_convert_served_laws.proofs.Sources.{no_first, no_second, holds, stmt_served, stmt_answered}
+use Rattle.cpc_convert_served_laws.proofs.Lines.{EachServed, both_served, before_served, saves_served, piece_served}
+
+-- ---- items
+
+abbrev EachItem : List Item → Type 0
+EachItem [] = Unit {0}
+EachItem (x ∷ xs) = (is_served_item x ≡ true) × EachItem xs
+
+both_items : (xs ys : List Item) → EachItem xs → EachItem ys → EachItem (xs ++ ys)
+both_items [] ys a b = b
+both_items (x ∷ xs) ys a b = (a.0, both_items xs ys a.1 b)
+
+items_served : (xs : List Item) → EachItem xs → is_served_program xs ≡ true
+items_served [] a = refl
+items_served (x ∷ xs) a = both (is_served_item x) (is_served_program xs) a.0 (items_served xs a.1)
+
+-- ---- what is kept
+
+is_no_extern : (m : Mode) → runs m ≡ true → not (is_extern m) ≡ true
+is_no_extern Native h = refl
+is_no_extern Cps h = refl
+is_no_extern Detached h = refl
+is_no_extern Extern h = absurd cc
+
+prototype_kept : (m : Mode) (x : Item) → is_served_item x ≡ true → (rest : List Item) → EachItem rest → EachItem (item_unless (is_cps_mode m) x rest)
+prototype_kept m x h rest a = go (is_cps_mode m)
+  where
+    go : (b : Bool) → EachItem (item_unless b x rest)
+    go true = a
+    go false = (h, a)
+
+function_kept : (m : Mode) (g : Function) → g.mode ≡ m → runs m ≡ true → (is_cps_function m ≡ false → is_served_stmt g.body ≡ true) → (rest : List Item) → EachItem rest → EachItem (item_unless (is_cps_mode m) (FunctionItem g) rest)
+function_kept Native g e h k rest a = (both (not (is_extern g.mode)) (is_served_stmt g.body) (ap (λ m. not (is_extern m)) e) (k refl), a)
+function_kept Cps g e h k rest a = a
+function_kept Detached g e h k rest a = absurd cc
+function_kept Extern g e h k rest a = absurd cc
+
+head_runs : (f : LFunction) → unless (is_taken_head f.mode f.result f.parameters) f.called.place ≡ None → runs f.mode ≡ true
+head_runs f h = left (runs f.mode) _ (holds (is_taken_head f.mode f.result f.parameters) f.called.place h)
+
+body_taken : (f : LFunction) (m : Bool) → is_cps_function f.mode ≡ m → unserved_stmt (is_cps_function f.mode) f.body ≡ None → unserved_stmt m f.body ≡ None
+body_taken f m e h = subst (λ b. unserved_stmt b f.body ≡ None) e h
+
+kept_served : (items : List LItem) → unserved_items items ≡ None → EachItem (kept_items (map bare_item items))
+kept_served [] h = tt
+kept_served (LStruct tag xs ∷ items) h = (refl, kept_served items (no_second (unserved_item (LStruct tag xs)) _ h))
+kept_served (LGlobal x t start ∷ items) h = (refl, kept_served items (no_second (unserved_item (LGlobal x t start)) _ h))
+kept_served (LPrototype q mode x t ps ∷ items) h =
+    let heads = holds (is_taken_head mode t ps) x.place (no_first (unserved_item (LPrototype q mode x t ps)) _ h) in
+    prototype_kept mode (bare_item (LPrototype q mode x t ps)) (is_no_extern mode (left (runs mode) _ heads)) (kept_items (map bare_item items)) (kept_served items (no_second (unserved_item (LPrototype q mode x t ps)) _ h))
+kept_served (LFunctionItem f ∷ items) h =
+    let own = no_first (unserved_item (LFunctionItem f)) _ h in
+    let head = no_first (unless (is_taken_head f.mode f.result f.parameters) f.called.place) _ own in
+    let body = no_second (unless (is_taken_head f.mode f.result f.parameters) f.called.place) _ own in
+    function_kept f.mode (kept_function (bare_function f)) refl (head_runs f head) (λ e. stmt_served f.body (body_taken f false e body)) (kept_items (map bare_item items)) (kept_served items (no_second (unserved_item (LFunctionItem f)) _ h))
+
+-- ---- what is made
+
+abbrev FunctionServed : Function → Type 0
+FunctionServed f = (not (is_extern f.mode) ≡ true) × (is_served_stmt f.body ≡ true)
+
+abbrev EachFunction : List Function → Type 0
+EachFunction [] = Unit {0}
+EachFunction (f ∷ fs) = FunctionServed f × EachFunction fs
+
+both_functions : (fs gs : List Function) → EachFunction fs → EachFunction gs → EachFunction (fs ++ gs)
+both_functions [] gs a b = b
+both_functions (f ∷ fs) gs a b = (a.0, both_functions fs gs a.1 b)
+
+prototypes_served : (fs : List Function) → EachFunction fs → EachItem (map prototype fs)
+prototypes_served [] a = tt
+prototypes_served (f ∷ fs) a = (a.0.0, prototypes_served fs a.1)
+
+functions_served : (fs : List Function) → EachFunction fs → EachItem (map function_item fs)
+functions_served [] a = tt
+functions_served (f ∷ fs) a = (both (not (is_extern f.mode)) (is_served_stmt f.body) a.0.0 a.0.1, functions_served fs a.1)
+
+loads_served : (e : Text) (ls : List Load) → EachServed (map (loads_one e) ls)
+loads_served e [] = tt
+loads_served e (l ∷ ls) = (refl, loads_served e ls)
+
+declares_served : (ds : List Variable) → EachServed (map declares_one ds)
+declares_served [] = tt
+declares_served (d ∷ ds) = (refl, declares_served ds)
+
+fills_served : (b : Bool) (x y : Text) → EachServed (fills_if b x y)
+fills_served true x y = (refl, tt)
+fills_served false x y = tt
+
+box_served : (r : Routine) (k : ℕ) (x : Variable) → EachServed (box_lines r k x)
+box_served r k x = (refl, fills_served _ _ _)
+
+boxings_served : (r : Routine) (ks : List ℕ) → EachServed (boxing_lines r ks)
+boxings_served r [] = tt
+boxings_served r (k ∷ ks) = both_served (box_lines r k (variable_of r k)) (boxing_lines r ks) (box_served r k (variable_of r k)) (boxings_served r ks)
+
+boxing_served : (r : Routine) (l : Place) → EachServed (boxing_of r l)
+boxing_served r Start = boxings_served r r.boxes
+boxing_served r (At n) = tt
+
+spawner_served : (f : Function) → FunctionServed (spawner_function f)
+spawner_served f =
+    let frame : Expr = ENamed frame_name in
+    let filled : EachServed (fills_frame frame frame code_field next_field (start_name f.called) (EInteger Int (pos 0)) (map save_of (passed f))) = (refl, (refl, saves_served frame (map save_of (passed f)))) in
+    (refl, before_served (fills_frame frame frame code_field next_field (start_name f.called) (EInteger Int (pos 0)) (map save_of (passed f))) (AndStmt (readies frame_name) NoStmt) filled refl)
+
+module _ (p : Program) (primitives : (x : Text) (prim : Primitive) → primitive_named x ≡ Some prim → item_named 0 p x ≡ NotMeant) where
+  routine_served : (f : LFunction) → unserved_stmt true f.body ≡ None → (l : Place) → FunctionServed (piece_function p (routine_of p (bare_function f)) l)
+  routine_served f h l =
+      let r : Routine = routine_of p (bare_function f) in
+      let body : Stmts = before (piece_statements p r l) NoStmt in
+      let boxing : Stmts = before (boxing_of r l) (AndStmt (frees_frame pointer_name) body) in
+      let declares : Stmts = before (map declares_one (declares_of p r l)) boxing in
+      let body_served : are_served body ≡ true = before_served (piece_statements p r l) NoStmt (piece_served p primitives (bare_function f) (λ path. stmt_answered f.body h path) r refl l) refl in
+      let boxes : are_served boxing ≡ true = before_served (boxing_of r l) (AndStmt (frees_frame pointer_name) body) (boxing_served r l) body_served in
+      let words : are_served declares ≡ true = before_served (map declares_one (declares_of p r l)) boxing (declares_served (declares_of p r l)) boxes in
+      (refl, before_served (map (loads_one frame_name) (loads_of p r l)) declares (loads_served frame_name (loads_of p r l)) words)
+
+  leaders_served : (f : LFunction) → unserved_stmt true f.body ≡ None → (ns : List ℕ) → EachFunction (map (leader_function p (routine_of p (bare_function f))) ns)
+  leaders_served f h [] = tt
+  leaders_served f h (n ∷ ns) = (routine_served f h (At n), leaders_served f h ns)
+
+  made_served : (f : LFunction) → unserved_stmt true f.body ≡ None → EachFunction (made_of p (routine_of p (bare_function f)))
+  made_served f h = (spawner_served (bare_function f), (routine_served f h Start, leaders_served f h _))
+
+  routine_made : (b : Bool) (f : LFunction) → (b ≡ true → unserved_stmt true f.body ≡ None) → (rs : List Routine) → EachFunction (all_made p rs) → EachFunction (all_made p (routine_if b p (bare_function f) rs))
+  routine_made true f h rs a = both_functions (made_of p (routine_of p (bare_function f))) (all_made p rs) (made_served f (h refl)) a
+  routine_made false f h rs a = a
+
+  cps_so : (m : Mode) → is_cps_mode m ≡ true → is_cps_function m ≡ true
+  cps_so Cps h = refl
+  cps_so Native h = absurd cc
+  cps_so Detached h = absurd cc
+  cps_so Extern h = absurd cc
+
+  all_served : (items : List LItem) → unserved_items items ≡ None → EachFunction (all_made p (routines_in p (map bare_item items)))
+  all_served [] h = tt
+  all_served (LStruct tag xs ∷ items) h = all_served items (no_second (unserved_item (LStruct tag xs)) _ h)
+  all_served (LGlobal x t start ∷ items) h = all_served items (no_second (unserved_item (LGlobal x t start)) _ h)
+  all_served (LPrototype q mode x t ps ∷ items) h = all_served items (no_second (unserved_item (LPrototype q mode x t ps)) _ h)
+  all_served (LFunctionItem f ∷ items) h =
+      let own = no_first (unserved_item (LFunctionItem f)) _ h in
+      let body = no_second (unless (is_taken_head f.mode f.result f.parameters) f.called.place) _ own in
+      routine_made (is_cps_mode f.mode) f (λ e. body_taken f true (cps_so f.mode e) body) (routines_in p (map bare_item items)) (all_served items (no_second (unserved_item (LFunctionItem f)) _ h))
+
+  -- ---- structs
+
+  leader_structs : (r : Routine) (ns : List ℕ) → EachItem (map (leader_struct p r) ns)
+  leader_structs r [] = tt
+  leader_structs r (n ∷ ns) = (refl, leader_structs r ns)
+
+  routine_structs : (r : Routine) → EachItem (structs_of p r)
+  routine_structs r = go (is_scalar r.function.result)
+    where
+      go : (b : Bool) → EachItem (value_struct_if b r.function.called r.function.result ++ start_struct r.function ∷ map (leader_struct p r) r.split.leaders)
+      go true = (refl, (refl, leader_structs r r.split.leaders))
+      go false = (refl, leader_structs r r.split.leaders)
+
+  structs_served : (rs : List Routine) → EachItem (all_structs p rs)
+  structs_served [] = tt
+  structs_served (r ∷ rs) = both_items (structs_of p r) (all_structs p rs) (routine_structs r) (structs_served rs)
+
+  box_structs : (r : Routine) (ks : List ℕ) → EachItem (map (box_of r) ks)
+  box_structs r [] = tt
+  box_structs r (k ∷ ks) = (refl, box_structs r ks)
+
+  boxes_served : (rs : List Routine) → EachItem (all_boxes rs)
+  boxes_served [] = tt
+  boxes_served (r ∷ rs) = both_items (boxes_of r) (all_boxes rs) (box_structs r r.boxes) (boxes_served rs)
+
+  -- ---- programs
+
+  main_served : (b : Bool) → EachItem (main_if b)
+  main_served true = (both _ _ (spawner_serves main_name) refl, tt)
+  main_served false = tt
+
+  with_served : (rs : List Routine) → EachFunction (all_made p rs) → EachItem (kept_items p) → EachItem (converted_with p rs)
+  with_served [] made kept = kept
+  with_served (r ∷ rs) made kept = (
+    refl,
+    both_items (all_structs p (r ∷ rs)) _ (structs_served (r ∷ rs)) (both_items (map prototype (all_made p (r ∷ rs))) _ (prototypes_served (all_made p (r ∷ rs)) made) (
+      refl,
+      both_items (kept_items p) _ kept
+          (both_items (all_boxes (r ∷ rs)) _ (boxes_served (r ∷ rs)) (both_items (map function_item (all_made p (r ∷ rs))) _ (functions_served (all_made p (r ∷ rs)) made) (main_served _))),
+    )),
+  )
+
+pub converted_are_served : ConvertedAreServed
+converted_are_served list end p h k u =
+    let names : HasNames (bare p) = accepted_has_names list end p h k in
+    items_served (converted (bare p)) (with_served (bare p) names.primitives (routines (bare p)) (all_served (bare p) names.primitives p.items u) (kept_served p.items u))

@@ -1,0 +1,6 @@
+//! The event program of an accepted program that asks for nothing else asks only for what the loop answers. Laws alone: nothing of this crate runs.
+#![tactic(auto)]
+
+mod laws;
+
+pub use laws::converted_are_served;

@@ -1,0 +1,14 @@
+pub mod Strewn
+pub mod Images
+pub mod Calls
+pub mod Points
+pub mod Rows
+pub mod Owned
+pub mod Locals
+pub mod Declared
+pub mod Piece
+pub mod Items
+pub mod Globals
+pub mod Shape
+pub mod Refusals
+pub mod Numbers
