@@ -1,0 +1,7 @@
+use Rattle.cpc_convert_images.specs.Readings.{readings_by}
+use Rattle.cpc_convert_images.proofs.Rows.{if_image}
+use Rattle.cpc_convert_images.proofs.imaging.image_if.Goals as goal
+
+pub returns-in_ok-made-in-Some : goal.returns-in_ok-made-in-Some
+returns-in_ok-made-in-Some c = λ from to marks reads alike.
+    if_image from to (readings_by from marks c.args.readings) c.args.e.now c.in-Some.e c.in_ok-made-in-Some.made c.in-Some.is alike (λ same. c.in_ok-made-in-Some.ensures from to marks reads same)

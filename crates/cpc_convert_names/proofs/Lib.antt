@@ -1,0 +1,4 @@
+pub mod Growing
+pub mod Rows
+pub mod Copied
+pub mod Finding

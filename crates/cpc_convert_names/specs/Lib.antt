@@ -1,0 +1,5 @@
+pub mod Tables
+pub mod Counted
+pub mod Words
+pub mod Called
+pub mod Book

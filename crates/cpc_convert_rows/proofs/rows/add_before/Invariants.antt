@@ -1,0 +1,10 @@
+use Rattle.std.proofs.Common.{◌≡◌, ◌++◌, ◌&&◌, nat_lt, drop}
+use Rattle.cpc_convert_event.specs.Routines.{Routine, chosen}
+use Rattle.cpc_convert_event.specs.Rows.{has_row}
+use Rattle.cpc_convert_rows.specs.Steps.{IsStepped}
+use Rattle.cpc_convert_rows.proofs.rows.add_before.Given as goal
+
+-- with those that are left, all are there
+abbrev pub invariant-loop-node : goal.invariant-loop-node
+invariant-loop-node l = (r : Routine) → IsStepped r l.stepped
+    → l.all.items ++ chosen (λ n. nat_lt n l.first && has_row r.split n) (drop l.node-index l.owned) ≡ l.initial.all.items ++ chosen (λ n. nat_lt n l.first && has_row r.split n) l.owned

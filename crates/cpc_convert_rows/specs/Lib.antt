@@ -1,0 +1,5 @@
+pub mod Ways
+pub mod Steps
+pub mod Laws
+pub mod Marks
+pub mod Numbers

@@ -1,0 +1,84 @@
+//! Which rows of a piece want a label.
+ghost use Rattle.std.specs.Prelude.{◌≡◌, ℕ, suc, slice_get, ◌<◌, ◌||◌, false, map, length, get_or, IfOk};
+ghost use Rattle.cpc_tree.specs.Syntax.{Program};
+ghost use Rattle.cpc_forms_code.specs.Splits.{place_of};
+ghost use Rattle.cpc_convert_event.specs.Routines.{Routine};
+ghost use Rattle.cpc_convert_event.specs.Rows as R;
+ghost use Rattle.cpc_convert_rows.specs.Steps.{IsStepped};
+ghost use Rattle.cpc_convert_rows.specs.Ways.{jumps_to};
+
+use crate::marks::{mark, mark_some, unmarked};
+use crate::stepped::Stepped;
+use cpc_base::NoMemory;
+use cpc_forms_code::Owner;
+use std::alloc::Global;
+
+// Whether a number is the one that stands next.
+fn is_next(number: usize, following: Option<usize>) -> bool
+    ensures { result ≡ R.is_next number following }
+{
+    match following {
+        Some(next) => next == number,
+        None => false,
+    }
+}
+
+// The number to which lines fall is marked, unless it stands next.
+fn mark_fall(marks: &mut Vec<bool>, falls: Option<usize>, following: Option<usize>)
+    ensures long { length marks.new.items ≡ length marks.old.items }
+    ensures each { (k : ℕ) → k < length marks.old.items → get_or marks.new.items k false ≡ (get_or marks.old.items k false || jumps_to k following falls) }
+{
+    if let Some(number) = falls {
+        if is_next(number, following) {
+            return;
+        }
+        mark(marks, number);
+    }
+}
+
+// The numbers to which the lines of a row lead are marked.
+fn mark_row(
+    marks: &mut Vec<bool>,
+    stepped: &Stepped<'_>,
+    owner: Owner,
+    number: usize,
+    following: Option<usize>,
+)
+    ensures long { length marks.new.items ≡ length marks.old.items }
+    ensures each { (p : Program) (r : Routine) (k : ℕ) → IsStepped r stepped.now → k < length marks.old.items
+        → get_or marks.new.items k false ≡ (get_or marks.old.items k false || R.any_leads k (R.put_lines following (R.row_of p r (place_of owner) number).lines)) }
+{
+    if stepped.is_own(owner, number) {
+        let step = stepped.step(number);
+        mark_some(marks, step.test);
+        mark_fall(marks, step.falls, following);
+    }
+}
+
+// The number behind one of these.
+fn behind(numbers: &[usize], place: usize) -> Option<usize>
+    requires { place < length numbers.now }
+    ensures { result ≡ slice_get numbers.now (suc place) }
+{
+    numbers.get(place + 1).copied()
+}
+
+/// For each number whether the row of it wants a label in the piece of an owner that has rows of these numbers. `NoMemory` is want of
+/// memory.
+pub fn wanted_rows(
+    alloc: Global,
+    stepped: &Stepped<'_>,
+    owner: Owner,
+    numbers: &[usize],
+) -> Result<Vec<bool>, NoMemory>
+    ensures long { IfOk result (λ marks. length marks.items ≡ length stepped.now.steps.items) }
+    ensures marks { IfOk result (λ marks. (p : Program) (r : Routine) (k : ℕ) → IsStepped r stepped.now → k < length marks.items
+        → get_or marks.items k false ≡ R.is_wanted k (R.put_rows (map (R.row_of p r (place_of owner)) numbers.now))) }
+{
+    let mut marks = unmarked(alloc, stepped.steps.len())?;
+    for place in 0..numbers.len() {
+        let following = behind(numbers, place);
+        mark_row(&mut marks, stepped, owner, numbers[place], following);
+    }
+    Ok(marks)
+}
