@@ -1,0 +1,6 @@
+mod Sets
+mod Naming
+mod Passing
+mod Standing
+mod Firsts
+mod Meant

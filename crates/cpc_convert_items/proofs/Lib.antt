@@ -1,0 +1,7 @@
+pub mod Growing
+pub mod Respawned
+pub mod Codes
+pub mod Keeping
+pub mod Passes
+pub mod Putting
+pub mod Standing

@@ -1,0 +1,4 @@
+pub mod Arguments
+pub mod Called
+pub mod Read
+pub mod OtherKinds

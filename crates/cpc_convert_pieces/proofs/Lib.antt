@@ -1,0 +1,6 @@
+mod Written
+mod Knowing
+mod Found
+mod Rowed
+mod Within
+mod Made

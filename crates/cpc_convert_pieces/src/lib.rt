@@ -1,0 +1,10 @@
+//! The pieces of an event program: what is made of an owner of a cps function.
+#![tactic(auto)]
+
+mod calls;
+mod kept;
+mod making;
+mod opening;
+mod rows;
+
+pub use making::{piece, pieces};
