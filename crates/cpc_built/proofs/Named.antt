@@ -27,7 +27,3 @@ past table n e = elim (cases_lt n (length table)) [
 -- a name that the table does not have
 pub primitive_none : (table : Table) (n : Name) → None ≡ slice_get table n.0 → None ≡ primitive_named (in_table table n)
 primitive_none table n e = sym (ap primitive_named (get_or_past table n.0 [] (past table n.0 e)))
-
--- such a name has no text
-pub text_none : (table : Table) (n : Name) → None ≡ slice_get table n.0 → [] ≡ in_table table n
-text_none table n e = sym (get_or_past table n.0 [] (past table n.0 e))

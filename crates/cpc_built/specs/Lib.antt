@@ -1,4 +1,2 @@
-pub mod Built
-pub mod Laws
 pub mod Parts
 pub mod Told

@@ -1,22 +1,22 @@
 //! Expressions of the built forms.
-ghost use Rattle.std.specs.Prelude.{◌≡◌, option_map};
+ghost use Rattle.std.specs.Prelude.{◌≡◌, Some, option_map};
 ghost use Rattle.cpc_tree.specs.Erase.{in_table};
 ghost use Rattle.cpc_tree.specs.Locate.{located_expr, located_exprs};
 ghost use Rattle.cpc_tree.specs.Primitives.{primitive_named};
 ghost use Rattle.cpc_native_builtins.specs.Builtins.{primitive_of};
-ghost use Rattle.cpc_native_builtins.specs.Served.{is_served, serves};
-ghost use Rattle.cpc_built.specs.Built.{is_built, are_built, is_built_if};
+ghost use Rattle.cpc_convert_served_laws.specs.Serving.{answers, is_taken, are_taken, is_taken_if};
 
-use crate::types::is_built_type;
+use crate::types::is_taken_type;
 use cpc_base::{Name, Names};
 use cpc_native_builtins::{Builtin, builtin_named};
 use cpc_tree::program::Expr;
 
 // Whether the loop answers a primitive.
-fn is_answered(builtin: Builtin) -> bool
-    ensures { result ≡ is_served (primitive_of builtin) }
+fn is_answered(builtin: Builtin, cps: bool) -> bool
+    ensures { result ≡ answers cps (Some (primitive_of builtin)) }
 {
     match builtin {
+        Builtin::Yield => cps,
         Builtin::Print
         | Builtin::Putc
         | Builtin::Puts
@@ -43,54 +43,55 @@ fn primitive(name: Name, names: &Names) -> Option<Builtin>
     }
 }
 
-/// Whether a name is that of no primitive, or of one that the loop answers.
-pub(crate) fn is_built_name(name: Name, names: &Names) -> bool
-    ensures { result ≡ serves (primitive_named (in_table names.now name)) }
+// Whether a name is that of no primitive, or of one that the loop answers.
+fn is_taken_name(name: Name, cps: bool, names: &Names) -> bool
+    ensures { result ≡ answers cps (primitive_named (in_table names.now name)) }
 {
     match primitive(name, names) {
-        Some(builtin) => is_answered(builtin),
+        Some(builtin) => is_answered(builtin, cps),
         None => true,
     }
 }
 
 /// Whether an expression has no type with a condition in it, and no name of a primitive that the loop does not answer.
 #[cycle(expressions)]
-pub(crate) fn is_built(e: &Expr, names: &Names) -> bool
-    ensures { result ≡ is_built (located_expr (in_table names.now) e.now) }
+pub(crate) fn is_taken(e: &Expr, cps: bool, names: &Names) -> bool
+    ensures { result ≡ is_taken cps (located_expr (in_table names.now) e.now) }
 {
     match e {
-        Expr::Name(word) => is_built_name(word.name, names),
+        Expr::Name(word) => is_taken_name(word.name, cps, names),
         Expr::Unary { operand, .. } | Expr::Member { operand, .. } | Expr::Arrow { operand, .. } =>
-            is_built(operand, names),
+            is_taken(operand, cps, names),
         Expr::Binary { left, right, .. }
         | Expr::And { left, right, .. }
-        | Expr::Or { left, right, .. } => is_built(left, names) && is_built(right, names),
+        | Expr::Or { left, right, .. } => is_taken(left, cps, names) && is_taken(right, cps, names),
         Expr::Choose { test, yes, no, .. } => {
-            is_built(test, names) && is_built(yes, names) && is_built(no, names)
+            is_taken(test, cps, names) && is_taken(yes, cps, names) && is_taken(no, cps, names)
         }
         Expr::Cast {
             target,
             operand,
             ..
-        } => is_built_type(target) && is_built(operand, names),
-        Expr::SizeOf { target, .. } => is_built_type(target),
-        Expr::Index { operand, index, .. } => is_built(operand, names) && is_built(index, names),
+        } => is_taken_type(target) && is_taken(operand, cps, names),
+        Expr::SizeOf { target, .. } => is_taken_type(target),
+        Expr::Index { operand, index, .. } => is_taken(operand, cps, names)
+            && is_taken(index, cps, names),
         Expr::CallIn {
             function,
             arguments,
             ..
-        } => is_built(function, names) && are_built(arguments, names),
+        } => is_taken(function, cps, names) && are_taken(arguments, cps, names),
         _ => true,
     }
 }
 
 /// Whether all expressions of a row are so.
 #[cycle(expressions)]
-pub(crate) fn are_built(row: &[Expr], names: &Names) -> bool
-    ensures { result ≡ are_built (located_exprs (in_table names.now) row.now) }
+pub(crate) fn are_taken(row: &[Expr], cps: bool, names: &Names) -> bool
+    ensures { result ≡ are_taken cps (located_exprs (in_table names.now) row.now) }
 {
     for e in row {
-        if !is_built(e, names) {
+        if !is_taken(e, cps, names) {
             return false;
         }
     }
@@ -98,11 +99,11 @@ pub(crate) fn are_built(row: &[Expr], names: &Names) -> bool
 }
 
 /// Whether an expression that may be absent is so.
-pub(crate) fn is_built_if(e: &Option<Expr>, names: &Names) -> bool
-    ensures { result ≡ is_built_if (option_map (located_expr (in_table names.now)) e.now) }
+pub(crate) fn is_taken_if(e: &Option<Expr>, cps: bool, names: &Names) -> bool
+    ensures { result ≡ is_taken_if cps (option_map (located_expr (in_table names.now)) e.now) }
 {
     match e {
-        Some(e) => is_built(e, names),
+        Some(e) => is_taken(e, cps, names),
         None => true,
     }
 }

@@ -2,13 +2,12 @@
 ghost use Rattle.std.specs.Prelude.{◌≡◌};
 ghost use Rattle.cpc_tree.specs.Erase.{in_table};
 ghost use Rattle.cpc_tree.specs.Locate.{located_stmt, located_list, located_at};
-ghost use Rattle.cpc_first_form.specs.Threads.{unless};
-ghost use Rattle.cpc_built.specs.Built.{unbuilt_stmt, unbuilt_stmts, unbuilt_arm};
-ghost use Rattle.cpc_built.specs.Parts.{unbuilt_plain};
+ghost use Rattle.cpc_convert_served_laws.specs.Serving.{unless, unserved_stmt, unserved_stmts, unserved_arm};
+ghost use Rattle.cpc_built.specs.Parts.{unserved_plain};
 ghost use Rattle.cpc_built.specs.Told.{told};
 
-use crate::expressions::{are_built, is_built, is_built_if};
-use crate::types::is_built_type;
+use crate::expressions::{are_taken, is_taken, is_taken_if};
+use crate::types::is_taken_type;
 use cpc_base::{Names, Place};
 use cpc_tree::program::Statement;
 
@@ -17,15 +16,15 @@ use cpc_tree::program::Statement;
 /// # Errors
 ///
 /// The place, where it is not.
-pub(crate) fn only_if(is_built: bool, place: Place) -> Result<(), Place>
-    ensures { told result ≡ unless is_built place }
+pub(crate) fn only_if(is_taken: bool, place: Place) -> Result<(), Place>
+    ensures { told result ≡ unless is_taken place }
 {
-    if is_built { Ok(()) } else { Err(place) }
+    if is_taken { Ok(()) } else { Err(place) }
 }
 
 // Nothing, where a statement without others inside it is of the built forms.
-fn built_plain(s: &Statement, names: &Names) -> Result<(), Place>
-    ensures { told result ≡ unbuilt_plain (located_stmt (in_table names.now) s.now) }
+fn built_plain(s: &Statement, cps: bool, names: &Names) -> Result<(), Place>
+    ensures { told result ≡ unserved_plain cps (located_stmt (in_table names.now) s.now) }
 {
     match s {
         Statement::Declare {
@@ -33,13 +32,19 @@ fn built_plain(s: &Statement, names: &Names) -> Result<(), Place>
             of,
             start,
             ..
-        } => only_if(is_built_type(of) && is_built_if(start, names), word.place),
+        } => only_if(
+            is_taken_type(of) && is_taken_if(start, cps, names),
+            word.place,
+        ),
         Statement::Assign {
             place,
             target,
             value,
             ..
-        } => only_if(is_built(target, names) && is_built(value, names), *place),
+        } => only_if(
+            is_taken(target, cps, names) && is_taken(value, cps, names),
+            *place,
+        ),
         Statement::Call {
             place,
             target,
@@ -47,11 +52,18 @@ fn built_plain(s: &Statement, names: &Names) -> Result<(), Place>
             arguments,
             ..
         } => only_if(
-            is_built_if(target, names) && is_built(function, names) && are_built(arguments, names),
+            is_taken_if(target, cps, names)
+                && is_taken(function, cps, names)
+                && are_taken(arguments, cps, names),
             *place,
         ),
-        Statement::Detach { place, .. } | Statement::Spawn { place, .. } => Err(*place),
-        Statement::Return { place, value } => only_if(is_built_if(value, names), *place),
+        Statement::Detach { place, .. } => Err(*place),
+        Statement::Spawn {
+            place,
+            arguments,
+            ..
+        } => only_if(are_taken(arguments, cps, names), *place),
+        Statement::Return { place, value } => only_if(is_taken_if(value, cps, names), *place),
         _ => Ok(()),
     }
 }
@@ -62,24 +74,24 @@ fn built_plain(s: &Statement, names: &Names) -> Result<(), Place>
 ///
 /// The place of the first statement or declaration that is not.
 #[cycle(statements)]
-pub(crate) fn built_stmt(s: &Statement, names: &Names) -> Result<(), Place>
-    ensures { told result ≡ unbuilt_stmt (located_stmt (in_table names.now) s.now) }
+pub(crate) fn built_stmt(s: &Statement, cps: bool, names: &Names) -> Result<(), Place>
+    ensures { told result ≡ unserved_stmt cps (located_stmt (in_table names.now) s.now) }
 {
     match s {
-        Statement::Block { inner, .. } => built_row(inner, names),
+        Statement::Block { inner, .. } => built_row(inner, cps, names),
         Statement::If {
             place,
             test,
             yes,
             no,
         } => {
-            only_if(is_built(test, names), *place)?;
-            built_stmt(yes, names)?;
-            built_arm(no, names)
+            only_if(is_taken(test, cps, names), *place)?;
+            built_stmt(yes, cps, names)?;
+            built_arm(no, cps, names)
         }
         Statement::While { place, test, body } | Statement::DoWhile { place, body, test } => {
-            only_if(is_built(test, names), *place)?;
-            built_stmt(body, names)
+            only_if(is_taken(test, cps, names), *place)?;
+            built_stmt(body, cps, names)
         }
         Statement::For {
             place,
@@ -88,34 +100,34 @@ pub(crate) fn built_stmt(s: &Statement, names: &Names) -> Result<(), Place>
             step,
             body,
         } => {
-            only_if(is_built_if(test, names), *place)?;
-            built_row(first, names)?;
-            built_arm(step, names)?;
-            built_stmt(body, names)
+            only_if(is_taken_if(test, cps, names), *place)?;
+            built_row(first, cps, names)?;
+            built_arm(step, cps, names)?;
+            built_stmt(body, cps, names)
         }
-        Statement::Label { inner, .. } => built_stmt(inner, names),
-        _ => built_plain(s, names),
+        Statement::Label { inner, .. } => built_stmt(inner, cps, names),
+        _ => built_plain(s, cps, names),
     }
 }
 
 // Nothing, where a statement that may be absent is so, or else the place of the first part of it that is not.
 #[cycle(statements)]
-fn built_arm(arm: &Option<Box<Statement>>, names: &Names) -> Result<(), Place>
-    ensures { told result ≡ unbuilt_arm (located_at (in_table names.now) arm.now) }
+fn built_arm(arm: &Option<Box<Statement>>, cps: bool, names: &Names) -> Result<(), Place>
+    ensures { told result ≡ unserved_arm cps (located_at (in_table names.now) arm.now) }
 {
     match arm {
-        Some(s) => built_stmt(s, names),
+        Some(s) => built_stmt(s, cps, names),
         None => Ok(()),
     }
 }
 
 // Nothing, where a row of statements is so, or else the place of the first that is not.
 #[cycle(statements)]
-fn built_row(row: &[Statement], names: &Names) -> Result<(), Place>
-    ensures { told result ≡ unbuilt_stmts (located_list (in_table names.now) row.now) }
+fn built_row(row: &[Statement], cps: bool, names: &Names) -> Result<(), Place>
+    ensures { told result ≡ unserved_stmts cps (located_list (in_table names.now) row.now) }
 {
     for s in row {
-        built_stmt(s, names)?;
+        built_stmt(s, cps, names)?;
     }
     Ok(())
 }

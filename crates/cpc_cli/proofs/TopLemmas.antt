@@ -15,10 +15,10 @@ use Rattle.cpc_tree.proofs.Places.{bare_program}
 use Rattle.cpc_meaning.specs.Runs.{SameRuns, Within}
 use Rattle.cpc_cli_command.specs.Commands.{Command, Run, command_of}
 use Rattle.cpc_check.specs.Accepted.{Accepts}
-use Rattle.cpc_shape.specs.Shape.{Shape}
+use Rattle.cpc_convert_shape_laws.specs.Shape.{Shape}
 use Rattle.cpc_translate.specs.Refusals.{IsTextFault}
-use Rattle.cpc_translate.specs.Events.{event_of}
-use Rattle.cpc_built.specs.Built.{unbuilt}
+use Rattle.cpc_convert_event.specs.Converted.{converted}
+use Rattle.cpc_convert_served_laws.specs.Serving.{unserved}
 use Rattle.cpc_cli.specs.Command.{Builds, named, limit_of}
 use Rattle.cpc_cli.specs.Answer.{AcceptedAs, TextHas, FileHas, IsTranslated, NotAccepted, DoesInPart, EndedIn, did, not_begun, unwritten_in, starved_in, Nothing, MayHaveCells, RanTo, Printed, shown, heading, line_of, name_in}
 use Rattle.cpc_run.specs.Reports.{IsPrefix}
@@ -31,7 +31,7 @@ use Rattle.cpc_cli.specs.declared.answer.End.TheVariants.{Done, Usage, Refused, 
 module _ (told : Option Files) (command : Command) (file : Text) (is : named command R.Text ≡ file) (unread : Text → Type 0) (builds : Type 0) (as_built : builds → Builds command) where
   not_accepted : (end : End) → NotAccepted told (λ _. file) unread builds end → NotAccepted told (named command) unread (Builds command) end
   not_accepted (Refused fault) h = subst (λ name. TextHas told name (λ text. IsTextFault Cpc text fault)) (sym is) h
-  not_accepted (Unbuilt at) h = (as_built h.0, subst (λ name. AcceptedAs told name (λ p. unbuilt p ≡ Some at)) (sym is) h.1)
+  not_accepted (Unbuilt at) h = (as_built h.0, subst (λ name. AcceptedAs told name (λ p. unserved p ≡ Some at)) (sym is) h.1)
   not_accepted (Unread R.Text) h = subst unread (sym is) h
   not_accepted (TooLong R.Text) h = subst (λ name. FileHas told name (λ bytes. limit_of R.Text < length bytes)) (sym is) h
   not_accepted Memory h = h
@@ -140,11 +140,11 @@ in_line true printed n e = behind_heading printed (take n (codes "/* run */\n"))
 in_line false printed n e = absurd cc
 
 -- a program that is translated, by the trees with places
-pub translated_so : (p q : GProgram.Program) → unbuilt (located p) ≡ None → program_of q ≡ event_of (program_of p) → SameRuns (program_of p) (program_of q)
+pub translated_so : (p q : GProgram.Program) → unserved (located p) ≡ None → program_of q ≡ converted (program_of p) → SameRuns (program_of p) (program_of q)
     → Within (program_of p) (program_of q) → Shape (program_of p) (program_of q) → IsTranslated (located p) (located q)
 translated_so p q built event same within shape = record {
   built = built;
-  event = bare_program q ∙ event ∙ ap event_of (sym (bare_program p));
+  event = bare_program q ∙ event ∙ ap converted (sym (bare_program p));
   same = subst (λ x. SameRuns x (bare (located q))) (sym (bare_program p)) (subst (SameRuns (program_of p)) (sym (bare_program q)) same);
   within = subst (λ x. Within x (bare (located q))) (sym (bare_program p)) (subst (Within (program_of p)) (sym (bare_program q)) within);
   shape = subst (λ x. Shape x (bare (located q))) (sym (bare_program p)) (subst (Shape (program_of p)) (sym (bare_program q)) shape);

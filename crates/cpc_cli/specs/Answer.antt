@@ -11,7 +11,7 @@ use Rattle.cpc_tree.specs.Trace as T
 use Rattle.cpc_tree.specs.Texts.{fault_text}
 use Rattle.cpc_meaning.specs.Events.{event}
 use Rattle.cpc_meaning.specs.Runs.{SameRuns, Within, Full as IsAbove, live_cells}
-use Rattle.cpc_shape.specs.Shape.{Shape}
+use Rattle.cpc_convert_shape_laws.specs.Shape.{Shape}
 use Rattle.cpc_base.specs.declared.stop.Stop.{Stop}
 use Rattle.cpc_base.specs.declared.stop.Stop.TheVariants as W
 use Rattle.cpc_translate.specs.declared.fault.TextFault.{TextFault}
@@ -20,8 +20,8 @@ use Rattle.cpc_translate.specs.declared.translating.Refusal.TheVariants as X
 use Rattle.cpc_cli_command.specs.Commands.{Command, Check, Translate, Run, command_of}
 use Rattle.cpc_check.specs.Accepted.{Accepts}
 use Rattle.cpc_translate.specs.Refusals.{IsTextFault}
-use Rattle.cpc_translate.specs.Events.{event_of}
-use Rattle.cpc_built.specs.Built.{unbuilt}
+use Rattle.cpc_convert_event.specs.Converted.{converted}
+use Rattle.cpc_convert_served_laws.specs.Serving.{unserved}
 use Rattle.cpc_translate.specs.Faults.{place_of, stage_of, number_of, name_of}
 use Rattle.cpc_run.specs.Reports.{IsPrefix, untold, written}
 use Rattle.cpc_cli.specs.Command.{Builds, named, limit_of}
@@ -173,10 +173,10 @@ TextHas told name P = FileHas told name (λ text. (length text ≤ limit_of R.Te
 abbrev pub AcceptedAs : (told : Option Files) → (name : Text) → (LProgram → Type 0) → Type 0
 AcceptedAs told name P = TextHas told name (λ text. (p : LProgram) × Accepts Cpc text p × P p)
 
--- p is of the built forms, q is its event program and has the shape of one, and the event runs of q are the threaded runs of p, within the cost
+-- p asks only for what is served, q is its event program and has the shape of one, and the event runs of q are the threaded runs of p, within the cost
 pub record IsTranslated (p q : LProgram) : Type 0 where
-  pub built : unbuilt p ≡ None
-  pub event : bare q ≡ event_of (bare p)
+  pub built : unserved p ≡ None
+  pub event : bare q ≡ converted (bare p)
   pub same : SameRuns (bare p) (bare q)
   pub within : Within (bare p) (bare q)
   pub shape : Shape (bare p) (bare q)
@@ -213,10 +213,10 @@ abbrev pub untranslated_end : Stop Refusal → End
 untranslated_end W.Memory = Memory
 untranslated_end (W.Fault refusal) = refused_end refusal
 
--- a text has a fault, or leaves the built forms where that matters, or one of the files of a command is not there or too long
+-- a text has a fault, or asks for what is not served where that matters, or one of the files of a command is not there or too long
 abbrev pub NotAccepted : (told : Option Files) → (name : Role → Text) → (unread : Text → Type 0) → (builds : Type 0) → End → Type 0
 NotAccepted told name unread builds (Refused fault) = TextHas told (name R.Text) (λ text. IsTextFault Cpc text fault)
-NotAccepted told name unread builds (Unbuilt at) = builds × AcceptedAs told (name R.Text) (λ p. unbuilt p ≡ Some at)
+NotAccepted told name unread builds (Unbuilt at) = builds × AcceptedAs told (name R.Text) (λ p. unserved p ≡ Some at)
 NotAccepted told name unread builds (Unread role) = unread (name role)
 NotAccepted told name unread builds (TooLong role) = FileHas told (name role) (λ bytes. limit_of role < length bytes)
 NotAccepted told name unread builds Memory = Unit {0}

@@ -5,9 +5,9 @@ use Rattle.cpc_base.specs.declared.stop.Dialect.TheVariants.{Cpc, Event}
 use Rattle.cpc_base.specs.declared.stop.Place.{Place}
 use Rattle.cpc_base.specs.Outside.{Files}
 use Rattle.cpc_tree.specs.Located.{LProgram, bare}
+use Rattle.cpc_convert_served_laws.specs.Serving.{unserved}
 use Rattle.cpc_check.specs.Accepted.{Accepts}
 use Rattle.cpc_translate.specs.Refusals.{IsTextFault}
-use Rattle.cpc_built.specs.Built.{unbuilt}
 use Rattle.cpc_translate.specs.declared.fault.TextFault.{TextFault}
 use Rattle.cpc_cli_command.specs.Commands.{Command, Check, Translate, Run, command_of}
 use Rattle.cpc_cli.specs.Command.{Builds, named, limit_of}
@@ -27,7 +27,7 @@ pub data Due (files : Files) (words : List Text) : End → Text → Type 0 where
   for_refused : (command : Command) (text : Text) (fault : TextFault) → command_of words ≡ Some command → files (named command R.Text) ≡ Some text
       → length text ≤ limit_of R.Text → IsTextFault Cpc text fault → Due files words (Refused fault) []
   for_unbuilt : (command : Command) (text : Text) (p : LProgram) (at : Place) → command_of words ≡ Some command → Builds command
-      → files (named command R.Text) ≡ Some text → length text ≤ limit_of R.Text → Accepts Cpc text p → unbuilt p ≡ Some at → Due files words (Unbuilt at) []
+      → files (named command R.Text) ≡ Some text → length text ≤ limit_of R.Text → Accepts Cpc text p → unserved p ≡ Some at → Due files words (Unbuilt at) []
   for_check : (file text : Text) (p : LProgram) → command_of words ≡ Some (Check file) → files file ≡ Some text
       → length text ≤ limit_of R.Text → Accepts Cpc text p → Due files words (Done Accepted) (codes "accepted\n")
   for_translate : (file text printed : Text) (p q : LProgram) → command_of words ≡ Some (Translate file) → files file ≡ Some text

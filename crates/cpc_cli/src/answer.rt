@@ -49,7 +49,7 @@ pub enum End {
     Usage,
     /// The text has a fault.
     Refused(TextFault),
-    /// The text has a form at a place that is not built yet.
+    /// The text is accepted, and not translated yet, for what stands at a place.
     Unbuilt(Place),
     /// The shelf failed at a file.
     Unread(Role),

@@ -1,6 +1,6 @@
 pub mod Within
 pub mod Tables
+pub mod Speakable
 pub mod OneReading
-pub mod Native
-pub mod Threads
 pub mod Whole
+pub mod Functions

@@ -12,7 +12,7 @@ use Rattle.cpc_tree.specs.Located.{bare_expr, bare_variable, bare_parameter, bar
 use Rattle.cpc_tree.specs.Locate.{ident, located_expr, located_parameter, located_field, located_item}
 use Rattle.cpc_tree.proofs.Places.{bare_located, bare_statement}
 use Rattle.cpc_check.specs.Accepted.{IsWithin}
-use Rattle.cpc_convert_first.specs.Tables.{AreWithin}
+use Rattle.cpc_convert_names.specs.Tables.{AreWithin}
 
 -- ---- without its places a part of a tree is the same by any spelling
 

@@ -1,86 +1,77 @@
--- What is printed of the event program of a program of the built forms is accepted as an event program that has the same runs.
-use Rattle.std.proofs.Common.{◌≡◌, ◌<◌, Bool, true, false, List, [], ◌∷◌, map, All, None, if◌then◌else◌, refl, sym, ap, subst, ◌∙◌}
+-- What is printed of the event program of an accepted program is accepted as an event program that has the same runs.
+use Rattle.std.proofs.Common.{◌≡◌, ◌<◌, true, All, None, sym, ap, subst, ◌∙◌}
 use Rattle.cpc_base.specs.Bytes.{Text}
 use Rattle.cpc_base.specs.declared.stop.Dialect.TheVariants as D
 use Rattle.cpc_tree.specs.declared.program.Program as GProgram
 use Rattle.cpc_tree.specs.Syntax.{Program}
-use Rattle.cpc_tree.specs.Located.{LItem, LStruct, LGlobal, LPrototype, LFunctionItem, LProgram, bare, bare_item}
+use Rattle.cpc_tree.specs.Located.{LProgram, bare}
 use Rattle.cpc_tree.specs.Erase.{program_of}
 use Rattle.cpc_tree.specs.Locate.{located}
 use Rattle.cpc_tree.proofs.Places.{bare_program}
 use Rattle.cpc_printer.specs.Style.{IsPrint}
 use Rattle.cpc_meaning.specs.Runs.{SameRuns, Within}
 use Rattle.cpc_native_builtins.specs.Served.{is_served_program}
-use Rattle.cpc_convert.specs.Programs.{converted}
-use Rattle.cpc_shape.specs.Shape.{Shape}
-use Rattle.cpc_first_form.specs.Threads.{has_threads}
-use Rattle.cpc_check.specs.Accepted.{Accepts}
-use Rattle.cpc_built.specs.Built.{unbuilt}
-use Rattle.cpc_translate.specs.Events.{has_cps, event_of}
-use Rattle.cpc_translate.proofs.Native as N
-use Rattle.cpc_translate.proofs.Threads as T
+use Rattle.cpc_convert_event.specs.Converted.{converted}
+use Rattle.cpc_convert_accepted_laws.specs.Accepted.{OfAccepted}
+use Rattle.cpc_convert_accepted_laws.specs.Names.{HasNames}
+use Rattle.cpc_convert_accepted_laws.proofs.Names.{accepted_has_names}
+use Rattle.cpc_convert_runs_laws.specs.Laws.{ConvertedHasSameRuns}
+use Rattle.cpc_convert_print_laws.proofs.Back.{converted_reads_back}
+use Rattle.cpc_convert_rules_laws.specs.Laws.{Unbroken}
+use Rattle.cpc_convert_row_bodies_laws.proofs.Theorem.{converted_unbroken}
+use Rattle.cpc_convert_served_laws.specs.Serving.{unserved}
+use Rattle.cpc_convert_served_laws.proofs.Served.{converted_are_served}
+use Rattle.cpc_convert_shape_laws.specs.Shape.{Shape}
+use Rattle.cpc_convert_shape_laws.proofs.Shape.{accepted_shape}
+use Rattle.cpc_check.specs.Accepted.{Accepts, IsWithin}
+use Rattle.cpc_forms_code.specs.Programs.{IsSpeakable}
+use Rattle.cpc_translate.specs.Passes.{IsGiven}
+use Rattle.cpc_translate.proofs.Tables.{are_within}
 
--- a program has cps functions with its places and without them
-cps_items : (xs : List LItem) → has_threads xs ≡ has_cps (map bare_item xs)
-cps_items [] = refl
-cps_items (LStruct tag fields ∷ xs) = cps_items xs
-cps_items (LGlobal x t start ∷ xs) = cps_items xs
-cps_items (LPrototype q mode x r ps ∷ xs) = cps_items xs
-cps_items (LFunctionItem f ∷ xs) = rw (cps_items xs) refl
-
--- the event program of a program with cps functions, and of one without
-pub event_is : (q : Program) (b : Bool) → has_cps q ≡ b → event_of q ≡ (if b then converted q else q)
-event_is q b e = ap (λ (c : Bool). if c then converted q else q) e
-
-module _ (text : Text) (program : GProgram.Program) (accepted : Accepts D.Cpc text (located program)) (built : unbuilt (located program) ≡ None) where
+module _ (text : Text) (program : GProgram.Program) (accepted : Accepts D.Cpc text (located program)) where
   abbrev own : Program
   own = program_of program
 
-  threads : (b : Bool) → has_cps own ≡ b → has_threads (located program).items ≡ b
-  threads b e = cps_items (located program).items ∙ ap has_cps (bare_program program) ∙ e
+  -- what is had of each accepted program is had of this one
+  had : (Holds : Program → Type 0) → OfAccepted Holds → Holds own
+  had Holds law = let r = accepted.parses in subst Holds (bare_program program) (law r.0 _ (located program) r.2 accepted.unbroken)
 
-  -- what is printed is read as a program that breaks no rule of the dialect Event
-  pub print_accepted : All (λ b. b < 256) text → (printed : Text) → IsPrint printed (event_of own) → (q : LProgram) × Accepts D.Event printed q × (bare q ≡ event_of own)
-  print_accepted bytes printed print = go (has_cps own) refl
-    where
-      go : (b : Bool) → has_cps own ≡ b → (q : LProgram) × Accepts D.Event printed q × (bare q ≡ event_of own)
-      go true e =
-          let is = event_is own true e in
-          let r = T.print_accepted text program accepted built (threads true e) bytes printed (subst (IsPrint printed) is print) in
-          (r.0, r.1, r.2 ∙ sym is)
-      go false e =
-          let is = event_is own false e in
-          let r = N.print_accepted text program accepted built (threads false e) bytes printed (subst (IsPrint printed) is print) in
-          (r.0, r.1, r.2 ∙ sym is)
+  -- the same, where it is said of the event program, of a program that is equal to that
+  equals : (Holds : Program → Type 0) (q : Program) → q ≡ converted own → Holds (converted own) → Holds q
+  equals Holds q e h = subst Holds (sym e) h
+
+  -- what is printed is read as the event program, which breaks no rule of the dialect Event
+  pub print_accepted : All (λ b. b < 256) text → (printed : Text) → IsPrint printed (converted own) → (q : LProgram) × Accepts D.Event printed q × (bare q ≡ converted own)
+  print_accepted bytes printed print =
+      let is : converted own ≡ converted (bare (located program)) = ap converted (sym (bare_program program)) in
+      let r = converted_reads_back text (located program) bytes accepted.parses accepted.unbroken printed (subst (IsPrint printed) is print) in
+      let same : bare r.0 ≡ converted own = r.2 ∙ sym is in
+      (r.0, record { parses = r.1; unbroken = had Unbroken converted_unbroken r.0 same }, same)
+
+  -- ---- event programs
+
+  -- the names of the program are as those of accepted ones
+  has_names : HasNames own
+  has_names = had HasNames accepted_has_names
+
+  -- what the passes are given
+  pub is_given : IsSpeakable program → IsWithin program → IsGiven program
+  is_given speakable within = record { speakable = speakable; within = are_within program within; names = has_names }
 
   -- a program that is equal to the event program has the same runs
-  pub runs_same : (q : Program) → q ≡ event_of own → SameRuns own q
-  runs_same q k = go (has_cps own) refl
-    where
-      go : (b : Bool) → has_cps own ≡ b → SameRuns own q
-      go true e = T.runs_same text program accepted built (threads true e) q (k ∙ event_is own true e)
-      go false e = N.runs_same text program accepted built (threads false e) q (k ∙ event_is own false e)
+  pub runs_same : ConvertedHasSameRuns → (q : Program) → q ≡ converted own → SameRuns own q
+  runs_same law q e = equals (λ u. SameRuns own u) q e (had (λ p. SameRuns p (converted p) × Within p (converted p)) law).0
 
   -- within the cost
-  pub runs_within : (q : Program) → q ≡ event_of own → Within own q
-  runs_within q k = go (has_cps own) refl
-    where
-      go : (b : Bool) → has_cps own ≡ b → Within own q
-      go true e = T.runs_within text program accepted built (threads true e) q (k ∙ event_is own true e)
-      go false e = N.runs_within text program accepted built (threads false e) q (k ∙ event_is own false e)
+  pub runs_within : ConvertedHasSameRuns → (q : Program) → q ≡ converted own → Within own q
+  runs_within law q e = equals (λ u. Within own u) q e (had (λ p. SameRuns p (converted p) × Within p (converted p)) law).1
 
   -- has the shape of an event program
-  pub has_shape : (q : Program) → q ≡ event_of own → Shape own q
-  has_shape q k = go (has_cps own) refl
-    where
-      go : (b : Bool) → has_cps own ≡ b → Shape own q
-      go true e = T.has_shape text program accepted built (threads true e) q (k ∙ event_is own true e)
-      go false e = N.has_shape text program accepted built (threads false e) q (k ∙ event_is own false e)
+  pub has_shape : (q : Program) → q ≡ converted own → Shape own q
+  has_shape q e = equals (λ u. Shape own u) q e (had (λ p. Shape p (converted p)) accepted_shape)
 
-  -- and asks only for what the loop answers
-  pub is_served : (q : Program) → q ≡ event_of own → is_served_program q ≡ true
-  is_served q k = go (has_cps own) refl
-    where
-      go : (b : Bool) → has_cps own ≡ b → is_served_program q ≡ true
-      go true e = T.is_served text program accepted built (threads true e) q (k ∙ event_is own true e)
-      go false e = N.is_served text program accepted built (threads false e) q (k ∙ event_is own false e)
+  -- and asks only for what the loop answers, where the program asks for nothing else
+  pub is_served : unserved (located program) ≡ None → (q : Program) → q ≡ converted own → is_served_program q ≡ true
+  is_served built q e =
+      let r = accepted.parses in
+      ap is_served_program (e ∙ ap converted (sym (bare_program program))) ∙ converted_are_served r.0 _ (located program) r.2 accepted.unbroken built

@@ -1,3 +1,3 @@
-pub mod Events
 pub mod Faults
 pub mod Refusals
+pub mod Passes

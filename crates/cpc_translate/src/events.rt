@@ -1,63 +1,46 @@
 //! The text of a program's event program.
-ghost use Rattle.std.specs.Prelude.{◌≡◌, IfOk, map};
+ghost use Rattle.std.specs.Prelude.{◌≡◌, [], IfOk};
+ghost use Rattle.cpc_base.specs.Texts.{AreDistinct};
 ghost use Rattle.cpc_base.specs.declared.stop.Dialect.TheVariants as D;
-ghost use Rattle.cpc_tree.specs.Erase.{Names, item_of, program_of};
+ghost use Rattle.cpc_tree.specs.Erase.{program_of};
 ghost use Rattle.cpc_tree.specs.Locate.{located};
-ghost use Rattle.cpc_tree.specs.Located.{LProgram, bare};
 ghost use Rattle.cpc_printer.specs.Style.{IsPrint};
-ghost use Rattle.cpc_check.specs.Accepted.{Accepts};
-ghost use Rattle.cpc_convert.specs.Programs as P;
-ghost use Rattle.cpc_translate.specs.Events as E;
-ghost use Rattle.cpc_translate.specs.Events.{event_of};
+ghost use Rattle.cpc_check_rules.specs.Rules.{breaks};
+ghost use Rattle.cpc_check.specs.Accepted.{IsRead, IsWithin};
+ghost use Rattle.cpc_convert_event.specs.Converted as E;
+ghost use Rattle.cpc_forms_code.specs.Programs.{IsSpeakable};
 
-use crate::reading::read_again;
-use cpc_base::{Dialect, NoMemory};
-use cpc_convert_first::convert_first;
-use cpc_printer::print;
-use cpc_tree::program::{Item, Mode, Program};
+use crate::passes::boxed_text;
+use cpc_base::{Name, Names, NoMemory};
+use cpc_box::boxed;
+use cpc_tree::program::Program;
 use std::alloc::Global;
 
-// Whether an item is a cps function.
-fn is_cps_item(item: &Item) -> bool
-    ensures { (names : Names) → result ≡ E.is_cps_item (item_of names item.now) }
+// The texts of a table differ, as each look-up tells.
+fn are_distinct(names: &Names)
+    ensures { AreDistinct names.now }
 {
-    match item {
-        Item::Function(function) => matches!(function.mode, Mode::Cps),
-        _ => false,
-    }
+    let _ = names.text(Name(0));
 }
 
-// Whether there is a cps function among items.
-fn has_cps(items: &[Item]) -> bool
-    ensures { (names : Names) → result ≡ E.has_cps (map (item_of names) items.now) }
+// There are texts that tell the names of a program that is accepted.
+fn is_speakable(source: &Program)
+    requires read { IsRead D.Cpc (located source.now) }
+    requires within { IsWithin source.now }
+    ensures { IsSpeakable source.now }
 {
-    for item in items {
-        if is_cps_item(item) {
-            return true;
-        }
-    }
-    false
+    are_distinct(&source.names);
 }
 
-// The conversion of a text's program. The text is read once more for it: it takes the tree that it is given, and trees cannot be
-// copied. `NoMemory` is want of memory.
-fn converted(alloc: Global, text: &[u8]) -> Result<Program, NoMemory>
-    requires { (p : LProgram) × Accepts D.Cpc text.now p }
-    ensures { (p : LProgram) → Accepts D.Cpc text.now p → IfOk result (λ q. program_of q ≡ P.converted (bare p)) }
+/// The text of the event program of a program: its variables become registers or boxes, its cps functions graphs, split where threads may
+/// begin to run, and each owner keeps what it needs; of that come frames and pieces. `NoMemory` is want of memory.
+pub(crate) fn event_text(alloc: Global, source: &Program) -> Result<Vec<u8>, NoMemory>
+    requires read { IsRead D.Cpc (located source.now) }
+    requires unbroken { breaks D.Cpc (located source.now) ≡ [] }
+    requires within { IsWithin source.now }
+    ensures { IfOk result (λ printed. IsPrint printed.items (E.converted (program_of source.now))) }
 {
-    let source = read_again(alloc, text, Dialect::Cpc)?;
-    convert_first(alloc, source.program)
-}
-
-/// The text of the event program of a text's program. `NoMemory` is want of memory.
-pub(crate) fn event_text(alloc: Global, text: &[u8], source: &Program) -> Result<Vec<u8>, NoMemory>
-    requires { Accepts D.Cpc text.now (located source.now) }
-    ensures { IfOk result (λ printed. IsPrint printed.items (event_of (program_of source.now))) }
-{
-    if has_cps(&source.items) {
-        let event = converted(alloc, text)?;
-        print(alloc, &event)
-    } else {
-        print(alloc, source)
-    }
+    is_speakable(source);
+    let boxed = boxed(alloc, source)?;
+    boxed_text(alloc, &boxed)
 }

@@ -3,6 +3,7 @@
 
 mod events;
 mod fault;
+mod passes;
 mod reading;
 mod translating;
 

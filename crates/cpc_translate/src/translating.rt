@@ -7,11 +7,11 @@ ghost use Rattle.cpc_tree.specs.Erase.{program_of};
 ghost use Rattle.cpc_tree.specs.Locate.{located};
 ghost use Rattle.cpc_tree.specs.Located.{LProgram};
 ghost use Rattle.cpc_meaning.specs.Runs.{SameRuns, Within};
-ghost use Rattle.cpc_shape.specs.Shape.{Shape};
-ghost use Rattle.cpc_check.specs.Accepted.{Accepts};
+ghost use Rattle.cpc_check.specs.Accepted.{Accepts, IsWithin};
 ghost use Rattle.cpc_native_builtins.specs.Served.{is_served_program};
-ghost use Rattle.cpc_built.specs.Built.{unbuilt};
-ghost use Rattle.cpc_translate.specs.Events.{event_of};
+ghost use Rattle.cpc_convert_served_laws.specs.Serving.{unserved};
+ghost use Rattle.cpc_convert_event.specs.Converted.{converted};
+ghost use Rattle.cpc_convert_shape_laws.specs.Shape.{Shape};
 ghost use Rattle.cpc_translate.specs.Refusals.{IsTextFault, refusal_of};
 ghost use Rattle.cpc_translate.specs.declared.fault.TextFault.{TextFault};
 ghost use Rattle.cpc_translate.specs.declared.translating.Refusal.TheVariants.{Text, Form};
@@ -22,6 +22,7 @@ use crate::reading::{read, read_again};
 use cpc_base::{Dialect, NoMemory, Place, Stop};
 use cpc_built::built;
 use cpc_check::Checked;
+use cpc_convert_runs_laws::converted_has_the_same_runs;
 use std::alloc::Global;
 
 /// Why a text is not translated.
@@ -58,9 +59,10 @@ fn refused(stop: Stop<TextFault>) -> Stop<Refusal>
 fn source_of(alloc: Global, text: &[u8]) -> Result<Checked, Stop<Refusal>>
     ensures accepted { IfOk result (λ c. Accepts D.Cpc text.now (located c.program)) }
     ensures dialect { IfOk result (λ c. c.dialect ≡ D.Cpc) }
-    ensures built { IfOk result (λ c. unbuilt (located c.program) ≡ None) }
+    ensures within { IfOk result (λ c. IsWithin c.program) }
+    ensures built { IfOk result (λ c. unserved (located c.program) ≡ None) }
     ensures refused { (fault : TextFault) → result ≡ Err (Fault (Text fault)) → IsTextFault D.Cpc text.now fault }
-    ensures form { (at : Place) → result ≡ Err (Fault (Form at)) → (p : LProgram) × Accepts D.Cpc text.now p × (unbuilt p ≡ Some at) }
+    ensures form { (at : Place) → result ≡ Err (Fault (Form at)) → (p : LProgram) × Accepts D.Cpc text.now p × (unserved p ≡ Some at) }
     ensures bytes { All (λ b. b < 256) text.now }
 {
     match read(alloc, text, Dialect::Cpc) {
@@ -79,22 +81,23 @@ fn source_of(alloc: Global, text: &[u8]) -> Result<Checked, Stop<Refusal>>
 /// # Errors
 ///
 /// `Stop::Fault` with `Refusal::Text` for the fault of a text that is not accepted, or with `Refusal::Form` for the first item,
-/// declaration or statement that is not of the forms that run so far. `Stop::Memory` for want of memory.
+/// declaration or statement that asks for what is not served yet. `Stop::Memory` for want of memory.
 pub fn translate(alloc: Global, text: &[u8]) -> Result<Translated, Stop<Refusal>>
     ensures source { IfOk result (λ t. Accepts D.Cpc text.now (located t.source.program)) }
     ensures printed { IfOk result (λ t. Accepts D.Event t.printed.items (located t.read_back.program)) }
     ensures dialects { IfOk result (λ t. (t.source.dialect ≡ D.Cpc) × (t.read_back.dialect ≡ D.Event)) }
-    ensures built { IfOk result (λ t. unbuilt (located t.source.program) ≡ None) }
-    ensures equal { IfOk result (λ t. program_of t.read_back.program ≡ event_of (program_of t.source.program)) }
+    ensures built { IfOk result (λ t. unserved (located t.source.program) ≡ None) }
+    ensures equal { IfOk result (λ t. program_of t.read_back.program ≡ converted (program_of t.source.program)) }
     ensures same { IfOk result (λ t. SameRuns (program_of t.source.program) (program_of t.read_back.program)) }
     ensures within { IfOk result (λ t. Within (program_of t.source.program) (program_of t.read_back.program)) }
     ensures shape { IfOk result (λ t. Shape (program_of t.source.program) (program_of t.read_back.program)) }
     ensures served { IfOk result (λ t. is_served_program (program_of t.read_back.program) ≡ true) }
     ensures refused { (fault : TextFault) → result ≡ Err (Fault (Text fault)) → IsTextFault D.Cpc text.now fault }
-    ensures form { (at : Place) → result ≡ Err (Fault (Form at)) → (p : LProgram) × Accepts D.Cpc text.now p × (unbuilt p ≡ Some at) }
+    ensures form { (at : Place) → result ≡ Err (Fault (Form at)) → (p : LProgram) × Accepts D.Cpc text.now p × (unserved p ≡ Some at) }
 {
+    converted_has_the_same_runs();
     let source = source_of(alloc, text)?;
-    let printed = match event_text(alloc, text, &source.program) {
+    let printed = match event_text(alloc, &source.program) {
         Ok(printed) => printed,
         Err(NoMemory) => return Err(Stop::Memory),
     };

@@ -8,7 +8,7 @@ use std::alloc::Global;
 use std::fs;
 
 /// The examples that run, in the order in which they are run.
-const RUN: [&str; 8] = [
+const RUN: [&str; 11] = [
     "seven.c",
     "calculator.c",
     "list.c",
@@ -17,6 +17,9 @@ const RUN: [&str; 8] = [
     "factorial.c",
     "turns.c",
     "relay.c",
+    "accounts.c",
+    "pipeline.c",
+    "queens.c",
 ];
 
 /// The examples that are read and checked, and have forms that no command runs yet.

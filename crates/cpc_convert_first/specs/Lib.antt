@@ -1,3 +1,0 @@
-pub mod Tables
-pub mod Making
-pub mod Cutting

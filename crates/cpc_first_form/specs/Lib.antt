@@ -1,3 +1,0 @@
-pub mod Threads
-pub mod Laws
-pub mod Refusals

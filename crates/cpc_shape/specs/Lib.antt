@@ -1,5 +1,0 @@
-pub mod Control
-pub mod Images
-pub mod Laws
-pub mod Refusals
-pub mod Shape
