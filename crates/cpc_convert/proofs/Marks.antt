@@ -6,7 +6,7 @@ use Rattle.std.specs.Char.{digit_value}
 use Rattle.cpc_base.specs.Bytes.{Text}
 use Rattle.cpc_convert.specs.Converted.{marked}
 use Rattle.cpc_meaning.proofs.Functions.{texts_differ}
-use Rattle.cpc_convert.specs.Accepted.{marks_in, has_marks}
+use Rattle.cpc_convert.specs.Marks.{marks_in, has_marks}
 
 -- ---- marks
 
@@ -107,6 +107,3 @@ empty_apart k = absurd (cc)
 -- a name of two underscores at its end is none of those that are made
 pub bar_piece : (x f : Text) (n : ℕ) → has_marks x ≡ false → has_marks f ≡ false → n < 2 ^ 63 → bytes_eq (marked x []) (marked f (decimal n)) ≡ false
 bar_piece x f n hx hf h = texts_differ (marked x []) (marked f (decimal n)) (λ (e : marked x [] ≡ marked f (decimal n)). decimal_some n h (marked_is x f [] (decimal n) hx hf no_bar_empty (no_bar_decimal n h) e).1)
-
-pub bar_spawner : (x f : Text) → has_marks x ≡ false → has_marks f ≡ false → bytes_eq (marked x []) (marked f (codes "spawn")) ≡ false
-bar_spawner x f hx hf = texts_differ (marked x []) (marked f (codes "spawn")) (λ (e : marked x [] ≡ marked f (codes "spawn")). empty_apart (marked_is x f [] (codes "spawn") hx hf no_bar_empty no_bar_spawn e).1)

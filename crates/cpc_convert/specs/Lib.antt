@@ -1,7 +1,4 @@
-pub mod First
+pub mod Members
 pub mod Converted
-pub mod Form
-pub mod Accepted
-pub mod Promises
-pub mod Programs
-pub mod Decided
+pub mod Marks
+pub mod Laws

@@ -25,7 +25,7 @@ use Rattle.cpc_check_sound_laws.proofs.Growing.{IsFresh, grows_step, grows_same,
 use Rattle.cpc_check_sound_laws.proofs.Programs.{BodyShape, ItemShape}
 use Rattle.cpc_check_sound_laws.proofs.Scalars.{both_true}
 use Rattle.cpc_check_sound_laws.proofs.Unbroken.{split, holds_not, holds_then}
-use Rattle.cpc_convert.specs.Form.{Has, OnTop, Below}
+use Rattle.cpc_convert.specs.Members.{Has, OnTop, Below}
 use Rattle.cpc_convert_accepted_laws.specs.Pieces.{VariablesHaveCells}
 
 -- a type has cells, one at least and not too many

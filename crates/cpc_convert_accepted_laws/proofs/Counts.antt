@@ -16,7 +16,7 @@ use Rattle.cpc_check_rules.specs.Operators.{is_cps}
 use Rattle.cpc_check_rules.specs.Rule.{Broken}
 use Rattle.cpc_check_rules.specs.Rules.{breadth, breadth_limit, broad_breaks}
 use Rattle.cpc_meaning.specs.Threads.{is_cps_mode}
-use Rattle.cpc_convert.specs.Form.{Has, OnTop, Below}
+use Rattle.cpc_convert.specs.Members.{Has, OnTop, Below}
 use Rattle.cpc_forms.specs.Order.{within, one_later, points_of, points_in, points_arm, points}
 
 -- ---- points

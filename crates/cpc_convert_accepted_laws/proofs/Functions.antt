@@ -23,9 +23,9 @@ use Rattle.cpc_base.specs.declared.stop.Dialect.TheVariants as D
 use Rattle.cpc_check_sound_laws.proofs.Answers.{not_true}
 use Rattle.cpc_check_sound_laws.proofs.Scalars.{both_true}
 use Rattle.cpc_check_sound_laws.proofs.Unbroken.{split, holds_then}
-use Rattle.cpc_convert.specs.Accepted.{has_marks}
+use Rattle.cpc_convert.specs.Marks.{has_marks}
 use Rattle.cpc_convert.specs.Converted.{marked}
-use Rattle.cpc_convert.specs.Form.{Has, OnTop, Below}
+use Rattle.cpc_convert.specs.Members.{Has, OnTop, Below}
 use Rattle.cpc_convert_accepted_laws.specs.Functions.{ScopesMeanVariables, AcceptedIsShown, AcceptedHasMain}
 use Rattle.cpc_convert_accepted_laws.specs.Names.{HasNames}
 use Rattle.cpc_convert_accepted_laws.proofs.Marks.{marks_are}

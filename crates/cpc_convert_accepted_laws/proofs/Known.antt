@@ -47,7 +47,7 @@ use Rattle.cpc_meaning_kept_laws.proofs.Runs.{nothing_points_to_frames}
 use Rattle.cpc_meaning_kept_laws.proofs.Slots.{cleared_fit, slots_are_known}
 use Rattle.cpc_check_sound_laws.proofs.Accepted.{accepted_facts}
 use Rattle.cpc_meaning_kept_laws.proofs.Trees.{native_there, accepted_is_steady}
-use Rattle.cpc_convert.specs.Accepted.{has_marks}
+use Rattle.cpc_convert.specs.Marks.{has_marks}
 use Rattle.cpc_convert_event.specs.ClosureLaws.{lifting}
 use Rattle.cpc_convert_accepted_laws.specs.Known.{AreScalar, Stays, HoldsOfNatives, AcceptedCodesStay, KeptSlot, IsRegister, IsBox, FineFrame, FineStack, BeginsWell, FineThread, FineJob, FineState, AcceptedIsFine}
 use Rattle.cpc_convert_accepted_laws.specs.Lifted.{kept_of, lifted_after}

@@ -9,7 +9,7 @@ use Rattle.cpc_check_rules.specs.FunctionRules.{begins_with, holds_bars, is_kept
 use Rattle.cpc_check_sound_laws.proofs.Bodies.{either_false}
 use Rattle.cpc_check_sound_laws.proofs.Answers.{some_is}
 use Rattle.cpc_check_sound_laws.proofs.Unbroken.{split, holds_not}
-use Rattle.cpc_convert.specs.Accepted.{marks_in}
+use Rattle.cpc_convert.specs.Marks.{marks_in}
 use Rattle.cpc_convert_accepted_laws.specs.Names.{IsPlain}
 
 -- ---- two bars

@@ -25,7 +25,7 @@ use Rattle.cpc_check_sound_laws.proofs.Grammar.{items_shape}
 use Rattle.cpc_check_sound_laws.proofs.Knowing.{primitive_kept}
 use Rattle.cpc_check_sound_laws.proofs.Programs.{ItemShape}
 use Rattle.cpc_check_sound_laws.proofs.Unbroken.{split, holds_not}
-use Rattle.cpc_convert.specs.Form.{Has, OnTop, Below}
+use Rattle.cpc_convert.specs.Members.{Has, OnTop, Below}
 use Rattle.cpc_forms.specs.Flow.{Flow, flow_of, is_leader}
 use Rattle.cpc_forms.specs.Graph.{graph_of, node_of}
 use Rattle.cpc_forms.specs.Order.{points}

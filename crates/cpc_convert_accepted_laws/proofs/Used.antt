@@ -12,8 +12,8 @@ use Rattle.cpc_check_sound_laws.proofs.Expressions.{sign_some, tested_is}
 use Rattle.cpc_check_sound_laws.proofs.Options.{then_some}
 use Rattle.cpc_check_sound_laws.proofs.Agendas.{Each}
 use Rattle.cpc_meaning.proofs.Functions.{same_text}
-use Rattle.cpc_convert.specs.Accepted.{has_marks}
-use Rattle.cpc_convert.specs.Form.{Has, OnTop, Below}
+use Rattle.cpc_convert.specs.Marks.{has_marks}
+use Rattle.cpc_convert.specs.Members.{Has, OnTop, Below}
 use Rattle.cpc_convert_image_laws.specs.InPlace.{is_cps}
 use Rattle.cpc_convert_image_laws.specs.Names.{AllNames, AllNamesAmong}
 use Rattle.cpc_convert_accepted_laws.specs.Names.{name_of, HasNames}

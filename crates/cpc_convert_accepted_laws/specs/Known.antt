@@ -16,7 +16,7 @@ use Rattle.cpc_meaning.specs.Plain.{Frame, Stack}
 use Rattle.cpc_meaning.specs.Section.{Job}
 use Rattle.cpc_meaning.specs.Threads.{Thread, Pending, Suspended}
 use Rattle.cpc_forms.specs.Split.{Position}
-use Rattle.cpc_convert.specs.Accepted.{has_marks}
+use Rattle.cpc_convert.specs.Marks.{has_marks}
 use Rattle.cpc_convert_event.specs.ClosureLaws.{lifting}
 use Rattle.cpc_convert_image_laws.specs.Held.{IsHeld, IsHeldSlot, IsHeldStore}
 use Rattle.cpc_convert_image_laws.specs.InPlace.{is_cps}

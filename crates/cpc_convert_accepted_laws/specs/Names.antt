@@ -7,8 +7,8 @@ use Rattle.cpc_tree.specs.Typing.{AFunction, NotMeant, item_named, function_name
 use Rattle.cpc_tree.specs.Registers.{variables}
 use Rattle.cpc_check_rules.specs.FunctionRules.{is_kept}
 use Rattle.cpc_meaning.specs.Threads.{is_cps_mode}
-use Rattle.cpc_convert.specs.Accepted.{has_marks}
-use Rattle.cpc_convert.specs.Form.{Has}
+use Rattle.cpc_convert.specs.Marks.{has_marks}
+use Rattle.cpc_convert.specs.Members.{Has}
 use Rattle.cpc_forms.specs.Order.{points}
 use Rattle.cpc_convert_event.specs.NameLaws.{IsNamed}
 use Rattle.cpc_convert_accepted_laws.specs.Accepted.{OfAccepted}

@@ -4,7 +4,7 @@ use Rattle.cpc_tree.specs.Syntax.{Exprs, Variable, Function, FunctionItem, Progr
 use Rattle.cpc_tree.specs.Registers.{variables}
 use Rattle.cpc_tree.specs.Typing.{Scope, size, parameter_types}
 use Rattle.cpc_check_sound_laws.specs.Typed.{AllGet}
-use Rattle.cpc_convert.specs.Form.{Has}
+use Rattle.cpc_convert.specs.Members.{Has}
 use Rattle.cpc_forms.specs.Flow.{Place}
 use Rattle.cpc_convert_event.specs.AddressLaws.{AddressesAreBoxes, ResultsAreScalar}
 use Rattle.cpc_convert_event.specs.FillLaws.{ParametersAreScalar}

@@ -19,7 +19,7 @@ use Rattle.cpc_check_laws.proofs.NativeValues.{event}
 use Rattle.cpc_check_laws.proofs.OnePlace.{parameter_here, stmt_here, item_again}
 use Rattle.cpc_check_sound_laws.proofs.Knowing.{primitive_kept}
 use Rattle.cpc_meaning.proofs.Functions.{text_same, texts_differ}
-use Rattle.cpc_convert.specs.Accepted.{has_marks}
+use Rattle.cpc_convert.specs.Marks.{has_marks}
 use Rattle.cpc_convert.specs.Converted.{function_item}
 use Rattle.cpc_forms.specs.Flow.{Start}
 use Rattle.cpc_convert_chain_laws.specs.Flat.{before}

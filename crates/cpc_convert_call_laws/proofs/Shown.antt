@@ -10,7 +10,7 @@ use Rattle.cpc_tree.specs.Registers.{variables, outer_scope}
 use Rattle.cpc_tree.specs.Syntax.{Ty, TyVoid, TyPointer, TyStruct, Variable, Function, Program}
 use Rattle.cpc_tree.specs.Typing.{Scope, ALocal, AFunction, named, item_named, parameter_type}
 use Rattle.cpc_meaning.proofs.Functions.{texts_differ}
-use Rattle.cpc_convert.specs.Accepted.{has_marks}
+use Rattle.cpc_convert.specs.Marks.{has_marks}
 use Rattle.cpc_convert.specs.Converted.{marked, spawner_name}
 use Rattle.cpc_convert.proofs.Marks.{marked_is, no_bar_decimal}
 use Rattle.cpc_forms.specs.Flow.{Place, Start, At}

@@ -4,7 +4,7 @@ use Rattle.std.proofs.lemmas.Option.{slice_get_within}
 use Rattle.cpc_tree.specs.Points.{Path, Point, Here, Arrival, End, begin}
 use Rattle.cpc_tree.specs.Syntax.{Function, Program}
 use Rattle.cpc_meaning.specs.Ways.{Manner, InPlace, ByFrame, AsCps, is_cps_statement, manner_at}
-use Rattle.cpc_convert.specs.Form.{Has}
+use Rattle.cpc_convert.specs.Members.{Has}
 use Rattle.cpc_forms.specs.Flow.{Place, Start, At, Flow, resumes_at, goes_to, sources, two_or_more, is_leader, owner_of, owner_by}
 use Rattle.cpc_forms.specs.Graph.{Node, node_of, graph_of, at_node}
 use Rattle.cpc_forms.specs.Order.{is_in, number_of}

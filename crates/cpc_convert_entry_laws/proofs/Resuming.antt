@@ -8,7 +8,7 @@ use Rattle.cpc_store.specs.declared.values.Class.TheVariants.{Frame}
 use Rattle.cpc_store.specs.Store.{Value, Blocks, Store, cells_of}
 use Rattle.cpc_meaning.specs.Eval.{Slot, Register}
 use Rattle.cpc_meaning.specs.Plain.{Frame as CallFrame}
-use Rattle.cpc_convert.specs.Form.{Has}
+use Rattle.cpc_convert.specs.Members.{Has}
 use Rattle.cpc_forms.specs.Flow.{Place, At}
 use Rattle.cpc_forms.specs.Split.{Position}
 use Rattle.cpc_convert_image_laws.specs.Held.{beside}

@@ -13,7 +13,7 @@ use Rattle.cpc_meaning.specs.Answer.{Gives, ◌>>=◌}
 use Rattle.cpc_meaning.specs.Eval.{Slot, Register}
 use Rattle.cpc_meaning.specs.Slots.{make_slots, call_slots}
 use Rattle.cpc_meaning.proofs.Functions.{text_same}
-use Rattle.cpc_convert.specs.Accepted.{has_marks}
+use Rattle.cpc_convert.specs.Marks.{has_marks}
 use Rattle.cpc_convert.specs.Converted.{marked}
 use Rattle.cpc_forms.specs.Flow.{Start}
 use Rattle.cpc_graph_laws.proofs.Formed.{equal_self, in_left}

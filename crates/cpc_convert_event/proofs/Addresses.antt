@@ -8,7 +8,7 @@ use Rattle.cpc_tree.specs.Registers.{variables, addressed}
 use Rattle.cpc_tree.specs.Typing.{function_named}
 use Rattle.cpc_meaning.specs.Act.{Stood, AtStatement, AtArrival, AtEnd, target_of}
 use Rattle.cpc_meaning.specs.Ways.{Manner, InPlace, ByFrame, AsCps}
-use Rattle.cpc_convert.specs.Accepted.{has_marks}
+use Rattle.cpc_convert.specs.Marks.{has_marks}
 use Rattle.cpc_convert_image_laws.specs.Images.{Reading, AsLocal, AsField, Readings, image_named, image, images, image_if, followed}
 use Rattle.cpc_forms.specs.Graph.{Node, graph_of, at_node}
 use Rattle.cpc_forms.specs.Flow.{Place, Start, At}

@@ -6,9 +6,9 @@ use Rattle.cpc_tree.specs.Typing.{◌>>=◌, Cells, both, cells_in, struct_cells
 use Rattle.cpc_meaning.specs.Start.{main_name}
 use Rattle.cpc_meaning.specs.Threads.{is_cps_mode, is_cps}
 use Rattle.cpc_meaning.proofs.Functions.{text_same}
-use Rattle.cpc_convert.specs.Accepted.{has_marks}
+use Rattle.cpc_convert.specs.Marks.{has_marks}
 use Rattle.cpc_convert.specs.Converted.{function_item, prototype}
-use Rattle.cpc_convert.specs.Form.{Has, OnTop, Below}
+use Rattle.cpc_convert.specs.Members.{Has, OnTop, Below}
 use Rattle.cpc_convert_image_laws.specs.Relations.{Less, AsIs, Extends}
 use Rattle.cpc_convert_image_laws.proofs.Options.{less_then}
 use Rattle.cpc_convert_chain_laws.specs.Structs.{NoStruct, NoneHere, NotThis}

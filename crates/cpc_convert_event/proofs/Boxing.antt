@@ -10,7 +10,7 @@ use Rattle.cpc_tree.specs.Typing.{Scope, ALocal, named, is_scalar, size, field}
 use Rattle.cpc_store.specs.Store.{Value, Whole, Store}
 use Rattle.cpc_meaning.specs.Answer.{Gives}
 use Rattle.cpc_meaning.specs.Eval.{Slot, value}
-use Rattle.cpc_convert.specs.Form.{Has, OnTop, Below}
+use Rattle.cpc_convert.specs.Members.{Has, OnTop, Below}
 use Rattle.cpc_forms.specs.Flow.{Start}
 use Rattle.cpc_lift_laws.specs.Boxes.{is_box, is_box_in, has_block}
 use Rattle.cpc_lift_laws.specs.Lift.{boxes_from}

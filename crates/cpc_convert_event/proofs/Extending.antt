@@ -5,7 +5,7 @@ use Rattle.cpc_base.specs.Bytes.{Text}
 use Rattle.cpc_tree.specs.Syntax.{Ty, TyVoid, TyInt, TyCondvar, TyPointer, TyCode, TyStruct, TyArray, Variable, Item, StructItem, GlobalItem, PrototypeItem, FunctionItem, Program}
 use Rattle.cpc_tree.specs.Typing.{Cells, cells_in, fields_cells, struct_cells, cells, size, fields_in, field_from}
 use Rattle.cpc_meaning.proofs.Functions.{same_text, texts_differ}
-use Rattle.cpc_convert.specs.Accepted.{has_marks}
+use Rattle.cpc_convert.specs.Marks.{has_marks}
 use Rattle.cpc_convert_image_laws.specs.Relations.{Less, AsIs, Untold, Extends}
 use Rattle.cpc_convert_image_laws.proofs.Options.{less_then}
 use Rattle.cpc_convert_event.proofs.Structs.{AreStructs, NoneAre, OneIs}

@@ -8,7 +8,7 @@ use Rattle.cpc_tree.specs.Typing.{is_scalar}
 use Rattle.cpc_tree.specs.Registers.{variables, as_variable, is_register, addressed}
 use Rattle.cpc_tree.specs.Points.{locals}
 use Rattle.cpc_meaning.proofs.Functions.{texts_differ}
-use Rattle.cpc_convert.specs.Accepted.{has_marks}
+use Rattle.cpc_convert.specs.Marks.{has_marks}
 use Rattle.cpc_convert.specs.Converted.{marked}
 use Rattle.cpc_convert.proofs.Marks.{marked_is, no_bar_decimal, decimal_is, bar_piece}
 use Rattle.cpc_convert_image_laws.specs.Locals.{local_type}

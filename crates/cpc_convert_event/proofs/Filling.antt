@@ -9,7 +9,7 @@ use Rattle.cpc_tree.specs.Registers.{variables}
 use Rattle.cpc_tree.specs.Typing.{Scope, is_scalar, field}
 use Rattle.cpc_store.specs.Store.{Value, Unset, Whole, Null, At as Pointer, Code, Cond}
 use Rattle.cpc_meaning.specs.Eval.{Slot}
-use Rattle.cpc_convert.specs.Form.{Has}
+use Rattle.cpc_convert.specs.Members.{Has}
 use Rattle.cpc_forms.specs.Flow.{Place, Start, At}
 use Rattle.cpc_convert_image_laws.specs.Locals.{local_type}
 use Rattle.cpc_convert_chain_laws.specs.Chains.{frame_cells}

@@ -3,7 +3,7 @@ use Rattle.std.proofs.Common.{◌≡◌, ◌⊎◌, inl, inr, ⊎_elim, Bool, tr
 use Rattle.cpc_base.specs.Bytes.{Text}
 use Rattle.cpc_tree.specs.Syntax.{Variable, Item, StructItem, GlobalItem, PrototypeItem, FunctionItem}
 use Rattle.cpc_meaning.proofs.Functions.{same_text, text_same}
-use Rattle.cpc_convert.specs.Form.{Has, OnTop, Below}
+use Rattle.cpc_convert.specs.Members.{Has, OnTop, Below}
 use Rattle.cpc_convert_chain_laws.specs.Structs.{NoStruct, NoneHere, NotThis, IsStruct, ScalarFields}
 use Rattle.cpc_convert_chain_laws.proofs.Structs.{is_struct}
 

@@ -9,7 +9,7 @@ use Rattle.cpc_tree.specs.Points.{locals_in}
 use Rattle.cpc_tree.specs.Registers.{variables}
 use Rattle.cpc_tree.specs.Typing.{Scope, ALocal, named, is_scalar}
 use Rattle.cpc_meaning.proofs.Functions.{texts_differ, text_same}
-use Rattle.cpc_convert.specs.Accepted.{has_marks}
+use Rattle.cpc_convert.specs.Marks.{has_marks}
 use Rattle.cpc_convert.specs.Converted.{marked}
 use Rattle.cpc_forms.specs.Flow.{Place, Start, At}
 use Rattle.cpc_forms.specs.Pieces.{Once, NoNumber, AndOther}

@@ -6,11 +6,11 @@ use Rattle.cpc_tree.specs.Typing.{function_named}
 use Rattle.cpc_meaning.specs.Start.{main_name}
 use Rattle.cpc_meaning.specs.Threads.{is_cps_mode, is_cps}
 use Rattle.cpc_meaning.proofs.Functions.{texts_differ}
-use Rattle.cpc_convert.specs.Accepted.{has_marks}
+use Rattle.cpc_convert.specs.Marks.{has_marks}
 use Rattle.cpc_convert.specs.Converted.{marked, spawner_name, function_item}
-use Rattle.cpc_convert.specs.Form.{Has, OnTop, Below}
+use Rattle.cpc_convert.specs.Members.{Has, OnTop, Below}
 use Rattle.cpc_convert.proofs.Marks.{NoBar, marked_is, marked_differs, differs_marked}
-use Rattle.cpc_convert.proofs.Made.{skip_prototypes, find_function, pass_functions}
+use Rattle.cpc_convert.proofs.Listed.{skip_prototypes, find_function, pass_functions}
 use Rattle.cpc_forms.specs.Flow.{Place}
 use Rattle.cpc_convert_chain_laws.specs.Driver.{drive_name, drive_function}
 use Rattle.cpc_convert_event.specs.Names.{piece_name}

@@ -5,10 +5,10 @@ use Rattle.cpc_tree.specs.Syntax.{Function, Item, StructItem, GlobalItem, Protot
 use Rattle.cpc_tree.specs.Typing.{function_named}
 use Rattle.cpc_meaning.specs.Threads.{is_cps_mode}
 use Rattle.cpc_meaning.proofs.Functions.{same_text}
-use Rattle.cpc_convert.specs.Accepted.{has_marks}
-use Rattle.cpc_convert.specs.Form.{Has, OnTop, Below}
+use Rattle.cpc_convert.specs.Marks.{has_marks}
+use Rattle.cpc_convert.specs.Members.{Has, OnTop, Below}
 use Rattle.cpc_convert.proofs.Marks.{marked_is, marked_differs}
-use Rattle.cpc_convert.proofs.Made.{has_left, has_right, has_either}
+use Rattle.cpc_convert.proofs.Members.{has_left, has_right, has_either}
 use Rattle.cpc_forms.specs.Flow.{Place, Start, At}
 use Rattle.cpc_convert_event.specs.Routines.{Routine, routine_of}
 use Rattle.cpc_convert_event.specs.Pieces.{piece_function, leader_function, spawner_function, made_of}

@@ -9,11 +9,11 @@ use Rattle.cpc_meaning.specs.Start.{main_name}
 use Rattle.cpc_meaning.specs.Threads as T
 use Rattle.cpc_meaning.specs.Threads.{is_cps_mode}
 use Rattle.cpc_meaning.proofs.Functions.{texts_differ, same_text}
-use Rattle.cpc_convert.specs.Accepted.{has_marks}
+use Rattle.cpc_convert.specs.Marks.{has_marks}
 use Rattle.cpc_convert.specs.Converted.{marked, function_item, prototype}
-use Rattle.cpc_convert.specs.Form.{Has, OnTop, Below}
+use Rattle.cpc_convert.specs.Members.{Has, OnTop, Below}
 use Rattle.cpc_convert.proofs.Marks.{NoBar, marked_is, marked_differs}
-use Rattle.cpc_convert.proofs.Made.{find_prototype, pass_prototypes, pass_items}
+use Rattle.cpc_convert.proofs.Listed.{find_prototype, pass_prototypes, pass_items}
 use Rattle.cpc_convert_image_laws.specs.InPlace.{is_cps}
 use Rattle.cpc_convert_chain_laws.specs.Driver.{drive_name, drive_function}
 use Rattle.cpc_convert_event.specs.Routines.{Routine, routine_of}

@@ -6,7 +6,7 @@ use Rattle.cpc_tree.specs.Lists.{is_empty}
 use Rattle.cpc_tree.specs.Typing.{Scope, ALocal, named, item_named}
 use Rattle.cpc_tree.specs.Registers.{outer_scope}
 use Rattle.cpc_meaning.proofs.Functions.{texts_differ}
-use Rattle.cpc_convert.specs.Accepted.{has_marks}
+use Rattle.cpc_convert.specs.Marks.{has_marks}
 use Rattle.cpc_convert.proofs.Marks.{marked_has}
 use Rattle.cpc_forms.specs.Flow.{Place}
 use Rattle.cpc_convert_chain_laws.specs.Frames.{Load, loaded_scope, declared_scope}

@@ -4,7 +4,7 @@ use Rattle.cpc_base.specs.Bytes.{Text}
 use Rattle.cpc_tree.specs.Syntax.{Ty, Variable, Item, StructItem}
 use Rattle.cpc_tree.specs.Typing.{item_named, function_named, is_scalar}
 use Rattle.cpc_tree.specs.Syntax.{Program}
-use Rattle.cpc_convert.specs.Accepted.{has_marks}
+use Rattle.cpc_convert.specs.Marks.{has_marks}
 use Rattle.cpc_convert.proofs.Marks.{marked_has}
 use Rattle.cpc_forms.specs.Flow.{Start, At}
 use Rattle.cpc_convert_event.proofs.Apart.{behind, piece_is, value_is, box_is}

@@ -9,11 +9,11 @@ use Rattle.cpc_meaning.specs.Start.{main_name}
 use Rattle.cpc_meaning.specs.Act.{Stood, AtStatement, AtArrival, AtEnd}
 use Rattle.cpc_meaning.specs.Ways.{Manner, InPlace, ByFrame, AsCps}
 use Rattle.cpc_meaning.specs.Threads.{is_cps_mode, is_cps}
-use Rattle.cpc_convert.specs.Accepted.{has_marks}
+use Rattle.cpc_convert.specs.Marks.{has_marks}
 use Rattle.cpc_convert.specs.Converted.{marked, function_item, prototype}
-use Rattle.cpc_convert.specs.Form.{Has, OnTop, Below}
+use Rattle.cpc_convert.specs.Members.{Has, OnTop, Below}
 use Rattle.cpc_convert.proofs.Marks.{marked_has}
-use Rattle.cpc_convert.proofs.Made.{has_left, has_either}
+use Rattle.cpc_convert.proofs.Members.{has_left, has_either}
 use Rattle.cpc_forms.specs.Graph.{Node, at_node}
 use Rattle.cpc_forms.specs.Flow.{Start, At}
 use Rattle.cpc_convert_chain_laws.specs.Structs.{IsStruct, ScalarFields}

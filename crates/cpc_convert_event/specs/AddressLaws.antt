@@ -6,7 +6,7 @@ use Rattle.cpc_tree.specs.Points.{Found, Simple, Test, Nothing}
 use Rattle.cpc_tree.specs.Registers.{variables, addressed}
 use Rattle.cpc_tree.specs.Typing.{is_scalar}
 use Rattle.cpc_meaning.specs.Act.{Stood, AtStatement, AtArrival, AtEnd}
-use Rattle.cpc_convert.specs.Accepted.{has_marks}
+use Rattle.cpc_convert.specs.Marks.{has_marks}
 use Rattle.cpc_convert_image_laws.specs.Images.{Reading, AsLocal, AsField}
 use Rattle.cpc_forms.specs.Graph.{Node, graph_of}
 use Rattle.cpc_forms.specs.Flow.{Place}

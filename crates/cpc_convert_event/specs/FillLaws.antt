@@ -5,7 +5,7 @@ use Rattle.cpc_tree.specs.Registers.{variables}
 use Rattle.cpc_tree.specs.Typing.{Scope, is_scalar}
 use Rattle.cpc_store.specs.Store.{Value, Unset}
 use Rattle.cpc_meaning.specs.Eval.{Slot}
-use Rattle.cpc_convert.specs.Form.{Has}
+use Rattle.cpc_convert.specs.Members.{Has}
 use Rattle.cpc_forms.specs.Flow.{Start, At}
 use Rattle.cpc_convert_chain_laws.specs.Chains.{frame_cells}
 use Rattle.cpc_convert_chain_laws.specs.Driver.{any_pointer}

@@ -8,9 +8,9 @@ use Rattle.cpc_tree.specs.Typing.{AFunction, item_named, function_named, paramet
 use Rattle.cpc_tree.specs.Registers.{variables}
 use Rattle.cpc_meaning.specs.Start.{main_name}
 use Rattle.cpc_meaning.specs.Threads.{is_cps_mode}
-use Rattle.cpc_convert.specs.Accepted.{has_marks}
+use Rattle.cpc_convert.specs.Marks.{has_marks}
 use Rattle.cpc_convert.specs.Converted.{spawner_name}
-use Rattle.cpc_convert.specs.Form.{Has}
+use Rattle.cpc_convert.specs.Members.{Has}
 use Rattle.cpc_convert_image_laws.specs.InPlace.{is_cps}
 use Rattle.cpc_forms.specs.Flow.{Place, Start, At}
 use Rattle.cpc_convert_chain_laws.specs.Driver.{drive_name, drive_function, any_pointer}

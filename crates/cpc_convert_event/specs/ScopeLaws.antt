@@ -3,7 +3,7 @@ use Rattle.std.specs.Prelude.{◌≡◌, false}
 use Rattle.cpc_base.specs.Bytes.{Text}
 use Rattle.cpc_tree.specs.Syntax.{Program}
 use Rattle.cpc_tree.specs.Typing.{named, item_named}
-use Rattle.cpc_convert.specs.Accepted.{has_marks}
+use Rattle.cpc_convert.specs.Marks.{has_marks}
 use Rattle.cpc_forms.specs.Flow.{Place}
 use Rattle.cpc_convert_event.specs.Routines.{Routine}
 use Rattle.cpc_convert_event.specs.FlatLaws.{piece_scope}

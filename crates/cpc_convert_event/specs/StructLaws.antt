@@ -5,7 +5,7 @@ use Rattle.cpc_tree.specs.Syntax.{TyInt, TyStruct, Variable, Function, Program}
 use Rattle.cpc_tree.specs.Typing as Typing
 use Rattle.cpc_tree.specs.Typing.{is_scalar}
 use Rattle.cpc_base.specs.Bytes.{Text}
-use Rattle.cpc_convert.specs.Form.{Has}
+use Rattle.cpc_convert.specs.Members.{Has}
 use Rattle.cpc_convert_image_laws.specs.Relations.{Less, Extends}
 use Rattle.cpc_forms.specs.Flow.{Start, At}
 use Rattle.cpc_convert_chain_laws.specs.Structs.{IsStruct}

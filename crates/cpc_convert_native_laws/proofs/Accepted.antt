@@ -20,7 +20,7 @@ use Rattle.cpc_tree.specs.Tokens.{Placed}
 use Rattle.cpc_tree.specs.Located.{LProgram, LItem, LStruct, LGlobal, LPrototype, LFunctionItem, bare_item, bare}
 use Rattle.cpc_tree.specs.Syntax.{Ty, Expr, Item, GlobalItem, Program}
 use Rattle.cpc_tree.specs.Typing.{cells}
-use Rattle.cpc_convert.specs.Form.{Has, OnTop, Below}
+use Rattle.cpc_convert.specs.Members.{Has, OnTop, Below}
 use Rattle.cpc_convert_native_laws.specs.Convertible.{GlobalsComplete}
 
 -- ---- items so far

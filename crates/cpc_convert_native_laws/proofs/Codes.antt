@@ -8,10 +8,10 @@ use Rattle.cpc_tree.specs.declared.program.Mode.TheVariants.{Extern, Native, Cps
 use Rattle.cpc_meaning.specs.Start.{main_name}
 use Rattle.cpc_meaning.specs.Threads.{is_cps_mode, is_cps}
 use Rattle.cpc_meaning.proofs.Functions.{texts_differ}
-use Rattle.cpc_convert.specs.Accepted.{has_marks}
+use Rattle.cpc_convert.specs.Marks.{has_marks}
 use Rattle.cpc_convert.specs.Converted.{function_item, prototype}
-use Rattle.cpc_convert.specs.Form.{Has}
-use Rattle.cpc_convert.proofs.Made.{skip_prototypes, pass_functions}
+use Rattle.cpc_convert.specs.Members.{Has}
+use Rattle.cpc_convert.proofs.Listed.{skip_prototypes, pass_functions}
 use Rattle.cpc_convert.proofs.Marks.{marked_differs}
 use Rattle.cpc_convert_chain_laws.specs.Driver.{drive_name, drive_function}
 use Rattle.cpc_convert_image_laws.specs.InPlace as I

@@ -11,7 +11,7 @@ use Rattle.cpc_meaning.specs.Layout.{layout}
 use Rattle.cpc_meaning.specs.Start.{main_name, start_cells, globals, make_globals}
 use Rattle.cpc_meaning.specs.Threads.{is_cps_mode, is_cps}
 use Rattle.cpc_convert.specs.Converted.{function_item, prototype}
-use Rattle.cpc_convert.specs.Form.{Has, OnTop, Below}
+use Rattle.cpc_convert.specs.Members.{Has, OnTop, Below}
 use Rattle.cpc_convert_image_laws.specs.Held.{beside}
 use Rattle.cpc_convert_image_laws.specs.Relations.{Extends}
 use Rattle.cpc_convert_event.specs.Converted.{kept_function, item_unless, kept_items, routines, all_structs, all_boxes, all_made, main_if, converted_with, converted}

@@ -8,7 +8,7 @@ use Rattle.cpc_tree.specs.Registers.{parameter_scope}
 use Rattle.cpc_tree.specs.Syntax.{Variable, Program}
 use Rattle.cpc_tree.specs.Typing.{Local, Scope, ALocal, named, item_named}
 use Rattle.cpc_meaning.proofs.Functions.{text_same, texts_differ}
-use Rattle.cpc_convert.specs.Accepted.{has_marks}
+use Rattle.cpc_convert.specs.Marks.{has_marks}
 use Rattle.cpc_convert.specs.Converted.{marked}
 use Rattle.cpc_convert.proofs.Marks.{differs_marked, marked_is, no_bar_decimal}
 use Rattle.cpc_forms.specs.Flow.{Start}

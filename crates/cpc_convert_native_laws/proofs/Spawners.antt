@@ -26,7 +26,7 @@ use Rattle.cpc_meaning.specs.Trees.{trees, first_point, stood_at, scope_from, po
 use Rattle.cpc_meaning.specs.Ways.{only_if, way_from, goes_in_step, manner_of}
 use Rattle.cpc_meaning.proofs.Functions.{gives_then}
 use Rattle.cpc_meaning.proofs.SameValues.{at}
-use Rattle.cpc_convert.specs.Accepted.{has_marks}
+use Rattle.cpc_convert.specs.Marks.{has_marks}
 use Rattle.cpc_convert.specs.Converted.{spawner_name}
 use Rattle.cpc_convert.proofs.Marks.{marked_has}
 use Rattle.cpc_convert.proofs.Respawn.{founds, respawned_found}

@@ -12,8 +12,8 @@ use Rattle.cpc_store.specs.Store.{Value, Unset, At as Pointer, Blocks, Store}
 use Rattle.cpc_meaning.specs.Eval.{Slot, Register}
 use Rattle.cpc_meaning.specs.Plain.{Frame as CallFrame}
 use Rattle.cpc_meaning.proofs.Functions.{text_same}
-use Rattle.cpc_convert.specs.Accepted.{has_marks}
-use Rattle.cpc_convert.specs.Form.{Has, OnTop, Below}
+use Rattle.cpc_convert.specs.Marks.{has_marks}
+use Rattle.cpc_convert.specs.Members.{Has, OnTop, Below}
 use Rattle.cpc_convert_image_laws.specs.Held.{beside}
 use Rattle.cpc_convert_image_laws.specs.Locals.{Stands, AsValue, AsBlock, local_type}
 use Rattle.cpc_convert_image_laws.proofs.Locals.{stands_apart}

@@ -12,7 +12,7 @@ use Rattle.cpc_tree.specs.Typing.{Scope, ALocal, AFunction, NotMeant, named, ite
 use Rattle.cpc_store.specs.Store.{Value}
 use Rattle.cpc_meaning.specs.Eval.{Slot, Register}
 use Rattle.cpc_meaning.proofs.Functions.{texts_differ}
-use Rattle.cpc_convert.specs.Accepted.{has_marks}
+use Rattle.cpc_convert.specs.Marks.{has_marks}
 use Rattle.cpc_convert.specs.Converted.{marked}
 use Rattle.cpc_convert.proofs.Marks.{marked_is, no_bar_decimal}
 use Rattle.cpc_convert_image_laws.specs.InPlace.{is_cps}

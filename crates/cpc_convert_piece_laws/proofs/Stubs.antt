@@ -5,7 +5,7 @@ use Rattle.cpc_tree.specs.Syntax.{Ty, ENamed, Stmt, Stmts, NoStmt, AndStmt, Func
 use Rattle.cpc_store.specs.declared.values.Class.TheVariants.{Frame}
 use Rattle.cpc_store.specs.Store.{Value, At as Pointer, Blocks, Store}
 use Rattle.cpc_meaning.specs.Eval.{Slot, Register}
-use Rattle.cpc_convert.specs.Form.{Has}
+use Rattle.cpc_convert.specs.Members.{Has}
 use Rattle.cpc_convert_image_laws.specs.Held.{beside}
 use Rattle.cpc_convert_image_laws.proofs.Slots.{got_set}
 use Rattle.cpc_forms.specs.Flow.{Place, At}

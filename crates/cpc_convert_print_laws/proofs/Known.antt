@@ -8,7 +8,7 @@ use Rattle.cpc_tree.specs.Syntax.{TyPointer, TyStruct, Variable, Function, Funct
 use Rattle.cpc_tree.specs.Registers.{variables}
 use Rattle.cpc_tree.specs.TypePrint.{base_row, star_count, declarator_row, declarator_depth, IsStarred, PrintableVariable}
 use Rattle.cpc_printer_laws.proofs.Fitting.{Spelled}
-use Rattle.cpc_convert.specs.Form.{Has}
+use Rattle.cpc_convert.specs.Members.{Has}
 use Rattle.cpc_meaning.specs.Act.{Stood, AtStatement, AtArrival, AtEnd}
 use Rattle.cpc_meaning.specs.Trees.{stood_at}
 use Rattle.cpc_convert_image_laws.specs.Locals.{local_type}

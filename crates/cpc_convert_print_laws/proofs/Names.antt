@@ -17,7 +17,7 @@ use Rattle.cpc_tree.specs.Tokens.{keyword_spelling, keywords, keyword_of}
 use Rattle.cpc_tree.specs.Pieces.{in_word}
 use Rattle.cpc_tree.specs.Spelling.{IsName}
 use Rattle.cpc_convert.specs.Converted.{marked, spawner_name}
-use Rattle.cpc_convert.specs.Accepted.{has_marks}
+use Rattle.cpc_convert.specs.Marks.{has_marks}
 use Rattle.cpc_convert.proofs.Marks.{marked_differs}
 use Rattle.cpc_forms.specs.Flow.{Place, Start, At}
 use Rattle.cpc_convert_event.specs.Names.{start_name, leader_name, piece_name, value_tag, box_tag, variable_name, node_label}

@@ -10,7 +10,7 @@ use Rattle.cpc_tree.specs.Syntax.{TyVoid, TyInt, TyPointer, TyStruct, ENamed, EI
 use Rattle.cpc_tree.specs.Typing.{is_scalar, function_named}
 use Rattle.cpc_tree.specs.TypePrint.{base_row}
 use Rattle.cpc_convert.specs.Converted.{spawner_name}
-use Rattle.cpc_convert.specs.Form.{Has, OnTop, Below}
+use Rattle.cpc_convert.specs.Members.{Has, OnTop, Below}
 use Rattle.cpc_meaning.specs.Act.{Stood, AtStatement, AtArrival, AtEnd}
 use Rattle.cpc_meaning.specs.Ways.{Manner, InPlace, ByFrame, AsCps}
 use Rattle.cpc_forms.specs.Flow.{Place, Start, At}

@@ -15,7 +15,7 @@ use Rattle.cpc_printer_laws.proofs.Fitting.{Spelled, spelled_both, spelled_parts
 use Rattle.cpc_meaning.specs.Start.{main_name}
 use Rattle.cpc_meaning.specs.Threads.{is_cps_mode, is_cps}
 use Rattle.cpc_convert.specs.Converted.{respawned, spawner_name, prototype, function_item}
-use Rattle.cpc_convert.specs.Form.{Has, OnTop, Below}
+use Rattle.cpc_convert.specs.Members.{Has, OnTop, Below}
 use Rattle.cpc_forms.specs.Flow.{Place, Start, At, flow_of}
 use Rattle.cpc_forms.specs.Order.{points}
 use Rattle.cpc_forms.specs.Graph.{graph_of, node_of}

@@ -15,7 +15,7 @@ use Rattle.cpc_tree.specs.ExprPrint.{expr_row}
 use Rattle.cpc_tree.specs.StmtPrint.{maybe_row, local_row, local_depth, call_row, section_row, locals_row, first_row, first_depth, step_row, stmt_row, block_row, stmt_depth, block_depth, PrintableLocals, PrintableFirst, PrintableStmt, PrintableBlock}
 use Rattle.cpc_tree.specs.ItemPrint.{mode_row, head_row, body_row, body_depth, item_row, item_depth, PrintableItem, PrintableBody}
 use Rattle.cpc_printer_laws.proofs.Fitting.{Spelled, spelled_parts}
-use Rattle.cpc_convert.specs.Form.{Has, OnTop, Below}
+use Rattle.cpc_convert.specs.Members.{Has, OnTop, Below}
 use Rattle.cpc_convert_print_laws.proofs.Items.{Prints, PrintsItem, first_item, later_items}
 use Rattle.cpc_convert_print_laws.proofs.Known.{VariablePrints, FunctionReads, ProgramReads}
 use Rattle.cpc_convert_print_laws.proofs.Source.{FoundPrints, stmt_found}

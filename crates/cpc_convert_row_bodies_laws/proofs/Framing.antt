@@ -15,7 +15,7 @@ use Rattle.cpc_check_complete_laws.proofs.Flat.{runs_both}
 use Rattle.cpc_check_complete_laws.proofs.FrameRows.{frame_run, call_run}
 use Rattle.cpc_check_complete_laws.proofs.Frames.{hands_fine}
 use Rattle.cpc_check_complete_laws.proofs.Kept.{typed_scalar}
-use Rattle.cpc_convert.specs.Form.{Has}
+use Rattle.cpc_convert.specs.Members.{Has}
 use Rattle.cpc_convert_image_laws.specs.Images.{Readings, image, images}
 use Rattle.cpc_forms.specs.Flow.{Place, At}
 use Rattle.cpc_graph_laws.proofs.Formed.{equal_self}

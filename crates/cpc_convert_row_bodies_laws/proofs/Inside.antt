@@ -19,7 +19,7 @@ use Rattle.cpc_check_complete_laws.proofs.FrameRows.{PrimitivesFree}
 use Rattle.cpc_check_complete_laws.proofs.Kept.{over}
 use Rattle.cpc_check_complete_laws.proofs.Pieces.{told_local, told_free, opened_told}
 use Rattle.cpc_check_complete_laws.proofs.Standing.{tells_more}
-use Rattle.cpc_convert.specs.Accepted.{has_marks}
+use Rattle.cpc_convert.specs.Marks.{has_marks}
 use Rattle.cpc_convert.specs.Converted.{spawner_name}
 use Rattle.cpc_forms.specs.Flow.{Place, Start}
 use Rattle.cpc_convert_chain_laws.specs.Driver.{drive_name, any_pointer}

@@ -26,9 +26,9 @@ use Rattle.cpc_check_complete_laws.proofs.Kept.{over}
 use Rattle.cpc_check_complete_laws.proofs.Pieces.{piece_carries}
 use Rattle.cpc_check_complete_laws.proofs.Sources.{RowOf, row_of, point_standing}
 use Rattle.cpc_check_complete_laws.proofs.Standing.{tells_more}
-use Rattle.cpc_convert.specs.Accepted.{has_marks}
-use Rattle.cpc_convert.specs.Form.{Has}
-use Rattle.cpc_convert.proofs.Made.{has_left}
+use Rattle.cpc_convert.specs.Marks.{has_marks}
+use Rattle.cpc_convert.specs.Members.{Has}
+use Rattle.cpc_convert.proofs.Members.{has_left}
 use Rattle.cpc_convert_image_laws.specs.Images.{Reading, AsLocal, Readings}
 use Rattle.cpc_convert_image_laws.specs.Locals.{reading_of, readings_in, local_type}
 use Rattle.cpc_forms.specs.Flow.{Place}

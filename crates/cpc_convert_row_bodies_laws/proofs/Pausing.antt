@@ -33,7 +33,7 @@ use Rattle.cpc_check_complete_laws.proofs.Frames.{runtime, pointer_sets, wait_fi
 use Rattle.cpc_check_complete_laws.proofs.Makers.{callback_suits}
 use Rattle.cpc_check_complete_laws.proofs.Parts.{call_parts, primitive_parts, section_parts}
 use Rattle.cpc_check_complete_laws.proofs.Rows.{detach_fine}
-use Rattle.cpc_convert.specs.Form.{Has}
+use Rattle.cpc_convert.specs.Members.{Has}
 use Rattle.cpc_convert_image_laws.specs.Images.{Readings, images}
 use Rattle.cpc_forms.specs.Flow.{Place, At}
 use Rattle.cpc_lift_laws.specs.Used.{used_in, used_among, used_if, used_by}

@@ -16,7 +16,7 @@ use Rattle.cpc_check_sound_laws.proofs.Agendas.{Each}
 use Rattle.cpc_check_sound_laws.proofs.Grammar.{items_shape}
 use Rattle.cpc_check_sound_laws.proofs.Paths.{function_typed}
 use Rattle.cpc_check_sound_laws.proofs.Programs.{BodyShape, ItemShape}
-use Rattle.cpc_convert.specs.Form.{Has, OnTop, Below}
+use Rattle.cpc_convert.specs.Members.{Has, OnTop, Below}
 use Rattle.cpc_forms.specs.Graph.{node_of}
 use Rattle.cpc_forms.specs.Order.{points}
 use Rattle.cpc_convert_event.specs.NameLaws.{IsCps}

@@ -10,7 +10,7 @@ use Rattle.cpc_meaning.specs.Act.{AtArrival}
 use Rattle.cpc_meaning.specs.Ways.{Manner, InPlace, ByFrame, AsCps}
 use Rattle.cpc_check_complete_laws.specs.Flat.{Runs, NoRow}
 use Rattle.cpc_check_complete_laws.proofs.Flat.{runs_both}
-use Rattle.cpc_convert.specs.Form.{Has, OnTop, Below}
+use Rattle.cpc_convert.specs.Members.{Has, OnTop, Below}
 use Rattle.cpc_forms.specs.Flow.{Place, Start, At, Flow, is_leader, owner_of, owner_by, owner_step, owner_within, as_list}
 use Rattle.cpc_forms.specs.Graph.{Node, node_of, graph_of, way, at_node}
 use Rattle.cpc_forms.specs.Order.{points}

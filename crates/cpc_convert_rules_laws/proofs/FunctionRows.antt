@@ -18,7 +18,7 @@ use Rattle.cpc_check_laws.proofs.NativeValues.{both_none}
 use Rattle.cpc_check_laws.proofs.OnePlace.{here, ident_here, variable_here, parameter_here, item_here}
 use Rattle.cpc_meaning.proofs.Functions.{text_same}
 use Rattle.cpc_convert.specs.Converted.{prototype, function_item}
-use Rattle.cpc_convert.specs.Form.{Has}
+use Rattle.cpc_convert.specs.Members.{Has}
 use Rattle.cpc_graph_laws.proofs.Formed.{equal_self}
 use Rattle.cpc_convert_chain_laws.specs.Structs.{ScalarFields, NoFields, AndField}
 use Rattle.cpc_convert_chain_laws.specs.Driver.{head_fields}

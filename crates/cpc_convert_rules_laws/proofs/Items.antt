@@ -6,7 +6,7 @@ use Rattle.cpc_tree.specs.Syntax.{Ty, Variable, Parameter, Item, StructItem, Glo
 use Rattle.cpc_tree.specs.Typing.{parameter_type}
 use Rattle.cpc_check_rules.specs.ItemRules.{Signature, is_struct, is_item, is_clash, is_disagreeing, clashes, agrees, disagrees}
 use Rattle.cpc_meaning.proofs.Functions.{texts_differ}
-use Rattle.cpc_convert.specs.Form.{Has, OnTop, Below}
+use Rattle.cpc_convert.specs.Members.{Has, OnTop, Below}
 
 -- ---- two tests
 

@@ -16,10 +16,10 @@ use Rattle.cpc_meaning.specs.Threads.{is_cps_mode}
 use Rattle.cpc_meaning.proofs.Functions.{same_text}
 use Rattle.cpc_check_sound_laws.proofs.Items.{last_first, named_more}
 use Rattle.cpc_check_sound_laws.proofs.Knowing.{Same}
-use Rattle.cpc_convert.specs.Accepted.{has_marks}
+use Rattle.cpc_convert.specs.Marks.{has_marks}
 use Rattle.cpc_convert.specs.Converted.{spawner_name, function_item}
-use Rattle.cpc_convert.specs.Form.{Has, OnTop, Below}
-use Rattle.cpc_convert.proofs.Made.{has_either}
+use Rattle.cpc_convert.specs.Members.{Has, OnTop, Below}
+use Rattle.cpc_convert.proofs.Members.{has_either}
 use Rattle.cpc_convert.proofs.Marks.{marked_has}
 use Rattle.cpc_convert_event.specs.Routines.{passed_from, passed}
 use Rattle.cpc_convert_event.specs.Pieces.{parameter_of}

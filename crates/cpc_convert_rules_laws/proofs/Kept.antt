@@ -8,7 +8,7 @@ use Rattle.cpc_tree.specs.Syntax.{Ty, Expr, Variable, Parameter, Function, Item,
 use Rattle.cpc_tree.specs.Typing.{Meant, AGlobal, AFunction, NotMeant, parameter_type}
 use Rattle.cpc_check_rules.specs.Scopes.{in_items}
 use Rattle.cpc_meaning.specs.Threads.{is_cps_mode}
-use Rattle.cpc_convert.specs.Form.{Has, OnTop, Below}
+use Rattle.cpc_convert.specs.Members.{Has, OnTop, Below}
 use Rattle.cpc_convert_image_laws.specs.InPlace.{is_cps}
 use Rattle.cpc_convert_event.specs.Converted.{kept_function, item_unless, kept_items}
 

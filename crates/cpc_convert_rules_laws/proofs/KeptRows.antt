@@ -19,10 +19,10 @@ use Rattle.cpc_check_sound_laws.proofs.Items.{named_more, is_defined, function_t
 use Rattle.cpc_check_sound_laws.proofs.Knowing.{Known, Same, primitive_kept}
 use Rattle.cpc_check_complete_laws.specs.Kept.{KeptName, KeptLocal, KeptGlobal, KeptFunction, KeptCps, KeptNothing, all_scalar, KeepsItems}
 use Rattle.cpc_check_complete_laws.specs.Steps.{HasSteps}
-use Rattle.cpc_convert.specs.Accepted.{has_marks}
+use Rattle.cpc_convert.specs.Marks.{has_marks}
 use Rattle.cpc_convert.specs.Converted.{spawner_name, prototype}
-use Rattle.cpc_convert.specs.Form.{Has, OnTop, Below}
-use Rattle.cpc_convert.proofs.Made.{has_left}
+use Rattle.cpc_convert.specs.Members.{Has, OnTop, Below}
+use Rattle.cpc_convert.proofs.Members.{has_left}
 use Rattle.cpc_convert_image_laws.specs.InPlace.{is_cps}
 use Rattle.cpc_convert_event.specs.Converted.{kept_items}
 use Rattle.cpc_convert_event.specs.NameLaws.{IsNamed, IsCps}

@@ -6,10 +6,10 @@ use Rattle.cpc_tree.specs.Lists.{holds_number}
 use Rattle.cpc_tree.specs.Syntax.{Function, StructItem, GlobalItem, PrototypeItem, FunctionItem, Program}
 use Rattle.cpc_meaning.specs.Threads.{is_cps_mode}
 use Rattle.cpc_meaning.proofs.Functions.{text_same}
-use Rattle.cpc_convert.specs.Accepted.{has_marks}
+use Rattle.cpc_convert.specs.Marks.{has_marks}
 use Rattle.cpc_convert.specs.Converted.{marked, spawner_name}
-use Rattle.cpc_convert.specs.Form.{Has, OnTop, Below}
-use Rattle.cpc_convert.proofs.Made.{has_right}
+use Rattle.cpc_convert.specs.Members.{Has, OnTop, Below}
+use Rattle.cpc_convert.proofs.Members.{has_right}
 use Rattle.cpc_convert.proofs.Marks.{NoBar, marked_is}
 use Rattle.cpc_forms.specs.Flow.{Place, Start, At, flow_of}
 use Rattle.cpc_forms.specs.Graph.{graph_of}

@@ -5,8 +5,8 @@ use Rattle.cpc_base.specs.Bytes.{Text}
 use Rattle.cpc_tree.specs.Syntax.{Item, StructItem, GlobalItem, PrototypeItem, FunctionItem, Program}
 use Rattle.cpc_tree.specs.Typing.{Meant, AGlobal, AFunction, NotMeant, parameter_type}
 use Rattle.cpc_check_rules.specs.Scopes.{in_items}
-use Rattle.cpc_convert.specs.Form.{Has, OnTop, Below}
-use Rattle.cpc_convert.proofs.Made.{has_left, has_right, has_either}
+use Rattle.cpc_convert.specs.Members.{Has, OnTop, Below}
+use Rattle.cpc_convert.proofs.Members.{has_left, has_right, has_either}
 use Rattle.cpc_convert_rules_laws.proofs.Items.{Declares}
 
 -- ---- backwards

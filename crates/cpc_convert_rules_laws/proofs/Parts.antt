@@ -10,10 +10,10 @@ use Rattle.cpc_check_rules.specs.FunctionRules.{is_kept}
 use Rattle.cpc_meaning.specs.Start.{main_name}
 use Rattle.cpc_meaning.specs.Threads.{is_cps}
 use Rattle.cpc_meaning.proofs.Functions.{texts_differ, same_text, text_same}
-use Rattle.cpc_convert.specs.Accepted.{has_marks}
+use Rattle.cpc_convert.specs.Marks.{has_marks}
 use Rattle.cpc_convert.specs.Converted.{marked, prototype, function_item}
-use Rattle.cpc_convert.specs.Form.{Has, OnTop, Below}
-use Rattle.cpc_convert.proofs.Made.{has_either}
+use Rattle.cpc_convert.specs.Members.{Has, OnTop, Below}
+use Rattle.cpc_convert.proofs.Members.{has_either}
 use Rattle.cpc_convert.proofs.Marks.{NoBar, marked_has, marked_is}
 use Rattle.cpc_convert_chain_laws.specs.Driver.{drive_name, drive_function, any_pointer, frame_tag}
 use Rattle.cpc_convert_event.specs.Routines.{Routine}

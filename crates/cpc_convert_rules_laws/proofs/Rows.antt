@@ -8,8 +8,8 @@ use Rattle.cpc_check_rules.specs.ItemRules.{item_breaks, items_breaks}
 use Rattle.cpc_check_rules.specs.Rules.{is_main, has_main}
 use Rattle.cpc_check_laws.proofs.NativeValues.{left_none, right_none, both_none}
 use Rattle.cpc_check_laws.proofs.OnePlace.{function_here, item_here, item_again}
-use Rattle.cpc_convert.specs.Form.{Has, OnTop, Below}
-use Rattle.cpc_convert.proofs.Made.{has_left, has_either}
+use Rattle.cpc_convert.specs.Members.{Has, OnTop, Below}
+use Rattle.cpc_convert.proofs.Members.{has_left, has_either}
 
 -- what items break at one place, behind these
 abbrev pub rows : Dialect → Program → Program → Program → Broken

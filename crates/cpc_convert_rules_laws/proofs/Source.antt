@@ -20,7 +20,7 @@ use Rattle.cpc_check_sound_laws.proofs.Answers.{some_is, no_some, not_true}
 use Rattle.cpc_check_sound_laws.proofs.Unbroken.{holds_not, have_all, negated}
 use Rattle.cpc_check_sound_laws.proofs.Items.{signed, function_there}
 use Rattle.cpc_check_sound_laws.proofs.Knowing.{Known, nothing_known, known_struct, known_global, known_function}
-use Rattle.cpc_convert.specs.Form.{Has}
+use Rattle.cpc_convert.specs.Members.{Has}
 use Rattle.cpc_convert_rules_laws.proofs.Items.{neither}
 use Rattle.cpc_convert_rules_laws.proofs.Rows.{rows, row_first, row_rest, has_at}
 

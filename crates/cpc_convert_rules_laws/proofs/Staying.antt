@@ -28,9 +28,9 @@ use Rattle.cpc_check_complete_laws.proofs.Acts.{start_carried}
 use Rattle.cpc_check_complete_laws.proofs.KeptFunctions.{function_kept}
 use Rattle.cpc_check_complete_laws.proofs.Names.{unread, image_if_unread, stays}
 use Rattle.cpc_check_complete_laws.proofs.Respawned.{unreserved}
-use Rattle.cpc_convert.specs.Accepted.{has_marks}
-use Rattle.cpc_convert.specs.Form.{Has, OnTop, Below}
-use Rattle.cpc_convert.proofs.Made.{has_either}
+use Rattle.cpc_convert.specs.Marks.{has_marks}
+use Rattle.cpc_convert.specs.Members.{Has, OnTop, Below}
+use Rattle.cpc_convert.proofs.Members.{has_either}
 use Rattle.cpc_convert_event.specs.Converted.{kept_function, kept_items}
 use Rattle.cpc_convert_rules_laws.proofs.Items.{beside_all, beside_each, no_struct, struct_none, no_item, item_none}
 use Rattle.cpc_convert_rules_laws.proofs.Kept.{KeptItem, KeepStruct, KeepGlobal, KeepPrototype, KeepFunction, KeptAt, kept_split, kept_has, has_kept, kept_last}

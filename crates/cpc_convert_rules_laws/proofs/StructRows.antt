@@ -19,10 +19,10 @@ use Rattle.cpc_check_laws.proofs.OnePlace.{here, ident_here, item_here, item_aga
 use Rattle.cpc_meaning.specs.Threads.{is_cps_mode}
 use Rattle.cpc_check_sound_laws.proofs.Agreement.{Grows, sizes_grow}
 use Rattle.cpc_check_sound_laws.proofs.Options.{then_some, then_of}
-use Rattle.cpc_convert.specs.Accepted.{has_marks}
+use Rattle.cpc_convert.specs.Marks.{has_marks}
 use Rattle.cpc_convert.specs.Converted.{marked}
-use Rattle.cpc_convert.specs.Form.{Has, OnTop, Below}
-use Rattle.cpc_convert.proofs.Made.{has_left, has_either}
+use Rattle.cpc_convert.specs.Members.{Has, OnTop, Below}
+use Rattle.cpc_convert.proofs.Members.{has_left, has_either}
 use Rattle.cpc_convert.proofs.Marks.{marked_has}
 use Rattle.cpc_forms.specs.Flow.{Place, Start, At}
 use Rattle.cpc_lift_laws.specs.Lift.{boxes}

@@ -11,8 +11,8 @@ use Rattle.cpc_check_rules.specs.ItemRules.{Signature, in_body, body_breaks, is_
 use Rattle.cpc_check_laws.proofs.OnePlace.{parameter_here, stmt_here, function_here, item_here}
 use Rattle.cpc_meaning.proofs.Functions.{text_same, texts_differ, same_text}
 use Rattle.cpc_convert.specs.Converted.{prototype, function_item}
-use Rattle.cpc_convert.specs.Form.{Has, OnTop, Below}
-use Rattle.cpc_convert.proofs.Made.{has_left, has_right, has_either}
+use Rattle.cpc_convert.specs.Members.{Has, OnTop, Below}
+use Rattle.cpc_convert.proofs.Members.{has_left, has_right, has_either}
 use Rattle.cpc_convert_chain_laws.specs.Driver.{drive_name, drive_function, frame_tag, head_fields}
 use Rattle.cpc_convert_chain_laws.specs.Structs.{NoStruct, NoneHere, NotThis}
 use Rattle.cpc_convert_chain_laws.proofs.Structs.{struct_fields}

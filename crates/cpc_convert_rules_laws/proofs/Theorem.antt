@@ -25,8 +25,8 @@ use Rattle.cpc_check_sound_laws.proofs.Grammar.{items_shape}
 use Rattle.cpc_check_sound_laws.proofs.Programs.{ItemShape, program_typed}
 use Rattle.cpc_check_complete_laws.proofs.Steps.{has_steps}
 use Rattle.cpc_convert.specs.Converted.{function_item}
-use Rattle.cpc_convert.specs.Form.{Has, OnTop, Below}
-use Rattle.cpc_convert.proofs.Made.{has_left, has_right}
+use Rattle.cpc_convert.specs.Members.{Has, OnTop, Below}
+use Rattle.cpc_convert.proofs.Members.{has_left, has_right}
 use Rattle.cpc_convert_event.specs.Pieces.{spawner_function}
 use Rattle.cpc_convert_event.specs.Routines.{Routine}
 use Rattle.cpc_convert_event.specs.Converted.{kept_function, kept_items, routines, all_boxes, all_made, main_function, main_if, converted}

@@ -21,8 +21,8 @@ use Rattle.cpc_check_sound_laws.proofs.Bodies.{size_of}
 use Rattle.cpc_check_sound_laws.proofs.Growing.{IsFresh, grows_step, grows_same, grows_on}
 use Rattle.cpc_check_sound_laws.proofs.Items.{last_first}
 use Rattle.cpc_check_sound_laws.proofs.Unbroken.{holds_then}
-use Rattle.cpc_convert.specs.Accepted.{has_marks}
-use Rattle.cpc_convert.specs.Form.{Has, OnTop, Below}
+use Rattle.cpc_convert.specs.Marks.{has_marks}
+use Rattle.cpc_convert.specs.Members.{Has, OnTop, Below}
 use Rattle.cpc_convert_image_laws.specs.Relations.{Less, AsIs, Untold}
 use Rattle.cpc_convert_chain_laws.specs.Structs.{NotCalled, NotSo, ScalarFields, NoFields, AndField}
 use Rattle.cpc_convert_event.specs.Converted.{kept_items}

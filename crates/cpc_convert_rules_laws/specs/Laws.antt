@@ -13,7 +13,7 @@ use Rattle.cpc_check_rules.specs.ItemRules.{in_body, body_breaks}
 use Rattle.cpc_check_rules.specs.Rules.{breaks}
 use Rattle.cpc_check_laws.proofs.OnePlace.{parameter_here, stmt_here, function_here}
 use Rattle.cpc_check_complete_laws.specs.Kept.{KeepsItems}
-use Rattle.cpc_convert.specs.Accepted.{has_marks}
+use Rattle.cpc_convert.specs.Marks.{has_marks}
 use Rattle.cpc_convert.specs.Converted.{spawner_name, function_item}
 use Rattle.cpc_convert_image_laws.specs.InPlace.{is_cps}
 use Rattle.cpc_forms.specs.Flow.{Place}

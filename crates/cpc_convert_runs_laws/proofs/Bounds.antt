@@ -7,7 +7,7 @@ use Rattle.cpc_tree.specs.declared.program.Mode.{Mode}
 use Rattle.cpc_tree.specs.declared.program.Mode.TheVariants.{Extern, Native, Cps, Detached}
 use Rattle.cpc_meaning.specs.Runs.{cps_variables, most_variables, cost}
 use Rattle.cpc_meaning.specs.Threads.{is_cps_mode}
-use Rattle.cpc_convert.specs.Form.{Has, OnTop, Below}
+use Rattle.cpc_convert.specs.Members.{Has, OnTop, Below}
 use Rattle.cpc_convert_event.specs.NameLaws.{IsCps}
 use Rattle.cpc_convert_laws.specs.Bounds.{Enough}
 use Rattle.cpc_convert_runs_laws.specs.Bounds.{bounds_of}

@@ -8,7 +8,7 @@ use Rattle.cpc_check_sound_laws.proofs.Accepted.{accepted_threads_never_stuck}
 use Rattle.cpc_meaning_kept_laws.specs.Layers.{KeepsModes}
 use Rattle.cpc_meaning_kept_laws.proofs.Modes.{accepted_keeps_modes}
 use Rattle.cpc_forms.specs.Split.{split_form}
-use Rattle.cpc_convert.specs.Form.{Has}
+use Rattle.cpc_convert.specs.Members.{Has}
 use Rattle.cpc_convert_event.specs.NameLaws.{IsCps}
 use Rattle.cpc_convert_known_laws.specs.Jobs.{SectionsTake}
 use Rattle.cpc_convert_accepted_laws.specs.Accepted.{OfAccepted}

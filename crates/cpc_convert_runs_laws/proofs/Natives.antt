@@ -23,7 +23,7 @@ use Rattle.cpc_check_sound_laws.proofs.Programs.{BodyShape, ItemShape}
 use Rattle.cpc_check_sound_laws.proofs.Shapes.{StepWritten, Written, AllWritten, MaybeWritten, all_first_written}
 use Rattle.cpc_check_sound_laws.proofs.Unbroken.{split}
 use Rattle.cpc_convert.specs.Converted.{respawned, respawned_all, respawned_arm}
-use Rattle.cpc_convert.specs.Form.{Has, OnTop, Below}
+use Rattle.cpc_convert.specs.Members.{Has, OnTop, Below}
 use Rattle.cpc_convert_event.specs.Converted.{kept_function, item_unless, kept_items, routine_if, routines_in, converted_with}
 use Rattle.cpc_convert_accepted_laws.specs.Names.{HasNames}
 use Rattle.cpc_convert_accepted_laws.proofs.Names.{accepted_has_names}

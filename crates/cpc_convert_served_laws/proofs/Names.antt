@@ -3,7 +3,7 @@ use Rattle.std.proofs.Common.{◌≡◌, ℕ, Bool, true, false, not, ◌&&◌, 
 use Rattle.cpc_base.specs.Bytes.{Text}
 use Rattle.cpc_tree.specs.Primitives.{Primitive, primitives, primitive_in, primitive_named}
 use Rattle.cpc_convert.specs.Converted.{marked, spawner_name}
-use Rattle.cpc_convert.specs.Accepted.{has_marks}
+use Rattle.cpc_convert.specs.Marks.{has_marks}
 use Rattle.cpc_convert.proofs.Marks.{differs_marked}
 use Rattle.cpc_native_builtins.specs.Served.{serves}
 use Rattle.cpc_convert_event.specs.Names.{variable_name}

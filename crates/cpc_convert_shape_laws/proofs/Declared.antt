@@ -5,7 +5,7 @@ use Rattle.cpc_tree.specs.Points.{Nothing}
 use Rattle.cpc_tree.specs.Syntax.{Variable, Function, Program}
 use Rattle.cpc_meaning.specs.Act.{AtStatement}
 use Rattle.cpc_meaning.specs.Ways.{ways}
-use Rattle.cpc_convert.specs.Form.{Has}
+use Rattle.cpc_convert.specs.Members.{Has}
 use Rattle.cpc_forms.specs.Control as C
 use Rattle.cpc_forms.specs.Flow.{Place, Start, At, Flow, is_leader, owner_of, owner_by, goes_to, Owns, Itself, Onwards}
 use Rattle.cpc_forms.specs.Graph.{Node, node_of, graph_of, graph_if, graph_where, at_node}

@@ -6,8 +6,8 @@ use Rattle.cpc_tree.specs.Typing.{function_named}
 use Rattle.cpc_meaning.specs.Start.{main_name}
 use Rattle.cpc_meaning.specs.Threads.{is_cps_mode, is_cps}
 use Rattle.cpc_convert.specs.Converted.{prototype, function_item}
-use Rattle.cpc_convert.specs.Form.{Has, OnTop, Below}
-use Rattle.cpc_convert.proofs.Made.{has_either}
+use Rattle.cpc_convert.specs.Members.{Has, OnTop, Below}
+use Rattle.cpc_convert.proofs.Members.{has_either}
 use Rattle.cpc_convert_chain_laws.specs.Driver.{drive_function}
 use Rattle.cpc_convert_event.specs.Converted.{kept_function, item_unless, kept_items, routine_if, routines_in, routines, all_structs, all_boxes, all_made, main_function, main_if, converted_with, converted}
 use Rattle.cpc_convert_event.specs.NameLaws.{IsCps, IsKept}

@@ -6,10 +6,10 @@ use Rattle.cpc_tree.specs.Lists.{holds_number}
 use Rattle.cpc_tree.specs.Registers.{variables}
 use Rattle.cpc_tree.specs.Syntax.{Ty, Variable, Function, Program}
 use Rattle.cpc_meaning.proofs.Functions.{text_same}
-use Rattle.cpc_convert.specs.Accepted.{has_marks}
+use Rattle.cpc_convert.specs.Marks.{has_marks}
 use Rattle.cpc_convert.specs.Converted.{marked}
-use Rattle.cpc_convert.specs.Form.{Has, OnTop, Below}
-use Rattle.cpc_convert.proofs.Made.{has_either}
+use Rattle.cpc_convert.specs.Members.{Has, OnTop, Below}
+use Rattle.cpc_convert.proofs.Members.{has_either}
 use Rattle.cpc_forms.specs.Flow.{Place, Start, At}
 use Rattle.cpc_graph_laws.proofs.Formed.{equal_self}
 use Rattle.cpc_graph_laws.proofs.Splits.{node_there}

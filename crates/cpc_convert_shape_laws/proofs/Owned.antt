@@ -5,8 +5,8 @@ use Rattle.cpc_tree.specs.Points.{Path, Point, Here, Arrival, End, found}
 use Rattle.cpc_tree.specs.Syntax.{Function, Program}
 use Rattle.cpc_meaning.specs.Act.{AtArrival}
 use Rattle.cpc_meaning.specs.Ways.{Manner, InPlace, ByFrame, AsCps, arrives_later, only_if, manner_at}
-use Rattle.cpc_convert.specs.Form.{Has, OnTop, Below}
-use Rattle.cpc_convert.proofs.Made.{has_left, has_right, has_either}
+use Rattle.cpc_convert.specs.Members.{Has, OnTop, Below}
+use Rattle.cpc_convert.proofs.Members.{has_left, has_right, has_either}
 use Rattle.cpc_forms.specs.Control as C
 use Rattle.cpc_forms.specs.Flow.{Place, Flow, owner_of, is_leader}
 use Rattle.cpc_forms.specs.Graph.{node_of, at_node}

@@ -11,8 +11,8 @@ use Rattle.cpc_meaning.specs.Trees.{stood_at}
 use Rattle.cpc_meaning.specs.Ways.{Manner, InPlace, ByFrame, manner_at}
 use Rattle.cpc_meaning.proofs.Functions.{text_same}
 use Rattle.cpc_convert.specs.Converted.{marked}
-use Rattle.cpc_convert.specs.Form.{Has, OnTop, Below}
-use Rattle.cpc_convert.proofs.Made.{has_left, has_right}
+use Rattle.cpc_convert.specs.Members.{Has, OnTop, Below}
+use Rattle.cpc_convert.proofs.Members.{has_left, has_right}
 use Rattle.cpc_convert.proofs.Marks.{marked_is, marked_differs}
 use Rattle.cpc_forms.specs.Control as C
 use Rattle.cpc_forms.specs.Flow.{Place, Start, At, is_leader}

@@ -5,7 +5,7 @@ use Rattle.cpc_tree.specs.Lists.{holds_number}
 use Rattle.cpc_tree.specs.Located.{bare}
 use Rattle.cpc_tree.specs.Syntax.{Function, FunctionItem, Program}
 use Rattle.cpc_tree.specs.Typing.{function_named}
-use Rattle.cpc_convert.specs.Form.{Has, OnTop, Below}
+use Rattle.cpc_convert.specs.Members.{Has, OnTop, Below}
 use Rattle.cpc_convert.proofs.Marks.{marked_is}
 use Rattle.cpc_check_sound_laws.specs.Typed.{TypedProgram}
 use Rattle.cpc_check_sound_laws.proofs.Accepted.{accepted_is_typed}

@@ -9,7 +9,7 @@ use Rattle.cpc_tree.specs.Syntax.{Stmt, Block, NoStmt, Variable, Item, GlobalIte
 use Rattle.cpc_meaning.specs.Start.{main_name}
 use Rattle.cpc_meaning.specs.Trees.{stood_at, scope_from}
 use Rattle.cpc_convert.specs.Converted.{marked}
-use Rattle.cpc_convert.specs.Form.{Has}
+use Rattle.cpc_convert.specs.Members.{Has}
 use Rattle.cpc_forms.specs.Control.{Node, IsOwner, Owns}
 use Rattle.cpc_lift_laws.specs.Lift.{boxes}
 use Rattle.cpc_lift_laws.specs.Used.{used_at}

@@ -22,7 +22,7 @@ use Rattle.cpc_meaning.specs.Requests.{Request, Builtin}
 use Rattle.cpc_meaning.specs.Start.{before_bars}
 use Rattle.cpc_meaning.specs.Trees.{trees}
 use Rattle.cpc_meaning.specs.Ways.{AsCps, primitive_manner}
-use Rattle.cpc_convert.specs.Accepted.{has_marks}
+use Rattle.cpc_convert.specs.Marks.{has_marks}
 use Rattle.cpc_convert_chain_laws.specs.Flat.{point_at, LineAt}
 use Rattle.cpc_convert_chain_laws.specs.Frames.{at}
 use Rattle.cpc_convert_chain_laws.specs.Walks.{World, frame_at, at_line}

@@ -14,7 +14,7 @@ use Rattle.cpc_tree.specs.Typing.{Scope, Meant, ALocal, AGlobal, AFunction, NotM
 use Rattle.cpc_meaning.specs.Act.{AtStatement}
 use Rattle.cpc_meaning.specs.Threads.{is_cps_mode}
 use Rattle.cpc_meaning.specs.Ways.{InPlace, ByFrame, AsCps, primitive_manner, meant_manner, manner_of, ways}
-use Rattle.cpc_convert.specs.Form.{Has}
+use Rattle.cpc_convert.specs.Members.{Has}
 use Rattle.cpc_forms.specs.Flow.{Place, At}
 use Rattle.cpc_forms.specs.Graph.{Node, node_of, graph_of}
 use Rattle.cpc_forms.specs.Split.{InGraph, position_arrival, split_form}

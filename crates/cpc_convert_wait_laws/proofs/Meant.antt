@@ -9,7 +9,7 @@ use Rattle.cpc_tree.specs.Registers.{outer_scope}
 use Rattle.cpc_tree.specs.Syntax.{Ty, TyPointer, TyStruct, Variable, Function, Program}
 use Rattle.cpc_tree.specs.Typing.{ALocal, AFunction, named, item_named}
 use Rattle.cpc_meaning.proofs.Functions.{texts_differ, text_same}
-use Rattle.cpc_convert.specs.Accepted.{has_marks}
+use Rattle.cpc_convert.specs.Marks.{has_marks}
 use Rattle.cpc_convert.specs.Converted.{marked}
 use Rattle.cpc_convert.proofs.Marks.{marked_is, no_bar_decimal}
 use Rattle.cpc_forms.specs.Flow.{Place, Start, At}

@@ -26,8 +26,8 @@ use Rattle.cpc_meaning.specs.Requests.{Request, Builtin, Section}
 use Rattle.cpc_meaning.specs.Start.{before_bars}
 use Rattle.cpc_meaning.specs.Threads.{shown_in}
 use Rattle.cpc_meaning.specs.Ways.{AsCps}
-use Rattle.cpc_convert.specs.Accepted.{has_marks}
-use Rattle.cpc_convert.specs.Form.{Has}
+use Rattle.cpc_convert.specs.Marks.{has_marks}
+use Rattle.cpc_convert.specs.Members.{Has}
 use Rattle.cpc_convert_image_laws.specs.Held.{IsHeld, IsHeldSlot, IsHeldStore, BoxesLive, beside}
 use Rattle.cpc_convert_image_laws.specs.Images.{images}
 use Rattle.cpc_convert_image_laws.specs.InPlace.{is_cps}

@@ -1,5 +1,0 @@
-use Rattle.cpc_convert.proofs.Theorem as T
-use Rattle.cpc_convert.proofs.first_cost.Goals as goal
-
-pub returns : goal.returns
-returns c = T.first_cost
