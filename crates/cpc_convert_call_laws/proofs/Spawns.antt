@@ -235,8 +235,8 @@ module _ (p : Program) (facts : ProgramKnown p) (h : Convertible p) (fine : Call
 
       leads : Walk q w.trace (suc (runs.steps + 1)) (running (world_of w c) (beside bs w.store) (piece ∷ driving pointer result frame ∷ []) None) (running (world_of w ready) (beside blocks w.store) (from ∷ driving pointer result frame ∷ []) None)
       leads =
-          walk_cons (runs.steps + 1) _ _ _ (walk_one _ _ first_enters (record { is_trace = refl; goes = refl }))
-          (walk_append runs.steps 1 _ _ _ runs.leads (walk_one _ _ last_arrives (record { is_trace = refl; goes = refl })))
+          walk_cons (runs.steps + 1) _ _ _ (walk_one _ _ first_enters (record { is_trace = refl; goes = refl; runs = refl }))
+          (walk_append runs.steps 1 _ _ _ runs.leads (walk_one _ _ last_arrives (record { is_trace = refl; goes = refl; runs = refl })))
 
       within : runs.steps + 1 < bounds.leads
       within =

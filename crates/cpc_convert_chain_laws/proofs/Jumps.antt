@@ -37,7 +37,7 @@ module _ (q : Program) (w : World) (fn : Text) (g : Function) (body : Stmts) (be
       let x = Goto m in
       walk_one _ _
       (step_on q w fn g below is_g slots s (line_path g body k scope n x rest l) scope (line_scope g body k scope n x rest l _) (Simple x) (line_found g body k scope n x rest l) true s slots (point_at j (dropped j body)) refl (line_goes g body k scope n x rest l true m j refl refl leads))
-      (record { is_trace = refl; goes = refl })
+      (record { is_trace = refl; goes = refl; runs = refl })
 
   module _ (t : Expr) (a : Stmt) (l : LineAt g body k scope n (If t a Absent) rest) (u : Value) (is_value : value (at q scope slots s) t ≡ Gives u) where
     -- a test that fails
@@ -46,7 +46,7 @@ module _ (q : Program) (w : World) (fn : Text) (g : Function) (body : Stmts) (be
         let x = If t a Absent in
         walk_one _ _
         (step_on q w fn g below is_g slots s (line_path g body k scope n x rest l) scope (line_scope g body k scope n x rest l _) (Test (Some t)) (line_found g body k scope n x rest l) false s slots (point_at (suc k) rest) (simp (is_value, fails) refl) (test_fails g body k scope n x rest l t a refl))
-        (record { is_trace = refl; goes = refl })
+        (record { is_trace = refl; goes = refl; runs = refl })
 
     -- one that holds leads to the statement behind it
     holds_step : holds u ≡ Gives true → Walk q w.trace 1 (at_line w fn below k (AndStmt l.statement rest) slots s) (in_function w fn below (P.Here (Nth k ∷ arm l.statement)) slots s)
@@ -54,7 +54,7 @@ module _ (q : Program) (w : World) (fn : Text) (g : Function) (body : Stmts) (be
         let x = If t a Absent in
         walk_one _ _
         (step_on q w fn g below is_g slots s (line_path g body k scope n x rest l) scope (line_scope g body k scope n x rest l _) (Test (Some t)) (line_found g body k scope n x rest l) true s slots (P.Here (Nth k ∷ arm l.statement)) (simp (is_value, is_true) refl) (test_holds g body k scope n x rest l t a refl))
-        (record { is_trace = refl; goes = refl })
+        (record { is_trace = refl; goes = refl; runs = refl })
 
     -- which is done
     pub then_step : holds u ≡ Gives true → onward a ≡ Out → (r : Store) (slots' : List Slot) → simple_act (at q scope slots s) g.result a ≡ Gives (GoesOn true r slots')
@@ -64,7 +64,7 @@ module _ (q : Program) (w : World) (fn : Text) (g : Function) (body : Stmts) (be
         walk_cons 1 _ _ _ (holds_step is_true)
         (walk_one _ _
         (step_on q w fn g below is_g slots s (Nth k ∷ arm l.statement) scope (line_scope g body k scope n x rest l _) (Simple a) (arm_found g body k scope n x rest l t a refl) true r slots' (point_at (suc k) rest) is_act (arm_next g body k scope n x rest l t a true refl out))
-        (record { is_trace = refl; goes = refl }))
+        (record { is_trace = refl; goes = refl; runs = refl }))
 
     -- or is a goto
     pub jumps_step : holds u ≡ Gives true → (m : Text) → a ≡ Goto m → (j : ℕ) → label_in m body ≡ Some j
@@ -74,7 +74,7 @@ module _ (q : Program) (w : World) (fn : Text) (g : Function) (body : Stmts) (be
         walk_cons 1 _ _ _ (holds_step is_true)
         (walk_one _ _
         (step_on q w fn g below is_g slots s (Nth k ∷ arm l.statement) scope (line_scope g body k scope n x rest l _) (Simple (Goto m)) (arm_found g body k scope n x rest l t a refl ∙ ap Simple is_goto) true s slots (point_at j (dropped j body)) refl (arm_goes g body k scope n x rest l t a true m j refl (ap onward is_goto) leads))
-        (record { is_trace = refl; goes = refl }))
+        (record { is_trace = refl; goes = refl; runs = refl }))
 
 -- ---- the frame below
 

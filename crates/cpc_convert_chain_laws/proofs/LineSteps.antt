@@ -33,7 +33,7 @@ module _ (q : Program) (w : World) (fn : Text) (g : Function) (body : Stmts) (be
     line_step x l stands no_test out t slots' is_act =
         walk_one _ _
         (step_on q w fn g below is_g slots s (line_path g body k scope n x rest l) scope (line_scope g body k scope n x rest l _) (Simple x) (line_found g body k scope n x rest l ∙ stands) true t slots' (point_at (suc k) rest) is_act (line_next g body k scope n x rest l true no_test out))
-        (record { is_trace = refl; goes = refl })
+        (record { is_trace = refl; goes = refl; runs = refl })
 
     -- a call of a primitive that gives a value
     pub call_step : (target : Option Expr) (f : Expr) (es : Exprs) (l : LineAt g body k scope n (Call target f es) rest) → (r : Request) (t : Store) (v : Value)
@@ -48,7 +48,7 @@ module _ (q : Program) (w : World) (fn : Text) (g : Function) (body : Stmts) (be
         let is_next = line_next g body k scope n x rest l true refl refl in
         walk_one _ _
         (step_asks q w fn g below is_g slots s path scope is_scope (Simple x) is_found r (at_line w fn below (suc k) rest slots' u) is_act (is_answer _ ∙ replied q w fn g below is_g slots s path scope is_scope target f es is_found v t u slots' (point_at (suc k) rest) is_deliver is_next))
-        (record { is_trace = refl; goes = refl })
+        (record { is_trace = refl; goes = refl; runs = refl })
 
     -- a declaration with a start
     pub declare_step : (x : Text) (t : Ty) (e : Expr) → Stands g body k scope n (AndStmt (Declare x t (Some e)) rest) → (u : Value) (slots' : List Slot) (s' : Store)
@@ -58,7 +58,7 @@ module _ (q : Program) (w : World) (fn : Text) (g : Function) (body : Stmts) (be
         let d = Declare x t (Some e) in
         walk_one _ _
         (step_on q w fn g below is_g slots s (path_at k d) (extended scope n d) (scope_here g body k scope n d rest st _) (Simple d) (found_here g body k scope n d rest st) true s' slots' (point_at (suc k) rest) (simp (is_value, is_assign) refl) (next_out g body k scope n d rest st _ true refl))
-        (record { is_trace = refl; goes = refl })
+        (record { is_trace = refl; goes = refl; runs = refl })
 
     -- a declaration without one
     pub declares_step : (x : Text) (t : Ty) → Stands g body k scope n (AndStmt (Declare x t None) rest)
@@ -67,7 +67,7 @@ module _ (q : Program) (w : World) (fn : Text) (g : Function) (body : Stmts) (be
         let d = Declare x t None in
         walk_one _ _
         (step_on q w fn g below is_g slots s (path_at k d) (extended scope n d) (scope_here g body k scope n d rest st _) (Simple d) (found_here g body k scope n d rest st) true s slots (point_at (suc k) rest) refl (next_out g body k scope n d rest st _ true refl))
-        (record { is_trace = refl; goes = refl })
+        (record { is_trace = refl; goes = refl; runs = refl })
 
     -- `to = rt_frame(sizeof(struct T));`
     pub frame_step : (to tag : Text) (l : LineAt g body k scope n (Call (Some (ENamed to)) (ENamed (codes "rt_frame")) (AndExpr (ESizeOf (TyStruct tag)) NoExpr)) rest)

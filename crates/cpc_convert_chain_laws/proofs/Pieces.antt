@@ -18,7 +18,7 @@ use Rattle.cpc_meaning.specs.Events.{Callback, CallWith}
 use Rattle.cpc_convert_chain_laws.specs.Chains.{Saved, frame_cells, Top}
 use Rattle.cpc_convert_chain_laws.specs.Flat.{LineAt}
 use Rattle.cpc_convert_chain_laws.specs.Frames.{at, register_slots, AreRegisters, NoneAre, AndRegister, Scalars, NoScalars, AndScalar, blank}
-use Rattle.cpc_convert_chain_laws.specs.Walks.{World, at_line, Walk, running, idle}
+use Rattle.cpc_convert_chain_laws.specs.Walks.{World, at_line, Walk, Finishes, running, idle}
 use Rattle.cpc_convert_chain_laws.specs.Driver.{drive_name, DriverFacts, with_round, driving, entered, patched, IsPiece}
 use Rattle.cpc_convert_chain_laws.proofs.Lines.{both_true}
 use Rattle.cpc_convert_chain_laws.proofs.AtLine.{line_path, line_found, line_scope}
@@ -75,7 +75,7 @@ module _ (q : Program) (w : World) (fn : Text) (g : Function) (body : Stmts) (fr
       let x = Return (Some e) in
       walk_one _ _
       (step_returns q w fn g (frame ∷ others) is_g slots s (line_path g body k scope n x rest l) scope (line_scope g body k scope n x rest l _) (Simple x) (line_found g body k scope n x rest l) v t frame others refl (simp (is_value, is_assigned, is_free) refl))
-      (record { is_trace = refl; goes = refl })
+      (record { is_trace = refl; goes = refl; runs = refl })
 
 -- ---- the driver goes on
 
@@ -88,23 +88,26 @@ module _ (q : Program) (facts : DriverFacts q) (w : World) (s : Store) (f : Save
       let w' = with_round w ds in
       let p = At Frame b 0 in
       let s' = patched s b f next r in
-      walk_cons 4 _ _ _ (walk_one _ _ (drive_taken q facts w s ds p x r is_round is_int) (record { is_trace = refl; goes = refl }))
-      (walk_cons 3 _ _ _ (walk_one _ _ (drive_declares q facts w' s b r Unset) (record { is_trace = refl; goes = refl }))
-      (walk_cons 2 _ _ _ (walk_one _ _ (drive_writes q facts w' s p r r b (frame_cells f next v) top.cells (omega arith) (assigned_fits (TyInt Int) x r is_int)) (record { is_trace = refl; goes = refl }))
-      (walk_cons 1 _ _ _ (walk_one _ _ (drive_tests q facts w' s' p r b) (record { is_trace = refl; goes = refl }))
-      (walk_one _ _ (drive_calls q facts w' s' p r b (frame_cells f next r) f.piece piece slots t (chain_patched s.frames f fs b next v r owned top).cells refl is_piece.found is_piece.type is_call) (record { is_trace = refl; goes = refl })))))
+      walk_cons 4 _ _ _ (walk_one _ _ (drive_taken q facts w s ds p x r is_round is_int) (record { is_trace = refl; goes = refl; runs = refl }))
+      (walk_cons 3 _ _ _ (walk_one _ _ (drive_declares q facts w' s b r Unset) (record { is_trace = refl; goes = refl; runs = refl }))
+      (walk_cons 2 _ _ _ (walk_one _ _ (drive_writes q facts w' s p r r b (frame_cells f next v) top.cells (omega arith) (assigned_fits (TyInt Int) x r is_int)) (record { is_trace = refl; goes = refl; runs = refl }))
+      (walk_cons 1 _ _ _ (walk_one _ _ (drive_tests q facts w' s' p r b) (record { is_trace = refl; goes = refl; runs = refl }))
+      (walk_one _ _ (drive_calls q facts w' s' p r b (frame_cells f next r) f.piece piece slots t (chain_patched s.frames f fs b next v r owned top).cells refl is_piece.found is_piece.type is_call) (record { is_trace = refl; goes = refl; runs = refl })))))
 
   -- a piece gave this frame: its piece is entered
   pub drive_goes_on : (p r k : Value) (slots : List Slot) (t : Store) → call_slots q piece (At Frame b 0 ∷ []) s ≡ Gives (slots, t)
       → Walk q w.trace 3 (running w s (driving p r k ∷ []) (Some (At Frame b 0))) (entered q w t piece slots p r (At Frame b 0))
   drive_goes_on p r k slots t is_call =
-      walk_cons 2 _ _ _ (walk_one _ _ (drive_arrives q facts w s p r k (At Frame b 0) (At Frame b 0) refl) (record { is_trace = refl; goes = refl }))
-      (walk_cons 1 _ _ _ (walk_one _ _ (drive_tests q facts w s p r b) (record { is_trace = refl; goes = refl }))
-      (walk_one _ _ (drive_calls q facts w s p r b (frame_cells f next v) f.piece piece slots t top.cells refl is_piece.found is_piece.type is_call) (record { is_trace = refl; goes = refl })))
+      walk_cons 2 _ _ _ (walk_one _ _ (drive_arrives q facts w s p r k (At Frame b 0) (At Frame b 0) refl) (record { is_trace = refl; goes = refl; runs = refl }))
+      (walk_cons 1 _ _ _ (walk_one _ _ (drive_tests q facts w s p r b) (record { is_trace = refl; goes = refl; runs = refl }))
+      (walk_one _ _ (drive_calls q facts w s p r b (frame_cells f next v) f.piece piece slots t top.cells refl is_piece.found is_piece.type is_call) (record { is_trace = refl; goes = refl; runs = refl })))
 
 -- a piece gave null: nothing runs
-pub drive_finishes : (q : Program) (facts : DriverFacts q) (w : World) (s : Store) (p r k : Value) → Walk q w.trace 3 (running w s (driving p r k ∷ []) (Some Null)) (idle w s)
-drive_finishes q facts w s p r k =
-    walk_cons 2 _ _ _ (walk_one _ _ (drive_arrives q facts w s p r k Null Null refl) (record { is_trace = refl; goes = refl }))
-    (walk_cons 1 _ _ _ (walk_one _ _ (drive_stops q facts w s p r) (record { is_trace = refl; goes = refl }))
-    (walk_one _ _ (drive_ends q facts w s p r Null) (record { is_trace = refl; goes = refl })))
+pub drive_finishes : (q : Program) (facts : DriverFacts q) (w : World) (s : Store) (p r k : Value) → Finishes q w.trace 2 (running w s (driving p r k ∷ []) (Some Null)) (idle w s)
+drive_finishes q facts w s p r k = record {
+  before = _;
+  leads =
+      walk_cons 1 _ _ _ (walk_one _ _ (drive_arrives q facts w s p r k Null Null refl) (record { is_trace = refl; goes = refl; runs = refl }))
+      (walk_one _ _ (drive_stops q facts w s p r) (record { is_trace = refl; goes = refl; runs = refl }));
+  last = drive_ends q facts w s p r Null;
+}

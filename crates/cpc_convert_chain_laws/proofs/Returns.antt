@@ -14,10 +14,10 @@ use Rattle.cpc_convert_chain_laws.specs.Flat.{LineAt}
 use Rattle.cpc_convert_chain_laws.specs.Frames.{at, Holds, register_slots, AreRegisters}
 use Rattle.cpc_convert_chain_laws.specs.Boxes.{AllRegisters}
 use Rattle.cpc_convert_chain_laws.specs.Driver.{any_pointer, head_fields, patches, DriverFacts, driving, entered, patched, IsPiece}
-use Rattle.cpc_convert_chain_laws.specs.Walks.{World, Walk, at_line, idle}
+use Rattle.cpc_convert_chain_laws.specs.Walks.{World, Walk, Finishes, at_line, idle}
 use Rattle.cpc_convert_chain_laws.proofs.Chains.{chain_patched}
 use Rattle.cpc_convert_chain_laws.proofs.Fields.{held}
-use Rattle.cpc_convert_chain_laws.proofs.Walks.{walk_append, walk_cons}
+use Rattle.cpc_convert_chain_laws.proofs.Walks.{walk_append, walk_cons, finishes_after}
 use Rattle.cpc_convert_chain_laws.proofs.AtLine.{line_passed}
 use Rattle.cpc_convert_chain_laws.proofs.Boxes.{free_all}
 use Rattle.cpc_convert_chain_laws.proofs.Jumps.{patch_none, patch_frame}
@@ -39,9 +39,9 @@ module _ (q : Program) (facts : DriverFacts q) (w : World) (fn : Text) (g : Func
 
   -- there is none: nothing runs
   pub ends_thread : (l : LineAt g body k scope n gives_next rest) (t : Ty) → Holds q scope slots next (TyPointer t) Null
-      → Walk q w.trace 4 (at_line w fn (driving p0 r0 k0 ∷ []) k (AndStmt l.statement rest) slots s) (idle w s)
+      → Finishes q w.trace 3 (at_line w fn (driving p0 r0 k0 ∷ []) k (AndStmt l.statement rest) slots s) (idle w s)
   ends_thread l t h =
-      walk_cons 3 _ _ _
+      finishes_after 1 2 _ _ _
       (return_step q w fn g body (driving p0 r0 k0) [] is_g k scope n rest slots s (ENamed next) l Null Null s (held q scope slots s next (TyPointer t) Null h) (ap (λ u. assigned u Null) gives_pointer) (free_all slots s all))
       (drive_finishes q facts w s p0 r0 k0)
 
@@ -66,11 +66,11 @@ module _ (q : Program) (facts : DriverFacts q) (w : World) (fn : Text) (g : Func
       )
 
   pub value_ends : (l : LineAt g body k scope n (patches next e) (AndStmt (Return (Some (ENamed next))) rest)) (t : Ty) → Holds q scope slots next (TyPointer t) Null
-      → Walk q w.trace (1 + 4) (at_line w fn (driving p0 r0 k0 ∷ []) k (AndStmt l.statement (AndStmt (Return (Some (ENamed next))) rest)) slots s) (idle w s)
+      → Finishes q w.trace (1 + 3) (at_line w fn (driving p0 r0 k0 ∷ []) k (AndStmt l.statement (AndStmt (Return (Some (ENamed next))) rest)) slots s) (idle w s)
   value_ends l t h =
       let below = driving p0 r0 k0 ∷ [] in
       let last = AndStmt (Return (Some (ENamed next))) rest in
       let st = line_passed g body k scope n (patches next e) last l in
       let l' : LineAt g body (suc k) scope n (Return (Some (ENamed next))) rest = record { statement = Return (Some (ENamed next)); stands = st; is_bare = refl; is_line = refl } in
-      walk_append 1 4 _ _ _ (patch_none q w fn g body below is_g k scope n last slots s next e l (TyPointer t) h)
+      finishes_after 1 3 _ _ _ (patch_none q w fn g body below is_g k scope n last slots s next e l (TyPointer t) h)
       (ends_thread q facts w fn g body is_g gives_pointer p0 r0 k0 (suc k) scope n rest slots s all next l' t h)

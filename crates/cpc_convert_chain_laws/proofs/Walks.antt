@@ -5,7 +5,7 @@ use Rattle.cpc_tree.specs.Trace.{Mark}
 use Rattle.cpc_meaning_matching.specs.Simulation.{one, Path, Last, More}
 use Rattle.cpc_meaning.specs.Machine.{next}
 use Rattle.cpc_meaning.specs.Events.{callbacks}
-use Rattle.cpc_convert_chain_laws.specs.Walks.{Here, Quiet, Walk, Stay, Step}
+use Rattle.cpc_convert_chain_laws.specs.Walks.{Here, Quiet, Walk, Stay, Step, Finishes}
 
 module _ {q : Program} {trace : List Mark} where
   pub walk_append : (m n : ℕ) (s t u : Here) → Walk q trace m s t → Walk q trace n t u → Walk q trace (m + n) s u
@@ -39,3 +39,11 @@ module _ {q : Program} {trace : List Mark} where
   -- a walk to the end of a row
   pub walk_ends : (End Mid : Here → Type 0) → ((z : Here) → Quiet trace z → Mid z) → (n : ℕ) (s t : Here) → Walk q trace (suc n) s t → End t → Path (next (callbacks q)) one End Mid (suc n) s
   walk_ends End Mid mid n s t (Step _ _ r _ e quiet w) end = after_first End Mid mid n s r t e quiet w end
+
+  -- some steps before a finish
+  pub finishes_after : (m n : ℕ) (s t u : Here) → Walk q trace m s t → Finishes q trace n t u → Finishes q trace (m + n) s u
+  finishes_after m n s t u walk f = record { before = f.before; leads = walk_append m n s t f.before walk f.leads; last = f.last }
+
+  -- a finish is the end of a row
+  pub finishes_path : (End Mid : Here → Type 0) → ((z : Here) → Quiet trace z → Mid z) → (n : ℕ) (s u : Here) → Finishes q trace n s u → End u → Path (next (callbacks q)) one End Mid (n + 1) s
+  finishes_path End Mid mid n s u f end = walk_then End Mid mid n 1 s f.before f.leads (Last 1 f.before u f.last (omega arith) end)

@@ -18,7 +18,7 @@ use Rattle.cpc_meaning.specs.Events.{Callback, CallWith}
 use Rattle.cpc_convert_chain_laws.specs.Chains.{Saved, frame_cells, Top}
 use Rattle.cpc_convert_chain_laws.specs.Structs.{IsStruct}
 use Rattle.cpc_convert_chain_laws.specs.Flat.{before, Stands, LineAt}
-use Rattle.cpc_convert_chain_laws.specs.Walks.{World, Walk, at_line, running, idle, FaultsAfter}
+use Rattle.cpc_convert_chain_laws.specs.Walks.{World, Walk, Finishes, at_line, running, idle, FaultsAfter}
 use Rattle.cpc_convert_chain_laws.specs.Frames.{at, PointsTo, Holds, Save, asks_block, fills_frame, Saving, pointed_slots, Load, loads_one, Loading, blank}
 use Rattle.cpc_convert_chain_laws.specs.Boxes.{AllRegisters, Boxing, Made, Unboxing, unboxes_one}
 use Rattle.cpc_convert_chain_laws.specs.Driver.{drive_name, head_fields, DriverFacts, with_round, driving, entered, patched, IsPiece, patches}
@@ -83,4 +83,4 @@ pub record Drives : Type 0 where
   pub goes_on : (q : Program) (facts : DriverFacts q) (w : World) (s : Store) (f : Saved) (fs : List Saved) (b : ℕ) (next v : Value) (owned : List ℕ) (top : Top s.frames f fs b next v owned) (piece : Function) (is_piece : IsPiece q f.piece piece)
       (p r k : Value) (slots : List Slot) (t : Store) → call_slots q piece (At Frame b 0 ∷ []) s ≡ Gives (slots, t)
       → Walk q w.trace 3 (running w s (driving p r k ∷ []) (Some (At Frame b 0))) (entered q w t piece slots p r (At Frame b 0))
-  pub finishes : (q : Program) (facts : DriverFacts q) (w : World) (s : Store) (p r k : Value) → Walk q w.trace 3 (running w s (driving p r k ∷ []) (Some Null)) (idle w s)
+  pub finishes : (q : Program) (facts : DriverFacts q) (w : World) (s : Store) (p r k : Value) → Finishes q w.trace 2 (running w s (driving p r k ∷ []) (Some Null)) (idle w s)

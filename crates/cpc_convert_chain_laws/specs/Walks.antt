@@ -1,5 +1,5 @@
 -- Some steps of the event machine that leave no mark and do not end the run.
-use Rattle.std.specs.Prelude.{◌≡◌, ℕ, zero, suc, List, ◌∷◌, Option, Some, None}
+use Rattle.std.specs.Prelude.{◌≡◌, ℕ, zero, suc, true, List, ◌∷◌, Option, Some, None, is_some}
 use Rattle.cpc_base.specs.Bytes.{Text}
 use Rattle.cpc_tree.specs.Syntax.{Stmt, Stmts, Program}
 use Rattle.cpc_tree.specs.Points.{Nth, Point, Arrival, enter}
@@ -63,15 +63,22 @@ line_stack f below k s slots = record { frames = frame_at f (P.Here (Nth k ∷ e
 abbrev pub arriving_at : Text → ℕ → Stmt → List Slot → Frame Point
 arriving_at f k s slots = frame_at f (Arrival (Nth k ∷ enter s)) slots
 
--- a state with this trace, which goes on
+-- a state with this trace, which goes on, and in which something runs
 pub record Quiet (trace : List Mark) (s : Here) : Type 0 where
   pub is_trace : s.trace ≡ trace
   pub goes : s.outcome ≡ Going
+  pub runs : is_some s.running ≡ true
 
 -- so many steps lead from a state to another, over quiet ones
 pub data Walk (q : Program) (trace : List Mark) : ℕ → Here → Here → Type 0 where
   Stay : (s : Here) → Walk q trace zero s s
   Step : (n : ℕ) (s t u : Here) → next (callbacks q) s ≡ Some t → Quiet trace t → Walk q trace n t u → Walk q trace (suc n) s u
+
+-- so many steps over states in which something runs, and then a last one to this state
+pub record Finishes (q : Program) (trace : List Mark) (n : ℕ) (s u : Here) : Type 0 where
+  pub before : Here
+  pub leads : Walk q trace n s before
+  pub last : next (callbacks q) before ≡ Some u
 
 -- so many steps lead to a state whose next step is this fault, in this function
 pub record FaultsAfter (q : Program) (trace : List Mark) (f : Text) (fault : Fault) (s : Here) : Type 0 where

@@ -22,7 +22,7 @@ use Rattle.cpc_forms.specs.Split.{Position}
 use Rattle.std.proofs.Common.{Option}
 use Rattle.cpc_convert_image_laws.specs.Held.{beside}
 use Rattle.cpc_convert_chain_laws.specs.Driver.{drive_name}
-use Rattle.cpc_convert_chain_laws.specs.Walks.{World, Walk, frame_at, running, idle, in_function}
+use Rattle.cpc_convert_chain_laws.specs.Walks.{World, Finishes, frame_at, running, idle, in_function}
 use Rattle.cpc_convert_chain_laws.proofs.Steps.{step_enters, step_arrives}
 use Rattle.cpc_convert_chain_laws.proofs.Walks.{walk_one, walk_append, walk_cons}
 use Rattle.cpc_convert_event.specs.Converted.{main_function, converted}
@@ -37,7 +37,7 @@ use Rattle.cpc_tree.specs.Registers.{variables}
 use Rattle.cpc_convert_laws.specs.Bounds.{Bounds}
 use Rattle.cpc_convert_laws.specs.Running.{Places}
 use Rattle.cpc_convert_laws.proofs.Joined.{MainIs, ACpsMain}
-use Rattle.cpc_convert_laws.proofs.Mains.{with_first}
+use Rattle.cpc_convert_laws.proofs.Rows.{with_first}
 use Rattle.cpc_convert_laws.proofs.Relation.{Shared, target_state, with_main, world_of}
 use Rattle.cpc_convert_laws.proofs.Setting.{Setting}
 use Rattle.cpc_convert_laws.proofs.Spawning.{SpawnerRuns}
@@ -114,7 +114,7 @@ module _ (p : Program) (h : Convertible p) (there : Places) (fine : CallFrame Po
     is_main : function_named q main_name ≡ Some main_function
     is_main = (functions_found p h.named).main g is_cps called
 
-    leads : Walk q w.trace 10 (target_state w [] None (begin_round (with_main CallMain))) (target_state w (with_first z) None (with_main (CallWith drive_name (Pointer Frame 0 0))))
+    leads : Finishes q w.trace 9 (target_state w [] None (begin_round (with_main CallMain))) (target_state w (with_first z) None (with_main (CallWith drive_name (Pointer Frame 0 0))))
     leads =
         let r = runs in
         let walk = r.0.leads in
@@ -122,11 +122,16 @@ module _ (p : Program) (h : Convertible p) (there : Places) (fine : CallFrame Po
         let v' = world_of w (ready_one (CallWith drive_name (Pointer Frame 0 0)) new_agenda) in
         let s = beside [] w.store in
         let s' = beside (with_first z) w.store in
-        subst (λ n. Walk q w.trace (suc (suc (n + 2))) (target_state w [] None (begin_round (with_main CallMain))) (target_state w (with_first z) None (with_main (CallWith drive_name (Pointer Frame 0 0))))) r.1
-        (walk_cons (suc (r.0.steps + 2)) _ _ _ (walk_one _ _ (main_begins q is_main w) (record { is_trace = refl; goes = refl }))
-        (walk_cons (r.0.steps + 2) _ _ _ (walk_one _ _ (spawner_entered q is_main v s (spawner_function g) r.0.entered means is_spawner takes r.0.made) (record { is_trace = refl; goes = refl }))
-        (walk_append r.0.steps 2 _ _ _ walk
-        (walk_cons 1 _ _ _ (walk_one _ _ (value_arrives q is_main v' s') (record { is_trace = refl; goes = refl })) (walk_one _ _ (main_returns q is_main v' s') (record { is_trace = refl; goes = refl }))))))
+        subst (λ n. Finishes q w.trace (suc (suc (n + 1))) (target_state w [] None (begin_round (with_main CallMain))) (target_state w (with_first z) None (with_main (CallWith drive_name (Pointer Frame 0 0))))) r.1
+        (record {
+          before = _;
+          leads =
+              walk_cons (suc (r.0.steps + 1)) _ _ _ (walk_one _ _ (main_begins q is_main w) (record { is_trace = refl; goes = refl; runs = refl }))
+              (walk_cons (r.0.steps + 1) _ _ _ (walk_one _ _ (spawner_entered q is_main v s (spawner_function g) r.0.entered means is_spawner takes r.0.made) (record { is_trace = refl; goes = refl; runs = refl }))
+              (walk_append r.0.steps 1 _ _ _ walk
+              (walk_one _ _ (value_arrives q is_main v' s') (record { is_trace = refl; goes = refl; runs = refl }))));
+          last = main_returns q is_main v' s';
+        })
 
   pub cps_main_is : MainIs z bounds
   cps_main_is = ACpsMain (record { steps = 9; within = wide; leads = leads })

@@ -138,7 +138,7 @@ module _ (p : Program) (facts : ProgramKnown p) (fine : CallFrame Position → O
             (walk_one _ _
             (step_on q w (piece_name f.called l) g below (is_code p f known l owner) slots s (Nth k ∷ arm line.line.statement) sc (line_scope g bd k sc count (If test jump Absent) after line.line (arm line.line.statement)) (Simple jump)
             (arm_found g bd k sc count (If test jump Absent) after line.line test jump refl) true s slots (point_at j (dropped j bd)) refl (arm_goes g bd k sc count (If test jump Absent) after line.line test jump true (node_label m) j refl refl label))
-            (record { is_trace = refl; goes = refl }));
+            (record { is_trace = refl; goes = refl; runs = refl }));
       }
 
   abbrev Doing : Answer Act → Type 0

@@ -376,7 +376,7 @@ module _ (p : Program) (fine : CallFrame Position → Option Value → Type 0) (
         walk_one _ _
         (first_step p fine given bounds f known enough begins l owner shown lower pointer result frame n at has row x (map unboxes_one names ++ patch ∷ hands ∷ []) left_behind first world slots' (beside bs w.store) (Simple x) refl true (beside bs w.store) (with_value v) (point_at (suc k) left_behind) is_act
         (line_next (code p f known l owner) (body p f known l owner) k (scope p f known l owner) (piece_count p r l) x left_behind first.line true refl refl))
-        (record { is_trace = refl; goes = refl })
+        (record { is_trace = refl; goes = refl; runs = refl })
 
     after_value : (v : Value) → Fits f.result v → acts ≡ Gives (GoesOn true (beside bs w.store) (with_value v)) → Doing (free_slots slots w.store >>= λ t. Gives (Leaves v t))
     after_value v fits is_act =

@@ -1,12 +1,12 @@
 mod Accepted
-mod Bounds
-mod Known
-mod Join
+pub mod Bounds
+pub mod Known
+pub mod Join
 mod Signed
 mod Sections
-mod Called
+pub mod Called
 mod Pass
-mod Natives
-mod Had
-mod Pieces
+pub mod Natives
+pub mod Had
+pub mod Pieces
 mod Theorem

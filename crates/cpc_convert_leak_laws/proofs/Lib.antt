@@ -1,0 +1,10 @@
+mod Blocks
+mod Weights
+mod Threads
+mod Related
+mod Locals
+mod Ended
+mod Overs
+mod Runs
+mod Plain
+mod Theorem

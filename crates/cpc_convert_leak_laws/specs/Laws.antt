@@ -1,0 +1,36 @@
+-- That no frames are left over, as statements.
+use Rattle.std.specs.Prelude.{◌≡◌, ℕ, ◌+◌, ◌*◌, ◌<◌, ◌≤◌, None}
+use Rattle.cpc_tree.specs.Syntax.{Program}
+use Rattle.cpc_meaning.specs.Events.{event}
+use Rattle.cpc_meaning.specs.History.{History}
+use Rattle.cpc_meaning.specs.Runs.{cost}
+use Rattle.cpc_meaning.specs.Threads.{threaded}
+use Rattle.cpc_convert_event.specs.Converted.{converted}
+use Rattle.cpc_convert_accepted_laws.specs.Accepted.{OfAccepted}
+use Rattle.cpc_convert_leak_laws.specs.Held.{GoesOrRests, FramesHeld}
+
+-- for each state of the threads, in which the run goes on or nothing runs, the event program comes within the cost to a state that holds no more frames than they need
+abbrev pub ComesTo : Program → Type 0
+ComesTo p = (h : History) (m : ℕ) → GoesOrRests (threaded p h m) → (n : ℕ) × (m ≤ n) × (n ≤ cost p * (m + 1)) × FramesHeld p (threaded p h m) (event (converted p) h n)
+
+-- and at each number of steps the event program was, less than the cost of one step ago, in such a state
+abbrev pub ComesFrom : Program → Type 0
+ComesFrom p = (h : History) (n : ℕ) → (m : ℕ) × (k : ℕ) × (m ≤ k) × (k ≤ n) × (n < k + cost p) × (GoesOrRests (threaded p h m) → FramesHeld p (threaded p h m) (event (converted p) h k))
+
+-- wherever nothing runs in the event program q, nothing runs in a state of the threads of p after no more steps, and q holds no more frames and cells than they need
+abbrev pub NoLeak : (p q : Program) → Type 0
+NoLeak p q = (h : History) (n : ℕ) → (event q h n).running ≡ None → (m : ℕ) × (m ≤ n) × ((threaded p h m).running ≡ None) × FramesHeld p (threaded p h m) (event q h n)
+
+-- so it is for the event program of a program
+abbrev pub Rests : Program → Type 0
+Rests p = NoLeak p (converted p)
+
+-- so it is for each accepted program
+abbrev pub ConvertedComesTo : Type 0
+ConvertedComesTo = OfAccepted ComesTo
+
+abbrev pub ConvertedComesFrom : Type 0
+ConvertedComesFrom = OfAccepted ComesFrom
+
+abbrev pub ConvertedRests : Type 0
+ConvertedRests = OfAccepted Rests

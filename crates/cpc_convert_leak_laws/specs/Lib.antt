@@ -1,0 +1,3 @@
+pub mod Need
+pub mod Held
+pub mod Laws

@@ -1,0 +1,9 @@
+//! No event program that is made of an accepted one gathers frames: wherever nothing runs its frame blocks are those that its threads need. Laws alone: nothing of this crate runs.
+#![tactic(auto)]
+
+mod laws;
+
+pub use laws::{
+    converted_comes_from_held_frames, converted_comes_to_held_frames,
+    converted_rests_with_held_frames,
+};
