@@ -9,6 +9,7 @@ use Rattle.cpc_native_builtins.specs.Served.{is_served}
 use Rattle.cpc_native_frames.specs.declared.frame.Frame.{Frame}
 use Rattle.cpc_native_frames.specs.Frames.{IsWellFrame}
 use Rattle.cpc_native_acts.specs.Acts.{IsLawfulIf}
+use Rattle.cpc_native_acts.specs.Taken.{IsAskedWith}
 use Rattle.cpc_native_acts.specs.declared.act.Act.{Act}
 use Rattle.cpc_native_acts.specs.declared.act.Act.TheVariants as A
 use Rattle.cpc_native.specs.declared.machine.Machine.{Machine}
@@ -64,6 +65,11 @@ Unchanged _ old new = Unit {0}
 abbrev pub AsksServed : Stepped → Type 0
 AsksServed (S.Asked r) = is_served (primitive_of r.call) ≡ true
 AsksServed _ = Unit {0}
+
+-- its arguments are what it takes
+abbrev pub AsksTaken : Stepped → Type 0
+AsksTaken (S.Asked r) = IsAskedWith (primitive_of r.call) r.args.items
+AsksTaken _ = Unit {0}
 
 -- code goes on, or its outermost call was left
 abbrev pub IsOver : Stepped → Type 0

@@ -18,7 +18,7 @@ ghost use Rattle.cpc_eval_index.specs.Indexed.{items_of};
 ghost use Rattle.cpc_native_builtins.specs.Builtins.{primitive_of};
 ghost use Rattle.cpc_native_builtins.specs.Served.{is_served};
 ghost use Rattle.cpc_native_frames.specs.Frames.{frame_of, IsOwn, IsWellFrame};
-ghost use Rattle.cpc_native_acts.specs.Acts.{act_of, IsLawfulAct, IsLawfulIf, EntersOwn, AsksServed as ActServed};
+ghost use Rattle.cpc_native_acts.specs.Acts.{act_of, IsLawfulAct, IsLawfulIf, EntersOwn, AsksServed as ActServed, AsksTaken as ActTaken};
 ghost use Rattle.cpc_meaning.specs.Act as M;
 ghost use Rattle.cpc_native_frames.specs.Made.{slots_of};
 ghost use Rattle.cpc_native.specs.Stacks.{fault_of};
@@ -42,7 +42,7 @@ use cpc_store::{Block, Class, Store, Value};
 use cpc_tree::program::Function;
 use std::alloc::Global;
 
-/// What code asks of the loop: a primitive with its converted arguments, in a function.
+/// What code asks of the loop: a primitive with its converted arguments, which are what it takes, in a function.
 #[derive(Drop)]
 pub struct Request {
     pub call: Builtin,
@@ -87,7 +87,7 @@ impl<'p> Machine<'p> {
     ghost use Rattle.cpc_native.specs.Stacks.{frames_of, stack_of, done_of, went, TellsRunning};
     ghost use Rattle.cpc_native.specs.Next.{FreesAlone, IsStateOf, LeavesSo, LeavesAtMost};
     ghost use Rattle.cpc_native.specs.Runs.{Runs};
-    ghost use Rattle.cpc_native.specs.Well.{AreWell, IsWell, BackAfter, AskedBy, TellsFunction, Unchanged, IsSameBut, EndsEmpty, AsksServed, IsOver, IsLawfulStep};
+    ghost use Rattle.cpc_native.specs.Well.{AreWell, IsWell, BackAfter, AskedBy, TellsFunction, Unchanged, IsSameBut, EndsEmpty, AsksServed, AsksTaken, IsOver, IsLawfulStep};
 
     /// A machine with this store in which nothing runs. The texts are those of the names of the program that the index is of.
     pub fn new(alloc: Global, index: Index<'p>, texts: &'p Names, store: Store) -> Self
@@ -214,6 +214,7 @@ impl<'p> Machine<'p> {
         ensures asked { IfOk result (λ stepped. AskedBy act.entry stepped) }
         ensures empty { IfOk result (λ stepped. EndsEmpty stepped self.new) }
         ensures served { IfOk result (λ stepped. ActServed act.entry → AsksServed stepped) }
+        ensures takes { IfOk result (λ stepped. ActTaken act.entry → AsksTaken stepped) }
         ensures index { self.new.index ≡ self.old.index }
         ensures texts { self.new.texts ≡ self.old.texts }
     {
@@ -276,6 +277,7 @@ impl<'p> Machine<'p> {
         ensures kept { IfOk result (λ stepped. Unchanged stepped self.old self.new) }
         ensures empty { IfOk result (λ stepped. EndsEmpty stepped self.new) }
         ensures served { IfOk result (λ stepped. (names : Texts) → Runs names self.old.texts.now (items_of names self.old.index) → AsksServed stepped) }
+        ensures takes { IfOk result (λ stepped. AsksTaken stepped) }
         ensures index { self.new.index ≡ self.old.index }
         ensures texts { self.new.texts ≡ self.old.texts }
     {

@@ -15,3 +15,4 @@ pub mod Requesting
 pub mod Blocks
 pub mod Foretold
 pub mod Standing
+pub mod Fitting

@@ -30,6 +30,7 @@ use Rattle.cpc_native_builtins.specs.Served.{is_served, is_served_found, is_serv
 use Rattle.cpc_native_frames.specs.declared.frame.Frame.{Frame}
 use Rattle.cpc_native_frames.specs.Frames.{frame_of, IsOwn}
 use Rattle.cpc_native_frames.specs.Made.{slots_of}
+use Rattle.cpc_native_acts.specs.Taken.{IsAskedWith}
 use Rattle.cpc_native_acts.specs.declared.act.Act.{Act}
 use Rattle.cpc_native_acts.specs.declared.act.Act.TheVariants as A
 
@@ -103,6 +104,11 @@ EntersOwn index _ = Unit {0}
 abbrev pub AsksServed : Act → Type 0
 AsksServed (A.Asks b vs) = is_served (primitive_of b) ≡ true
 AsksServed _ = Unit {0}
+
+-- what it asks for is asked with what it takes
+abbrev pub AsksTaken : Act → Type 0
+AsksTaken (A.Asks b vs) = IsAskedWith (primitive_of b) vs.items
+AsksTaken _ = Unit {0}
 
 -- a call and a request change nothing
 abbrev pub Keeps : {X : Type 0} → Act → (old new : X) → Type 0

@@ -22,6 +22,7 @@ use Rattle.cpc_eval.specs.Spots.{spot_of}
 use Rattle.cpc_native_builtins.specs.Builtins.{primitive_of}
 use Rattle.cpc_native_builtins.specs.Served.{is_served}
 use Rattle.cpc_native_acts.specs.Stops.{seen_as}
+use Rattle.cpc_native_acts.specs.Taken.{IsAskedWith}
 use Rattle.cpc_native_acts.specs.declared.deeds.Deed.{Deed}
 use Rattle.cpc_native_acts.specs.declared.deeds.Deed.TheVariants as D
 
@@ -63,6 +64,11 @@ IsLawfulDeed (D.Asks b vs) = All (λ v. IsLawful (seen v)) vs.items
 abbrev pub IsServedDeed : Deed → Type 0
 IsServedDeed (D.Asks b vs) = is_served (primitive_of b) ≡ true
 IsServedDeed _ = Unit {0}
+
+-- what a deed asks for is asked with what it takes
+abbrev pub IsTakenDeed : Deed → Type 0
+IsTakenDeed (D.Asks b vs) = IsAskedWith (primitive_of b) vs.items
+IsTakenDeed _ = Unit {0}
 
 -- a place, and what is assigned to it
 abbrev pub aimed : E.Context → Expr → S.Value → Answer (E.Spot × S.Value)

@@ -4,3 +4,4 @@ pub mod Calls
 pub mod Deeds
 pub mod Acts
 pub mod Foreseen
+pub mod Taken

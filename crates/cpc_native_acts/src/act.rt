@@ -11,10 +11,10 @@ ghost use Rattle.cpc_eval_values.specs.Shown.{value_of, store_of};
 ghost use Rattle.cpc_eval.specs.Spots.{AreLawful};
 ghost use Rattle.cpc_native_frames.specs.Frames.{IsOwn, IsWellFrame, RiseFrom};
 ghost use Rattle.cpc_native_frames.specs.Made.{slots_of};
-ghost use Rattle.cpc_native_acts.specs.Deeds.{Plans, did, IsLawfulDeed, IsServedDeed};
+ghost use Rattle.cpc_native_acts.specs.Deeds.{Plans, did, IsLawfulDeed, IsServedDeed, IsTakenDeed};
 ghost use Rattle.cpc_native_acts.specs.Stops.{MeetsOr};
 ghost use Rattle.cpc_eval_index.specs.Indexed.{items_of};
-ghost use Rattle.cpc_native_acts.specs.Acts.{acted, function_shown, stood_of, context_in, IsTexts, IsServing, IsLawfulAct, IsLawfulIf, EntersOwn, AsksServed, Keeps};
+ghost use Rattle.cpc_native_acts.specs.Acts.{acted, function_shown, stood_of, context_in, IsTexts, IsServing, IsLawfulAct, IsLawfulIf, EntersOwn, AsksServed, AsksTaken, Keeps};
 
 use crate::below::stopped;
 use crate::deeds::{Deed, arrives, found};
@@ -58,6 +58,7 @@ fn planned(
         → Plans names (context_in names index.now frame.now store.now) result (M.act (context_in names index.now frame.now store.now) (type_of names frame.now.function.now.result) (option_map (value_of names) arriving) (stood_of names frame.now)) }
     ensures lawful { IfOk result (λ d. IsLawfulDeed d) }
     ensures served { IfOk result (λ d. (names : Texts) → Spells texts.now names → IsServing names index.now frame.now → IsServedDeed d) }
+    ensures takes { IfOk result (λ d. IsTakenDeed d) }
 {
     let around = Around {
         index,
@@ -103,6 +104,7 @@ fn perform<'p>(
     requires deed { IsLawfulDeed deed }
     requires slots { AreLawful slots.old }
     requires rise { RiseFrom 0 slots.old }
+    requires takes { IsTakenDeed deed }
     ensures value { (names : Texts) (c : E.Context) → AreApart names → c.program ≡ items_of names index.now → c.slots ≡ slots_of names slots.old → c.store ≡ store_of names store.old
         → MeetsOr (acted names slots.new store.new result) (did names c deed) }
     ensures lawful_slots { AreLawful slots.new }
@@ -114,6 +116,7 @@ fn perform<'p>(
     ensures lawful { IfOk result (λ act. IsLawfulAct act) }
     ensures own { IfOk result (λ act. EntersOwn index.now act) }
     ensures asked { IfOk result (λ act. IsServedDeed deed → AsksServed act) }
+    ensures takes { IfOk result (λ act. AsksTaken act) }
 {
     match deed {
         Deed::Passes(holds) => Ok(Act::GoesOn(holds)),
@@ -163,6 +166,7 @@ pub fn step<'p>(
     ensures lawful { IfOk result (λ act. IsLawfulAct act) }
     ensures own { IfOk result (λ act. EntersOwn index.now act) }
     ensures asked { IfOk result (λ act. (names : Texts) → Spells texts.now names → IsServing names index.now frame.old → AsksServed act) }
+    ensures takes { IfOk result (λ act. AsksTaken act) }
 {
     let deed = planned(alloc, index, texts, frame, store, arriving)?;
     perform(index, deed, &mut frame.slots, store)

@@ -14,7 +14,7 @@ ghost use Rattle.cpc_eval.specs.Numbers.{HasNumbers, MaybeNumbers, AllNumbers, S
 ghost use Rattle.cpc_eval.specs.Spots.{AreLawful};
 ghost use Rattle.cpc_native_builtins.specs.Served.{calls_served, is_served_stmt, is_served_found, is_served_program};
 ghost use Rattle.cpc_native_acts.specs.Calls.{calls_known, calls_unmeant};
-ghost use Rattle.cpc_native_acts.specs.Deeds.{Plans, IsLawfulDeed, IsServedDeed, goes_on};
+ghost use Rattle.cpc_native_acts.specs.Deeds.{Plans, IsLawfulDeed, IsServedDeed, IsTakenDeed, goes_on};
 
 use crate::below::{stopped, value};
 use crate::calls::{builtin_at, value_called};
@@ -57,6 +57,7 @@ fn assigns<'a>(
         → Plans names (context_of names around.now) result (M.assigns (context_of names around.now) (expr_of names target.now) (M.right_side op (expr_of names target.now) (expr_of names right.now))) }
     ensures lawful { IfOk result (λ d. IsLawfulDeed d) }
     ensures served { IfOk result (λ d. IsServedDeed d) }
+    ensures takes { IfOk result (λ d. IsTakenDeed d) }
 {
     let given = right_value(op, target, right, around)?;
     let (spot, written) = aimed(target, given, around)?;
@@ -74,6 +75,7 @@ fn declares<'a>(
         → Plans names (context_of names around.now) result (M.simple_act (context_of names around.now) result_type (Y.Declare (names word.name) t (option_map (expr_of names) start.now))) }
     ensures lawful { IfOk result (λ d. IsLawfulDeed d) }
     ensures served { IfOk result (λ d. IsServedDeed d) }
+    ensures takes { IfOk result (λ d. IsTakenDeed d) }
 {
     match start {
         Some(start) => {
@@ -97,6 +99,7 @@ fn calls_value<'a>(
         → Plans names (context_of names around.now) result (M.calls_value (context_of names around.now) (expr_of names function.now) (exprs_of names arguments.now)) }
     ensures lawful { IfOk result (λ d. IsLawfulDeed d) }
     ensures served { IfOk result (λ d. IsServedDeed d) }
+    ensures takes { IfOk result (λ d. IsTakenDeed d) }
 {
     let (name, row) = value_called(alloc, function, arguments, around)?;
     Ok(Deed::Enters(name, row))
@@ -115,6 +118,7 @@ fn calls_function<'a>(
         → Plans names (context_of names around.now) result (calls_known (context_of names around.now) (names name) (exprs_of names arguments.now)) }
     ensures lawful { IfOk result (λ d. IsLawfulDeed d) }
     ensures served { IfOk result (λ d. IsServedDeed d) }
+    ensures takes { IfOk result (λ d. IsTakenDeed d) }
 {
     match around.index.function(name) {
         Some(known) => {
@@ -139,6 +143,7 @@ fn calls_primitive<'a>(
         → Plans names (context_of names around.now) result (calls_unmeant (context_of names around.now) (names name) (exprs_of names arguments.now)) }
     ensures lawful { IfOk result (λ d. IsLawfulDeed d) }
     ensures served { IfOk result (λ d. (names : Texts) → Spells texts.now names → calls_served (Y.ENamed (names name)) ≡ true → IsServedDeed d) }
+    ensures takes { IfOk result (λ d. IsTakenDeed d) }
 {
     match builtin_at(texts, name) {
         Some(builtin) => {
@@ -163,6 +168,7 @@ fn calls_named<'a>(
         → Plans names (context_of names around.now) result (M.calls_expr (context_of names around.now) (Y.ENamed (names name)) (exprs_of names arguments.now)) }
     ensures lawful { IfOk result (λ d. IsLawfulDeed d) }
     ensures served { IfOk result (λ d. (names : Texts) → Spells texts.now names → calls_served (Y.ENamed (names name)) ≡ true → IsServedDeed d) }
+    ensures takes { IfOk result (λ d. IsTakenDeed d) }
 {
     match around.meant(name) {
         Some(Meant::Local { .. }) => calls_value(alloc, function, arguments, around),
@@ -186,6 +192,7 @@ fn calls<'a>(
         → Plans names (context_of names around.now) result (M.calls_expr (context_of names around.now) (expr_of names function.now) (exprs_of names arguments.now)) }
     ensures lawful { IfOk result (λ d. IsLawfulDeed d) }
     ensures served { IfOk result (λ d. (names : Texts) → Spells texts.now names → calls_served (expr_of names function.now) ≡ true → IsServedDeed d) }
+    ensures takes { IfOk result (λ d. IsTakenDeed d) }
 {
     match function {
         Expr::Name(word) => calls_named(alloc, word.name, function, arguments, around, texts),
@@ -204,6 +211,7 @@ fn returns<'a>(
         → Plans names (context_of names around.now) result (M.returns (context_of names around.now) (type_of names of.now) (option_map (expr_of names) given.now)) }
     ensures lawful { IfOk result (λ d. IsLawfulDeed d) }
     ensures served { IfOk result (λ d. IsServedDeed d) }
+    ensures takes { IfOk result (λ d. IsTakenDeed d) }
 {
     let value = returned(of, given, around)?;
     Ok(Deed::Leaves(value))
@@ -222,6 +230,7 @@ fn simple<'a>(
         → Plans names (context_of names around.now) result (M.simple_act (context_of names around.now) (type_of names of.now) (stmt_of names statement.now)) }
     ensures lawful { IfOk result (λ d. IsLawfulDeed d) }
     ensures served { IfOk result (λ d. (names : Texts) → Spells texts.now names → is_served_stmt (stmt_of names statement.now) ≡ true → IsServedDeed d) }
+    ensures takes { IfOk result (λ d. IsTakenDeed d) }
 {
     match statement {
         Statement::Declare { word, start, .. } => declares(*word, start, around),
@@ -250,6 +259,7 @@ fn tests<'a>(test: Option<&'a Expr>, around: &Around<'a>) -> Result<Deed, Stop<F
         → Plans names (context_of names around.now) result (M.test_act (context_of names around.now) (option_map (λ e. expr_of names e.now) test.entry)) }
     ensures lawful { IfOk result (λ d. IsLawfulDeed d) }
     ensures served { IfOk result (λ d. IsServedDeed d) }
+    ensures takes { IfOk result (λ d. IsTakenDeed d) }
 {
     let holds = test_held(test, around)?;
     Ok(Deed::Passes(holds))
@@ -270,6 +280,7 @@ pub(crate) fn found<'a>(
         → Plans names (context_of names around.now) result (M.found_act (context_of names around.now) (type_of names of.now) (found_of names there.entry)) }
     ensures lawful { IfOk result (λ d. IsLawfulDeed d) }
     ensures served { IfOk result (λ d. (names : Texts) → Spells texts.now names → is_served_found (found_of names there.entry) ≡ true → IsServedDeed d) }
+    ensures takes { IfOk result (λ d. IsTakenDeed d) }
 {
     match there {
         Found::Simple(statement) => simple(alloc, of, statement, around, texts),
@@ -291,6 +302,7 @@ fn delivers<'a>(
         → Plans names (context_of names around.now) result (goes_on (M.deliver (context_of names around.now) (option_map (expr_of names) target.now) (value_of names given))) }
     ensures lawful { IfOk result (λ d. IsLawfulDeed d) }
     ensures served { IfOk result (λ d. IsServedDeed d) }
+    ensures takes { IfOk result (λ d. IsTakenDeed d) }
 {
     match target {
         Some(target) => {
@@ -313,6 +325,7 @@ fn delivers_to<'a>(
         → Plans names (context_of names around.now) result (M.arrives (context_of names around.now) (P.Simple (stmt_of names statement.now)) (Some (value_of names given))) }
     ensures lawful { IfOk result (λ d. IsLawfulDeed d) }
     ensures served { IfOk result (λ d. IsServedDeed d) }
+    ensures takes { IfOk result (λ d. IsTakenDeed d) }
 {
     match statement {
         Statement::Call { target, .. } => delivers(target, given, around),
@@ -336,6 +349,7 @@ pub(crate) fn arrives<'a>(
         → Plans names (context_of names around.now) result (M.arrives (context_of names around.now) (found_of names there.entry) (Some (value_of names given))) }
     ensures lawful { IfOk result (λ d. IsLawfulDeed d) }
     ensures served { IfOk result (λ d. IsServedDeed d) }
+    ensures takes { IfOk result (λ d. IsTakenDeed d) }
 {
     match there {
         Found::Simple(statement) => delivers_to(statement, given, around),

@@ -1,5 +1,5 @@
 //! The arguments of calls: evaluated from left to right, and then converted.
-ghost use Rattle.std.specs.Prelude.{◌≡◌, IfOk, Some, List, map, option_map, slice_get, length, true};
+ghost use Rattle.std.specs.Prelude.{◌≡◌, IfOk, OnOk, IfSome, Some, List, map, option_map, slice_get, length, true};
 ghost use Rattle.std.specs.List.{All};
 ghost use Rattle.std.specs.Result.{result_map_both};
 ghost use Rattle.cpc_tree.specs.Erase.{Names, type_of, expr_of, exprs_of};
@@ -16,11 +16,12 @@ ghost use Rattle.cpc_eval.specs.Around.{context_of, IsToldIn};
 ghost use Rattle.cpc_eval.specs.Numbers.{AllNumbers};
 ghost use Rattle.cpc_eval.specs.Spots.{AreLawful};
 ghost use Rattle.cpc_native_builtins.specs.Builtins.{primitive_of};
-ghost use Rattle.cpc_native_builtins.specs.Served.{is_served};
 ghost use Rattle.cpc_native_acts.specs.Stops.{MeetsOr, row_shown};
+ghost use Rattle.cpc_native_acts.specs.Taken.{are_taken, IsByte, IsAskedWith};
 ghost use Rattle.cpc_native_acts.specs.Rows.{row_types, parameter_list, by_nth, passed, taken, asked_with, text_in};
 
 use crate::below::{stopped, value};
+use crate::fits::are_taken;
 use cpc_base::{NoMemory, Stop};
 use cpc_eval::Around;
 use cpc_eval_values::{Taken, assigned, taken_as};
@@ -157,6 +158,22 @@ fn take_all(takes: &[Taken], values: &mut [Value]) -> Result<(), Fault>
     Ok(())
 }
 
+// Makes of arguments what a primitive takes, one for each that it takes. `Kind` where they are no such row, of which no rule
+// says anything.
+fn take_row(takes: &[Taken], values: &mut [Value]) -> Result<(), Fault>
+    requires { All (λ v. IsLawful (seen v)) values.old }
+    ensures value { (names : Names) (ts : List P.Taken) → map Some takes.now ≡ map taken_of ts → Meets (result_map_both (λ _. values_of names values.new) (λ fault. fault) result) (R.all_taken ts (values_of names values.old)) }
+    ensures lawful { All (λ v. IsLawful (seen v)) values.new }
+    ensures takes { OnOk result (are_taken (map Some takes.now) values.new ≡ true) }
+{
+    take_all(takes, values)?;
+    if are_taken(takes, values) {
+        Ok(())
+    } else {
+        Err(Fault::Kind)
+    }
+}
+
 // The values of arguments as they are taken.
 fn taken<'a>(
     alloc: Global,
@@ -168,9 +185,10 @@ fn taken<'a>(
     ensures value { (names : Names) (ts : List P.Taken) → map Some takes.now ≡ map taken_of ts → IsToldIn names around.now → AllNumbers (items_of names around.now.index.now) (exprs_of names arguments.now)
         → MeetsOr (row_shown names result) (taken (context_of names around.now) ts (exprs_of names arguments.now)) }
     ensures lawful { IfOk result (λ vs. All (λ v. IsLawful (seen v)) vs.items) }
+    ensures takes { IfOk result (λ vs. are_taken (map Some takes.now) vs.items ≡ true) }
 {
     let mut row = values(alloc, arguments, around)?;
-    stopped(take_all(takes, &mut row))?;
+    stopped(take_row(takes, &mut row))?;
     Ok(row)
 }
 
@@ -178,6 +196,7 @@ fn taken<'a>(
 fn byte_values(alloc: Global, bytes: &[u8]) -> Result<Vec<Value>, NoMemory>
     ensures value { IfOk result (λ vs. (names : Names) → values_of names vs.items ≡ R.byte_values bytes.now) }
     ensures lawful { IfOk result (λ vs. All (λ v. IsLawful (seen v)) vs.items) }
+    ensures bytes { IfOk result (λ vs. All IsByte vs.items) }
 {
     let mut row = Vec::new(alloc);
     for byte in bytes {
@@ -209,7 +228,8 @@ fn text_in(arguments: &[Expr]) -> Option<&[u8]>
 
 // The bytes of the string of `cpc_puts`.
 fn puts_text(builtin: Builtin, arguments: &[Expr]) -> Option<&[u8]>
-    ensures { (names : Names) → option_map (λ bytes. bytes.now) result ≡ M.puts_text (primitive_of builtin) (exprs_of names arguments.now) }
+    ensures value { (names : Names) → option_map (λ bytes. bytes.now) result ≡ M.puts_text (primitive_of builtin) (exprs_of names arguments.now) }
+    ensures puts { IfSome result (λ bytes. primitive_of builtin ≡ P.Puts) }
 {
     match builtin {
         Builtin::Puts => text_in(arguments),
@@ -230,6 +250,7 @@ pub(crate) fn asked_with<'a>(
     ensures value { (names : Names) → IsToldIn names around.now → AllNumbers (items_of names around.now.index.now) (exprs_of names arguments.now)
         → MeetsOr (row_shown names result) (asked_with (context_of names around.now) (primitive_of builtin) (exprs_of names arguments.now) (M.puts_text (primitive_of builtin) (exprs_of names arguments.now))) }
     ensures lawful { IfOk result (λ vs. All (λ v. IsLawful (seen v)) vs.items) }
+    ensures takes { IfOk result (λ vs. IsAskedWith (primitive_of builtin) vs.items) }
 {
     match puts_text(builtin, arguments) {
         Some(bytes) => Ok(byte_values(alloc, bytes)?),

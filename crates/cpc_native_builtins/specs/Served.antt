@@ -1,7 +1,7 @@
 -- Programs whose code asks only for what the loop answers so far.
 use Rattle.std.specs.Prelude.{Bool, true, false, ◌&&◌, not, [], ◌∷◌, Option, Some, None}
 use Rattle.cpc_tree.specs.Syntax.{Expr, ENamed, Stmt, Block, Call, Detach, Spawn, If, While, DoWhile, For, Label, Stmts, NoStmt, AndStmt, MaybeStmt, Absent, Present, Function, Item, PrototypeItem, FunctionItem, Program}
-use Rattle.cpc_tree.specs.Primitives.{Primitive, Print, Putc, Puts, Exit, Malloc, Free, RtFrame, RtBox, RtFrameFree, RtUnbox, RtReady, primitive_named}
+use Rattle.cpc_tree.specs.Primitives.{Primitive, Print, Putc, Puts, Now, CondNew, CondFree, Signal, SignalAll, Exit, Malloc, Free, RtFrame, RtBox, RtFrameFree, RtUnbox, RtReady, RtWait, RtSleep, RtIo, primitive_named}
 use Rattle.cpc_tree.specs.Points.{Found, Simple}
 use Rattle.cpc_tree.specs.declared.program.Mode.{Mode}
 use Rattle.cpc_tree.specs.declared.program.Mode.TheVariants.{Extern}
@@ -11,6 +11,11 @@ abbrev pub is_served : Primitive → Bool
 is_served Print = true
 is_served Putc = true
 is_served Puts = true
+is_served Now = true
+is_served CondNew = true
+is_served CondFree = true
+is_served Signal = true
+is_served SignalAll = true
 is_served Exit = true
 is_served Malloc = true
 is_served Free = true
@@ -19,6 +24,9 @@ is_served RtBox = true
 is_served RtFrameFree = true
 is_served RtUnbox = true
 is_served RtReady = true
+is_served RtWait = true
+is_served RtSleep = true
+is_served RtIo = true
 is_served _ = false
 
 -- what a name would call as a primitive, if it is the name of one, is served

@@ -10,5 +10,5 @@ use Rattle.cpc_native_acts.proofs.rows.asked_with.Goals as goal
 pub returns-in-None-clause-value : goal.returns-in-None-clause-value
 returns-in-None-clause-value c = λ names told n.
     let prim = primitive_of c.args.builtin in
-    or_by _ _ _ (ap (asked_with (context_of names c.args.around.now) prim (exprs_of names c.args.arguments.now)) (c.in-None.ensures names))
+    or_by _ _ _ (ap (asked_with (context_of names c.args.around.now) prim (exprs_of names c.args.arguments.now)) (c.in-None.ensures.value names))
     (c.taken.ensures.value names (takes_first prim) c.takes.ensures told n)

@@ -1,0 +1,69 @@
+//! Whether values are those that a primitive takes.
+ghost use Rattle.std.specs.Prelude.{◌≡◌, Some, map};
+ghost use Rattle.cpc_store.specs.Seen.{seen};
+ghost use Rattle.cpc_store.specs.Store as S;
+ghost use Rattle.cpc_native_acts.specs.Taken.{is_set, is_integer, is_taken_as, are_taken};
+
+use cpc_eval_values::Taken;
+use cpc_store::{Scalar, Value};
+
+// Whether a value is set.
+fn is_set(value: Value) -> bool
+    ensures { result ≡ is_set (seen value) }
+{
+    match value {
+        Value::Unset => false,
+        _ => true,
+    }
+}
+
+// Whether a value is an integer.
+fn is_integer(value: Value) -> bool
+    ensures { result ≡ is_integer (seen value) }
+{
+    match value {
+        Value::Int(_, _) => true,
+        _ => false,
+    }
+}
+
+// Whether a cell that is to hold such values may hold this one; an unset one it may.
+fn suits(wanted: Scalar, value: Value) -> bool
+    ensures { result ≡ S.suits wanted (seen value) }
+{
+    match (wanted, value) {
+        (_, Value::Unset) => true,
+        (Scalar::Int(wanted), Value::Int(kind, _)) => wanted == kind,
+        (Scalar::Pointer | Scalar::Code, Value::Null) => true,
+        (Scalar::Pointer, Value::At(..)) => true,
+        (Scalar::Code, Value::Code(_)) => true,
+        (Scalar::Cond, Value::Cond(_)) => true,
+        _ => false,
+    }
+}
+
+// Whether a value is one that is taken.
+fn is_taken_as(taken: Taken, value: Value) -> bool
+    ensures { result ≡ is_taken_as taken (seen value) }
+{
+    match taken {
+        Taken::AnyInteger => is_integer(value),
+        Taken::SetOf(scalar) => is_set(value) && suits(scalar, value),
+        Taken::FreeOf(scalar) => suits(scalar, value),
+    }
+}
+
+/// Whether values are those that are taken, from left to right, one for each.
+pub(crate) fn are_taken(takes: &[Taken], values: &[Value]) -> bool
+    ensures { result ≡ are_taken (map Some takes.now) values.now }
+{
+    if takes.len() != values.len() {
+        return false;
+    }
+    for i in 0..takes.len() {
+        if !is_taken_as(takes[i], values[i]) {
+            return false;
+        }
+    }
+    true
+}
