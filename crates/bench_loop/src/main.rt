@@ -6,7 +6,7 @@
 //! woken, and no time.
 #![tactic(auto)]
 
-use cpc_agenda_whole::Agenda;
+use cpc_agenda::Agenda;
 use cpc_base::{Direction, Event};
 use cpc_history_marks::Told;
 use std::alloc::Global;

@@ -7,7 +7,7 @@ use Rattle.cpc_base.specs.declared.poll.Event.TheVariants.{Done, Ready}
 use Rattle.cpc_tree.specs.Trace.{Told}
 use Rattle.cpc_store.specs.Store.{Value}
 use Rattle.cpc_meaning.specs.Agenda as A
-use Rattle.cpc_agenda_whole.specs.Acts.{IfFault}
+use Rattle.cpc_agenda.specs.Acts.{IfFault}
 
 finished : {T : Type 0} (ns : List ℕ) (vs : List Value) (a : A.Agenda T) → (A.finish_sections ns vs a).round ≡ a.round
 finished [] vs a = refl

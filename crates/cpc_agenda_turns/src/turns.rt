@@ -4,10 +4,10 @@ ghost use Rattle.cpc_tree.specs.Erase.{Names};
 ghost use Rattle.cpc_history_marks.specs.Views.{told_of};
 ghost use Rattle.cpc_meaning.specs.Agenda.{needs_poll};
 ghost use Rattle.cpc_meaning.specs.History.{polls_fit};
-ghost use Rattle.cpc_agenda_whole.specs.Lists.{lists_of, counters_of, IsAsBefore};
+ghost use Rattle.cpc_agenda.specs.Lists.{lists_of, counters_of, IsAsBefore};
 ghost use Rattle.cpc_agenda_turns.specs.Turns.{turn_of, TurnIs};
 
-use cpc_agenda_whole::Agenda;
+use cpc_agenda::Agenda;
 use cpc_base::{NoMemory, Stop};
 use cpc_history_marks::Told;
 use std::alloc::Global;

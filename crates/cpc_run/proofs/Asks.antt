@@ -1,29 +1,28 @@
 -- What a request does, and its answer, are one step.
-use Rattle.std.proofs.Common.{◌≡◌, ℕ, true, false, ℤ, pos, List, [], ◌∷◌, ◌++◌, Option, Some, None, Result, Ok, refl, sym, ap, subst, ◌∙◌, append_assoc}
-use Rattle.std.proofs.Common.{map}
-use Rattle.std.proofs.lemmas.List.{append-nil, map-append}
+use Rattle.std.proofs.Common.{◌≡◌, ℕ, true, false, ℤ, pos, ◌++◌, map, Option, Some, None, Result, Ok, Err, refl, sym, ap, subst, ◌∙◌, append_assoc}
 use Rattle.std.specs.Prelude.{int_lt, unsigned_abs, is_some}
 use Rattle.cpc_base.specs.Bytes.{Text}
 use Rattle.cpc_base.specs.declared.names.Name.{Name}
 use Rattle.cpc_base.specs.declared.stop.NoMemory.{NoMemory}
+use Rattle.cpc_num.specs.declared.kinds.Fault.{Fault}
 use Rattle.cpc_num.specs.declared.kinds.Kind.{Kind}
 use Rattle.cpc_tree.specs.Erase.{Names}
-use Rattle.cpc_tree.specs.Texts.{output, output_of}
 use Rattle.cpc_tree.specs.Points.{Point}
 use Rattle.cpc_tree.specs.Trace as T
-use Rattle.cpc_tree.specs.Trace.{Mark, Output}
+use Rattle.cpc_tree.specs.Trace.{Mark}
 use Rattle.cpc_store.specs.declared.values.Class.{Class}
 use Rattle.cpc_store.specs.declared.values.Class.TheVariants.{Static}
 use Rattle.cpc_store.specs.Store.{Store, Value, Unset, Whole, At, alloc, free, next_block, unset_cells}
 use Rattle.cpc_meaning.specs.Answer.{Answer, Gives, Faults, NoAnswer, ◌>>=◌}
 use Rattle.cpc_meaning.specs.Agenda as A
-use Rattle.cpc_meaning.specs.Events.{callbacks}
-use Rattle.cpc_meaning.specs.Machine.{marks, after_done, reply, replies, with_store, with_agenda, settled}
+use Rattle.cpc_meaning.specs.Events.{Callback, callbacks}
+use Rattle.cpc_meaning.specs.Machine.{acts, ends, fault_function, marks, after_done, reply, replies, with_store, with_agenda, settled}
 use Rattle.cpc_meaning.specs.Plain.{Form, Stack, Done, Went, Returned, Asks, answered, running_function}
 use Rattle.cpc_meaning.specs.Section.{allocated, freed}
+use Rattle.cpc_meaning.specs.Start.{before_bars}
 use Rattle.cpc_meaning.specs.Trees.{trees}
-use Rattle.cpc_agenda.specs.declared.agenda.Agenda.{Agenda}
-use Rattle.cpc_agenda.specs.Lists.{lists_of}
+use Rattle.cpc_meaning.proofs.Agendas.{SameAgenda, SameResult, made as cond_same}
+use Rattle.cpc_history_marks.specs.Views.{told_of}
 use Rattle.cpc_run.specs.declared.items.Item.{Item}
 use Rattle.cpc_run.specs.declared.looped.Loop.{Loop}
 use Rattle.cpc_meaning_pointer_laws.specs.Made.{IsMadeCode}
@@ -31,22 +30,21 @@ use Rattle.cpc_meaning_pointer_laws.specs.Laws.{done_with}
 use Rattle.cpc_meaning_pointer_laws.proofs.Answered.{answered_alike}
 use Rattle.cpc_run.specs.declared.outcome.Outcome.{Outcome}
 use Rattle.cpc_run.specs.declared.outcome.Outcome.TheVariants as O
-use Rattle.cpc_run.specs.Code.{store_in, stack_in}
-use Rattle.cpc_run.specs.States.{States, Stands, Did, Acted, outcome_of, agenda_of, callback_of, due_callback, settles, program_in}
+use Rattle.cpc_run.specs.Code.{items_in, store_in, stack_in}
+use Rattle.cpc_run.specs.Outcomes.{outcome_of}
+use Rattle.cpc_run.specs.Shown.{shown, shown_of}
+use Rattle.cpc_run.specs.States.{States, IsCallback, SameLists, Stands, Did, Acted, lists_in, settles, program_in}
+use Rattle.cpc_run.proofs.Alike.{KeepsSections, ok_same, err_same}
+use Rattle.cpc_run.proofs.Marks.{shown_more}
 
--- one more mark goes out behind the others
-pub output_more : (ms : List Mark) (bytes : Text) → output (ms ++ Output bytes ∷ []) ≡ output ms ++ bytes
-output_more [] bytes = append-nil bytes
-output_more (m ∷ ms) bytes = ap (λ t. output_of m ++ t) (output_more ms bytes) ∙ sym (append_assoc (output_of m) (output ms) bytes)
-
--- bytes that go out are behind what went out
-pub printed_more : (names : Names) (l : Loop) (f : Name) (sent old bytes new : Text) (s : States) → new ≡ old ++ bytes → Acted names l f (sent ++ old) s s → Acted names l f (sent ++ new) s (marks (Output bytes) s)
-printed_more names l f sent old bytes new s e h = record {
+-- a mark goes out behind what went out
+pub marked : (names : Names) (l : Loop) (f : Name) (sent old new : Text) (s t : States) (m : Mark) → new ≡ old ++ shown_of l.trace m → Acted names l f (sent ++ old) s t → Acted names l f (sent ++ new) s (marks m t)
+marked names l f sent old new s t m e h = record {
   store = h.store;
   asks = h.asks;
   name = h.name;
-  agenda = h.agenda;
-  printed_so = output_more s.trace bytes ∙ ap (λ t. t ++ bytes) h.printed_so ∙ append_assoc sent old bytes ∙ ap (λ t. sent ++ t) (sym e);
+  lists = h.lists;
+  printed_so = shown_more l.trace t.trace m ∙ ap (λ x. x ++ shown_of l.trace m) h.printed_so ∙ append_assoc sent old (shown_of l.trace m) ∙ ap (λ x. sent ++ x) (sym e);
   going = h.going;
 }
 
@@ -59,14 +57,14 @@ carried names r l mid new printed s t v program stack h =
     (subst (λ k. Did names r new printed s (settled (callbacks (program_in names mid)) s (reply (trees (program_in names mid)) k v t))) stack h)
 
 -- the store is another one
-pub stored : (names : Names) (l mid : Loop) (f : Name) (printed : Text) (s : States) (t : Store) → stack_in names mid.machine ≡ stack_in names l.machine → store_in names mid.machine ≡ t → mid.agenda ≡ l.agenda
+pub stored : (names : Names) (l mid : Loop) (f : Name) (printed : Text) (s : States) (t : Store) → stack_in names mid.machine ≡ stack_in names l.machine → store_in names mid.machine ≡ t → mid.turns ≡ l.turns → mid.trace ≡ l.trace
     → Acted names l f printed s s → Acted names mid f printed s (with_store s t)
-stored names l mid f printed s t stack store agenda h = record {
+stored names l mid f printed s t stack store turns trace h = record {
   store = sym store;
   asks = h.asks ∙ ap Some (sym stack);
   name = h.name ∙ ap (λ k. running_function k) (sym stack);
-  agenda = h.agenda ∙ ap (agenda_of names) (sym agenda);
-  printed_so = h.printed_so;
+  lists = subst (λ t. SameLists names t s.agenda s.history.polls) (sym turns) h.lists;
+  printed_so = ap (λ b. shown b s.trace) trace ∙ h.printed_so;
   going = h.going;
 }
 
@@ -110,6 +108,8 @@ module _ (names : Names) (l mid : Loop) (printed : Text) (s : States) (class : C
   not_going (O.Ended n) e = cc e
   not_going (O.Exited z) e = cc e
   not_going (O.Failed fault f) e = cc e
+  not_going O.HistoryEnded e = cc e
+  not_going (O.BadHistory n) e = cc e
 
   gone : (o : Outcome) (a : Answer (Done Point)) → Did {E = NoMemory} names (Ok (Some o)) mid printed s (settles names l s (a >>= after_done s)) → Did {E = NoMemory} names (Ok (Some o)) mid printed s (settles names l s (with_it a))
   gone o (Gives (Went t j)) h = absurd (not_going o (sym (ap (λ (u : States). u.outcome) h) ∙ going))
@@ -142,31 +142,68 @@ freed_so class v s t e = simp (sym e) refl
 
 pub freed_answered : (names : Names) (r : Result (Option Outcome) NoMemory) (l mid new : Loop) (f : Name) (printed : Text) (s : States) (class : Class) (v : Value)
     → Ok (store_in names mid.machine) ≡ free class v (store_in names l.machine)
-    → program_in names mid ≡ program_in names l → stack_in names mid.machine ≡ stack_in names l.machine → mid.agenda ≡ l.agenda
+    → program_in names mid ≡ program_in names l → stack_in names mid.machine ≡ stack_in names l.machine → mid.turns ≡ l.turns → mid.trace ≡ l.trace
     → Acted names l f printed s s
     → ((t : States) → Acted names mid f printed s t → Did names r new printed s (settles names mid s (reply (trees (program_in names mid)) (stack_in names mid.machine) Unset t)))
     → Did names r new printed s (settles names l s (replies (trees (program_in names l)) (stack_in names l.machine) (freed class v s.store) s))
-freed_answered names r l mid new f printed s class v e program stack agenda h answer =
+freed_answered names r l mid new f printed s class v e program stack turns trace h answer =
     let t = store_in names mid.machine in
-    let done = carried names r l mid new printed s (with_store s t) Unset program stack (answer (with_store s t) (stored names l mid f printed s t stack refl agenda h)) in
+    let done = carried names r l mid new printed s (with_store s t) Unset program stack (answer (with_store s t) (stored names l mid f printed s t stack refl turns trace h)) in
     subst (λ a. Did names r new printed s (settles names l s (replies (trees (program_in names l)) (stack_in names l.machine) a s))) (sym (freed_so class v s.store t (e ∙ ap (free class v) (sym h.store)))) done
 
--- ---- what becomes ready
+-- ---- acts on the lists
 
--- the lists with one more item that is ready
-pub ready_more : (names : Names) (a b : Agenda Item) (item : Item) → lists_of names b ≡ A.ready_one item (lists_of names a) → agenda_of names b ≡ A.ready_one (callback_of names item) (agenda_of names a)
-ready_more names a b item e =
-    ap (λ x. record A.new_agenda { ready = map (due_callback names) x.ready; round = map (due_callback names) x.round }) e
-    ∙ ap (λ r. record A.new_agenda { ready = r; round = map (due_callback names) (lists_of names a).round }) (map-append (due_callback names) (lists_of names a).ready (A.due item A.no_result ∷ []))
-
--- the agenda is another one
-pub listed : (names : Names) (l mid : Loop) (f : Name) (printed : Text) (s : States) (item : Item) → mid.machine ≡ l.machine → lists_of names mid.agenda ≡ A.ready_one item (lists_of names l.agenda)
-    → Acted names l f printed s s → Acted names mid f printed s (with_agenda s (A.ready_one (callback_of names item) s.agenda))
-listed names l mid f printed s item same e h = record {
-  store = h.store ∙ ap (store_in names) (sym same);
-  asks = h.asks ∙ ap (λ m. Some (stack_in names m)) (sym same);
-  name = h.name ∙ ap (λ m. running_function (stack_in names m)) (sym same);
-  agenda = ap (A.ready_one (callback_of names item)) h.agenda ∙ sym (ready_more names l.agenda mid.agenda item e);
-  printed_so = h.printed_so;
+-- the lists are others, in which as many sections are out
+pub relisted : (names : Names) (l mid : Loop) (f : Name) (printed : Text) (s : States) (b : A.Agenda Callback) → mid.machine ≡ l.machine → mid.trace ≡ l.trace → mid.turns.polls.now ≡ l.turns.polls.now
+    → SameAgenda (IsCallback names) (lists_in names mid) b → b.sections ≡ s.agenda.sections → Acted names l f printed s s → Acted names mid f printed s (with_agenda s b)
+relisted names l mid f printed s b machine trace polls same kept h = record {
+  store = h.store ∙ ap (store_in names) (sym machine);
+  asks = h.asks ∙ ap (λ m. Some (stack_in names m)) (sym machine);
+  name = h.name ∙ ap (λ m. running_function (stack_in names m)) (sym machine);
+  lists = record { agenda = same; polls = h.lists.polls ∙ ap (map told_of) (sym polls); none_out = kept ∙ h.lists.none_out };
+  printed_so = ap (λ x. shown x s.trace) trace ∙ h.printed_so;
   going = h.going;
 }
+
+-- a condition is made
+pub condition_made : (names : Names) (l mid : Loop) (f : Name) (printed : Text) (s : States) → mid.machine ≡ l.machine → mid.trace ≡ l.trace → mid.turns.polls.now ≡ l.turns.polls.now
+    → lists_in names mid ≡ A.cond_new (lists_in names l) → Acted names l f printed s s → Acted names mid f printed s (with_agenda s (A.cond_new s.agenda))
+condition_made names l mid f printed s machine trace polls e h =
+    relisted names l mid f printed s (A.cond_new s.agenda) machine trace polls
+    (subst (λ a. SameAgenda (IsCallback names) a (A.cond_new s.agenda)) (sym e) (cond_same (IsCallback names) (lists_in names l) s.agenda h.lists.agenda)) refl h
+
+-- an act on the lists of the code, which is done, is that of the definition
+module _ (names : Names) (l mid new : Loop) (f : Name) (result : Result (Option Outcome) NoMemory) (s : States) (u : Result (A.Agenda Item) Fault) (v : Result (A.Agenda Callback) Fault)
+    (same : SameResult (IsCallback names) u v) (kept : KeepsSections s.agenda.sections v) (done : u ≡ Ok (lists_in names mid))
+    (machine : mid.machine ≡ l.machine) (trace : mid.trace ≡ l.trace) (polls : mid.turns.polls.now ≡ l.turns.polls.now) where
+  act_done : (b : A.Agenda Callback) × (v ≡ Ok b) × SameAgenda (IsCallback names) (lists_in names mid) b
+  act_done = ok_same (IsCallback names) u v same (lists_in names mid) done
+
+  act_acted : (before : Text) → Acted names l f before s s → Acted names mid f before s (with_agenda s act_done.0)
+  act_acted before h = relisted names l mid f before s act_done.0 machine trace polls act_done.2 (subst (KeepsSections s.agenda.sections) act_done.1 kept) h
+
+  -- the answer goes on from there
+  abbrev pub Answers : Text → (States → States) → Text → Type 0
+  Answers before g after = (t : States) → Acted names mid f before s t → Did names result new after s (settles names mid s (reply (trees (program_in names mid)) (stack_in names mid.machine) Unset (g t)))
+
+  answered_from : (t : States) (after : Text) → Did names result new after s (settles names mid s (reply (trees (program_in names mid)) (stack_in names mid.machine) Unset t))
+      → Did names result new after s (settles names l s (reply (trees (program_in names l)) (stack_in names l.machine) Unset t))
+  answered_from t after h = carried names result l mid new after s t Unset (ap (items_in names) machine) (ap (stack_in names) machine) h
+
+  pub acts_so : (before after : Text) → Acted names l f before s s → Answers before (λ t. t) after → Did names result new after s (settles names l s (acts (trees (program_in names l)) (stack_in names l.machine) v s))
+  acts_so before after h answer =
+      subst (λ r. Did names result new after s (settles names l s (acts (trees (program_in names l)) (stack_in names l.machine) r s))) (sym act_done.1)
+      (answered_from (with_agenda s act_done.0) after (answer (with_agenda s act_done.0) (act_acted before h)))
+
+  pub acts_marked : (m : Mark) (before after : Text) → Acted names l f before s s → Answers before (marks m) after
+      → Did names result new after s (settles names l s (acts (trees (program_in names l)) (stack_in names l.machine) v (marks m s)))
+  acts_marked m before after h answer =
+      subst (λ r. Did names result new after s (settles names l s (acts (trees (program_in names l)) (stack_in names l.machine) r (marks m s)))) (sym act_done.1)
+      (answered_from (marks m (with_agenda s act_done.0)) after (answer (with_agenda s act_done.0) (act_acted before h)))
+
+-- an act that the lists of the code refuse is refused
+pub refused_so : (names : Names) (l new : Loop) (f : Name) (before after : Text) (s t : States) (u : Result (A.Agenda Item) Fault) (v : Result (A.Agenda Callback) Fault) (fault : Fault) → SameResult (IsCallback names) u v → u ≡ Err fault
+    → Acted names l f before s s → Did {E = NoMemory} names (Ok (Some (O.Failed fault f))) new after s (settles names l s (acts (trees (program_in names l)) (stack_in names l.machine) v t))
+refused_so names l new f before after s t u v fault same e h =
+    subst (λ r. Did {E = NoMemory} names (Ok (Some (O.Failed fault f))) new after s (settles names l s (acts (trees (program_in names l)) (stack_in names l.machine) r t))) (sym (err_same (IsCallback names) u v same fault e))
+    (ap (λ x. ends (T.Failed fault (before_bars x)) s) (ap fault_function h.asks ∙ sym h.name))

@@ -1,3 +1,6 @@
+pub mod Alike
+pub mod Making
+pub mod Marks
 pub mod Asks
 pub mod Turns
 pub mod Steps

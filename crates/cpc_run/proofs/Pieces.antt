@@ -1,12 +1,15 @@
 -- What waits is written.
-use Rattle.std.proofs.Common.{◌≡◌, ℕ, ◌≤◌, ◌+◌, ◌-◌, ◌^◌, min, [], ◌++◌, take, drop, Option, refl, sym, ap, ◌∙◌, arith, append_assoc, inl}
+use Rattle.std.proofs.Common.{◌≡◌, ℕ, ◌≤◌, ◌+◌, ◌-◌, ◌^◌, min, [], ◌++◌, take, drop, Option, refl, sym, ap, ◌∙◌, arith, append_assoc, inl, inr, Bool, subst}
 use Rattle.std.proofs.lemmas.List.{append-nil, take-append-drop}
 use Rattle.std.specs.Io.KnownBytes.{append_known}
 use Rattle.cpc_base.specs.Bytes.{Text}
 use Rattle.cpc_base.specs.Outside.{Rose}
 use Rattle.cpc_base.proofs.Pieces.{append_known-append}
+use Rattle.cpc_tree.specs.Erase.{Table, in_table}
 use Rattle.cpc_run.specs.declared.outcome.Ended.{Ended}
-use Rattle.cpc_run.specs.Reports.{IsPrefix, Wrote, Drained, EndsSo}
+use Rattle.cpc_run.specs.declared.outcome.Ended.TheVariants as E
+use Rattle.cpc_run.specs.Shown.{last_of}
+use Rattle.cpc_run.specs.Reports.{IsPrefix, IsInTable, Wrote, Drained, EndsSo, with_last}
 
 module _ (told old now : Option Text) (sent text : Text) (so_far : old ≡ append_known told sent) where
   -- all of it
@@ -28,9 +31,22 @@ module _ (told old now : Option Text) (sent text : Text) (so_far : old ≡ appen
 pub none_written : (told now : Option Text) (sent pending : Text) → now ≡ append_known told sent → Drained told now sent pending pending
 none_written told now sent pending e = (sent, e, refl)
 
--- all that waited is written, and the end is the one that was due
-pub all_told : (told now : Option Text) (sent pending left : Text) (due : Ended) → left ≡ [] → Drained told now sent pending left → Wrote told now (λ o. EndsSo due due o (sent ++ pending))
-all_told told now sent pending left due none (front, e, is) = (front, e, inl (refl, sym (append-nil front) ∙ ap (λ t. front ++ t) (sym none) ∙ is))
+-- what was put out with the last line is what was put out, and the last line
+module _ (table : Table) (trace : Bool) (due : Ended) (sent pending mid : Text) (known : IsInTable table due) (last : mid ≡ pending ++ last_of (in_table table) trace due) where
+  with_it : sent ++ mid ≡ with_last table trace due (sent ++ pending)
+  with_it = ap (λ t. sent ++ t) last ∙ sym (append_assoc sent pending (last_of (in_table table) trace due))
+
+  -- all that waited is written, and the end is the one that was due
+  pub all_told : (told now : Option Text) (left : Text) → left ≡ [] → Drained told now sent mid left → Wrote told now (λ o. EndsSo table trace due due o (sent ++ pending))
+  all_told told now left none (front, e, is) = (front, e, inl (known, refl, sym (append-nil front) ∙ ap (λ t. front ++ t) (sym none) ∙ is ∙ with_it))
+
+  -- the sink failed
+  pub part_told : (told now : Option Text) → Wrote told now (λ o. IsPrefix o (sent ++ mid)) → Wrote told now (λ o. EndsSo table trace due E.WriteFault o (sent ++ pending))
+  part_told told now (front, e, part) = (front, e, inr (inl (known, refl, subst (IsPrefix front) with_it part)))
+
+-- memory was wanting for the last line
+pub starved_told : (table : Table) (trace : Bool) (due : Ended) (sent pending : Text) (told now : Option Text) → now ≡ append_known told sent → Wrote told now (λ o. EndsSo table trace due E.Memory o (sent ++ pending))
+starved_told table trace due sent pending told now e = (sent, e, inr (inr (refl, record { rest = pending; whole = refl })))
 
 -- a count that rose later rose
 pub rose_later : (old mid new : ℕ) → old ≤ mid → Rose mid new → Rose old new

@@ -1,6 +1,10 @@
 -- The live cells of the next state, where the step is made and where it is not.
-use Rattle.std.proofs.Common.{◌≡◌, ℕ, ◌+◌, ◌-◌, ◌<◌, ◌≤◌, ◌^◌, min, List, [], ◌∷◌, Option, Some, None, Result, Ok, Err, IfErr, OnOk, refl, sym, ap, subst, ◌∙◌, arith}
+use Rattle.std.proofs.Common.{◌≡◌, ℕ, ◌+◌, ◌-◌, ◌<◌, ◌≤◌, ◌^◌, min, Bool, true, false, List, [], ◌∷◌, Option, Some, None, Result, Ok, Err, IfErr, OnOk, refl, sym, ap, subst, ◌∙◌, arith}
 use Rattle.cpc_base.specs.Bytes.{Text}
+use Rattle.cpc_tree.specs.Lists.{is_empty}
+use Rattle.cpc_tree.specs.Trace as T
+use Rattle.cpc_meaning.specs.Agenda as A
+use Rattle.cpc_meaning.specs.Copies.{collect}
 use Rattle.cpc_num.specs.declared.kinds.Fault.{Fault}
 use Rattle.cpc_num.specs.declared.kinds.Kind.TheVariants.{Int}
 use Rattle.cpc_tree.specs.Erase.{Names}
@@ -11,22 +15,20 @@ use Rattle.cpc_store.specs.Store as S
 use Rattle.cpc_store.specs.Store.{store_cells}
 use Rattle.cpc_meaning.specs.Answer.{Answer, Gives, Faults, NoAnswer, ◌>>=◌, needed}
 use Rattle.cpc_meaning.specs.Eval.{assigned}
-use Rattle.cpc_meaning.specs.Events.{CallWith, callbacks, starts_callback}
-use Rattle.cpc_meaning.specs.Machine.{settled, step_running, code_step, runs, try_step}
+use Rattle.cpc_meaning.specs.Events.{Callback, CallWith, callbacks, starts_callback}
+use Rattle.cpc_meaning.specs.Machine.{Machine, settled, step_running, code_step, runs, try_step, turns, turns_where, next_poll, next_round, takes_poll, polled, told_state}
 use Rattle.cpc_meaning.specs.Plain.{Frame, make_frame, stack_of}
 use Rattle.cpc_meaning.specs.Runs.{live_cells, frames_registers}
 use Rattle.cpc_meaning.specs.Trees.{trees}
 use Rattle.cpc_meaning_cell_laws.specs.Cells.{call_cells}
 use Rattle.cpc_meaning_cell_laws.proofs.Steps.{taking_adds}
 use Rattle.cpc_run.specs.declared.looped.Loop.{Loop}
-use Rattle.cpc_run.specs.declared.outcome.Outcome.{Outcome}
 use Rattle.cpc_run.specs.declared.short.Short.{Short}
 use Rattle.cpc_run.specs.declared.short.Short.TheVariants as W
 use Rattle.cpc_run.specs.Code.{store_in, stack_in}
 use Rattle.cpc_run.specs.Shorts.{Counts, IsAbove, IsBeyond}
-use Rattle.cpc_run.specs.States.{States, Stands, Came, IsSteady, settles, program_in}
+use Rattle.cpc_run.specs.States.{States, settles, program_in}
 use Rattle.cpc_run.proofs.Turns.{frame_never_fails}
-use Rattle.cpc_run.proofs.Weighed.{cells_so}
 
 -- ---- numbers
 
@@ -40,7 +42,7 @@ within : (cap cells n : ℕ) → cap < 2 ^ 62 → cells ≤ cap → cells ≡ mi
 within cap cells n small le is = omega (arith, small, le, is)
 
 -- what holds of one number holds of the same
-counts_more : (P Q : ℕ → Type 0) (o : Option States) → ((n : ℕ) → P n → Q n) → Counts P o → Counts Q o
+pub counts_more : (P Q : ℕ → Type 0) (o : Option States) → ((n : ℕ) → P n → Q n) → Counts P o → Counts Q o
 counts_more P Q None f h = tt
 counts_more P Q (Some t) f h = f (live_cells t) h
 
@@ -108,16 +110,40 @@ calls_count P names l s f pointer (S.Cond n) w e h = tt
 
 -- ---- a turn
 
--- where nothing changes but the agenda, or the run is over, as many cells are live
-pub turn_counts : (P : ℕ → Type 0) (names : Names) (l new : Loop) (printed : Text) (s : States) (r : Option Outcome) (o : Option States) → IsSteady l → IsSteady new → new.machine ≡ l.machine → Stands names l printed s
-    → Came names r new printed s o → P (live_cells s) → Counts P o
-turn_counts P names l new printed s r None steady after same stands came h = tt
-turn_counts P names l new printed s None (Some t) steady after same stands came h =
-    let before = cells_so names l printed s steady stands in
-    let now = cells_so names new printed t after came in
-    let kept = ap (λ m. store_cells (store_in names m) + frames_registers (stack_in names m).frames) same in
-    subst P (sym before ∙ sym kept ∙ now) h
-turn_counts P names l new printed s (Some outcome) (Some t) steady after same stands came h = subst P (sym (ap live_cells came)) h
+-- a turn leaves as many live cells, where no section is out
+module _ (names : Names) (l : Loop) (s : States) where
+  abbrev m : Machine Point Callback
+  m = callbacks (program_in names l)
+
+  none_named : (ns outs : List ℕ) → outs ≡ [] → A.not_out ns outs ≡ None → ns ≡ []
+  none_named [] outs e h = refl
+  none_named (n ∷ ns) outs e h = let g : Some n ≡ None = sym (ap (A.not_out (n ∷ ns)) e) ∙ h in cc
+
+  poll_counts : s.agenda.sections ≡ [] → (polls : List T.Told) → Counts (λ n. n ≡ live_cells s) (settled m s (next_poll m s polls))
+  poll_counts none [] = refl
+  poll_counts none (told ∷ polls) = go (A.not_out (A.completed told.events) (A.out s.agenda)) refl
+    where
+      go : (o : Option ℕ) → A.not_out (A.completed told.events) (A.out s.agenda) ≡ o → Counts (λ n. n ≡ live_cells s) (settled m s (takes_poll m s told polls o))
+      go (Some n) e = refl
+      go None e =
+          let outs : A.out s.agenda ≡ [] = ap (λ x. A.out (record s.agenda { sections = x })) none in
+          subst (λ ns. Counts (λ n. n ≡ live_cells s) (settled m s (polled m told (told_state told polls s) (collect m.form s.history.section_bound s.jobs ns s.store)))) (sym (none_named (A.completed told.events) (A.out s.agenda) outs e)) refl
+
+  round_counts : (b : Bool) → Counts (λ n. n ≡ live_cells s) (settled m s (Gives (next_round s b)))
+  round_counts true = refl
+  round_counts false = refl
+
+  turns_count : s.agenda.sections ≡ [] → (b : Bool) → Counts (λ n. n ≡ live_cells s) (settled m s (turns_where m s b))
+  turns_count none true = poll_counts none s.history.polls
+  turns_count none false = round_counts (is_empty s.agenda.ready)
+
+  pub turn_counts : s.agenda.sections ≡ [] → (cap : ℕ) → live_cells s ≤ cap → Counts (λ n. n ≤ cap) (settles names l s (turns m s))
+  turn_counts none cap le = counts_more (λ n. n ≡ live_cells s) (λ n. n ≤ cap) (settled m s (turns m s)) (λ n e. subst (λ k. k ≤ cap) (sym e) le) (turns_count none (A.needs_poll s.agenda))
+
+-- of want of memory nothing is told
+pub memory_counts : (cap : ℕ) (short : Short) (o : Option States) → short ≡ W.Memory → Counts (IsBeyond cap short) o
+memory_counts cap short None e = tt
+memory_counts cap short (Some t) e = subst (λ x. IsBeyond cap x (live_cells t)) (sym e) tt
 
 -- ---- a step of the running code
 

@@ -1,5 +1,5 @@
 -- A step is what runs, or what is taken.
-use Rattle.std.proofs.Common.{◌≡◌, ℕ, true, false, [], ◌∷◌, map, Option, Some, None, Result, Ok, Err, IfOk, refl, sym, ap, subst, ◌∙◌}
+use Rattle.std.proofs.Common.{◌≡◌, ℕ, true, false, List, [], ◌∷◌, map, Option, Some, None, Result, Ok, Err, IfOk, refl, sym, ap, subst, ◌∙◌}
 use Rattle.cpc_base.specs.Bytes.{Text}
 use Rattle.cpc_base.specs.declared.names.Name.{Name}
 use Rattle.cpc_base.specs.declared.stop.NoMemory.{NoMemory}
@@ -21,7 +21,10 @@ use Rattle.cpc_meaning.specs.Runs.{live_cells}
 use Rattle.cpc_meaning.specs.Start.{before_bars}
 use Rattle.cpc_meaning.specs.Requests.{Request}
 use Rattle.cpc_meaning.specs.Trees.{trees}
-use Rattle.cpc_agenda.specs.Lists.{lists_of, due_of}
+use Rattle.cpc_meaning.proofs.Agendas.{SameAgenda, SameDue}
+use Rattle.cpc_meaning.proofs.Both.{Both, Ends, Goes}
+use Rattle.cpc_history_marks.specs.Views.{told_of}
+use Rattle.cpc_agenda.specs.Lists.{due_of}
 use Rattle.cpc_eval_values.specs.Shown.{value_of}
 use Rattle.cpc_run.specs.declared.items.Item.{Item}
 use Rattle.cpc_run.specs.declared.looped.Loop.{Loop}
@@ -30,7 +33,8 @@ use Rattle.cpc_run.specs.declared.outcome.Outcome.TheVariants as O
 use Rattle.cpc_run.specs.declared.short.Short.{Short}
 use Rattle.cpc_run.specs.Shorts.{Counts}
 use Rattle.cpc_run.specs.Code.{items_in, store_in, stack_in, Same}
-use Rattle.cpc_run.specs.States.{States, Stands, Came, Did, agenda_of, callback_of, due_callback, settles, where_running, program_in}
+use Rattle.cpc_run.specs.Shown.{shown}
+use Rattle.cpc_run.specs.States.{States, IsCallback, SameLists, Stands, Came, Did, callback_of, lists_in, settles, where_running, program_in}
 
 -- where no rule fits nothing is said
 pub nothing : {E : Type 0} (names : Names) (r : Result (Option Outcome) E) (new : Loop) (printed : Text) (s : States) → Did names r new printed s None
@@ -114,62 +118,98 @@ counts_either P names l s t NoAnswer live h = tt
 counts_either P names l s t (Gives u) live h = h
 counts_either P names l s t (Faults fault) live h = subst P live h
 
-module _ (names : Names) (l mid : Loop) (before : Text) (s : States) (item : Item) (v : Value) where
-  abbrev after_it : A.Agenda Callback
-  after_it = agenda_of names mid.agenda
+-- what stands first in the ones stands first in the others
+module _ {X Y : Type 0} (R : X → Y → Type 0) where
+  cons_is : (x d : X) (xs ds : List X) → x ∷ xs ≡ d ∷ ds → (x ≡ d) × (xs ≡ ds)
+  cons_is x d xs ds e = (cc e, cc e)
 
+  first_of : (xs : List X) (ys : List Y) (d : X) (ds : List X) → Both R xs ys → xs ≡ d ∷ ds → (e : Y) × (es : List Y) × (ys ≡ e ∷ es) × R d e × Both R ds es
+  first_of _ _ d ds Ends h = absurd (cc h)
+  first_of _ _ d ds (Goes x y xs ys r b) h =
+      let same = cons_is x d xs ds h in
+      (y, ys, refl, subst (λ z. R z y) same.0 r, subst (λ zs. Both R zs ys) same.1 b)
+
+module _ (names : Names) (l mid : Loop) (before : Text) (s : States) (item : Item) (v : Value) where
   abbrev it : A.Due Callback
   it = record { item = callback_of names item; result = value_of names v }
 
-  next_is : lists_of names l.agenda ≡ record (lists_of names mid.agenda) { round = due_of names (item, v) ∷ (lists_of names mid.agenda).round }
-      → agenda_of names l.agenda ≡ record after_it { round = it ∷ after_it.round }
-  next_is e = ap (λ x. record A.new_agenda { ready = map (due_callback names) x.ready; round = map (due_callback names) x.round }) e
-
-  scheduled : s.agenda ≡ record after_it { round = it ∷ after_it.round }
-      → schedules (callbacks (program_in names l)) s s.agenda.round ≡ starts_callback (trees (program_in names l)) (callback_of names item) (value_of names v) (with_agenda s after_it)
-  scheduled e =
-      ap (λ a. schedules (callbacks (program_in names l)) s a.round) e
-      ∙ ap (λ a. starts_callback (trees (program_in names l)) (callback_of names item) (value_of names v) (with_agenda s (record a { round = after_it.round }))) e
-
   -- the item is taken
   abbrev Taken : Type 0
-  Taken = lists_of names l.agenda ≡ record (lists_of names mid.agenda) { round = due_of names (item, v) ∷ (lists_of names mid.agenda).round }
+  Taken = lists_in names l ≡ record (lists_in names mid) { round = due_of names (item, v) ∷ (lists_in names mid).round }
+
+  -- it is the first of the state's round, and the lists without it are those without it
+  record First : Type 0 where
+    pub rest : List (A.Due Callback)
+    pub is : s.agenda.round ≡ it ∷ rest
+    pub lists : SameLists names mid.turns (record s.agenda { round = rest }) s.history.polls
+
+  first : SameLists names l.turns s.agenda s.history.polls → Taken → mid.turns.polls.now ≡ l.turns.polls.now → First
+  first h e polls =
+      let moved : SameAgenda (IsCallback names) (record (lists_in names mid) { round = due_of names (item, v) ∷ (lists_in names mid).round }) s.agenda =
+      subst (λ a. SameAgenda (IsCallback names) a s.agenda) e h.agenda in
+      let (due, rest, is, same, others) = first_of (SameDue (IsCallback names)) _ s.agenda.round (due_of names (item, v)) (lists_in names mid).round moved.round refl in
+      let named : due ≡ it = ap (λ x. record { item = x; result = due.result }) (sym same.item) ∙ ap (λ x. record { item = callback_of names item; result = x }) (sym same.result) in
+      record {
+        rest = rest;
+        is = is ∙ ap (λ d. d ∷ rest) named;
+        lists = record {
+          agenda = record {
+            ready = moved.ready;
+            round = others;
+            waiters = moved.waiters;
+            descriptors = moved.descriptors;
+            timers = moved.timers;
+            sections = moved.sections;
+            live = moved.live;
+            now = moved.now;
+            conditions_made = moved.conditions_made;
+            timers_made = moved.timers_made;
+            sections_made = moved.sections_made;
+          };
+          polls = h.polls ∙ ap (map told_of) (sym polls);
+          none_out = h.none_out;
+        };
+      }
 
   -- the state without the item
-  abbrev rest : States
-  rest = with_agenda s after_it
+  abbrev without_it : First → States
+  without_it f = with_agenda s (record s.agenda { round = f.rest })
 
   -- what the item comes to
   abbrev begins : Loop → States → Answer States
   begins at t = starts_callback (trees (program_in names at)) (callback_of names item) (value_of names v) t
 
-  rest_stands : Stands names l before s → l.running ≡ false → mid.machine ≡ l.machine → mid.running ≡ false → Stands names mid before rest
-  rest_stands h idle same still = record {
+  rest_stands : Stands names l before s → l.running ≡ false → mid.machine ≡ l.machine → mid.running ≡ false → mid.trace ≡ l.trace → (f : First) → Stands names mid before (without_it f)
+  rest_stands h idle same still trace f = record {
     store = h.store ∙ ap (store_in names) (sym same);
     running = h.running ∙ ap (λ b. where_running b (stack_in names l.machine)) (idle ∙ sym still) ∙ ap (λ x. where_running mid.running (stack_in names x)) (sym same);
-    agenda = refl;
-    printed_so = h.printed_so;
+    lists = f.lists;
+    printed_so = ap (λ b. shown b s.trace) trace ∙ h.printed_so;
     going = h.going;
   }
 
   -- the step is what the item comes to
-  step_is : Stands names l before s → l.running ≡ false → Taken → try_step (callbacks (program_in names l)) s ≡ settled (callbacks (program_in names l)) s (begins l rest)
-  step_is h idle e =
+  step_is : Stands names l before s → l.running ≡ false → (f : First) → try_step (callbacks (program_in names l)) s ≡ settled (callbacks (program_in names l)) s (begins l (without_it f))
+  step_is h idle f =
       let m = callbacks (program_in names l) in
-      ap (settled m s) (ap (step_running m s) (h.running ∙ ap (λ b. where_running b (stack_in names l.machine)) idle) ∙ scheduled (h.agenda ∙ next_is e))
+      ap (λ o. settled m s (step_running m s o)) (h.running ∙ ap (λ b. where_running b (stack_in names l.machine)) idle) ∙ ap (λ r. settled m s (schedules m s r)) f.is
 
-  pub taken : (r : Result (Option Outcome) Short) (new : Loop) (printed : Text) → Stands names l before s → l.running ≡ false → mid.machine ≡ l.machine → mid.running ≡ false → Taken
+  pub taken : (r : Result (Option Outcome) Short) (new : Loop) (printed : Text) → Stands names l before s → l.running ≡ false → mid.machine ≡ l.machine → mid.running ≡ false → mid.trace ≡ l.trace → mid.turns.polls.now ≡ l.turns.polls.now → Taken
       → IfOk r (λ o. o ≡ None)
       → ((t : States) → Stands names mid before t → Did names r new printed t (settles names mid t (begins mid t)))
       → Did names r new printed s (try_step (callbacks (program_in names l)) s)
-  taken r new printed h idle same still e on start =
-      let begun = subst (λ x. Did names r new printed rest (settled (callbacks (items_in names x)) rest (starts_callback (trees (items_in names x)) (callback_of names item) (value_of names v) rest))) same (start rest (rest_stands h idle same still)) in
-      subst (λ o. Did names r new printed s o) (sym (step_is h idle e)) (from_either names r l new printed s rest (begins l rest) refl on begun)
+  taken r new printed h idle same still trace polls e on start =
+      let f = first h.lists e polls in
+      let rest = without_it f in
+      let begun = subst (λ x. Did names r new printed rest (settled (callbacks (items_in names x)) rest (starts_callback (trees (items_in names x)) (callback_of names item) (value_of names v) rest))) same (start rest (rest_stands h idle same still trace f)) in
+      subst (λ o. Did names r new printed s o) (sym (step_is h idle f)) (from_either names r l new printed s rest (begins l rest) refl on begun)
 
   -- and so are its live cells
-  pub taken_counts : (P : ℕ → Type 0) → Stands names l before s → l.running ≡ false → mid.machine ≡ l.machine → mid.running ≡ false → Taken
+  pub taken_counts : (P : ℕ → Type 0) → Stands names l before s → l.running ≡ false → mid.machine ≡ l.machine → mid.running ≡ false → mid.trace ≡ l.trace → mid.turns.polls.now ≡ l.turns.polls.now → Taken
       → ((t : States) → Stands names mid before t → live_cells t ≡ live_cells s → Counts P (settles names mid t (begins mid t)))
       → Counts P (try_step (callbacks (program_in names l)) s)
-  taken_counts P h idle same still e start =
-      let begun = subst (λ x. Counts P (settled (callbacks (items_in names x)) rest (starts_callback (trees (items_in names x)) (callback_of names item) (value_of names v) rest))) same (start rest (rest_stands h idle same still) refl) in
-      subst (Counts P) (sym (step_is h idle e)) (counts_either P names l s rest (begins l rest) refl begun)
+  taken_counts P h idle same still trace polls e start =
+      let f = first h.lists e polls in
+      let rest = without_it f in
+      let begun = subst (λ x. Counts P (settled (callbacks (items_in names x)) rest (starts_callback (trees (items_in names x)) (callback_of names item) (value_of names v) rest))) same (start rest (rest_stands h idle same still trace f) refl) in
+      subst (Counts P) (sym (step_is h idle f)) (counts_either P names l s rest (begins l rest) refl begun)

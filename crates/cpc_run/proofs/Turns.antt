@@ -1,9 +1,9 @@
 -- Where nothing runs: a turn of the round, and what is taken.
-use Rattle.std.proofs.Common.{◌≡◌, ℕ, suc, length, Bool, true, false, not, List, [], ◌∷◌, map, Option, Some, None, Ok, refl, sym, ap, subst, ◌∙◌}
+use Rattle.std.proofs.Common.{◌≡◌, ℕ, suc, ◌≤◌, length, true, false, List, [], ◌∷◌, ◌++◌, map, Option, Some, None, Ok, refl, sym, ap, subst, ◌∙◌, arith}
+use Rattle.std.proofs.lemmas.List.{length-map}
 use Rattle.cpc_base.specs.Bytes.{Text}
 use Rattle.cpc_num.specs.declared.kinds.Fault.{Fault}
 use Rattle.cpc_tree.specs.Erase.{Names}
-use Rattle.cpc_tree.specs.Lists.{is_empty}
 use Rattle.cpc_tree.specs.Points.{Point}
 use Rattle.cpc_tree.specs.Syntax.{Variable, Function, Program}
 use Rattle.cpc_tree.specs.Typing.{function_named, size}
@@ -15,18 +15,25 @@ use Rattle.cpc_meaning.specs.Agenda as A
 use Rattle.cpc_meaning.specs.Answer.{Answer, Gives, Faults, NoAnswer, ◌>>=◌, needed}
 use Rattle.cpc_meaning.specs.Eval.{Slot}
 use Rattle.cpc_meaning.specs.Events.{Callback, callbacks}
-use Rattle.cpc_meaning.specs.Machine.{ends, runs, turns, turns_where, next_round}
+use Rattle.cpc_meaning.specs.Machine.{Machine, runs, schedules, settled, step_running, try_step, turns}
 use Rattle.cpc_meaning.specs.Plain.{Frame, stack_of, make_frame}
 use Rattle.cpc_meaning.specs.Slots.{make_slot, make_slots}
 use Rattle.cpc_meaning.specs.Trees.{trees}
-use Rattle.cpc_agenda.specs.declared.agenda.Agenda.{Agenda}
-use Rattle.cpc_agenda.specs.Lists.{lists_of}
+use Rattle.cpc_meaning.proofs.Agendas.{SameAgenda, SameDue}
+use Rattle.cpc_meaning.proofs.Both.{Both, Ends, Goes}
+use Rattle.cpc_history_marks.specs.Views.{told_of}
+use Rattle.cpc_agenda_turns.specs.Laws.{after_turn}
+use Rattle.cpc_agenda_turns.specs.Turns as N
+use Rattle.cpc_agenda_turns.proofs.Follow.{turns_follow}
 use Rattle.cpc_run.specs.declared.items.Item.{Item}
 use Rattle.cpc_run.specs.declared.looped.Loop.{Loop}
 use Rattle.cpc_run.specs.declared.outcome.Outcome.TheVariants as O
 use Rattle.cpc_run.specs.declared.short.Short.{Short}
 use Rattle.cpc_run.specs.Code.{store_in, stack_in}
-use Rattle.cpc_run.specs.States.{States, Stands, Did, Came, agenda_of, due_callback, settles, where_running, program_in}
+use Rattle.cpc_run.specs.Shown.{shown, shown_of}
+use Rattle.cpc_run.specs.States.{States, IsCallback, SameLists, Stands, Did, Came, lists_in, polls_in, settles, where_running, program_in}
+use Rattle.cpc_run.proofs.Alike.{turn_same, turn_keeps}
+use Rattle.cpc_run.proofs.Marks.{shown_more}
 
 -- ---- a call of a function
 
@@ -87,7 +94,7 @@ runs_named p vs s o = do
   Gives (record s { store = t; running = Some (stack_of frame) })
 
 -- where the code called the function as the definition does, the loop stands as the next state
-module _ (names : Names) (l new : Loop) (printed : Text) (s : States) (h : Stands names l printed s) (same : new.agenda ≡ l.agenda) (running : new.running ≡ true) where
+module _ (names : Names) (l new : Loop) (printed : Text) (s : States) (h : Stands names l printed s) (turns : new.turns ≡ l.turns) (trace : new.trace ≡ l.trace) (running : new.running ≡ true) where
   abbrev Entered : Text → List Value → Type 0
   Entered f vs =
       (g : Function) (frame : Frame Point) (t : Store) → function_named (program_in names l) f ≡ Some g → make_frame (trees (program_in names l)) g vs (store_in names l.machine) ≡ Gives (frame, t)
@@ -98,8 +105,8 @@ module _ (names : Names) (l new : Loop) (printed : Text) (s : States) (h : Stand
   in_frame frame t e = record {
     store = sym e.1;
     running = ap Some (sym e.0) ∙ sym (ap (λ b. where_running b (stack_in names new.machine)) running);
-    agenda = h.agenda ∙ ap (agenda_of names) (sym same);
-    printed_so = h.printed_so;
+    lists = subst (λ t. SameLists names t s.agenda s.history.polls) (sym turns) h.lists;
+    printed_so = ap (λ b. shown b s.trace) trace ∙ h.printed_so;
     going = h.going;
   }
 
@@ -121,36 +128,95 @@ module _ (names : Names) (l new : Loop) (printed : Text) (s : States) (h : Stand
 
 -- ---- a turn
 
-no_poll : (names : Names) (a : Agenda Item) (b : A.Agenda Callback) → b ≡ agenda_of names a → A.needs_poll b ≡ false
-no_poll names a b e = ap A.needs_poll e
+-- where nothing runs and the round is over, the step is a turn
+empty_round : (names : Names) (xs : List (A.Due Item)) (ys : List (A.Due Callback)) → Both (SameDue (IsCallback names)) xs ys → xs ≡ [] → ys ≡ []
+empty_round names _ _ Ends e = refl
+empty_round names _ _ (Goes x y xs ys r b) e = absurd (cc e)
 
-none_of : (names : Names) (xs : List (A.Due Item)) → is_empty (map (due_callback names) xs) ≡ is_empty xs
-none_of names [] = refl
-none_of names (x ∷ xs) = refl
+pub turn_step : (names : Names) (l : Loop) (printed : Text) (s : States) → Stands names l printed s → l.running ≡ false → (lists_in names l).round ≡ []
+    → settles names l s (turns (callbacks (program_in names l)) s) ≡ try_step (callbacks (program_in names l)) s
+turn_step names l printed s h idle none =
+    let m = callbacks (program_in names l) in
+    let running = h.running ∙ ap (λ b. where_running b (stack_in names l.machine)) idle in
+    let round = empty_round names (lists_in names l).round s.agenda.round h.lists.agenda.round none in
+    sym (ap (λ o. settled m s (step_running m s o)) running ∙ ap (λ r. settled m s (schedules m s r)) round)
 
-module _ (names : Names) (l : Loop) (printed : Text) (s : States) (h : Stands names l printed s) where
-  turned : (b : Bool) → is_empty (lists_of names l.agenda).ready ≡ b → turns (callbacks (program_in names l)) s ≡ Gives (next_round s b)
-  turned b e =
-      ap (turns_where (callbacks (program_in names l)) s) (no_poll names l.agenda s.agenda h.agenda)
-      ∙ ap (λ a. Gives (next_round s (is_empty a.ready))) h.agenda ∙ ap (λ x. Gives (next_round s x)) (none_of names (lists_of names l.agenda).ready ∙ e)
+-- the loop stands with the same lists
+pub stands_as_before : (names : Names) (l mid : Loop) (printed : Text) (s : States) → mid.machine ≡ l.machine → mid.running ≡ l.running → mid.trace ≡ l.trace → mid.turns.polls.now ≡ l.turns.polls.now
+    → lists_in names mid ≡ lists_in names l → Stands names l printed s → Stands names mid printed s
+stands_as_before names l mid printed s machine running trace polls same h = record {
+  store = h.store ∙ ap (store_in names) (sym machine);
+  running = h.running ∙ ap (λ b. where_running b (stack_in names l.machine)) (sym running) ∙ ap (λ m. where_running mid.running (stack_in names m)) (sym machine);
+  lists = record {
+    agenda = subst (λ a. SameAgenda (IsCallback names) a s.agenda) (sym same) h.lists.agenda;
+    polls = h.lists.polls ∙ ap (map told_of) (sym polls);
+    none_out = h.lists.none_out;
+  };
+  printed_so = ap (λ b. shown b s.trace) trace ∙ h.printed_so;
+  going = h.going;
+}
 
-  -- nothing is ready: the run is over
-  pub over : (new : Loop) (n : ℕ) → n ≡ 0 → is_empty (lists_of names l.agenda).ready ≡ true
-      → Came names (Some (O.Ended n)) new printed s (settles names l s (turns (callbacks (program_in names l)) s))
-  over new n zero e = subst (λ a. Came names (Some (O.Ended n)) new printed s (settles names l s a)) (sym (turned true e)) (ap (λ k. ends (T.Ended k) s) (ap (λ a. length a.waiters) h.agenda ∙ sym zero))
+module _ (names : Names) (l new : Loop) (printed : Text) (s : States) (h : Stands names l printed s) (machine : new.machine ≡ l.machine) (still : new.running ≡ l.running) (trace : new.trace ≡ l.trace) where
+  abbrev m : Machine Point Callback
+  m = callbacks (program_in names l)
+
+  -- the lists and polls after the turn
+  abbrev pub TurnedTo : N.Turn → Type 0
+  TurnedTo t = N.TurnIs t (lists_in names l) (polls_in l) (lists_in names new) (polls_in new)
+
+  turned : (t : N.Turn) → TurnedTo t → (b : A.Agenda Callback) × SameAgenda (IsCallback names) (lists_in names new) b × (b.sections ≡ []) × N.TurnIs t s.agenda s.history.polls b (polls_in new) × (turns m s ≡ Gives (after_turn t s b (polls_in new)))
+  turned t e =
+      let moved = subst (λ ps. N.TurnIs t (lists_in names l) ps (lists_in names new) (polls_in new)) (sym h.lists.polls) e in
+      let it = turn_same (IsCallback names) (lists_in names l) s.agenda h.lists.agenda t s.history.polls (lists_in names new) (polls_in new) moved in
+      (it.0, it.1, turn_keeps t s.agenda s.history.polls it.0 (polls_in new) it.2 ∙ h.lists.none_out, it.2, turns_follow Point Callback m s t it.0 (polls_in new) h.lists.none_out it.2)
+
+  running_so : s.running ≡ where_running new.running (stack_in names new.machine)
+  running_so = h.running ∙ ap (λ b. where_running b (stack_in names l.machine)) (sym still) ∙ ap (λ x. where_running new.running (stack_in names x)) (sym machine)
 
   -- what is ready becomes the round
-  pub turns_on : (new : Loop) → l.running ≡ false → is_empty (lists_of names l.agenda).ready ≡ false → lists_of names new.agenda ≡ A.begin_round (lists_of names l.agenda) → new.machine ≡ l.machine → new.running ≡ l.running
-      → Came names None new printed s (settles names l s (turns (callbacks (program_in names l)) s))
-  turns_on new idle e begun same still = subst (λ a. Came names None new printed s (settles names l s a)) (sym (turned false e)) (record {
-    store = h.store ∙ ap (store_in names) (sym same);
-    running = h.running ∙ ap (λ b. where_running b (stack_in names l.machine)) (sym still) ∙ ap (λ m. where_running new.running (stack_in names m)) (sym same);
-    agenda = ap A.begin_round h.agenda ∙ sym (ap (λ a. record A.new_agenda { ready = map (due_callback names) a.ready; round = map (due_callback names) a.round }) begun);
-    printed_so = h.printed_so;
-    going = h.going;
-  })
+  pub round_began : TurnedTo N.Round → Came names None new printed s (settles names l s (turns m s))
+  round_began e =
+      let it = turned N.Round e in
+      subst (λ a. Came names None new printed s (settles names l s a)) (sym it.4) (record {
+        store = h.store ∙ ap (store_in names) (sym machine);
+        running = running_so;
+        lists = record { agenda = it.1; polls = sym it.3.same; none_out = it.2 };
+        printed_so = ap (λ b. shown b s.trace) trace ∙ h.printed_so;
+        going = h.going;
+      })
 
--- where nothing waits, nothing is ready
-pub is_not : (b x : Bool) → b ≡ not x → b ≡ false → x ≡ true
-is_not b true e h = refl
-is_not b false e h = cc
+  -- a poll is taken, for which this goes out
+  pub poll_taken : (told : T.Told) (text : Text) → text ≡ printed ++ shown_of l.trace (T.Polled told) → TurnedTo (N.Polled told) → Came names None new text s (settles names l s (turns m s))
+  poll_taken told text more e =
+      let it = turned (N.Polled told) e in
+      subst (λ a. Came names None new text s (settles names l s a)) (sym it.4) (record {
+        store = h.store ∙ ap (store_in names) (sym machine);
+        running = running_so;
+        lists = record { agenda = it.1; polls = refl; none_out = it.2 };
+        printed_so = ap (λ b. shown b (s.trace ++ T.Polled told ∷ [])) trace ∙ shown_more l.trace s.trace (T.Polled told) ∙ ap (λ t. t ++ shown_of l.trace (T.Polled told)) h.printed_so ∙ sym more;
+        going = h.going;
+      })
+
+  -- the run is over
+  pub run_ended : (n : ℕ) (text : Text) → TurnedTo (N.Ended n) → Came names (Some (O.Ended n)) new text s (settles names l s (turns m s))
+  run_ended n text e = subst (λ a. Came names (Some (O.Ended n)) new text s (settles names l s a)) (sym (turned (N.Ended n) e).4) refl
+
+  pub history_over : (text : Text) → TurnedTo N.HistoryEnded → Came names (Some O.HistoryEnded) new text s (settles names l s (turns m s))
+  history_over text e = subst (λ a. Came names (Some O.HistoryEnded) new text s (settles names l s a)) (sym (turned N.HistoryEnded e).4) refl
+
+  pub poll_refused : (n : ℕ) (text : Text) → TurnedTo (N.BadHistory n) → Came names (Some (O.BadHistory n)) new text s (settles names l s (turns m s))
+  poll_refused n text e = subst (λ a. Came names (Some (O.BadHistory n)) new text s (settles names l s a)) (sym (turned (N.BadHistory n) e).4) refl
+
+-- no turn gives polls back
+pub no_more_polls : (names : Names) (l new : Loop) (t : N.Turn) → N.TurnIs t (lists_in names l) (polls_in l) (lists_in names new) (polls_in new) → length new.turns.polls.now ≤ length l.turns.polls.now
+no_more_polls names l new t e = subst (λ n. n ≤ length l.turns.polls.now) (length-map new.turns.polls.now told_of) (subst (λ n. length (polls_in new) ≤ n) (length-map l.turns.polls.now told_of) (fewer t e))
+  where
+    same_length : polls_in new ≡ polls_in l → length (polls_in new) ≤ length (polls_in l)
+    same_length e = let f = ap length e in omega (arith, f)
+
+    fewer : (t : N.Turn) → N.TurnIs t (lists_in names l) (polls_in l) (lists_in names new) (polls_in new) → length (polls_in new) ≤ length (polls_in l)
+    fewer N.Round h = same_length h.same
+    fewer (N.Polled told) h = let f : length (polls_in l) ≡ suc (length (polls_in new)) = ap length h.next in omega (arith, f)
+    fewer (N.Ended n) h = same_length h.2
+    fewer N.HistoryEnded h = same_length h.2
+    fewer (N.BadHistory n) h = same_length h.2

@@ -1,15 +1,20 @@
-//! Runs of event programs: the loop that takes the items that are ready, and what the running code asks of it.
+//! Runs of event programs over a history of polls: the loop that takes the items that are ready, and what the running code
+//! asks of it.
 #![tactic(auto)]
 
 mod asked;
 mod code;
+mod conditions;
 mod items;
 mod looped;
 mod made;
+mod memory;
 mod open;
 mod outcome;
 mod run;
 mod short;
+mod shown;
+mod waits;
 
 pub use outcome::{Ended, Limits, Outcome, RunReport, before_bars};
 pub use run::run_event;

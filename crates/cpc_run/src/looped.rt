@@ -8,32 +8,34 @@ ghost use Rattle.cpc_meaning.specs.Events.{starts_callback, callbacks};
 ghost use Rattle.cpc_meaning.specs.Machine.{turns, runs, try_step, code_step, reply};
 ghost use Rattle.cpc_meaning.specs.Trees.{trees};
 ghost use Rattle.cpc_eval_values.specs.Shown.{value_of, values_of};
-ghost use Rattle.cpc_agenda.specs.Lists.{lists_of};
 ghost use Rattle.cpc_run.specs.Code.{stack_in};
 ghost use Rattle.cpc_run.specs.Shorts.{Counts, IsBeyond};
-ghost use Rattle.cpc_run.specs.States.{States, Stands, Within, Fits, IsSteady, GoesSteady, Keeps, Came, Did, Acted, settles, program_in, callback_of};
+ghost use Rattle.cpc_run.specs.States.{States, Stands, Within, Fits, IsSteady, GoesSteady, Keeps, Came, Did, Acted, settles, program_in, callback_of, lists_in};
 
 use crate::code::Code;
 use crate::items::{Item, waited_for};
 use crate::outcome::Outcome;
 use crate::short::{Short, above};
-use cpc_agenda::Agenda;
+use crate::shown::put_poll;
+use cpc_agenda_turns::{Turned, Turns};
 use cpc_base::{Name, NoMemory, Stop};
 use cpc_native::Stepped;
 use cpc_store::Value;
 use std::alloc::Global;
 
-/// A run that goes on: the running code, and what is ready.
+/// A run that goes on: the running code, what is ready and what waits, and the polls that are left.
 #[derive(Drop)]
 pub(crate) struct Loop<'p> {
     /// The code, its store and its stack.
     pub machine: Code<'p>,
     /// Whether a stack runs.
     pub running: bool,
-    /// What is ready, and what is left of the round.
-    pub agenda: Agenda<Item>,
-    /// Whether anything is ready.
-    pub waits: bool,
+    /// What is ready, what is left of the round, what waits, and the polls that are left.
+    pub turns: Turns<'p, Item>,
+    /// How many polls the history has.
+    pub polls: u64,
+    /// Whether a trace is wanted, in place of what is put out.
+    pub trace: bool,
     /// The name of `main`.
     pub main: Name,
 }
@@ -51,7 +53,7 @@ impl<'p> Loop<'p> {
         requires lawful { IsLawful (seen value) }
         ensures keeps { Keeps self.old self.new }
         ensures steady { GoesSteady result self.new }
-        ensures stays { IfOk result (λ o. o ≡ None → (self.new.running ≡ true) × (self.new.agenda ≡ self.old.agenda)) }
+        ensures stays { IfOk result (λ o. o ≡ None → (self.new.running ≡ true) × (self.new.turns ≡ self.old.turns)) }
         ensures did { (names : Names) → Fits names self.old → (printed : Text) (s t : States) → Acted names self.old function printed s t
             → Did names result self.new printed s (settles names self.old s (reply (trees (program_in names self.old)) (stack_in names self.old.machine) (value_of names value) t)) }
     {
@@ -62,23 +64,29 @@ impl<'p> Loop<'p> {
         }
     }
 
-    // Nothing runs and the round is over: what is ready becomes the round.
-    fn turn(&mut self) -> Option<Outcome>
+    // Nothing runs and the round is over: the run ends, or what is ready becomes the round, before which the next poll is taken
+    // where something is outstanding. What goes out for the poll is put behind `pending`.
+    fn turn(&mut self, alloc: Global, pending: &mut Vec<u8>) -> Result<Option<Outcome>, NoMemory>
         requires steady { IsSteady self.old }
         requires idle { self.old.running ≡ false }
-        requires round { (names : Names) → (lists_of names self.old.agenda).round ≡ [] }
+        requires round { (names : Names) → (lists_in names self.old).round ≡ [] }
         ensures keeps { Keeps self.old self.new }
-        ensures steady { IsSteady self.new }
+        ensures steady { GoesSteady result self.new }
         ensures same { self.new.machine ≡ self.old.machine }
-        ensures did { (names : Names) → Fits names self.old → (printed : Text) (s : States) → Stands names self.old printed s
-            → Came names result self.new printed s (settles names self.old s (turns (callbacks (program_in names self.old)) s)) }
+        ensures did { (names : Names) → Fits names self.old → (sent : Text) (s : States) → Stands names self.old (sent ++ pending.old.items) s
+            → Did names result self.new (sent ++ pending.new.items) s (settles names self.old s (turns (callbacks (program_in names self.old)) s)) }
     {
-        if !self.waits {
-            return Some(Outcome::Ended(self.agenda.waiting()));
+        let polls = self.turns.polls;
+        match self.turns.turn(alloc)? {
+            Turned::Round => Ok(None),
+            Turned::Polled(_) => {
+                put_poll(self.trace, alloc, polls, pending)?;
+                Ok(None)
+            }
+            Turned::Ended(waiters) => Ok(Some(Outcome::Ended(waiters))),
+            Turned::HistoryEnded => Ok(Some(Outcome::HistoryEnded)),
+            Turned::BadHistory(section) => Ok(Some(Outcome::BadHistory(section))),
         }
-        self.agenda.begin_round();
-        self.waits = false;
-        None
     }
 
     // Nothing runs: an item that was the first of the round is taken.
@@ -195,9 +203,9 @@ impl<'p> Loop<'p> {
         if self.running {
             return self.goes_on(alloc, pending, cap);
         }
-        match self.agenda.next() {
+        match self.turns.agenda.next() {
             Some((item, waited)) => self.take(alloc, item, waited, cap),
-            None => Ok(self.turn()),
+            None => Ok(self.turn(alloc, pending)?),
         }
     }
 }

@@ -1,5 +1,5 @@
 //! One step of a run, within the cap on live cells.
-ghost use Rattle.std.specs.Prelude.{◌≡◌, ◌++◌, ◌-◌, ◌<◌, ◌^◌, min};
+ghost use Rattle.std.specs.Prelude.{◌≡◌, ◌++◌, ◌-◌, ◌+◌, ◌<◌, ◌^◌, length, min};
 ghost use Rattle.cpc_base.specs.Bytes.{Text};
 ghost use Rattle.cpc_tree.specs.Erase.{Names};
 ghost use Rattle.cpc_meaning.specs.Events.{callbacks};
@@ -13,6 +13,9 @@ use crate::outcome::Outcome;
 use crate::short::Short;
 use cpc_base::NoMemory;
 use std::alloc::Global;
+
+// How many bytes wait before they are written, where no poll is taken.
+const CHUNK: usize = 4096;
 
 /// What a step within a cap came to.
 #[derive(Clone, Copy, Debug)]
@@ -32,6 +35,22 @@ impl<'p> Loop<'p> {
         ensures { (names : Names) (printed : Text) (s : States) → Stands names self.now printed s → result ≡ min (live_cells s) (2 ^ 64 - 1) }
     {
         self.machine.live_cells()
+    }
+
+    /// How many polls were taken.
+    pub(crate) fn taken(&self) -> u64
+        requires steady { IsSteady self.now }
+        ensures { result + length self.now.turns.polls.now ≡ self.now.polls }
+    {
+        self.polls - self.turns.polls.len() as u64
+    }
+
+    /// How many bytes may wait before they are written: none where the next step may take a poll.
+    pub(crate) fn most_held(&self) -> usize {
+        if !self.running && self.turns.agenda.needs_poll() {
+            return 0;
+        }
+        CHUNK
     }
 
     /// A step of the run, unless it would leave too many cells. What it puts out is put behind `pending`.

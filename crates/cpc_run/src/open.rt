@@ -1,16 +1,20 @@
 //! The first state of a run.
-ghost use Rattle.std.specs.Prelude.{◌≡◌, [], Some, IsTrue, IfOk, IfSome, map, slice_get};
+ghost use Rattle.std.specs.Prelude.{◌≡◌, [], Some, IsTrue, IfOk, IfSome, map, true, slice_get};
 ghost use Rattle.cpc_tree.specs.Erase.{Names as Spelling};
+ghost use Rattle.cpc_meaning.specs.History.{polls_fit};
+ghost use Rattle.cpc_history_marks.specs.Views.{told_of};
 ghost use Rattle.cpc_meaning.specs.Start.{main_name};
 ghost use Rattle.cpc_run.specs.Code.{Given};
 ghost use Rattle.cpc_run.specs.States.{IsSteady};
-ghost use Rattle.cpc_run.specs.Reports.{Opened};
+ghost use Rattle.cpc_run.specs.Reports.{Opened, history_of};
 
 use crate::code::Code;
 use crate::items::Item;
 use crate::looped::Loop;
 use cpc_agenda::Agenda;
+use cpc_agenda_turns::Turns;
 use cpc_base::{Name, Names, NoMemory};
+use cpc_history_marks::Told;
 use cpc_run_globals::globals;
 use cpc_tree::program::{Item as Declared, Program};
 use std::alloc::Global;
@@ -41,11 +45,18 @@ fn main_of(program: &Program) -> Option<Name>
 }
 
 impl<'p> Loop<'p> {
-    /// A run of a program in its first state: nothing runs, and the call of `main` is ready. `NoMemory` is want of memory;
-    /// nothing is said of a program without `main`.
-    pub(crate) fn open(alloc: Global, program: &'p Program) -> Result<Loop<'p>, NoMemory>
+    /// A run of a program in its first state, over a history of these polls: nothing runs, and the call of `main` is ready.
+    /// `NoMemory` is want of memory; nothing is said of a program without `main`.
+    pub(crate) fn open(
+        alloc: Global,
+        program: &'p Program,
+        polls: &'p [Told],
+        trace: bool,
+    ) -> Result<Loop<'p>, NoMemory>
+        requires polls { polls_fit (map told_of polls.now) ≡ true }
         ensures steady { IfOk result (λ l. IsSteady l) }
-        ensures opened { IfOk result (λ l. (names : Spelling) → Given names program.now → Opened names program.now l) }
+        ensures trace { IfOk result (λ l. l.trace ≡ trace) }
+        ensures opened { IfOk result (λ l. (names : Spelling) → Given names program.now → Opened names program.now (history_of polls.now) l) }
     {
         let Some(main) = main_of(program) else {
             return Err(NoMemory);
@@ -57,8 +68,9 @@ impl<'p> Loop<'p> {
             Ok(()) => Ok(Loop {
                 machine,
                 running: false,
-                agenda,
-                waits: true,
+                turns: Turns { agenda, polls },
+                polls: polls.len() as u64,
+                trace,
                 main,
             }),
             Err(_) => Err(NoMemory),

@@ -23,6 +23,10 @@ pub enum Outcome {
     Exited(i128),
     /// A step failed, in the code of a function. A fault is told in the part of its name before the first two bars.
     Failed(Fault, Name),
+    /// A poll was wanted, and the history has no more.
+    HistoryEnded,
+    /// The next poll tells a section of this number that is not out at its turn: it is refused as a whole.
+    BadHistory(u64),
 }
 
 /// Why a run was left.
@@ -40,7 +44,7 @@ pub enum Ended {
     Memory,
 }
 
-/// How a run ended, the steps that it made, and the live cells after them.
+/// How a run ended, the steps that it made, and the live cells and the polls that were taken after them.
 #[derive(Clone, Copy, PartialEq, Eq, Debug)]
 pub struct RunReport {
     /// Why it was left.
@@ -49,6 +53,8 @@ pub struct RunReport {
     pub steps: u64,
     /// The live cells.
     pub cells: u64,
+    /// The polls that were taken.
+    pub polls: u64,
 }
 
 fn begins_with_bars(text: &[u8]) -> bool

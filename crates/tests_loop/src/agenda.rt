@@ -1,7 +1,7 @@
 //! Waits, signals and polls, with ample memory.
 ghost use Rattle.std.specs.Prelude.{◌≡◌, IfOk};
 
-use cpc_agenda_whole::{Agenda, PollFault};
+use cpc_agenda::{Agenda, PollFault};
 use cpc_base::{Direction, Event, Stop};
 use cpc_history_marks::Told;
 use cpc_num::{Fault, Kind};

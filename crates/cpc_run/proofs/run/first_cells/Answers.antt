@@ -3,5 +3,5 @@ use Rattle.cpc_run.proofs.Ends.{first_counted}
 use Rattle.cpc_run.proofs.run.first_cells.Goals as goal
 
 pub returns : goal.returns
-returns c = λ names given.
-    first_counted names c.args.program.now c.in_ok-first.first (2 ^ 64 - 1) given.spelled.same (c.in_ok-first.ensures names given.spelled.spells.apart) c.if-first.false
+returns c = λ names given h.
+    first_counted names c.args.program.now h c.in_ok-first.first (2 ^ 64 - 1) given.spelled.same (c.in_ok-first.ensures names given.spelled.spells.apart) c.if-first.false

@@ -1,8 +1,8 @@
 use Rattle.std.proofs.Common.{◌≡◌, Some, map, refl, sym, ap, ◌∙◌}
 use Rattle.cpc_meaning.specs.Agenda as A
 use Rattle.cpc_history_marks.specs.Views.{told_of}
-use Rattle.cpc_agenda_whole.specs.Lists.{lists_of}
-use Rattle.cpc_agenda_whole.specs.declared.polls.PollFault.{PollFault}
+use Rattle.cpc_agenda.specs.Lists.{lists_of}
+use Rattle.cpc_agenda.specs.declared.polls.PollFault.{PollFault}
 use Rattle.cpc_agenda_turns.proofs.Kept.{round_stays, emptied, fault_told}
 use Rattle.cpc_agenda_turns.proofs.turns.Turns.take_poll.Goals as goal
 

@@ -6,5 +6,5 @@ use Rattle.cpc_run.proofs.looped.Loop.frees_block.Goals as goal
 pub returns-in-Ok-clause-did : goal.returns-in-Ok-clause-did
 returns-in-Ok-clause-did c = λ names fits printed s acted.
     freed_answered names c.reply.result c.args.self.now _ c.reply.new.self c.args.function printed s c.args.class (value_of names c.args.what)
-    (c.in-Ok.ensures.value names) (c.in-Ok.ensures.items names) (c.in-Ok.ensures.stack names) refl acted
+    (c.in-Ok.ensures.value names) (c.in-Ok.ensures.items names) (c.in-Ok.ensures.stack names) refl refl acted
     (λ t a. c.reply.ensures.did names (record { runs = c.in-Ok.ensures.runs names fits.runs; main = fits.main }) printed s t a)

@@ -16,7 +16,8 @@ pub returns-in-Returned-clause-steady : goal.returns-in-Returned-clause-steady
 returns-in-Returned-clause-steady c = record {
   well = c.in_ok-step.ensures.well;
   idle = λ e. subst (λ x. EndsIdle x c.step.new.self) c.in-Returned.is c.in_ok-step.ensures.idle;
-  waiting = c.requires.steady.waiting;
+  fits = c.requires.steady.fits;
+  counted = c.requires.steady.counted;
 }
 
 pub returns-in_ok-asked-in-Asked-clause-did : goal.returns-in_ok-asked-in-Asked-clause-did
@@ -33,7 +34,7 @@ returns-in_ok-asked-in-Asked-clause-did c = λ names fits sent s within stands.
       store = stands.store ∙ sym told.1;
       asks = stands.running ∙ ap (λ b. where_running b k) c.requires.running ∙ ap Some (sym told.0);
       name = told.2 ∙ sym (ap (λ j. running_function j) told.0);
-      agenda = stands.agenda;
+      lists = stands.lists;
       printed_so = stands.printed_so;
       going = stands.going;
     }))

@@ -1,0 +1,19 @@
+use Rattle.std.proofs.Common.{◌≡◌, pos, subst, ◌∙◌, arith}
+use Rattle.std.proofs.lemmas.Int.{ints, to_z_pos}
+use mir.Val.{to_z}
+use mir.Syntax.{w128}
+use Rattle.cpc_num.specs.declared.kinds.Kind.TheVariants.{Long}
+use Rattle.cpc_store.specs.Store.{Whole}
+use Rattle.cpc_meaning.specs.Machine.{reply}
+use Rattle.cpc_meaning.specs.Trees.{trees}
+use Rattle.cpc_run.specs.Code.{stack_in}
+use Rattle.cpc_run.specs.States.{Did, settles, program_in}
+use Rattle.cpc_run.proofs.looped.Loop.replies_time.Goals as goal
+
+pub returns-clause-did : goal.returns-clause-did
+returns-clause-did c = λ names fits printed s acted.
+    let l = c.args.self.now in
+    let same : to_z w128 c.now.result ≡ pos c.now.result = grind (arith, ints, to_z_pos) in
+    subst (λ n. Did names c.reply.result c.reply.new.self printed s (settles names l s (reply (trees (program_in names l)) (stack_in names l.machine) (Whole Long (pos n)) s)))
+    (c.now.ensures names ∙ acted.lists.agenda.now)
+    (subst (λ z. Did names c.reply.result c.reply.new.self printed s (settles names l s (reply (trees (program_in names l)) (stack_in names l.machine) (Whole Long z) s))) same (c.reply.ensures.did names fits printed s s acted))

@@ -1,0 +1,21 @@
+use Rattle.std.proofs.Common.{[], ◌∷◌, refl, sym, subst}
+use Rattle.cpc_tree.specs.Primitives.{Signal}
+use Rattle.cpc_meaning.specs.Agenda as A
+use Rattle.cpc_meaning.specs.Events.{callbacks}
+use Rattle.cpc_meaning.specs.Machine.{primitive}
+use Rattle.cpc_meaning.proofs.Agendas.{signals}
+use Rattle.cpc_eval_values.specs.Shown.{value_of}
+use Rattle.cpc_run.specs.Code.{stack_in}
+use Rattle.cpc_run.specs.States.{IsCallback, Did, lists_in, settles, program_in}
+use Rattle.cpc_run.proofs.Alike.{signal_keeps}
+use Rattle.cpc_run.proofs.Asks.{acts_so}
+use Rattle.cpc_run.proofs.looped.Loop.signals_cond.Goals as goal
+
+pub returns-in-Ok-clause-did : goal.returns-in-Ok-clause-did
+returns-in-Ok-clause-did c = λ names fits printed s acted.
+    let l = c.args.self.now in
+    let mid = record l { turns = record l.turns { agenda = c.signal.new.self } } in
+    let n = c.in-Cond.number in
+    subst (λ v. Did names c.reply.result c.reply.new.self printed s (settles names l s (primitive (callbacks (program_in names l)) Signal (value_of names v ∷ []) (stack_in names l.machine) s))) (sym c.in-Cond.is)
+    (acts_so names l mid c.reply.new.self c.args.function c.reply.result s (A.signal n (lists_in names l)) (A.signal n s.agenda) (signals (IsCallback names) n _ _ acted.lists.agenda) (signal_keeps n s.agenda)
+    (c.in-Ok.ensures.ok names) refl refl refl printed printed acted (λ t a. c.reply.ensures.did names (record { runs = fits.runs; main = fits.main }) printed s t a))

@@ -1,0 +1,297 @@
+//! Callbacks that the running code makes ready, and those that it lets wait.
+ghost use Rattle.std.specs.Prelude.{◌≡◌, ◌++◌, [], ◌∷◌, true, None, IfSome};
+ghost use Rattle.std.specs.List.{All};
+ghost use Rattle.cpc_base.specs.Bytes.{Text};
+ghost use Rattle.cpc_tree.specs.Erase.{Names};
+ghost use Rattle.cpc_tree.specs.Primitives as R;
+ghost use Rattle.cpc_tree.specs.Texts.{output_of};
+ghost use Rattle.cpc_history_marks.specs.Views.{mark_of};
+ghost use Rattle.cpc_store.specs.Seen.{seen, IsLawful};
+ghost use Rattle.cpc_store.specs.Store.{Unset as NoValue};
+ghost use Rattle.cpc_meaning.specs.Answer.{Gives};
+ghost use Rattle.cpc_meaning.specs.Events.{event_primitive};
+ghost use Rattle.cpc_meaning.specs.Machine as M;
+ghost use Rattle.cpc_meaning.specs.Trees.{trees};
+ghost use Rattle.cpc_eval_values.specs.Shown.{value_of, values_of};
+ghost use Rattle.cpc_run.specs.Code.{stack_in};
+ghost use Rattle.cpc_run.specs.States.{States, Fits, IsSteady, GoesSteady, Keeps, Did, Acted, settles, program_in};
+
+use crate::items::Item;
+use crate::looped::Loop;
+use crate::outcome::Outcome;
+use crate::shown::put_wait;
+use cpc_base::{Direction, Name, NoMemory, Stop};
+use cpc_history_marks::Mark;
+use cpc_native::Request;
+use cpc_store::Value;
+use std::alloc::Global;
+
+// The number of an integer that is one of `i64`, as each lawful one of a signed kind is.
+fn long(value: Value) -> Option<i64>
+    ensures { IfSome result (λ z. (names : Names) → M.int_of (value_of names value) ≡ Gives z) }
+{
+    let Value::Int(_, number) = value else {
+        return None;
+    };
+    if number < i64::MIN as i128 || number > i64::MAX as i128 {
+        return None;
+    }
+    Some(number as i64)
+}
+
+// 0 is reading, any other number writing.
+fn direction(way: i64) -> Direction
+    ensures { result ≡ M.direction_of way }
+{
+    if way == 0 {
+        return Direction::Read;
+    }
+    Direction::Write
+}
+
+impl<'p> Loop<'p> {
+    // A mark is put, and what the running code asked has no value.
+    fn marks(
+        &mut self,
+        alloc: Global,
+        mark: &Mark,
+        function: Name,
+        pending: &mut Vec<u8>,
+    ) -> Result<Option<Outcome>, NoMemory>
+        requires steady { IsSteady self.old }
+        requires running { self.old.running ≡ true }
+        requires silent { output_of (mark_of mark.now) ≡ [] }
+        ensures keeps { Keeps self.old self.new }
+        ensures steady { GoesSteady result self.new }
+        ensures did { (names : Names) → Fits names self.old → (sent : Text) (s t : States) → Acted names self.old function (sent ++ pending.old.items) s t
+            → Did names result self.new (sent ++ pending.new.items) s (settles names self.old s (M.reply (trees (program_in names self.old)) (stack_in names self.old.machine) NoValue (M.marks (mark_of mark.now) t))) }
+    {
+        put_wait(self.trace, alloc, mark, pending)?;
+        self.reply(alloc, function, Value::Unset)
+    }
+
+    /// A callback becomes ready.
+    pub(crate) fn readies(
+        &mut self,
+        alloc: Global,
+        request: &Request,
+    ) -> Result<Option<Outcome>, NoMemory>
+        requires steady { IsSteady self.old }
+        requires running { self.old.running ≡ true }
+        requires lawful { All (λ v. IsLawful (seen v)) request.now.args.items }
+        ensures keeps { Keeps self.old self.new }
+        ensures steady { GoesSteady result self.new }
+        ensures did { (names : Names) → Fits names self.old → (printed : Text) (s : States) → Acted names self.old request.now.function printed s s
+            → Did names result self.new printed s (settles names self.old s (event_primitive (trees (program_in names self.old)) R.RtReady (values_of names request.now.args.items) (stack_in names self.old.machine) s)) }
+    {
+        match request.args.as_slice() {
+            [callback, pointer] => {
+                self.readies_callback(alloc, *callback, *pointer, request.function)
+            }
+            _ => Err(NoMemory),
+        }
+    }
+
+    // A function with its pointer becomes ready.
+    fn readies_callback(
+        &mut self,
+        alloc: Global,
+        callback: Value,
+        pointer: Value,
+        function: Name,
+    ) -> Result<Option<Outcome>, NoMemory>
+        requires steady { IsSteady self.old }
+        requires running { self.old.running ≡ true }
+        ensures keeps { Keeps self.old self.new }
+        ensures steady { GoesSteady result self.new }
+        ensures did { (names : Names) → Fits names self.old → (printed : Text) (s : States) → Acted names self.old function printed s s
+            → Did names result self.new printed s (settles names self.old s (event_primitive (trees (program_in names self.old)) R.RtReady (value_of names callback ∷ value_of names pointer ∷ []) (stack_in names self.old.machine) s)) }
+    {
+        let Value::Code(called) = callback else {
+            return Err(NoMemory);
+        };
+        match self.turns.agenda.ready(Item::With(called, pointer)) {
+            Ok(()) => self.reply(alloc, function, Value::Unset),
+            Err(_) => Err(NoMemory),
+        }
+    }
+
+    /// A callback waits on a condition.
+    pub(crate) fn waits(
+        &mut self,
+        alloc: Global,
+        request: &Request,
+        pending: &mut Vec<u8>,
+    ) -> Result<Option<Outcome>, NoMemory>
+        requires steady { IsSteady self.old }
+        requires running { self.old.running ≡ true }
+        ensures keeps { Keeps self.old self.new }
+        ensures steady { GoesSteady result self.new }
+        ensures did { (names : Names) → Fits names self.old → (sent : Text) (s : States) → Acted names self.old request.now.function (sent ++ pending.old.items) s s
+            → Did names result self.new (sent ++ pending.new.items) s (settles names self.old s (event_primitive (trees (program_in names self.old)) R.RtWait (values_of names request.now.args.items) (stack_in names self.old.machine) s)) }
+    {
+        match request.args.as_slice() {
+            [cond, callback, pointer] => {
+                let function = request.function;
+                self.waits_on(alloc, *cond, *callback, *pointer, function, pending)
+            }
+            _ => Err(NoMemory),
+        }
+    }
+
+    // A function with its pointer waits on the condition of a value.
+    fn waits_on(
+        &mut self,
+        alloc: Global,
+        cond: Value,
+        callback: Value,
+        pointer: Value,
+        function: Name,
+        pending: &mut Vec<u8>,
+    ) -> Result<Option<Outcome>, NoMemory>
+        requires steady { IsSteady self.old }
+        requires running { self.old.running ≡ true }
+        ensures keeps { Keeps self.old self.new }
+        ensures steady { GoesSteady result self.new }
+        ensures did { (names : Names) → Fits names self.old → (sent : Text) (s : States) → Acted names self.old function (sent ++ pending.old.items) s s
+            → Did names result self.new (sent ++ pending.new.items) s (settles names self.old s (event_primitive (trees (program_in names self.old)) R.RtWait (value_of names cond ∷ value_of names callback ∷ value_of names pointer ∷ []) (stack_in names self.old.machine) s)) }
+    {
+        let Value::Cond(number) = cond else {
+            return Err(NoMemory);
+        };
+        let Value::Code(called) = callback else {
+            return Err(NoMemory);
+        };
+        if !self.turns.agenda.has_numbers() {
+            return Err(NoMemory);
+        }
+        match self.turns.agenda.wait(number, Item::With(called, pointer)) {
+            Ok(()) => self.marks(alloc, &Mark::Wait(number), function, pending),
+            Err((_, Stop::Fault(fault))) => Ok(Some(Outcome::Failed(fault, function))),
+            Err((_, Stop::Memory)) => Err(NoMemory),
+        }
+    }
+
+    /// A callback waits for a time.
+    pub(crate) fn sleeps(
+        &mut self,
+        alloc: Global,
+        request: &Request,
+        pending: &mut Vec<u8>,
+    ) -> Result<Option<Outcome>, NoMemory>
+        requires steady { IsSteady self.old }
+        requires running { self.old.running ≡ true }
+        ensures keeps { Keeps self.old self.new }
+        ensures steady { GoesSteady result self.new }
+        ensures did { (names : Names) → Fits names self.old → (sent : Text) (s : States) → Acted names self.old request.now.function (sent ++ pending.old.items) s s
+            → Did names result self.new (sent ++ pending.new.items) s (settles names self.old s (event_primitive (trees (program_in names self.old)) R.RtSleep (values_of names request.now.args.items) (stack_in names self.old.machine) s)) }
+    {
+        match request.args.as_slice() {
+            [length, callback, pointer] => {
+                let function = request.function;
+                self.sleeps_for(alloc, *length, *callback, *pointer, function, pending)
+            }
+            _ => Err(NoMemory),
+        }
+    }
+
+    // A function with its pointer waits for a length of time; a negative one is a fault.
+    fn sleeps_for(
+        &mut self,
+        alloc: Global,
+        length: Value,
+        callback: Value,
+        pointer: Value,
+        function: Name,
+        pending: &mut Vec<u8>,
+    ) -> Result<Option<Outcome>, NoMemory>
+        requires steady { IsSteady self.old }
+        requires running { self.old.running ≡ true }
+        ensures keeps { Keeps self.old self.new }
+        ensures steady { GoesSteady result self.new }
+        ensures did { (names : Names) → Fits names self.old → (sent : Text) (s : States) → Acted names self.old function (sent ++ pending.old.items) s s
+            → Did names result self.new (sent ++ pending.new.items) s (settles names self.old s (event_primitive (trees (program_in names self.old)) R.RtSleep (value_of names length ∷ value_of names callback ∷ value_of names pointer ∷ []) (stack_in names self.old.machine) s)) }
+    {
+        let Some(micros) = long(length) else {
+            return Err(NoMemory);
+        };
+        let Value::Code(called) = callback else {
+            return Err(NoMemory);
+        };
+        if !self.turns.agenda.has_numbers() {
+            return Err(NoMemory);
+        }
+        match self.turns.agenda.sleep(micros, Item::With(called, pointer)) {
+            Ok(()) => self.marks(alloc, &Mark::Sleep(micros), function, pending),
+            Err((_, Stop::Fault(fault))) => Ok(Some(Outcome::Failed(fault, function))),
+            Err((_, Stop::Memory)) => Err(NoMemory),
+        }
+    }
+
+    /// A callback waits for a descriptor.
+    pub(crate) fn awaits(
+        &mut self,
+        alloc: Global,
+        request: &Request,
+        pending: &mut Vec<u8>,
+    ) -> Result<Option<Outcome>, NoMemory>
+        requires steady { IsSteady self.old }
+        requires running { self.old.running ≡ true }
+        ensures keeps { Keeps self.old self.new }
+        ensures steady { GoesSteady result self.new }
+        ensures did { (names : Names) → Fits names self.old → (sent : Text) (s : States) → Acted names self.old request.now.function (sent ++ pending.old.items) s s
+            → Did names result self.new (sent ++ pending.new.items) s (settles names self.old s (event_primitive (trees (program_in names self.old)) R.RtIo (values_of names request.now.args.items) (stack_in names self.old.machine) s)) }
+    {
+        match request.args.as_slice() {
+            [descriptor, way, callback, pointer] => {
+                let function = request.function;
+                self.awaits_at(
+                    alloc,
+                    (*descriptor, *way),
+                    *callback,
+                    *pointer,
+                    function,
+                    pending,
+                )
+            }
+            _ => Err(NoMemory),
+        }
+    }
+
+    // A function with its pointer waits for a descriptor in a direction.
+    fn awaits_at(
+        &mut self,
+        alloc: Global,
+        place: (Value, Value),
+        callback: Value,
+        pointer: Value,
+        function: Name,
+        pending: &mut Vec<u8>,
+    ) -> Result<Option<Outcome>, NoMemory>
+        requires steady { IsSteady self.old }
+        requires running { self.old.running ≡ true }
+        ensures keeps { Keeps self.old self.new }
+        ensures steady { GoesSteady result self.new }
+        ensures did { (names : Names) → Fits names self.old → (sent : Text) (s : States) → Acted names self.old function (sent ++ pending.old.items) s s
+            → Did names result self.new (sent ++ pending.new.items) s (settles names self.old s (event_primitive (trees (program_in names self.old)) R.RtIo (value_of names place.0 ∷ value_of names place.1 ∷ value_of names callback ∷ value_of names pointer ∷ []) (stack_in names self.old.machine) s)) }
+    {
+        let Some(descriptor) = long(place.0) else {
+            return Err(NoMemory);
+        };
+        let Some(number) = long(place.1) else {
+            return Err(NoMemory);
+        };
+        let Value::Code(called) = callback else {
+            return Err(NoMemory);
+        };
+        if !self.turns.agenda.has_numbers() {
+            return Err(NoMemory);
+        }
+        let way = direction(number);
+        let item = Item::With(called, pointer);
+        match self.turns.agenda.io(alloc, descriptor, way, item) {
+            Ok(()) => self.marks(alloc, &Mark::Io(descriptor, way), function, pending),
+            Err(_) => Err(NoMemory),
+        }
+    }
+}
