@@ -1,9 +1,7 @@
-//! Which programs run so far, and where a program first leaves the forms that do.
+//! Which programs run so far, and where a program first asks for what the loop does not answer.
 #![tactic(auto)]
 
-mod expressions;
 mod items;
 mod statements;
-mod types;
 
 pub use items::built;

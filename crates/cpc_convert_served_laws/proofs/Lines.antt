@@ -1,9 +1,9 @@
 -- The lines of pieces call only primitives that the loop answers.
-use Rattle.std.proofs.Common.{◌≡◌, ℕ, Bool, true, false, if◌then◌else◌, List, [], ◌∷◌, ◌++◌, map, slice_get, option_map, bytes_eq, Option, Some, None, refl, sym, subst, ap, ◌∙◌}
+use Rattle.std.proofs.Common.{◌≡◌, ℕ, Bool, true, false, ◌||◌, if◌then◌else◌, List, [], ◌∷◌, ◌++◌, map, slice_get, option_map, bytes_eq, Option, Some, None, refl, sym, subst, ap, ◌∙◌}
 use Rattle.std.proofs.lemmas.Option.{slice_get-map}
 use Rattle.cpc_base.specs.Bytes.{Text}
 use Rattle.cpc_tree.specs.Points.{Path, Point, Here, Arrival, End, Found, Simple, Test, Nothing, found}
-use Rattle.cpc_tree.specs.Primitives.{Primitive, Print, Putc, Puts, Now, CondNew, CondFree, Signal, SignalAll, Exit, Malloc, Free, Yield, Sleep, IoWait, Wait, RtFrame, RtBox, RtFrameFree, RtUnbox, RtReady, RtWait, RtSleep, RtIo, RtDetach, primitive_named}
+use Rattle.cpc_tree.specs.Primitives.{Primitive, Yield, Sleep, IoWait, Wait, primitive_named}
 use Rattle.cpc_tree.specs.Registers.{scope_in_function}
 use Rattle.cpc_tree.specs.Syntax.{Expr, ENamed, EInteger, ECharacter, EText, EUnary, EBinary, EAnd, EOr, EChoose, ECast, ESizeOf, EIndex, EMember, EArrow, ECall, Exprs, Stmt, Block, Empty, Declare, Assign, Call, Detach, Spawn, If, While, DoWhile, For, Goto, Label, Break, Continue, Return, Stmts, Function, Program}
 use Rattle.cpc_tree.specs.Typing.{Scope, Meant, ALocal, NotMeant, named, item_named, function_named}
@@ -22,9 +22,8 @@ use Rattle.cpc_convert_event.specs.Routines.{Routine, is_plain, readings_of, clo
 use Rattle.cpc_convert_event.specs.Lines.{Line, Does, Goes, Tests, Passes, goes, passes, all_do, save_of, frame_lines, frame_lines_if, call_lines, hands_over, runtime_name, wait_lines, enter_lines, waits_lines, unbox_lines, result_lines, patch_lines, leave_lines, simple_lines, cps_lines, test_lines, arrival_lines, behind_arrival, framed_lines, stood_lines, node_lines}
 use Rattle.cpc_convert_event.specs.Rows.{is_own, lines_by, row_of, numbers_of, rows_of, Put, Plain, Jump, JumpIf, is_next, put_line, put_lines, PutRow, first_number, put_rows, is_wanted, put_statement, label_if, row_statements, rows_statements, piece_statements}
 use Rattle.cpc_native_builtins.specs.Served.{serves, calls_served, is_served_stmt, are_served}
-use Rattle.cpc_convert_served_laws.specs.Serving.{answers}
 use Rattle.cpc_convert_served_laws.proofs.Names.{both, spawner_serves, variable_serves}
-use Rattle.cpc_convert_served_laws.proofs.Sources.{CallsAnswered, StmtAnswered, FoundAnswered}
+use Rattle.cpc_convert_served_laws.proofs.Sources.{waits, answers, CallsAnswered, StmtAnswered, FoundAnswered}
 
 -- ---- statements and lines
 
@@ -82,43 +81,22 @@ enters_served r names a g es =
     both_served (frame_lines_if r under_name a) _ (frame_if_served r under_name a)
     (both_served (call_lines g names es) (hands_over to_name ∷ []) (refl, (refl, (refl, gives_served (frame_through to_name (start_name g.called)) _))) (refl, tt))
 
--- what a cps function waits for by a primitive is a turn
-runtime_served : (o : Option Primitive) → answers true o ≡ true → serves (primitive_named (runtime_name o)) ≡ true
-runtime_served None h = refl
-runtime_served (Some Sleep) h = absurd cc
-runtime_served (Some IoWait) h = absurd cc
-runtime_served (Some Wait) h = absurd cc
-runtime_served (Some Yield) h = refl
-runtime_served (Some Print) h = refl
-runtime_served (Some Putc) h = refl
-runtime_served (Some Puts) h = refl
-runtime_served (Some Now) h = refl
-runtime_served (Some CondNew) h = refl
-runtime_served (Some CondFree) h = refl
-runtime_served (Some Signal) h = refl
-runtime_served (Some SignalAll) h = refl
-runtime_served (Some Exit) h = refl
-runtime_served (Some Malloc) h = refl
-runtime_served (Some Free) h = refl
-runtime_served (Some RtFrame) h = refl
-runtime_served (Some RtBox) h = refl
-runtime_served (Some RtFrameFree) h = refl
-runtime_served (Some RtUnbox) h = refl
-runtime_served (Some RtReady) h = refl
-runtime_served (Some RtWait) h = refl
-runtime_served (Some RtSleep) h = refl
-runtime_served (Some RtIo) h = refl
-runtime_served (Some RtDetach) h = refl
+-- what a wait becomes is a primitive that the loop answers
+runtime_served : (o : Option Primitive) → serves (primitive_named (runtime_name o)) ≡ true
+runtime_served (Some Sleep) = refl
+runtime_served (Some IoWait) = refl
+runtime_served (Some Wait) = refl
+runtime_served o = refl
 
-waits_served : (r : Routine) (names : Readings) (a : Option ℕ) (o : Option Primitive) (es : Exprs) → answers true o ≡ true → EachServed (wait_lines r names a o es)
-waits_served r names a o es h = both_served (frame_lines_if r to_name a) _ (frame_if_served r to_name a) (runtime_served o h, (refl, tt))
+waits_served : (r : Routine) (names : Readings) (a : Option ℕ) (o : Option Primitive) (es : Exprs) → EachServed (wait_lines r names a o es)
+waits_served r names a o es = both_served (frame_lines_if r to_name a) _ (frame_if_served r to_name a) (runtime_served o, (refl, tt))
 
-called_served : (r : Routine) (names : Readings) (a : Option ℕ) (f : Text) (o : Option Function) (es : Exprs) → answers true (primitive_named f) ≡ true → EachServed (waits_lines r names a f o es)
-called_served r names a f None es h = waits_served r names a (primitive_named f) es h
-called_served r names a f (Some g) es h = enters_served r names a g es
+called_served : (r : Routine) (names : Readings) (a : Option ℕ) (f : Text) (o : Option Function) (es : Exprs) → EachServed (waits_lines r names a f o es)
+called_served r names a f None es = waits_served r names a (primitive_named f) es
+called_served r names a f (Some g) es = enters_served r names a g es
 
 cps_served : (p : Program) (r : Routine) (names : Readings) (s : Stmt) (a : Option ℕ) → StmtAnswered s → EachServed (cps_lines p r names s a)
-cps_served p r names (Call to (ENamed f) es) a h = called_served r names a f (function_named p f) es h
+cps_served p r names (Call to (ENamed f) es) a h = called_served r names a f (function_named p f) es
 cps_served p r names (Detach to f es) a h = absurd h
 cps_served p r names _ a h = tt
 
@@ -150,38 +128,30 @@ unread_item p marks (l ∷ scope) x h = go (bytes_eq l.called x) h (λ i. unread
     go false h deeper = deeper h
 
 -- no wait is left in place or over a frame
-waits_so : (x : Meant) → x ≡ NotMeant → (m : Manner) → meant_manner x (Some Yield) ≡ m → m ≡ AsCps
-waits_so x e m h = sym h ∙ ap (λ y. meant_manner y (Some Yield)) e
+waits_so : (x : Meant) → x ≡ NotMeant → (o : Option Primitive) → waits o ≡ true → (m : Manner) → meant_manner x o ≡ m → m ≡ AsCps
+waits_so x e (Some Yield) w m h = sym h ∙ ap (λ y. meant_manner y (Some Yield)) e
+waits_so x e (Some Sleep) w m h = sym h ∙ ap (λ y. meant_manner y (Some Sleep)) e
+waits_so x e (Some IoWait) w m h = sym h ∙ ap (λ y. meant_manner y (Some IoWait)) e
+waits_so x e (Some Wait) w m h = sym h ∙ ap (λ y. meant_manner y (Some Wait)) e
+waits_so x e _ w m h = absurd cc
 
-answered_serves : (o : Option Primitive) → answers true o ≡ true → ¬ (o ≡ Some Yield) → serves o ≡ true
-answered_serves None h n = refl
-answered_serves (Some Yield) h n = absurd (n refl)
-answered_serves (Some Print) h n = refl
-answered_serves (Some Putc) h n = refl
-answered_serves (Some Puts) h n = refl
-answered_serves (Some Exit) h n = refl
-answered_serves (Some Malloc) h n = refl
-answered_serves (Some Free) h n = refl
-answered_serves (Some RtFrame) h n = refl
-answered_serves (Some RtBox) h n = refl
-answered_serves (Some RtFrameFree) h n = refl
-answered_serves (Some RtUnbox) h n = refl
-answered_serves (Some RtReady) h n = refl
-answered_serves (Some Now) h n = absurd cc
-answered_serves (Some CondNew) h n = absurd cc
-answered_serves (Some CondFree) h n = absurd cc
-answered_serves (Some Signal) h n = absurd cc
-answered_serves (Some SignalAll) h n = absurd cc
-answered_serves (Some Sleep) h n = absurd cc
-answered_serves (Some IoWait) h n = absurd cc
-answered_serves (Some Wait) h n = absurd cc
-answered_serves (Some RtWait) h n = absurd cc
-answered_serves (Some RtSleep) h n = absurd cc
-answered_serves (Some RtIo) h n = absurd cc
-answered_serves (Some RtDetach) h n = absurd cc
+answered_serves : (o : Option Primitive) → answers o ≡ true → ¬ (waits o ≡ true) → serves o ≡ true
+answered_serves o h n = go (serves o) (waits o) h n
+  where
+    go : (a b : Bool) → (a || b) ≡ true → ¬ (b ≡ true) → a ≡ true
+    go true b h n = refl
+    go false b h n = absurd (n h)
 
 module _ (p : Program) (primitives : (x : Text) (prim : Primitive) → primitive_named x ≡ Some prim → item_named 0 p x ≡ NotMeant) (r : Routine) (scope : Scope) where
-  named_served : (x : Text) → answers true (primitive_named x) ≡ true → (m : Manner) → meant_manner (named p scope x) (primitive_named x) ≡ m → ¬ (m ≡ AsCps) → calls_served (image_named (readings_of r scope x) x) ≡ true
+  -- a wait is no item
+  unmeant : (x : Text) → waits (primitive_named x) ≡ true → item_named 0 p x ≡ NotMeant
+  unmeant x w = by (primitive_named x) refl w
+    where
+      by : (o : Option Primitive) → primitive_named x ≡ o → waits o ≡ true → item_named 0 p x ≡ NotMeant
+      by None i w = absurd cc
+      by (Some prim) i w = primitives x prim i
+
+  named_served : (x : Text) → answers (primitive_named x) ≡ true → (m : Manner) → meant_manner (named p scope x) (primitive_named x) ≡ m → ¬ (m ≡ AsCps) → calls_served (image_named (readings_of r scope x) x) ≡ true
   named_served x h m e other = go (readings_of r scope x) refl
     where
       go : (o : Option Reading) → readings_of r scope x ≡ o → calls_served (image_named o x) ≡ true
@@ -203,7 +173,7 @@ module _ (p : Program) (primitives : (x : Text) (prim : Primitive) → primitive
                   choose true i deeper = one (is_plain r l.slot) l.slot y i
                   choose false i deeper = deeper i
       go (Some (AsField y f)) i = refl
-      go None i = answered_serves (primitive_named x) h (λ k. other (waits_so (named p scope x) (unread_item p (is_plain r) scope x i ∙ primitives x Yield k) m (ap (meant_manner (named p scope x)) (sym k) ∙ e)))
+      go None i = answered_serves (primitive_named x) h (λ w. other (waits_so (named p scope x) (unread_item p (is_plain r) scope x i ∙ unmeant x w) (primitive_named x) w m e))
 
   call_image_served : (f : Expr) (to : Option Expr) (es : Exprs) → CallsAnswered f → (m : Manner) → manner_of p scope (Simple (Call to f es)) ≡ m → ¬ (m ≡ AsCps) → calls_served (image (readings_of r scope) f) ≡ true
   call_image_served (ENamed x) to es h m e other = named_served x h m e other

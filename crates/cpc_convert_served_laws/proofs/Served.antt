@@ -1,17 +1,22 @@
 -- The items of an event program ask only for what the loop answers.
-use Rattle.std.proofs.Common.{◌≡◌, ℕ, Bool, true, false, not, List, [], ◌∷◌, ◌++◌, map, pos, None, Some, refl, subst, ap}
+use Rattle.std.proofs.Common.{◌≡◌, ℕ, Bool, true, false, not, List, [], ◌∷◌, ◌++◌, map, pos, None, Some, refl, ap}
 use Rattle.cpc_base.specs.Bytes.{Text}
+use Rattle.cpc_base.specs.declared.stop.Dialect.TheVariants as D
+use Rattle.cpc_base.specs.declared.stop.Place.{Place as Position}
 use Rattle.cpc_num.specs.declared.kinds.Kind.TheVariants.{Int}
-use Rattle.cpc_tree.specs.Primitives.{Primitive, primitive_named}
+use Rattle.cpc_tree.specs.Points.{Path, found}
 use Rattle.cpc_tree.specs.declared.program.Mode.{Mode}
 use Rattle.cpc_tree.specs.declared.program.Mode.TheVariants.{Native, Cps, Detached, Extern}
 use Rattle.cpc_tree.specs.Located.{LItem, LStruct, LGlobal, LPrototype, LFunctionItem, LFunction, bare, bare_item, bare_function}
 use Rattle.cpc_tree.specs.Syntax.{Expr, ENamed, EInteger, Variable, Function, Item, FunctionItem, Program, Stmts, NoStmt, AndStmt}
-use Rattle.cpc_tree.specs.Typing.{NotMeant, item_named, is_scalar}
+use Rattle.cpc_tree.specs.Typing.{is_scalar}
 use Rattle.cpc_meaning.specs.Start.{main_name}
 use Rattle.cpc_meaning.specs.Threads.{is_cps_mode}
 use Rattle.cpc_check_rules.specs.Operators.{is_cps as is_cps_function}
-use Rattle.cpc_convert.specs.Converted.{function_item, prototype}
+use Rattle.cpc_check_sound_laws.specs.Typed.{TypedProgram}
+use Rattle.cpc_check_sound_laws.proofs.Accepted.{accepted_is_typed}
+use Rattle.cpc_convert.specs.Converted.{respawned, function_item, prototype}
+use Rattle.cpc_convert.specs.Members.{Has, OnTop, Below}
 use Rattle.cpc_convert_accepted_laws.specs.Names.{HasNames}
 use Rattle.cpc_convert_accepted_laws.proofs.Names.{accepted_has_names}
 use Rattle.cpc_forms.specs.Flow.{Place, Start, At}
@@ -26,10 +31,10 @@ use Rattle.cpc_convert_event.specs.Names.{start_name, frame_name, pointer_name}
 use Rattle.cpc_convert_event.specs.Lines.{save_of}
 use Rattle.cpc_convert_event.specs.Rows.{piece_statements}
 use Rattle.cpc_native_builtins.specs.Served.{is_served_stmt, are_served, is_extern, is_served_item, is_served_program}
-use Rattle.cpc_convert_served_laws.specs.Serving.{unless, runs, is_taken_head, unserved_stmt, unserved_item, unserved_items}
+use Rattle.cpc_convert_served_laws.specs.Serving.{place_if, unserved_stmt, unserved_item, unserved_items}
 use Rattle.cpc_convert_served_laws.specs.Laws.{ConvertedAreServed}
-use Rattle.cpc_convert_served_laws.proofs.Names.{both, left, spawner_serves}
-use Rattle.cpc_convert_served_laws.proofs.Sources.{no_first, no_second, holds, stmt_served, stmt_answered}
+use Rattle.cpc_convert_served_laws.proofs.Names.{both, spawner_serves}
+use Rattle.cpc_convert_served_laws.proofs.Sources.{no_first, no_second, NoSection, stmt_has_none, native_served, cps_answered}
 use Rattle.cpc_convert_served_laws.proofs.Lines.{EachServed, both_served, before_served, saves_served, piece_served}
 
 -- ---- items
@@ -48,11 +53,9 @@ items_served (x ∷ xs) a = both (is_served_item x) (is_served_program xs) a.0 (
 
 -- ---- what is kept
 
-is_no_extern : (m : Mode) → runs m ≡ true → not (is_extern m) ≡ true
-is_no_extern Native h = refl
-is_no_extern Cps h = refl
-is_no_extern Detached h = refl
-is_no_extern Extern h = absurd cc
+none_there : (b : Bool) (q : Position) → place_if b q ≡ None → not b ≡ true
+none_there true q h = absurd cc
+none_there false q h = refl
 
 prototype_kept : (m : Mode) (x : Item) → is_served_item x ≡ true → (rest : List Item) → EachItem rest → EachItem (item_unless (is_cps_mode m) x rest)
 prototype_kept m x h rest a = go (is_cps_mode m)
@@ -61,30 +64,33 @@ prototype_kept m x h rest a = go (is_cps_mode m)
     go true = a
     go false = (h, a)
 
-function_kept : (m : Mode) (g : Function) → g.mode ≡ m → runs m ≡ true → (is_cps_function m ≡ false → is_served_stmt g.body ≡ true) → (rest : List Item) → EachItem rest → EachItem (item_unless (is_cps_mode m) (FunctionItem g) rest)
+function_kept : (m : Mode) (g : Function) → g.mode ≡ m → not (is_extern m) ≡ true → (is_cps_function m ≡ false → is_served_stmt g.body ≡ true) → (rest : List Item) → EachItem rest → EachItem (item_unless (is_cps_mode m) (FunctionItem g) rest)
 function_kept Native g e h k rest a = (both (not (is_extern g.mode)) (is_served_stmt g.body) (ap (λ m. not (is_extern m)) e) (k refl), a)
+function_kept Detached g e h k rest a = (both (not (is_extern g.mode)) (is_served_stmt g.body) (ap (λ m. not (is_extern m)) e) (k refl), a)
 function_kept Cps g e h k rest a = a
-function_kept Detached g e h k rest a = absurd cc
 function_kept Extern g e h k rest a = absurd cc
 
-head_runs : (f : LFunction) → unless (is_taken_head f.mode f.result f.parameters) f.called.place ≡ None → runs f.mode ≡ true
-head_runs f h = left (runs f.mode) _ (holds (is_taken_head f.mode f.result f.parameters) f.called.place h)
+-- what is not extern, and where its body submits a section nowhere
+not_extern : (f : LFunction) → unserved_item (LFunctionItem f) ≡ None → not (is_extern f.mode) ≡ true
+not_extern f h = none_there (is_extern f.mode) f.called.place (no_first (place_if (is_extern f.mode) f.called.place) _ h)
 
-body_taken : (f : LFunction) (m : Bool) → is_cps_function f.mode ≡ m → unserved_stmt (is_cps_function f.mode) f.body ≡ None → unserved_stmt m f.body ≡ None
-body_taken f m e h = subst (λ b. unserved_stmt b f.body ≡ None) e h
+body_has_none : (f : LFunction) → unserved_item (LFunctionItem f) ≡ None → unserved_stmt f.body ≡ None
+body_has_none f h = no_second (place_if (is_extern f.mode) f.called.place) _ h
 
-kept_served : (items : List LItem) → unserved_items items ≡ None → EachItem (kept_items (map bare_item items))
-kept_served [] h = tt
-kept_served (LStruct tag xs ∷ items) h = (refl, kept_served items (no_second (unserved_item (LStruct tag xs)) _ h))
-kept_served (LGlobal x t start ∷ items) h = (refl, kept_served items (no_second (unserved_item (LGlobal x t start)) _ h))
-kept_served (LPrototype q mode x t ps ∷ items) h =
-    let heads = holds (is_taken_head mode t ps) x.place (no_first (unserved_item (LPrototype q mode x t ps)) _ h) in
-    prototype_kept mode (bare_item (LPrototype q mode x t ps)) (is_no_extern mode (left (runs mode) _ heads)) (kept_items (map bare_item items)) (kept_served items (no_second (unserved_item (LPrototype q mode x t ps)) _ h))
-kept_served (LFunctionItem f ∷ items) h =
-    let own = no_first (unserved_item (LFunctionItem f)) _ h in
-    let head = no_first (unless (is_taken_head f.mode f.result f.parameters) f.called.place) _ own in
-    let body = no_second (unless (is_taken_head f.mode f.result f.parameters) f.called.place) _ own in
-    function_kept f.mode (kept_function (bare_function f)) refl (head_runs f head) (λ e. stmt_served f.body (body_taken f false e body)) (kept_items (map bare_item items)) (kept_served items (no_second (unserved_item (LFunctionItem f)) _ h))
+module _ (p : Program) (names : HasNames p) (typed : TypedProgram D.Cpc p) where
+  function_served : (f : Function) → Has (FunctionItem f) p → is_cps_function f.mode ≡ false → is_served_stmt (respawned f.body) ≡ true
+  function_served f has native = let is = (names.functions f has).found in native_served p names f is (typed.functions f.called f is) native
+
+  kept_served : (items : List LItem) → ((i : Item) → Has i (map bare_item items) → Has i p) → unserved_items items ≡ None → EachItem (kept_items (map bare_item items))
+  kept_served [] up h = tt
+  kept_served (LStruct tag xs ∷ items) up h = (refl, kept_served items (λ i k. up i (Below i _ _ k)) h)
+  kept_served (LGlobal x t start ∷ items) up h = (refl, kept_served items (λ i k. up i (Below i _ _ k)) h)
+  kept_served (LPrototype q mode x t ps ∷ items) up h =
+      prototype_kept mode (bare_item (LPrototype q mode x t ps)) (none_there (is_extern mode) x.place (no_first (unserved_item (LPrototype q mode x t ps)) _ h)) (kept_items (map bare_item items))
+      (kept_served items (λ i k. up i (Below i _ _ k)) (no_second (unserved_item (LPrototype q mode x t ps)) _ h))
+  kept_served (LFunctionItem f ∷ items) up h =
+      function_kept f.mode (kept_function (bare_function f)) refl (not_extern f (no_first (unserved_item (LFunctionItem f)) _ h)) (function_served (bare_function f) (up (FunctionItem (bare_function f)) (OnTop _ _)))
+      (kept_items (map bare_item items)) (kept_served items (λ i k. up i (Below i _ _ k)) (no_second (unserved_item (LFunctionItem f)) _ h))
 
 -- ---- what is made
 
@@ -136,44 +142,39 @@ spawner_served f =
     let filled : EachServed (fills_frame frame frame code_field next_field (start_name f.called) (EInteger Int (pos 0)) (map save_of (passed f))) = (refl, (refl, saves_served frame (map save_of (passed f)))) in
     (refl, before_served (fills_frame frame frame code_field next_field (start_name f.called) (EInteger Int (pos 0)) (map save_of (passed f))) (AndStmt (readies frame_name) NoStmt) filled refl)
 
-module _ (p : Program) (primitives : (x : Text) (prim : Primitive) → primitive_named x ≡ Some prim → item_named 0 p x ≡ NotMeant) where
-  routine_served : (f : LFunction) → unserved_stmt true f.body ≡ None → (l : Place) → FunctionServed (piece_function p (routine_of p (bare_function f)) l)
-  routine_served f h l =
-      let r : Routine = routine_of p (bare_function f) in
+module _ (p : Program) (names : HasNames p) (typed : TypedProgram D.Cpc p) where
+  routine_served : (f : Function) → Has (FunctionItem f) p → ((path : Path) → NoSection (found f.body path)) → (l : Place) → FunctionServed (piece_function p (routine_of p f) l)
+  routine_served f has none l =
+      let r : Routine = routine_of p f in
+      let is = (names.functions f has).found in
       let body : Stmts = before (piece_statements p r l) NoStmt in
       let boxing : Stmts = before (boxing_of r l) (AndStmt (frees_frame pointer_name) body) in
       let declares : Stmts = before (map declares_one (declares_of p r l)) boxing in
-      let body_served : are_served body ≡ true = before_served (piece_statements p r l) NoStmt (piece_served p primitives (bare_function f) (λ path. stmt_answered f.body h path) r refl l) refl in
+      let answered = cps_answered p names f is (typed.functions f.called f is) none in
+      let body_served : are_served body ≡ true = before_served (piece_statements p r l) NoStmt (piece_served p names.primitives f answered r refl l) refl in
       let boxes : are_served boxing ≡ true = before_served (boxing_of r l) (AndStmt (frees_frame pointer_name) body) (boxing_served r l) body_served in
       let words : are_served declares ≡ true = before_served (map declares_one (declares_of p r l)) boxing (declares_served (declares_of p r l)) boxes in
       (refl, before_served (map (loads_one frame_name) (loads_of p r l)) declares (loads_served frame_name (loads_of p r l)) words)
 
-  leaders_served : (f : LFunction) → unserved_stmt true f.body ≡ None → (ns : List ℕ) → EachFunction (map (leader_function p (routine_of p (bare_function f))) ns)
-  leaders_served f h [] = tt
-  leaders_served f h (n ∷ ns) = (routine_served f h (At n), leaders_served f h ns)
+  leaders_served : (f : Function) → Has (FunctionItem f) p → ((path : Path) → NoSection (found f.body path)) → (ns : List ℕ) → EachFunction (map (leader_function p (routine_of p f)) ns)
+  leaders_served f has none [] = tt
+  leaders_served f has none (n ∷ ns) = (routine_served f has none (At n), leaders_served f has none ns)
 
-  made_served : (f : LFunction) → unserved_stmt true f.body ≡ None → EachFunction (made_of p (routine_of p (bare_function f)))
-  made_served f h = (spawner_served (bare_function f), (routine_served f h Start, leaders_served f h _))
+  made_served : (f : Function) → Has (FunctionItem f) p → ((path : Path) → NoSection (found f.body path)) → EachFunction (made_of p (routine_of p f))
+  made_served f has none = (spawner_served f, (routine_served f has none Start, leaders_served f has none _))
 
-  routine_made : (b : Bool) (f : LFunction) → (b ≡ true → unserved_stmt true f.body ≡ None) → (rs : List Routine) → EachFunction (all_made p rs) → EachFunction (all_made p (routine_if b p (bare_function f) rs))
-  routine_made true f h rs a = both_functions (made_of p (routine_of p (bare_function f))) (all_made p rs) (made_served f (h refl)) a
-  routine_made false f h rs a = a
+  routine_made : (b : Bool) (f : Function) → Has (FunctionItem f) p → ((path : Path) → NoSection (found f.body path)) → (rs : List Routine) → EachFunction (all_made p rs) → EachFunction (all_made p (routine_if b p f rs))
+  routine_made true f has none rs a = both_functions (made_of p (routine_of p f)) (all_made p rs) (made_served f has none) a
+  routine_made false f has none rs a = a
 
-  cps_so : (m : Mode) → is_cps_mode m ≡ true → is_cps_function m ≡ true
-  cps_so Cps h = refl
-  cps_so Native h = absurd cc
-  cps_so Detached h = absurd cc
-  cps_so Extern h = absurd cc
-
-  all_served : (items : List LItem) → unserved_items items ≡ None → EachFunction (all_made p (routines_in p (map bare_item items)))
-  all_served [] h = tt
-  all_served (LStruct tag xs ∷ items) h = all_served items (no_second (unserved_item (LStruct tag xs)) _ h)
-  all_served (LGlobal x t start ∷ items) h = all_served items (no_second (unserved_item (LGlobal x t start)) _ h)
-  all_served (LPrototype q mode x t ps ∷ items) h = all_served items (no_second (unserved_item (LPrototype q mode x t ps)) _ h)
-  all_served (LFunctionItem f ∷ items) h =
-      let own = no_first (unserved_item (LFunctionItem f)) _ h in
-      let body = no_second (unless (is_taken_head f.mode f.result f.parameters) f.called.place) _ own in
-      routine_made (is_cps_mode f.mode) f (λ e. body_taken f true (cps_so f.mode e) body) (routines_in p (map bare_item items)) (all_served items (no_second (unserved_item (LFunctionItem f)) _ h))
+  all_served : (items : List LItem) → ((i : Item) → Has i (map bare_item items) → Has i p) → unserved_items items ≡ None → EachFunction (all_made p (routines_in p (map bare_item items)))
+  all_served [] up h = tt
+  all_served (LStruct tag xs ∷ items) up h = all_served items (λ i k. up i (Below i _ _ k)) h
+  all_served (LGlobal x t start ∷ items) up h = all_served items (λ i k. up i (Below i _ _ k)) h
+  all_served (LPrototype q mode x t ps ∷ items) up h = all_served items (λ i k. up i (Below i _ _ k)) (no_second (unserved_item (LPrototype q mode x t ps)) _ h)
+  all_served (LFunctionItem f ∷ items) up h =
+      routine_made (is_cps_mode f.mode) (bare_function f) (up (FunctionItem (bare_function f)) (OnTop _ _)) (λ path. stmt_has_none f.body (body_has_none f (no_first (unserved_item (LFunctionItem f)) _ h)) path)
+      (routines_in p (map bare_item items)) (all_served items (λ i k. up i (Below i _ _ k)) (no_second (unserved_item (LFunctionItem f)) _ h))
 
   -- ---- structs
 
@@ -220,4 +221,5 @@ module _ (p : Program) (primitives : (x : Text) (prim : Primitive) → primitive
 pub converted_are_served : ConvertedAreServed
 converted_are_served list end p h k u =
     let names : HasNames (bare p) = accepted_has_names list end p h k in
-    items_served (converted (bare p)) (with_served (bare p) names.primitives (routines (bare p)) (all_served (bare p) names.primitives p.items u) (kept_served p.items u))
+    let typed : TypedProgram D.Cpc (bare p) = accepted_is_typed D.Cpc list end p h k in
+    items_served (converted (bare p)) (with_served (bare p) names typed (routines (bare p)) (all_served (bare p) names typed p.items (λ i has. has) u) (kept_served (bare p) names typed p.items (λ i has. has) u))

@@ -23,6 +23,7 @@ use Rattle.cpc_convert_served_laws.specs.Serving.{unserved}
 use Rattle.cpc_convert_served_laws.proofs.Served.{converted_are_served}
 use Rattle.cpc_convert_shape_laws.specs.Shape.{Shape}
 use Rattle.cpc_convert_shape_laws.proofs.Shape.{accepted_shape}
+use Rattle.cpc_convert_leak_laws.specs.Laws.{NoLeak, ConvertedRests}
 use Rattle.cpc_check.specs.Accepted.{Accepts, IsWithin}
 use Rattle.cpc_forms_code.specs.Programs.{IsSpeakable}
 use Rattle.cpc_translate.specs.Passes.{IsGiven}
@@ -69,6 +70,10 @@ module _ (text : Text) (program : GProgram.Program) (accepted : Accepts D.Cpc te
   -- has the shape of an event program
   pub has_shape : (q : Program) → q ≡ converted own → Shape own q
   has_shape q e = equals (λ u. Shape own u) q e (had (λ p. Shape p (converted p)) accepted_shape)
+
+  -- holds no more frames than the threads need
+  pub has_no_leak : ConvertedRests → (q : Program) → q ≡ converted own → NoLeak own q
+  has_no_leak law q e = equals (λ u. NoLeak own u) q e (had (λ p. NoLeak p (converted p)) law)
 
   -- and asks only for what the loop answers, where the program asks for nothing else
   pub is_served : unserved (located program) ≡ None → (q : Program) → q ≡ converted own → is_served_program q ≡ true

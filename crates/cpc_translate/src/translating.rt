@@ -12,6 +12,7 @@ ghost use Rattle.cpc_native_builtins.specs.Served.{is_served_program};
 ghost use Rattle.cpc_convert_served_laws.specs.Serving.{unserved};
 ghost use Rattle.cpc_convert_event.specs.Converted.{converted};
 ghost use Rattle.cpc_convert_shape_laws.specs.Shape.{Shape};
+ghost use Rattle.cpc_convert_leak_laws.specs.Laws.{NoLeak};
 ghost use Rattle.cpc_translate.specs.Refusals.{IsTextFault, refusal_of};
 ghost use Rattle.cpc_translate.specs.declared.fault.TextFault.{TextFault};
 ghost use Rattle.cpc_translate.specs.declared.translating.Refusal.TheVariants.{Text, Form};
@@ -22,6 +23,7 @@ use crate::reading::{read, read_again};
 use cpc_base::{Dialect, NoMemory, Place, Stop};
 use cpc_built::built;
 use cpc_check::Checked;
+use cpc_convert_leak_laws::converted_rests_with_held_frames;
 use cpc_convert_runs_laws::converted_has_the_same_runs;
 use std::alloc::Global;
 
@@ -30,7 +32,7 @@ use std::alloc::Global;
 pub enum Refusal {
     /// It is not accepted.
     Text(TextFault),
-    /// It is accepted, and leaves the forms that run so far here.
+    /// It is accepted, and asks here for what is not served yet: a section, or a function of the host.
     Form(Place),
 }
 
@@ -55,7 +57,7 @@ fn refused(stop: Stop<TextFault>) -> Stop<Refusal>
     }
 }
 
-// The program of a text of the dialect Cpc, which is of the forms that run so far.
+// The program of a text of the dialect Cpc, which asks only for what is served.
 fn source_of(alloc: Global, text: &[u8]) -> Result<Checked, Stop<Refusal>>
     ensures accepted { IfOk result (λ c. Accepts D.Cpc text.now (located c.program)) }
     ensures dialect { IfOk result (λ c. c.dialect ≡ D.Cpc) }
@@ -76,12 +78,12 @@ fn source_of(alloc: Global, text: &[u8]) -> Result<Checked, Stop<Refusal>>
 
 /// The translation of a text of the dialect Cpc: an event program that has the same runs, within the cost, and the shape: native
 /// functions and globals stay, and each cps function becomes its spawner and one function for each point where a thread of it
-/// may begin to run.
+/// may begin to run. Wherever nothing runs in it, it holds no more frames, and no more live cells, than the threads need.
 ///
 /// # Errors
 ///
-/// `Stop::Fault` with `Refusal::Text` for the fault of a text that is not accepted, or with `Refusal::Form` for the first item,
-/// declaration or statement that asks for what is not served yet. `Stop::Memory` for want of memory.
+/// `Stop::Fault` with `Refusal::Text` for the fault of a text that is not accepted, or with `Refusal::Form` for the first function of
+/// the host that an accepted one declares, or section that it submits. `Stop::Memory` for want of memory.
 pub fn translate(alloc: Global, text: &[u8]) -> Result<Translated, Stop<Refusal>>
     ensures source { IfOk result (λ t. Accepts D.Cpc text.now (located t.source.program)) }
     ensures printed { IfOk result (λ t. Accepts D.Event t.printed.items (located t.read_back.program)) }
@@ -91,11 +93,13 @@ pub fn translate(alloc: Global, text: &[u8]) -> Result<Translated, Stop<Refusal>
     ensures same { IfOk result (λ t. SameRuns (program_of t.source.program) (program_of t.read_back.program)) }
     ensures within { IfOk result (λ t. Within (program_of t.source.program) (program_of t.read_back.program)) }
     ensures shape { IfOk result (λ t. Shape (program_of t.source.program) (program_of t.read_back.program)) }
+    ensures no_leak { IfOk result (λ t. NoLeak (program_of t.source.program) (program_of t.read_back.program)) }
     ensures served { IfOk result (λ t. is_served_program (program_of t.read_back.program) ≡ true) }
     ensures refused { (fault : TextFault) → result ≡ Err (Fault (Text fault)) → IsTextFault D.Cpc text.now fault }
     ensures form { (at : Place) → result ≡ Err (Fault (Form at)) → (p : LProgram) × Accepts D.Cpc text.now p × (unserved p ≡ Some at) }
 {
     converted_has_the_same_runs();
+    converted_rests_with_held_frames();
     let source = source_of(alloc, text)?;
     let printed = match event_text(alloc, &source.program) {
         Ok(printed) => printed,

@@ -1,7 +1,7 @@
 use Rattle.std.proofs.Common.{ap}
 use Rattle.std.specs.Prelude.{option_map}
-use Rattle.cpc_built.proofs.Named.{primitive_some}
-use Rattle.cpc_built.proofs.expressions.primitive.Goals as goal
+use Rattle.cpc_answered.proofs.Named.{primitive_some}
+use Rattle.cpc_answered.proofs.search.primitive.Goals as goal
 
 pub returns-in-Some : goal.returns-in-Some
 returns-in-Some c =
