@@ -73,7 +73,8 @@ fn save(
     let name = local(around, number);
     let frame = frame_through(alloc, around.place, pointer, tag)?;
     let target = field(alloc, around.place, frame, name)?;
-    out.assign(alloc, around.place, target, named(around.place, name))?;
+    let value = named(around.place, name);
+    out.assign(alloc, around.place, target, value)?;
     Ok(())
 }
 

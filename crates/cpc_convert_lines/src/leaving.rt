@@ -103,19 +103,15 @@ pub fn leave(
         → written to out.new ≡ puts (written to out.old) (L.leave_lines r (reads from r around.entry scope) (option_map (expr_of from) value.now))) }
 {
     let own = &around.book.own;
-    match value {
-        Some(e) => {
-            let made = image(alloc, e, readings(around, scope))?;
-            out.assign(alloc, around.place, named(around.place, own.returned), made)?;
-            unbox(alloc, out, around)?;
-            patch(alloc, out, around)?;
-            hand_over(alloc, out, around, own.next)?;
-            Ok(())
-        }
-        None => {
-            unbox(alloc, out, around)?;
-            hand_over(alloc, out, around, own.next)?;
-            Ok(())
-        }
+    if let Some(e) = value {
+        let made = image(alloc, e, readings(around, scope))?;
+        out.assign(alloc, around.place, named(around.place, own.returned), made)?;
+        unbox(alloc, out, around)?;
+        patch(alloc, out, around)?;
+        hand_over(alloc, out, around, own.next)?;
+        return Ok(());
     }
+    unbox(alloc, out, around)?;
+    hand_over(alloc, out, around, own.next)?;
+    Ok(())
 }
