@@ -1,5 +1,5 @@
 -- An answer stays one when only the status is filled in, and each end may give way to want of memory.
-use Rattle.std.proofs.Common.{◌≡◌, ◌≢◌, ◌==◌, ℕ, Bool, true, false, List, [], ap, sym, subst, ◌∙◌, inl, inr, ◌⊎◌, Option, Some, arith}
+use Rattle.std.proofs.Common.{◌≡◌, ◌≢◌, ◌==◌, ◌<◌, ℕ, Bool, true, false, List, [], ap, sym, subst, ◌∙◌, inl, inr, ◌⊎◌, Option, Some, arith, refl}
 use Rattle.std.specs.Prelude.{if◌then◌else◌}
 use Rattle.std.proofs.lemmas.List.{append-nil}
 use Rattle.cpc_base.specs.Bytes.{Text}
@@ -7,19 +7,23 @@ use Rattle.cpc_base.specs.Outside.{Files}
 use Rattle.cpc_base.specs.declared.stop.Dialect.TheVariants.{Event}
 use Rattle.cpc_tree.specs.Syntax.{Program}
 use Rattle.cpc_tree.specs.Located.{LProgram, bare}
+use Rattle.cpc_tree.specs.Texts.{Stop}
 use Rattle.cpc_meaning.specs.Events.{event}
+use Rattle.cpc_meaning.specs.History.{History}
 use Rattle.cpc_meaning.specs.Runs.{live_cells}
-use Rattle.cpc_cli_command.specs.Commands.{Command, Run, Translate, Check, command_of}
+use Rattle.cpc_cli_command.specs.Commands.{Command, Check, Exec, Options, Translate, Run, command_of}
 use Rattle.cpc_check.specs.Accepted.{Accepts}
-use Rattle.cpc_cli.specs.Command.{Asks, Builds, named}
-use Rattle.cpc_cli.specs.Answer.{Answer, Rises, status_of, Does, DoesInPart, HasCells, MayHaveCells, NotAccepted, EndedIn, did, not_begun, unwritten_in, starved_in, IsEnd, misused, starved, performed, NoRun, Nothing, Printed, RanWhole, RanInPart, StandsSo, shown}
-use Rattle.cpc_run.specs.Reports.{untold, IsPrefix}
+use Rattle.cpc_cli.specs.Command.{Asks, history_named, named, source_of}
+use Rattle.cpc_cli.specs.Ran.{HasCells, MayHaveCells, NoSteps, NotTold, RanInPart, RanWhole, StandsSo, StaysWithin, IsFull, IsLeftBy, StartsFull, shown, stop_in}
+use Rattle.cpc_cli.specs.Answer.{Answer, Rises, status_of, Does, DoesInPart, NotAccepted, EndedIn, did, not_begun, not_told, unwritten_in, starved_in, IsEnd, misused, starved, performed, NoRun, Nothing, Printed, Runs, RunsInPart, Takes}
+use Rattle.cpc_run.specs.Reports.{IsPrefix}
 use Rattle.cpc_cli.specs.declared.answer.Role.{Role}
+use Rattle.cpc_cli.specs.declared.answer.Role.TheVariants as R
 use Rattle.cpc_cli.specs.declared.answer.Report.{Report}
 use Rattle.cpc_cli.specs.declared.answer.Outcome.{Outcome}
-use Rattle.cpc_cli.specs.declared.answer.Outcome.TheVariants.{Ended, Exited, Failed, Stopped, Full, Accepted, Translated}
+use Rattle.cpc_cli.specs.declared.answer.Outcome.TheVariants.{Ended, Exited, Failed, HistoryEnded, BadHistory, Stopped, Full, Accepted, Translated}
 use Rattle.cpc_cli.specs.declared.answer.End.{End}
-use Rattle.cpc_cli.specs.declared.answer.End.TheVariants.{Done, Usage, Refused, Unbuilt, Unread, Unwritten, Memory, TooLong}
+use Rattle.cpc_cli.specs.declared.answer.End.TheVariants.{Done, Usage, Refused, Unbuilt, Unread, Unwritten, Memory, TooLong, BadLine}
 
 -- the two reports differ at most in the status
 pub record SameRun (old new : Report) : Type 0 where
@@ -27,8 +31,47 @@ pub record SameRun (old new : Report) : Type 0 where
   pub steps : new.steps ≡ old.steps
   pub cells : new.cells ≡ old.cells
 
-whole_prefix : (text : Text) → IsPrefix text text
+pub whole_prefix : (text : Text) → IsPrefix text text
 whole_prefix text = record { rest = []; whole = sym (append-nil text) }
+
+-- ---- a run that stands so was left so
+
+pub left_so : (q : Program) (h : History) (bound cap n : ℕ) (outcome : Outcome) → StandsSo q h bound cap n outcome → IsLeftBy q h bound cap n (stop_in outcome)
+left_so q h bound cap n (Ended k) s = s
+left_so q h bound cap n (Exited z) s = s
+left_so q h bound cap n (Failed f x) s = s
+left_so q h bound cap n (HistoryEnded k) s = s.0
+left_so q h bound cap n (BadHistory k m) s = s.0
+left_so q h bound cap n (Stopped m) s = s.1
+left_so q h bound cap n (Full c m) s = (m, s.1)
+left_so q h bound cap n Accepted s = absurd s
+left_so q h bound cap n Translated s = absurd s
+
+full_fits : (q : Program) (h : History) (bound cap n m : ℕ) → IsFull q h bound cap n m ⊎ StartsFull q h cap n m → 0 < n → StaysWithin q h cap n
+full_fits q h bound cap n m (inl s) some = s.fits
+full_fits q h bound cap n m (inr s) some = absurd (let z = s.at_start in omega (arith, z, some))
+
+pub stands_fit : (q : Program) (h : History) (bound cap n : ℕ) (outcome : Outcome) → StandsSo q h bound cap n outcome → 0 < n → StaysWithin q h cap n
+stands_fit q h bound cap n (Ended k) s some = s.fits
+stands_fit q h bound cap n (Exited z) s some = s.fits
+stands_fit q h bound cap n (Failed f x) s some = s.fits
+stands_fit q h bound cap n (HistoryEnded k) s some = s.0.fits
+stands_fit q h bound cap n (BadHistory k m) s some = s.0.fits
+stands_fit q h bound cap n (Stopped m) s some = s.1.fits
+stands_fit q h bound cap n (Full c m) s some = full_fits q h bound cap n m s.1 some
+stands_fit q h bound cap n Accepted s some = absurd s
+stands_fit q h bound cap n Translated s some = absurd s
+
+-- a run that ended is one that may be told in part
+pub whole_in_part : (q : Program) (h : History) (options : Options) (text : Bool) (report : Report) (out : Text) (outcome : Outcome)
+    → RanWhole q h options text report out outcome → RanInPart q h options text report out
+whole_in_part q h options text report out outcome r = record {
+  cells = inl r.cells;
+  fits = stands_fit q h options.steps options.cells report.steps outcome r.stands;
+  last = stop_in outcome;
+  left = left_so q h options.steps options.cells report.steps outcome r.stands;
+  part = subst (IsPrefix out) r.whole (whole_prefix out);
+}
 
 module _ (told : Option Files) (unread : Text → Type 0) (unwritten : Type 0) (old new : Report) (out : Text) (same : SameRun old new) where
   no_run : NoRun old → NoRun new
@@ -37,12 +80,15 @@ module _ (told : Option Files) (unread : Text → Type 0) (unwritten : Type 0) (
   nothing : Nothing old out → Nothing new out
   nothing h = record { no_run = no_run h.no_run; silent = h.silent }
 
-  has_cells : (q : Program) → HasCells q old → HasCells q new
-  has_cells q h = same.cells ∙ h ∙ ap (λ n. live_cells (event q untold n)) (sym same.steps)
+  no_steps : NoSteps old → NoSteps new
+  no_steps h = record { steps = same.steps ∙ h.steps; cells = same.cells ∙ h.cells }
 
-  may_have_cells : (q : Program) → MayHaveCells q old → MayHaveCells q new
-  may_have_cells q (inl h) = inl (has_cells q h)
-  may_have_cells q (inr h) = inr (same.steps ∙ h.0, same.cells ∙ h.1)
+  has_cells : (q : Program) (h : History) → HasCells q h old → HasCells q h new
+  has_cells q h c = same.cells ∙ c ∙ ap (λ n. live_cells (event q h n)) (sym same.steps)
+
+  may_have_cells : (q : Program) (h : History) → MayHaveCells q h old → MayHaveCells q h new
+  may_have_cells q h (inl c) = inl (has_cells q h c)
+  may_have_cells q h (inr c) = inr (same.steps ∙ c.0, same.cells ∙ c.1)
 
   accepts : (q : LProgram) → Accepts Event old.printed.items q → Accepts Event new.printed.items q
   accepts q h = subst (λ t. Accepts Event t q) (sym same.printed) h
@@ -50,34 +96,68 @@ module _ (told : Option Files) (unread : Text → Type 0) (unwritten : Type 0) (
   printed : (q : LProgram) → Printed q old → Printed q new
   printed q h = record { printed = accepts q h.printed; steps = same.steps ∙ h.steps; cells = same.cells ∙ h.cells }
 
-  same_shown : (text : Bool) (q : Program) → shown text old.printed.items q old.steps ≡ shown text new.printed.items q new.steps
-  same_shown text q = ap (λ t. shown text t q old.steps) (sym same.printed) ∙ ap (shown text new.printed.items q) (sym same.steps)
+  takes : (command : Command) (q : LProgram) → Takes told command old q → Takes told command new q
+  takes (Run file options text) q h = (accepts q h.0, h.1)
+  takes (Exec file options) q h = (same.printed ∙ h.0, h.1, h.2)
+  takes (Translate file) q h = h
+  takes (Check file) q h = h
 
-  ran_whole : (q : LProgram) (bound cap : ℕ) (text : Bool) (outcome : Outcome) → RanWhole q bound cap text old out outcome → RanWhole q bound cap text new out outcome
-  ran_whole q bound cap text outcome h = record {
-    printed = accepts q h.printed;
-    cells = has_cells (bare q) h.cells;
-    stands = subst (λ n. StandsSo (bare q) bound cap n outcome) (sym same.steps) h.stands;
-    whole = h.whole ∙ same_shown text (bare q);
+  same_shown : (trace text : Bool) (q : Program) (h : History) (last : Option Stop) → shown trace text old.printed.items q h old.steps last ≡ shown trace text new.printed.items q h new.steps last
+  same_shown trace text q h last = ap (λ t. shown trace text t q h old.steps last) (sym same.printed) ∙ ap (λ n. shown trace text new.printed.items q h n last) (sym same.steps)
+
+  ran_whole : (q : Program) (h : History) (options : Options) (text : Bool) (outcome : Outcome) → RanWhole q h options text old out outcome → RanWhole q h options text new out outcome
+  ran_whole q h options text outcome r = record {
+    cells = has_cells q h r.cells;
+    stands = subst (λ n. StandsSo q h options.steps options.cells n outcome) (sym same.steps) r.stands;
+    whole = r.whole ∙ same_shown options.trace text q h (stop_in outcome);
   }
 
-  ran_in_part : (q : LProgram) (text : Bool) → RanInPart q text old out → RanInPart q text new out
-  ran_in_part q text h = record { printed = accepts q h.printed; cells = may_have_cells (bare q) h.cells; part = subst (IsPrefix out) (same_shown text (bare q)) h.part }
+  ran_in_part : (q : Program) (h : History) (options : Options) (text : Bool) → RanInPart q h options text old out → RanInPart q h options text new out
+  ran_in_part q h options text r = record {
+    cells = may_have_cells q h r.cells;
+    fits = subst (λ n. 0 < n → StaysWithin q h options.cells n) (sym same.steps) r.fits;
+    last = r.last;
+    left = subst (λ n. IsLeftBy q h options.steps options.cells n r.last) (sym same.steps) r.left;
+    part = subst (IsPrefix out) (same_shown options.trace text q h r.last) r.part;
+  }
 
-  whole_in_part : (q : LProgram) (bound cap : ℕ) (text : Bool) (outcome : Outcome) → RanWhole q bound cap text old out outcome → RanInPart q text new out
-  whole_in_part q bound cap text outcome h = record {
-    printed = accepts q h.printed;
-    cells = inl (has_cells (bare q) h.cells);
-    part = subst (IsPrefix out) (h.whole ∙ same_shown text (bare q)) (whole_prefix out);
+  runs : (command : Command) (options : Options) (text : Bool) (outcome : Outcome) → Runs told command options text old out outcome → Runs told command options text new out outcome
+  runs command options text outcome r = record {
+    program = r.program;
+    takes = takes command r.program r.takes;
+    polls = r.polls;
+    tells = r.tells;
+    ran = ran_whole (bare r.program) _ options text outcome r.ran;
+  }
+
+  runs_in_part : (command : Command) (options : Options) (text : Bool) → RunsInPart told command options text old out → RunsInPart told command options text new out
+  runs_in_part command options text r = record {
+    program = r.program;
+    takes = takes command r.program r.takes;
+    polls = r.polls;
+    tells = r.tells;
+    ran = ran_in_part (bare r.program) _ options text r.ran;
+  }
+
+  part_of_runs : (command : Command) (options : Options) (text : Bool) (outcome : Outcome) → Runs told command options text old out outcome → RunsInPart told command options text new out
+  part_of_runs command options text outcome r = record {
+    program = r.program;
+    takes = takes command r.program r.takes;
+    polls = r.polls;
+    tells = r.tells;
+    ran = ran_in_part (bare r.program) _ options text (whole_in_part (bare r.program) _ options text old out outcome r.ran);
   }
 
   does : (command : Command) (outcome : Outcome) → Does told command old out outcome → Does told command new out outcome
-  does (Run file steps cells text) outcome h = (h.0, ran_whole h.0 steps cells text outcome h.1, h.2)
+  does (Run file options text) outcome h = runs (Run file options text) options text outcome h
+  does (Exec file options) outcome h = runs (Exec file options) options false outcome h
   does (Translate file) Translated h = (h.0, printed h.0 h.1, h.2 ∙ sym same.printed, h.3)
   does (Translate file) Accepted h = absurd h
   does (Translate file) (Ended n) h = absurd h
   does (Translate file) (Exited z) h = absurd h
   does (Translate file) (Failed f x) h = absurd h
+  does (Translate file) (HistoryEnded n) h = absurd h
+  does (Translate file) (BadHistory n m) h = absurd h
   does (Translate file) (Stopped n) h = absurd h
   does (Translate file) (Full c m) h = absurd h
   does (Check file) Accepted h = (no_run h.0, h.1, h.2)
@@ -85,21 +165,27 @@ module _ (told : Option Files) (unread : Text → Type 0) (unwritten : Type 0) (
   does (Check file) (Ended n) h = absurd h
   does (Check file) (Exited z) h = absurd h
   does (Check file) (Failed f x) h = absurd h
+  does (Check file) (HistoryEnded n) h = absurd h
+  does (Check file) (BadHistory n m) h = absurd h
   does (Check file) (Stopped n) h = absurd h
   does (Check file) (Full c m) h = absurd h
 
   in_part : (command : Command) → DoesInPart told command old out → DoesInPart told command new out
-  in_part (Run file steps cells text) h = (h.0, ran_in_part h.0 text h.1, h.2)
+  in_part (Run file options text) h = runs_in_part (Run file options text) options text h
+  in_part (Exec file options) h = runs_in_part (Exec file options) options false h
   in_part (Translate file) h = (h.0, printed h.0 h.1, subst (IsPrefix out) (sym same.printed) h.2, h.3)
   in_part (Check file) h = (no_run h.0, h.1, h.2)
 
   in_part_from_whole : (command : Command) (outcome : Outcome) → Does told command old out outcome → DoesInPart told command new out
-  in_part_from_whole (Run file steps cells text) outcome h = (h.0, whole_in_part h.0 steps cells text outcome h.1, h.2)
+  in_part_from_whole (Run file options text) outcome h = part_of_runs (Run file options text) options text outcome h
+  in_part_from_whole (Exec file options) outcome h = part_of_runs (Exec file options) options false outcome h
   in_part_from_whole (Translate file) Translated h = (h.0, printed h.0 h.1, subst (IsPrefix out) (h.2 ∙ sym same.printed) (whole_prefix out), h.3)
   in_part_from_whole (Translate file) Accepted h = absurd h
   in_part_from_whole (Translate file) (Ended n) h = absurd h
   in_part_from_whole (Translate file) (Exited z) h = absurd h
   in_part_from_whole (Translate file) (Failed f x) h = absurd h
+  in_part_from_whole (Translate file) (HistoryEnded n) h = absurd h
+  in_part_from_whole (Translate file) (BadHistory n m) h = absurd h
   in_part_from_whole (Translate file) (Stopped n) h = absurd h
   in_part_from_whole (Translate file) (Full c m) h = absurd h
   in_part_from_whole (Check file) Accepted h = (no_run h.0, subst (IsPrefix out) h.1 (whole_prefix out), h.2)
@@ -107,12 +193,15 @@ module _ (told : Option Files) (unread : Text → Type 0) (unwritten : Type 0) (
   in_part_from_whole (Check file) (Ended n) h = absurd h
   in_part_from_whole (Check file) (Exited z) h = absurd h
   in_part_from_whole (Check file) (Failed f x) h = absurd h
+  in_part_from_whole (Check file) (HistoryEnded n) h = absurd h
+  in_part_from_whole (Check file) (BadHistory n m) h = absurd h
   in_part_from_whole (Check file) (Stopped n) h = absurd h
   in_part_from_whole (Check file) (Full c m) h = absurd h
 
   ended_as : (command : Command) (end : End) → EndedIn told command unread unwritten old out end → EndedIn told command unread unwritten new out end
   ended_as command _ (did outcome h) = did outcome (does command outcome h)
   ended_as command _ (not_begun end h none) = not_begun end h (nothing none)
+  ended_as command _ (not_told end q t h none silent) = not_told end q (takes command q t) h (no_steps none) silent
   ended_as command _ (unwritten_in u h) = unwritten_in u (in_part command h)
   ended_as command _ (starved_in h) = starved_in (in_part command h)
 
@@ -120,6 +209,7 @@ module _ (told : Option Files) (unread : Text → Type 0) (unwritten : Type 0) (
   ended_by_memory : (command : Command) (end : End) → EndedIn told command unread unwritten old out end → EndedIn told command unread unwritten new out Memory
   ended_by_memory command _ (did outcome h) = starved_in (in_part_from_whole command outcome h)
   ended_by_memory command _ (not_begun end h none) = not_begun Memory tt (nothing none)
+  ended_by_memory command _ (not_told end q t h none silent) = not_told Memory q (takes command q t) tt (no_steps none) silent
   ended_by_memory command _ (unwritten_in u h) = starved_in (in_part command h)
   ended_by_memory command _ (starved_in h) = starved_in (in_part command h)
 
@@ -136,46 +226,3 @@ module _ (told : Option Files) (unread : Text → Type 0) (unwritten : Type 0) (
   pub is_end_last : {words : List Text} {end last : End} → last ≡ end ⊎ last ≡ Memory → IsEnd words told unread unwritten old out end → IsEnd words told unread unwritten new out last
   is_end_last {words} (inl e) h = subst (IsEnd words told unread unwritten new out) (sym e) (is_end_as h)
   is_end_last {words} (inr e) h = subst (IsEnd words told unread unwritten new out) (sym e) (is_end_by_memory h)
-
--- 8 comes only where the count of a file of the command rose
-waiting_not_8 : (b : Bool) → ◌≢◌ {A = ℕ} (if b then 0 else 14) 8
-waiting_not_8 true e = absurd (omega (arith, e))
-waiting_not_8 false e = absurd (omega (arith, e))
-
-outcome_not_8 : (outcome : Outcome) → status_of (Done outcome) ≢ 8
-outcome_not_8 (Ended waiting) e = waiting_not_8 (waiting == 0) e
-outcome_not_8 (Exited z) e = absurd (omega (arith, e))
-outcome_not_8 (Failed f x) e = absurd (omega (arith, e))
-outcome_not_8 (Stopped n) e = absurd (omega (arith, e))
-outcome_not_8 (Full c m) e = absurd (omega (arith, e))
-outcome_not_8 Accepted e = absurd (omega (arith, e))
-outcome_not_8 Translated e = absurd (omega (arith, e))
-
-module _ (words : List Text) (told : Option Files) (rose : Rises) (report : Report) (out : Text) where
-  abbrev pub Cause : Type 0
-  Cause = Asks words (λ command. (role : Role) × rose.shelf (named command role))
-
-  not_read : (command : Command) (end : End) → command_of words ≡ Some command → NotAccepted told (named command) rose.shelf (Builds command) end → status_of end ≡ 8 → Cause
-  not_read command (Unread role) asks h e = (command, asks, (role, h))
-  not_read command (Refused fault) asks h e = absurd (omega (arith, e))
-  not_read command (Unbuilt at) asks h e = absurd (omega (arith, e))
-  not_read command (TooLong role) asks h e = absurd (omega (arith, e))
-  not_read command Memory asks h e = absurd (omega (arith, e))
-  not_read command (Done outcome) asks h e = absurd h
-  not_read command Usage asks h e = absurd h
-  not_read command Unwritten asks h e = absurd h
-
-  ended_read : (command : Command) (end : End) → command_of words ≡ Some command → EndedIn told command rose.shelf rose.out report out end → status_of end ≡ 8 → Cause
-  ended_read command _ asks (did outcome h) e = absurd (outcome_not_8 outcome e)
-  ended_read command _ asks (not_begun end h none) e = not_read command end asks h e
-  ended_read command _ asks (unwritten_in u h) e = absurd (omega (arith, e))
-  ended_read command _ asks (starved_in h) e = absurd (omega (arith, e))
-
-  end_read : {end : End} → IsEnd words told rose.shelf rose.out report out end → status_of end ≡ 8 → Cause
-  end_read (misused none h) e = absurd (omega (arith, e))
-  end_read (starved h) e = absurd (omega (arith, e))
-  end_read (performed command {end} asks h) e = ended_read command end asks h e
-
-  pub read_cause : (err : Text) → Answer words told rose report out err → report.status ≡ 8 → Cause
-  read_cause err (end, ended, inl said) e = end_read ended (sym said.0 ∙ e)
-  read_cause err (end, ended, inr said) e = absurd (let nine = said.0 in omega (arith, nine, e))

@@ -1,63 +1,122 @@
 -- Where nothing failed, an answer is what is due.
-use Rattle.std.proofs.Common.{◌≡◌, ◌≢◌, List, [], refl, sym, subst, ◌∙◌, inl, inr, Option, None, Some}
+use Rattle.std.proofs.Common.{◌≡◌, ◌≢◌, ◌<◌, Bool, false, List, [], length, refl, sym, subst, ◌∙◌, inl, inr, Option, None, Some}
 use Rattle.cpc_base.specs.Bytes.{Text}
 use Rattle.cpc_base.specs.Outside.{Files}
-use Rattle.cpc_cli_command.specs.Commands.{Command, Run, Translate, Check, command_of}
-use Rattle.cpc_cli.specs.Command.{Builds, named}
-use Rattle.cpc_cli.specs.Answer.{Answer, Rises, Does, NotAccepted, EndedIn, did, not_begun, unwritten_in, starved_in, IsEnd, misused, starved, performed, status_of}
-use Rattle.cpc_cli.specs.Exact.{Due, for_usage, for_absent, for_too_long, for_refused, for_unbuilt, for_check, for_translate, for_run, NoneRose, Gives}
+use Rattle.cpc_base.specs.declared.stop.Dialect.TheVariants.{Cpc, Event}
+use Rattle.cpc_check.specs.Accepted.{Accepts}
+use Rattle.cpc_translate.specs.Refusals.{IsTextFault}
+use Rattle.cpc_tree.specs.Located.{LProgram, bare}
+use Rattle.cpc_tree.specs.Trace as T
+use Rattle.cpc_cli_command.specs.Commands.{Command, Check, Exec, Options, Translate, Run, command_of}
+use Rattle.cpc_cli.specs.Command.{IsRun, Source, any_source, by_exec, by_run, events_source, history_limit, history_named, source_of, threads_source}
+use Rattle.cpc_cli.specs.Ran.{FileHas, NotTold, TellsPolls}
+use Rattle.cpc_cli.specs.Answer.{AcceptedAs, Answer, IsTranslated, Rises, Does, NotAccepted, EndedIn, did, not_begun, not_told, unwritten_in, starved_in, IsEnd, misused, starved, performed, Runs, Takes, TextHas, status_of}
+use Rattle.cpc_cli.specs.Exact.{ArePolls, Due, for_usage, for_absent, for_too_long, for_refused, for_unbuilt, for_no_history, for_long_history, for_bad_line, for_check, for_translate, for_run, Given, IsProgram, IsText, NoneRose, Gives}
 use Rattle.cpc_cli.specs.declared.answer.Role.TheVariants as R
 use Rattle.cpc_cli.specs.declared.answer.Report.{Report}
 use Rattle.cpc_cli.specs.declared.answer.Outcome.{Outcome}
-use Rattle.cpc_cli.specs.declared.answer.Outcome.TheVariants.{Ended, Exited, Failed, Stopped, Full, Accepted, Translated}
+use Rattle.cpc_cli.specs.declared.answer.Outcome.TheVariants.{Ended, Exited, Failed, HistoryEnded, BadHistory, Stopped, Full, Accepted, Translated}
 use Rattle.cpc_cli.specs.declared.answer.End.{End}
-use Rattle.cpc_cli.specs.declared.answer.End.TheVariants.{Done, Usage, Refused, Unbuilt, Unread, Unwritten, Memory, TooLong}
+use Rattle.cpc_cli.specs.declared.answer.End.TheVariants.{Done, Usage, Refused, Unbuilt, Unread, Unwritten, Memory, TooLong, BadLine}
+
+-- ---- what is told of files, of the files themselves
+
+text_there : (files : Files) (source : Source) (P : Text → Type 0) → TextHas (Some files) source P → (text : Text) × IsText files source text × P text
+text_there files source P h = let t = h files refl in (t.0, record { there = t.1; within = t.2.0 }, t.2.1)
+
+program_there : (files : Files) (source : Source) (P : LProgram → Type 0) → AcceptedAs (Some files) source P → (p : LProgram) × IsProgram files source p × P p
+program_there files source P h =
+    let t = text_there files source (λ text. (p : LProgram) × Accepts source.dialect text p × P p) h in
+    (t.2.0, record { text = t.0; is_text = t.1; accepts = t.2.1 }, t.2.2)
+
+given : (files : Files) (command : Command) (report : Report) (q : LProgram) → Takes (Some files) command report q → Given files command report.printed.items q
+given files (Run file options text) report q t = let p = program_there files (threads_source file) (λ p. IsTranslated p q) t.1 in (t.0, p.0, p.1, p.2)
+given files (Exec file options) report q t =
+    let text = text_there files (events_source file) (λ text. Accepts Event text q) t.2 in
+    (t.0, t.1, record { text = text.0; is_text = text.1; accepts = text.2 })
+given files (Translate file) report q t = t
+given files (Check file) report q t = t
+
+polls_there : (files : Files) (history : Option Text) (polls : List T.Told) → TellsPolls (Some files) history polls → ArePolls files history polls
+polls_there files None polls h = h
+polls_there files (Some name) polls h = let b = h files refl in (b.0, b.1, b.2.0, b.2.1)
 
 module _ (files : Files) (words : List Text) (rose : Rises) (none : NoneRose files rose) (report : Report) (out : Text) where
+  ran_due : (command : Command) (options : Options) (text : Bool) (outcome : Outcome) → command_of words ≡ Some command → IsRun command options text
+      → Runs (Some files) command options text report out outcome → Due files words (Done outcome) out
+  ran_due command options text outcome asks is r = subst (Due files words (Done outcome)) (sym r.ran.whole)
+      (for_run command options text report.printed.items r.program r.polls report.steps outcome asks is (given files command report r.program r.takes)
+      (polls_there files options.history r.polls r.tells) r.ran.stands)
+
   did_due : (command : Command) (outcome : Outcome) → command_of words ≡ Some command → Does (Some files) command report out outcome → Due files words (Done outcome) out
-  did_due (Run file bound cap is_shown) outcome asks (q, whole, accepted) =
-      let text = accepted files refl in
-      subst (Due files words (Done outcome)) (sym whole.whole)
-      (for_run file text.0 report.printed.items text.2.1.0 q bound cap report.steps is_shown outcome asks text.1 text.2.0 text.2.1.1 whole.printed text.2.1.2 whole.stands)
+  did_due (Run file options text) outcome asks h = ran_due (Run file options text) options text outcome asks (by_run file options text) h
+  did_due (Exec file options) outcome asks h = ran_due (Exec file options) options false outcome asks (by_exec file options) h
   did_due (Translate file) Translated asks (q, printed, wrote, accepted) =
-      let text = accepted files refl in
-      subst (Due files words (Done Translated)) (sym wrote) (for_translate file text.0 report.printed.items text.2.1.0 q asks text.1 text.2.0 text.2.1.1 printed.printed text.2.1.2)
+      let p = program_there files (threads_source file) (λ p. IsTranslated p q) accepted in
+      subst (Due files words (Done Translated)) (sym wrote) (for_translate file report.printed.items p.0 q asks p.1 printed.printed p.2)
   did_due (Translate file) Accepted asks h = absurd h
   did_due (Translate file) (Ended n) asks h = absurd h
   did_due (Translate file) (Exited z) asks h = absurd h
   did_due (Translate file) (Failed f x) asks h = absurd h
+  did_due (Translate file) (HistoryEnded n) asks h = absurd h
+  did_due (Translate file) (BadHistory n m) asks h = absurd h
   did_due (Translate file) (Stopped n) asks h = absurd h
   did_due (Translate file) (Full c m) asks h = absurd h
   did_due (Check file) Accepted asks (no_run, wrote, accepted) =
-      let text = accepted files refl in
-      subst (Due files words (Done Accepted)) (sym wrote) (for_check file text.0 text.2.1.0 asks text.1 text.2.0 text.2.1.1)
+      let p = program_there files (any_source Cpc file) (λ p. Unit {0}) accepted in
+      subst (Due files words (Done Accepted)) (sym wrote) (for_check file p.0 asks p.1)
   did_due (Check file) Translated asks h = absurd h
   did_due (Check file) (Ended n) asks h = absurd h
   did_due (Check file) (Exited z) asks h = absurd h
   did_due (Check file) (Failed f x) asks h = absurd h
+  did_due (Check file) (HistoryEnded n) asks h = absurd h
+  did_due (Check file) (BadHistory n m) asks h = absurd h
   did_due (Check file) (Stopped n) asks h = absurd h
   did_due (Check file) (Full c m) asks h = absurd h
 
-  absent : (command : Command) → command_of words ≡ Some command → rose.shelf (named command R.Text) → (found : Option Text) → files (named command R.Text) ≡ found
-      → Due files words (Unread R.Text) []
-  absent command asks h None e = for_absent command asks e
-  absent command asks h (Some text) e = absurd (none.shelf (named command R.Text) text e h)
+  -- a file at which the shelf failed is not there
+  absent : (name : Text) → rose.shelf name → files name ≡ None
+  absent name h = go (files name) refl
+    where
+      go : (found : Option Text) → files name ≡ found → found ≡ None
+      go None e = refl
+      go (Some text) e = absurd (none.shelf name text e h)
 
-  refused_due : (command : Command) (end : End) → command_of words ≡ Some command → NotAccepted (Some files) (named command) rose.shelf (Builds command) end → status_of end ≢ 11 → Due files words end []
-  refused_due command (Refused fault) asks h ample = let text = h files refl in for_refused command text.0 fault asks text.1 text.2.0 text.2.1
-  refused_due command (Unbuilt at) asks h ample =
-      let text = h.1 files refl in
-      for_unbuilt command text.0 text.2.1.0 at asks h.0 text.1 text.2.0 text.2.1.1 text.2.1.2
-  refused_due command (Unread R.Text) asks h ample = absent command asks h (files (named command R.Text)) refl
+  refused_due : (command : Command) (end : End) → command_of words ≡ Some command → NotAccepted (Some files) (source_of command) rose.shelf end → status_of end ≢ 11 → Due files words end []
+  refused_due command (Refused fault) asks h ample = let text = text_there files (source_of command) (λ text. IsTextFault (source_of command).dialect text fault) h in for_refused command text.0 fault asks text.1 text.2
+  refused_due command (Unbuilt at) asks h ample = let p = program_there files (source_of command) (λ p. (source_of command).unbuilt p ≡ Some at) h in for_unbuilt command p.0 at asks p.1 p.2
+  refused_due command (Unread R.Text) asks h ample = for_absent command asks (absent (source_of command).file h)
+  refused_due command (Unread R.History) asks h ample = absurd h
   refused_due command (TooLong R.Text) asks h ample = let text = h files refl in for_too_long command text.0 asks text.1 text.2
+  refused_due command (TooLong R.History) asks h ample = absurd h
+  refused_due command (BadLine fault) asks h ample = absurd h
   refused_due command Memory asks h ample = absurd (ample refl)
   refused_due command (Done outcome) asks h ample = absurd h
   refused_due command Usage asks h ample = absurd h
   refused_due command Unwritten asks h ample = absurd h
 
+  untold_due : (command : Command) (q : LProgram) (end : End) → command_of words ≡ Some command → Takes (Some files) command report q
+      → NotTold (Some files) (history_named command) rose.shelf end → status_of end ≢ 11 → Due files words end []
+  untold_due command q (Unread R.History) asks t (name, is, h) ample = for_no_history command report.printed.items name q asks (given files command report q t) is (absent name h)
+  untold_due command q (TooLong R.History) asks t (name, is, h) ample =
+      let bytes = h files refl in
+      for_long_history command report.printed.items name bytes.0 q asks (given files command report q t) is bytes.1 bytes.2
+  untold_due command q (BadLine fault) asks t (name, is, h) ample =
+      let bytes = h files refl in
+      for_bad_line command report.printed.items name bytes.0 q fault asks (given files command report q t) is bytes.1 bytes.2.0 bytes.2.1
+  untold_due command q (Unread R.Text) asks t h ample = absurd h
+  untold_due command q (TooLong R.Text) asks t h ample = absurd h
+  untold_due command q (Refused fault) asks t h ample = absurd h
+  untold_due command q (Unbuilt at) asks t h ample = absurd h
+  untold_due command q Memory asks t h ample = absurd (ample refl)
+  untold_due command q (Done outcome) asks t h ample = absurd h
+  untold_due command q Usage asks t h ample = absurd h
+  untold_due command q Unwritten asks t h ample = absurd h
+
   ended_due : (command : Command) (end : End) → command_of words ≡ Some command → EndedIn (Some files) command rose.shelf rose.out report out end → status_of end ≢ 11 → Due files words end out
   ended_due command _ asks (did outcome h) ample = did_due command outcome asks h
   ended_due command _ asks (not_begun end h nothing) ample = subst (Due files words end) (sym nothing.silent) (refused_due command end asks h ample)
+  ended_due command _ asks (not_told end q t h no_steps silent) ample = subst (Due files words end) (sym silent) (untold_due command q end asks t h ample)
   ended_due command _ asks (unwritten_in u h) ample = absurd (none.out u)
   ended_due command _ asks (starved_in h) ample = absurd (ample refl)
 

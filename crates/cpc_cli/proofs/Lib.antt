@@ -1,4 +1,5 @@
 pub mod AnswerLemmas
+pub mod CauseLemmas
 pub mod ExactLemmas
 pub mod RunLemmas
 pub mod TopLemmas

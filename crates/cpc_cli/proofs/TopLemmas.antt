@@ -3,102 +3,154 @@ use Rattle.std.proofs.Common.{◌≡◌, ◌<◌, ◌≤◌, ◌++◌, ℕ, Bool
 use Rattle.std.proofs.lemmas.List.{take-append-drop}
 use Rattle.cpc_base.specs.Bytes.{Text}
 use Rattle.cpc_base.specs.Outside.{Files, Rose}
+use Rattle.cpc_base.specs.declared.stop.Dialect.{Dialect}
 use Rattle.cpc_base.specs.declared.stop.Dialect.TheVariants.{Cpc, Event}
+use Rattle.cpc_base.specs.declared.stop.Place.{Place}
 use Rattle.std.specs.Option.{option_map_or}
-use Rattle.std.specs.Prelude.{codes, decimal}
+use Rattle.std.specs.Prelude.{codes}
 use Rattle.cpc_tree.specs.Syntax.{Program}
 use Rattle.cpc_tree.specs.Located.{LProgram, bare}
+use Rattle.cpc_tree.specs.Texts.{Stop}
+use Rattle.cpc_tree.specs.Trace as T
 use Rattle.cpc_tree.specs.declared.program.Program as GProgram
 use Rattle.cpc_tree.specs.Erase.{program_of}
 use Rattle.cpc_tree.specs.Locate.{located}
 use Rattle.cpc_tree.proofs.Places.{bare_program}
+use Rattle.cpc_meaning.specs.Events.{event}
+use Rattle.cpc_meaning.specs.History.{History}
 use Rattle.cpc_meaning.specs.Runs.{SameRuns, Within}
-use Rattle.cpc_cli_command.specs.Commands.{Command, Run, command_of}
+use Rattle.cpc_cli_command.specs.Commands.{Command, Check, Exec, Options, Run, Translate, command_of}
 use Rattle.cpc_check.specs.Accepted.{Accepts}
 use Rattle.cpc_convert_shape_laws.specs.Shape.{Shape}
-use Rattle.cpc_translate.specs.Refusals.{IsTextFault}
+use Rattle.cpc_convert_leak_laws.specs.Laws.{NoLeak}
 use Rattle.cpc_convert_event.specs.Converted.{converted}
 use Rattle.cpc_convert_served_laws.specs.Serving.{unserved}
-use Rattle.cpc_cli.specs.Command.{Builds, named, limit_of}
-use Rattle.cpc_cli.specs.Answer.{AcceptedAs, TextHas, FileHas, IsTranslated, NotAccepted, DoesInPart, EndedIn, did, not_begun, unwritten_in, starved_in, Nothing, MayHaveCells, RanTo, Printed, shown, heading, line_of, name_in}
+use Rattle.cpc_answered.specs.Unanswered.{unanswered}
+use Rattle.cpc_cli.specs.Command.{IsRun, Labels, Source, any_source, by_exec, by_run, events_source, history_named, labels_in, labels_of, no_labels, source_of, threads_source}
+use Rattle.cpc_cli.specs.Ran.{NoSteps, NotTold, RanInPart, RanTo, RanTold, RanWhole, TellsPolls, heading, history_with, run_text, shown, stop_in}
+use Rattle.cpc_cli.specs.Answer.{AcceptedAs, TextHas, IsTranslated, NotAccepted, Does, DoesInPart, EndedIn, did, not_begun, not_told, unwritten_in, starved_in, Nothing, NoRun, Printed, Runs, RunsInPart, Takes, line_of}
 use Rattle.cpc_run.specs.Reports.{IsPrefix}
-use Rattle.cpc_cli.specs.declared.answer.Role.{Role}
 use Rattle.cpc_cli.specs.declared.answer.Role.TheVariants as R
 use Rattle.cpc_cli.specs.declared.answer.Report.{Report}
+use Rattle.cpc_cli.specs.declared.answer.Outcome.{Outcome}
 use Rattle.cpc_cli.specs.declared.answer.End.{End}
-use Rattle.cpc_cli.specs.declared.answer.End.TheVariants.{Done, Usage, Refused, Unbuilt, Unread, Unwritten, Memory, TooLong}
+use Rattle.cpc_cli.specs.declared.answer.End.TheVariants.{Done, Usage, Refused, Unbuilt, Unread, Unwritten, Memory, TooLong, BadLine}
 
-module _ (told : Option Files) (command : Command) (file : Text) (is : named command R.Text ≡ file) (unread : Text → Type 0) (builds : Type 0) (as_built : builds → Builds command) where
-  not_accepted : (end : End) → NotAccepted told (λ _. file) unread builds end → NotAccepted told (named command) unread (Builds command) end
-  not_accepted (Refused fault) h = subst (λ name. TextHas told name (λ text. IsTextFault Cpc text fault)) (sym is) h
-  not_accepted (Unbuilt at) h = (as_built h.0, subst (λ name. AcceptedAs told name (λ p. unserved p ≡ Some at)) (sym is) h.1)
-  not_accepted (Unread R.Text) h = subst unread (sym is) h
-  not_accepted (TooLong R.Text) h = subst (λ name. FileHas told name (λ bytes. limit_of R.Text < length bytes)) (sym is) h
-  not_accepted Memory h = h
-  not_accepted (Done outcome) h = h
-  not_accepted Usage h = h
-  not_accepted Unwritten h = h
+-- what is not accepted for a command that takes any program is not accepted for one that asks for more
+pub not_for_any : (told : Option Files) (dialect : Dialect) (file : Text) (unbuilt : LProgram → Option Place) (unread : Text → Type 0) (end : End)
+    → NotAccepted told (any_source dialect file) unread end → NotAccepted told (record { file = file; dialect = dialect; unbuilt = unbuilt }) unread end
+not_for_any told dialect file unbuilt unread (Refused fault) h = h
+not_for_any told dialect file unbuilt unread (Unbuilt at) h = λ files is. let t = h files is in let none = t.2.1.2 in cc
+not_for_any told dialect file unbuilt unread (Unread R.Text) h = h
+not_for_any told dialect file unbuilt unread (Unread R.History) h = h
+not_for_any told dialect file unbuilt unread (TooLong R.Text) h = h
+not_for_any told dialect file unbuilt unread (TooLong R.History) h = h
+not_for_any told dialect file unbuilt unread (BadLine fault) h = h
+not_for_any told dialect file unbuilt unread Memory h = h
+not_for_any told dialect file unbuilt unread (Done outcome) h = h
+not_for_any told dialect file unbuilt unread Usage h = h
+not_for_any told dialect file unbuilt unread Unwritten h = h
 
-  pub begun_not : {unwritten : Type 0} {report : Report} (end : End) → NotAccepted told (λ _. file) unread builds end → Nothing report []
-      → EndedIn told command unread unwritten report [] end
-  begun_not end h none = not_begun end (not_accepted end h) none
+-- a program that is read is accepted
+pub accepted_as : (told : Option Files) (dialect : Dialect) (file : Text) (q : LProgram) → TextHas told (any_source dialect file) (λ text. Accepts dialect text q)
+    → AcceptedAs told (any_source dialect file) (λ p. Unit {0})
+accepted_as told dialect file q h = λ files is. let t = h files is in (t.0, t.1, (t.2.0, (q, t.2.1, tt)))
 
--- what is not accepted for a command that does not ask for built forms is not accepted for any
-pub not_for_any : (told : Option Files) (name : Role → Text) (unread : Text → Type 0) (builds : Type 0) (end : End) → NotAccepted told name unread ⊥ end → NotAccepted told name unread builds end
-not_for_any told name unread builds (Refused fault) h = h
-not_for_any told name unread builds (Unbuilt at) h = absurd h.0
-not_for_any told name unread builds (Unread role) h = h
-not_for_any told name unread builds (TooLong role) h = h
-not_for_any told name unread builds Memory h = h
-not_for_any told name unread builds (Done outcome) h = h
-not_for_any told name unread builds Usage h = h
-not_for_any told name unread builds Unwritten h = h
+-- and where it asks for what is not served, that is where
+pub unbuilt_at : (told : Option Files) (file : Text) (q : LProgram) (at : Place) → unanswered q ≡ Some at → TextHas told (any_source Event file) (λ text. Accepts Event text q)
+    → AcceptedAs told (events_source file) (λ p. unanswered p ≡ Some at)
+unbuilt_at told file q at e h = λ files is. let t = h files is in (t.0, t.1, (t.2.0, (q, t.2.1, e)))
 
--- the file of the words' command
-pub line_named : (words : List Text) (command : Command) (file : Text) → command_of words ≡ Some command → file ≡ named command R.Text → (end : End)
-    → line_of (λ _. file) end ≡ line_of (name_in words) end
-line_named words command file asks is end = go end
-  where
-    same : file ≡ name_in words R.Text
-    same = is ∙ ap (λ o. option_map_or (λ c. named c R.Text) o []) (sym asks)
+-- ---- the line
 
-    go : (end : End) → line_of (λ _. file) end ≡ line_of (name_in words) end
-    go (Done outcome) = refl
-    go Usage = refl
-    go (Refused fault) = refl
-    go (Unbuilt at) = refl
-    go (Unread R.Text) = ap (λ name. codes "read fault: " ++ (name ++ codes "\n")) same
-    go Unwritten = refl
-    go Memory = refl
-    go (TooLong R.Text) = ap (λ name. codes "too long: " ++ (name ++ (codes " limit " ++ (decimal (limit_of R.Text) ++ codes "\n")))) same
+-- the files of the words' command
+pub line_named : (words : List Text) (command : Command) (labels : Labels) → command_of words ≡ Some command → labels ≡ labels_of command → (end : End)
+    → line_of labels end ≡ line_of (labels_in words) end
+line_named words command labels asks is end = ap (λ l. line_of l end) (is ∙ ap (λ o. option_map_or labels_of o no_labels) (sym asks))
 
 -- the line of the end, or that of want of memory, in which no file is named
-pub last_line : (words : List Text) (file : Text) (end last : End) → last ≡ end ⊎ last ≡ Memory → line_of (λ _. file) end ≡ line_of (name_in words) end
-    → line_of (λ _. file) last ≡ line_of (name_in words) last
-last_line words file end last (inl e) line = subst (λ x. line_of (λ _. file) x ≡ line_of (name_in words) x) (sym e) line
-last_line words file end last (inr e) line = subst (λ x. line_of (λ _. file) x ≡ line_of (name_in words) x) (sym e) refl
+pub last_line : (words : List Text) (labels : Labels) (end last : End) → last ≡ end ⊎ last ≡ Memory → line_of labels end ≡ line_of (labels_in words) end
+    → line_of labels last ≡ line_of (labels_in words) last
+last_line words labels end last (inl e) line = subst (λ x. line_of labels x ≡ line_of (labels_in words) x) (sym e) line
+last_line words labels end last (inr e) line = subst (λ x. line_of labels x ≡ line_of (labels_in words) x) (sym e) refl
 
 pub is_front : (n : _) (text : Text) → IsPrefix (take n text) text
 is_front n text = record { rest = drop n text; whole = sym (take-append-drop n text) }
 
-module _ (told : Option Files) (file : Text) (bound cap : ℕ) (text : Bool) (q : LProgram) (accepted : AcceptedAs told file (λ p. IsTranslated p q))
-    (unread : Text → Type 0) (unwritten : Type 0) (old new : Report) (printed : Printed q old) (same : new.printed ≡ old.printed) (out : Text) where
-  still : Accepts Event new.printed.items q
-  still = subst (λ t. Accepts Event t q) (sym (ap (λ v. v.items) same)) printed.printed
+-- ---- a run
 
-  in_part : MayHaveCells (bare q) new → IsPrefix out (shown text new.printed.items (bare q) new.steps) → DoesInPart told (Run file bound cap text) new out
-  in_part cells h = (q, record { printed = still; cells = cells; part = h }, accepted)
+-- a count that rose from a later one on rose, also for a history
+untold_earlier : (told : Option Files) (history : Option Text) (late early : Text → Type 0) → ((name : Text) → late name → early name) → (end : End)
+    → NotTold told history late end → NotTold told history early end
+untold_earlier told history late early moves (Unread R.History) (name, is, h) = (name, is, moves name h)
+untold_earlier told history late early moves (Unread R.Text) h = h
+untold_earlier told history late early moves (TooLong R.History) h = h
+untold_earlier told history late early moves (TooLong R.Text) h = h
+untold_earlier told history late early moves (BadLine fault) h = h
+untold_earlier told history late early moves (Refused fault) h = h
+untold_earlier told history late early moves (Unbuilt at) h = h
+untold_earlier told history late early moves Memory h = h
+untold_earlier told history late early moves (Done outcome) h = h
+untold_earlier told history late early moves Usage h = h
+untold_earlier told history late early moves Unwritten h = h
 
-  -- a run that ended so did what `run` does, or a part of it
-  pub run_ended : (end : End) → RanTo (bare q) bound cap text new unwritten out end → EndedIn told (Run file bound cap text) unread unwritten new out end
-  run_ended (Done outcome) (stands, cells, whole) = did outcome (q, record { printed = still; cells = cells; stands = stands; whole = whole }, accepted)
-  run_ended Unwritten (cause, cells, part) = unwritten_in cause (in_part cells part)
-  run_ended Memory (cells, part) = starved_in (in_part cells part)
-  run_ended Usage h = absurd h
-  run_ended (Refused fault) h = absurd h
-  run_ended (Unbuilt at) h = absurd h
-  run_ended (Unread role) h = absurd h
-  run_ended (TooLong role) h = absurd h
+pub told_earlier : (told : Option Files) (q : Program) (options : Options) (text : Bool) (report : Report) (late early : Text → Type 0) (unwritten : Type 0) (out : Text)
+    → ((name : Text) → late name → early name) → (end : End) → RanTold told q options text report late unwritten out end → RanTold told q options text report early unwritten out end
+told_earlier told q options text report late early unwritten out moves end (inl (h, none, silent)) =
+    inl (untold_earlier told options.history late early moves end h, none, silent)
+told_earlier told q options text report late early unwritten out moves end (inr ran) = inr ran
+
+does_so : (told : Option Files) (report : Report) (out : Text) (outcome : Outcome) {command : Command} {options : Options} {text : Bool} → IsRun command options text
+    → Runs told command options text report out outcome → Does told command report out outcome
+does_so told report out outcome (by_run file options text) r = r
+does_so told report out outcome (by_exec file options) r = r
+
+part_so : (told : Option Files) (report : Report) (out : Text) {command : Command} {options : Options} {text : Bool} → IsRun command options text
+    → RunsInPart told command options text report out → DoesInPart told command report out
+part_so told report out (by_run file options text) r = r
+part_so told report out (by_exec file options) r = r
+
+untold_so : (told : Option Files) (unread : Text → Type 0) (end : End) {command : Command} {options : Options} {text : Bool} → IsRun command options text
+    → NotTold told options.history unread end → NotTold told (history_named command) unread end
+untold_so told unread end (by_run file options text) h = h
+untold_so told unread end (by_exec file options) h = h
+
+-- a run that ended so did what the command does, or a part of it, or was not begun
+pub run_ended : (told : Option Files) (command : Command) (options : Options) (text : Bool) → IsRun command options text → (q : LProgram) (unread : Text → Type 0) (unwritten : Type 0) (report : Report) (out : Text)
+    → Takes told command report q → (end : End) → RanTold told (bare q) options text report unread unwritten out end → EndedIn told command unread unwritten report out end
+run_ended told command options text is q unread unwritten report out takes end (inl (h, none, silent)) = not_told end q takes (untold_so told unread end is h) none silent
+run_ended told command options text is q unread unwritten report out takes end (inr (polls, tells, ran)) = go end ran
+  where
+    in_part : RanInPart (bare q) (history_with polls) options text report out → DoesInPart told command report out
+    in_part r = part_so told report out is (record { program = q; takes = takes; polls = polls; tells = tells; ran = r })
+
+    go : (end : End) → RanTo (bare q) (history_with polls) options text report unwritten out end → EndedIn told command unread unwritten report out end
+    go (Done outcome) r = did outcome (does_so told report out outcome is (record { program = q; takes = takes; polls = polls; tells = tells; ran = r }))
+    go Unwritten (cause, r) = unwritten_in cause (in_part r)
+    go Memory r = starved_in (in_part r)
+    go Usage h = absurd h
+    go (Refused fault) h = absurd h
+    go (Unbuilt at) h = absurd h
+    go (Unread role) h = absurd h
+    go (TooLong role) h = absurd h
+    go (BadLine fault) h = absurd h
+
+-- what `run` runs, once the run has left the printed text as it was
+pub run_takes : (told : Option Files) (file : Text) (options : Options) (text : Bool) (q : LProgram) (old new : Report) → Printed q old → new.printed ≡ old.printed
+    → AcceptedAs told (threads_source file) (λ p. IsTranslated p q) → Takes told (Run file options text) new q
+run_takes told file options text q old new printed same accepted = (subst (λ v. Accepts Event v.items q) (sym same) printed.printed, accepted)
+
+-- and what `exec` does
+pub exec_takes : (told : Option Files) (file : Text) (options : Options) (q : LProgram) (old new : Report) → NoRun old → new.printed ≡ old.printed → unanswered q ≡ None
+    → TextHas told (events_source file) (λ text. Accepts Event text q) → Takes told (Exec file options) new q
+exec_takes told file options q old new none same served accepted = (ap (λ v. v.items) same ∙ none.printed, served, accepted)
+
+-- nothing before a run makes a state of it
+pub no_steps_in : (report : Report) → Nothing report [] → NoSteps report
+no_steps_in report none = record { steps = none.no_run.steps; cells = none.no_run.cells }
+
+pub no_steps_printed : (q : LProgram) (report : Report) → Printed q report → NoSteps report
+no_steps_printed q report printed = record { steps = printed.steps; cells = printed.cells }
 
 -- a prefix with what goes before it
 pub behind_heading : (h a b : Text) → IsPrefix a b → IsPrefix (h ++ a) (h ++ b)
@@ -112,23 +164,45 @@ front_heading a h b p = record { rest = p.rest ++ b; whole = ap (λ t. t ++ b) p
 pub rose_earlier : (a b c : ℕ) → a ≤ b → Rose b c → Rose a c
 rose_earlier a b c le rose = omega (arith, le, rose)
 
--- a run behind what goes before its output
-pub behind : (q : Program) (bound cap : ℕ) (text : Bool) (report : Report) (early late : Type 0) (front out : Text) → (early → late) → front ≡ heading text report.printed.items
-    → (end : End) → RanTo q bound cap false report early out end → RanTo q bound cap text report late (front ++ out) end
-behind q bound cap text report early late front out cause is end = go end
+-- a run behind what goes before its text
+pub behind : (q : Program) (h : History) (options : Options) (text : Bool) (report : Report) (early late : Type 0) (front out : Text) → (early → late) → front ≡ heading text report.printed.items
+    → (end : End) → RanTo q h options false report early out end → RanTo q h options text report late (front ++ out) end
+behind q h options text report early late front out cause is end = go end
   where
-    moved : IsPrefix out (shown false report.printed.items q report.steps) → IsPrefix (front ++ out) (shown text report.printed.items q report.steps)
-    moved p = subst (λ t. IsPrefix (t ++ out) (shown text report.printed.items q report.steps)) (sym is) (behind_heading (heading text report.printed.items) out _ p)
+    whole : (last : Option Stop) → out ≡ shown options.trace false report.printed.items q h report.steps last
+        → front ++ out ≡ shown options.trace text report.printed.items q h report.steps last
+    whole last e = ap (λ t. front ++ t) e ∙ ap (λ t. t ++ run_text options.trace last (event q h report.steps).trace) is
 
-    go : (end : End) → RanTo q bound cap false report early out end → RanTo q bound cap text report late (front ++ out) end
-    go (Done outcome) (stands, cells, whole) = (stands, cells, ap (λ t. front ++ t) whole ∙ ap (λ t. t ++ shown false report.printed.items q report.steps) is)
-    go Unwritten (u, cells, part) = (cause u, cells, moved part)
-    go Memory (cells, part) = (cells, moved part)
+    moved : RanInPart q h options false report out → RanInPart q h options text report (front ++ out)
+    moved r = record {
+      cells = r.cells;
+      fits = r.fits;
+      last = r.last;
+      left = r.left;
+      part = subst (λ t. IsPrefix (t ++ out) (shown options.trace text report.printed.items q h report.steps r.last)) (sym is) (behind_heading (heading text report.printed.items) out _ r.part);
+    }
+
+    go : (end : End) → RanTo q h options false report early out end → RanTo q h options text report late (front ++ out) end
+    go (Done outcome) r = record { cells = r.cells; stands = r.stands; whole = whole (stop_in outcome) r.whole }
+    go Unwritten (u, r) = (cause u, moved r)
+    go Memory r = moved r
     go Usage h = h
     go (Refused fault) h = h
     go (Unbuilt at) h = h
     go (Unread role) h = h
     go (TooLong role) h = h
+    go (BadLine fault) h = h
+
+-- a run of which no state was made shows no more than a part of what goes before it
+pub unbegun : (q : Program) (h : History) (options : Options) (text : Bool) (report : Report) (out : Text) → NoSteps report → IsPrefix out (heading text report.printed.items)
+    → RanInPart q h options text report out
+unbegun q h options text report out none part = record {
+  cells = inr (none.steps, none.cells);
+  fits = λ some. absurd (let z = none.steps in omega (arith, z, some));
+  last = None;
+  left = tt;
+  part = front_heading out _ _ part;
+}
 
 -- a part of the printed text, or of the line behind it, where they are wanted
 pub in_printed : (text : Bool) (printed : Text) (n : ℕ) → text ≡ true → IsPrefix (take n printed) (heading text printed)
@@ -141,11 +215,12 @@ in_line false printed n e = absurd cc
 
 -- a program that is translated, by the trees with places
 pub translated_so : (p q : GProgram.Program) → unserved (located p) ≡ None → program_of q ≡ converted (program_of p) → SameRuns (program_of p) (program_of q)
-    → Within (program_of p) (program_of q) → Shape (program_of p) (program_of q) → IsTranslated (located p) (located q)
-translated_so p q built event same within shape = record {
+    → Within (program_of p) (program_of q) → Shape (program_of p) (program_of q) → NoLeak (program_of p) (program_of q) → IsTranslated (located p) (located q)
+translated_so p q built event same within shape no_leak = record {
   built = built;
   event = bare_program q ∙ event ∙ ap converted (sym (bare_program p));
   same = subst (λ x. SameRuns x (bare (located q))) (sym (bare_program p)) (subst (SameRuns (program_of p)) (sym (bare_program q)) same);
   within = subst (λ x. Within x (bare (located q))) (sym (bare_program p)) (subst (Within (program_of p)) (sym (bare_program q)) within);
   shape = subst (λ x. Shape x (bare (located q))) (sym (bare_program p)) (subst (Shape (program_of p)) (sym (bare_program q)) shape);
+  no_leak = subst (λ x. NoLeak x (bare (located q))) (sym (bare_program p)) (subst (NoLeak (program_of p)) (sym (bare_program q)) no_leak);
 }

@@ -1,25 +1,92 @@
--- The files of a command.
-use Rattle.std.specs.Prelude.{◌≡◌, ℕ, List, Some}
+-- The files of a command, and what it takes as its text.
+use Rattle.std.specs.Prelude.{◌≡◌, ℕ, Bool, false, List, [], Option, None, Some, unwrap_or}
+use Rattle.std.specs.Option.{option_map_or}
 use Rattle.cpc_base.specs.Bytes.{Text}
-use Rattle.cpc_cli_command.specs.Commands.{Command, Check, Translate, Run, command_of}
+use Rattle.cpc_base.specs.declared.stop.Dialect.{Dialect}
+use Rattle.cpc_base.specs.declared.stop.Dialect.TheVariants.{Cpc, Event}
+use Rattle.cpc_base.specs.declared.stop.Place.{Place}
+use Rattle.cpc_tree.specs.Located.{LProgram}
+use Rattle.cpc_convert_served_laws.specs.Serving.{unserved}
+use Rattle.cpc_answered.specs.Unanswered.{unanswered}
+use Rattle.cpc_cli_command.specs.Commands.{Command, Check, Exec, Options, Translate, Run, command_of}
 use Rattle.cpc_cli.specs.declared.answer.Role.{Role}
 use Rattle.cpc_cli.specs.declared.answer.Role.TheVariants as R
 
--- the name of a file that a command reads
-abbrev pub named : Command → Role → Text
-named (Check file) R.Text = file
-named (Translate file) R.Text = file
-named (Run file steps cells text) R.Text = file
+-- the most bytes of a text
+abbrev pub text_limit : Dialect → ℕ
+text_limit Cpc = 262144
+text_limit Event = 16777216
 
--- the command takes texts of the built forms alone
-abbrev pub Builds : Command → Type 0
-Builds (Check file) = ⊥
-Builds (Translate file) = Unit {0}
-Builds (Run file steps cells text) = Unit {0}
+-- the most bytes of a history
+abbrev pub history_limit : ℕ
+history_limit = 16777216
 
--- the most bytes of a file
-abbrev pub limit_of : Role → ℕ
-limit_of R.Text = 262144
+-- a text that a command takes: its file, how it is read, and where a program asks for what is not served, if that matters
+pub record Source : Type 0 where
+  pub file : Text
+  pub dialect : Dialect
+  pub unbuilt : LProgram → Option Place
+
+-- any program is taken
+abbrev pub any_source : Dialect → Text → Source
+any_source dialect file = record { file = file; dialect = dialect; unbuilt = λ _. None }
+
+-- programs of threads are taken whose event programs the loop answers
+abbrev pub threads_source : Text → Source
+threads_source file = record { file = file; dialect = Cpc; unbuilt = unserved }
+
+-- programs of events are taken that the loop answers
+abbrev pub events_source : Text → Source
+events_source file = record { file = file; dialect = Event; unbuilt = unanswered }
+
+abbrev pub source_of : Command → Source
+source_of (Check file) = any_source Cpc file
+source_of (Translate file) = threads_source file
+source_of (Run file options text) = threads_source file
+source_of (Exec file options) = events_source file
+
+-- the history that a command names, if it names one
+abbrev pub history_named : Command → Option Text
+history_named (Check file) = None
+history_named (Translate file) = None
+history_named (Run file options text) = options.history
+history_named (Exec file options) = options.history
+
+-- the file that a command reads, if it reads one
+abbrev pub named : Command → Role → Option Text
+named command R.Text = Some (source_of command).file
+named command R.History = history_named command
+
+-- the command runs a program with these options; the printed text is wanted before what it shows, or not
+pub data IsRun : Command → Options → (text : Bool) → Type 0 where
+  by_run : (file : Text) (options : Options) (text : Bool) → IsRun (Run file options text) options text
+  by_exec : (file : Text) (options : Options) → IsRun (Exec file options) options false
+
+-- ---- what a line says of files
+
+-- the names of the files, and the most bytes of the text
+pub record Labels : Type 0 where
+  pub text : Text
+  pub history : Text
+  pub limit : ℕ
+
+abbrev pub name_of : Labels → Role → Text
+name_of labels R.Text = labels.text
+name_of labels R.History = labels.history
+
+abbrev pub limit_of : Labels → Role → ℕ
+limit_of labels R.Text = labels.limit
+limit_of labels R.History = history_limit
+
+abbrev pub no_labels : Labels
+no_labels = record { text = []; history = []; limit = 0 }
+
+abbrev pub labels_of : Command → Labels
+labels_of command = record { text = (source_of command).file; history = unwrap_or (history_named command) []; limit = text_limit (source_of command).dialect }
+
+-- those of the command that the words ask for
+abbrev pub labels_in : List Text → Labels
+labels_in words = option_map_or labels_of (command_of words) no_labels
 
 -- the words ask for a command that has P
 abbrev pub Asks : (words : List Text) → (Command → Type 0) → Type 0

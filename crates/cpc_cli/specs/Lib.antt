@@ -1,3 +1,6 @@
 pub mod Command
+pub mod Inputs
+pub mod Counted
+pub mod Ran
 pub mod Answer
 pub mod Exact

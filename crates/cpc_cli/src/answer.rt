@@ -1,15 +1,19 @@
 //! How a call ends, and what it says of that.
-ghost use Rattle.std.specs.Prelude.{◌≡◌, ◌⊎◌, IfOk, OnOk, ◌++◌, codes};
+ghost use Rattle.std.specs.Prelude.{◌≡◌, ◌⊎◌, IfOk, OnOk, ◌++◌, codes, decimal};
 ghost use Rattle.std.specs.Io.KnownBytes.{append_known};
 ghost use Rattle.cpc_base.specs.Outside.{Rose};
 ghost use Rattle.cpc_tree.specs.Texts as T;
-ghost use Rattle.cpc_cli.specs.Answer.{status_of, line_of, outcome_line as line_of_outcome, Said};
+ghost use Rattle.cpc_cli.specs.Answer.{status_of, line_of, outcome_line as line_of_outcome, Said, wrong_text};
+ghost use Rattle.cpc_cli.specs.Command.{limit_of, name_of, no_labels};
+ghost use Rattle.cpc_cli.specs.Inputs.{labels};
 ghost use Rattle.cpc_run.specs.Reports.{Wrote};
 ghost use Rattle.cpc_cli.specs.declared.answer.End.{End};
 ghost use Rattle.cpc_cli.specs.declared.answer.End.TheVariants as V;
 ghost use Rattle.cpc_cli.specs.declared.answer.Outcome.TheVariants as O;
 
+use crate::reading::HISTORY_LIMIT;
 use cpc_base::{Failed, Place, Sink, write_all};
+use cpc_history::HistoryFault;
 use cpc_num::Fault;
 use cpc_translate::TextFault;
 use std::alloc::{AllocError, Global};
@@ -19,6 +23,19 @@ use std::alloc::{AllocError, Global};
 pub enum Role {
     /// The text of the program.
     Text,
+    /// The history of its run.
+    History,
+}
+
+/// The files that the words name, as a line tells them.
+#[derive(Clone, Copy, Debug, PartialEq, Eq)]
+pub struct Inputs<'a> {
+    /// The name of the text's file.
+    pub text: &'a str,
+    /// The name of the history's file, and no text where none is named.
+    pub history: &'a str,
+    /// The most bytes of the text.
+    pub limit: u64,
 }
 
 /// How a command's work stands at its end.
@@ -30,6 +47,10 @@ pub enum Outcome {
     Exited(i128),
     /// The run is over: the program has a fault, in the function of this name.
     Failed(Fault, Vec<u8>),
+    /// The run wanted one more poll than so many, and the history has no more.
+    HistoryEnded(u64),
+    /// The poll of this number tells that a section of this number is done, which is not out.
+    BadHistory(u64, u64),
     /// The run made so many steps, as many as it may, and is not over.
     Stopped(u64),
     /// The run may have so many live cells, and asked for so many.
@@ -59,6 +80,8 @@ pub enum End {
     Memory,
     /// A file has more bytes than its limit.
     TooLong(Role),
+    /// A line of the history is no poll.
+    BadLine(HistoryFault),
 }
 
 /// What a call tells its caller.
@@ -81,6 +104,8 @@ fn outcome_status(outcome: &Outcome) -> u8
         Outcome::Ended(waiting) => { if *waiting == 0 { 0 } else { 14 } }
         Outcome::Exited(_) | Outcome::Accepted | Outcome::Translated => 0,
         Outcome::Failed(_, _) => 1,
+        Outcome::BadHistory(_, _) => 4,
+        Outcome::HistoryEnded(_) => 5,
         Outcome::Stopped(_) => 6,
         Outcome::Full(_, _) => 7,
     }
@@ -93,6 +118,7 @@ fn status(end: &End) -> u8
         End::Done(outcome) => outcome_status(outcome),
         End::Usage => 2,
         End::Refused(_) | End::Unbuilt(_) => 3,
+        End::BadLine(_) => 4,
         End::Unread(_) => 8,
         End::Unwritten => 9,
         End::Memory => 11,
@@ -150,6 +176,12 @@ fn outcome_line(alloc: Global, outcome: &Outcome) -> Result<Vec<u8>, AllocError>
         Outcome::Ended(waiting) => ended_line(alloc, *waiting),
         Outcome::Exited(number) => Ok(format!(in alloc; "exit {number}\n")?.into_bytes()),
         Outcome::Failed(fault, function) => fault_line(alloc, *fault, function.as_slice()),
+        Outcome::HistoryEnded(taken) => {
+            Ok(format!(in alloc; "history ended after {taken} polls\n")?.into_bytes())
+        }
+        Outcome::BadHistory(poll, section) => {
+            Ok(format!(in alloc; "history poll {poll} section {section}\n")?.into_bytes())
+        }
         Outcome::Stopped(steps) => {
             Ok(format!(in alloc; "stopped after {steps} steps\n")?.into_bytes())
         }
@@ -161,7 +193,7 @@ fn outcome_line(alloc: Global, outcome: &Outcome) -> Result<Vec<u8>, AllocError>
 }
 
 fn refused_line(alloc: Global, fault: &TextFault) -> Result<Vec<u8>, AllocError>
-    ensures { IfOk result (λ line. line.items ≡ line_of (λ _. codes "") (V.Refused fault.now)) }
+    ensures { IfOk result (λ line. line.items ≡ line_of no_labels (V.Refused fault.now)) }
 {
     let at = fault.place();
     let row = at.line;
@@ -173,15 +205,62 @@ fn refused_line(alloc: Global, fault: &TextFault) -> Result<Vec<u8>, AllocError>
 }
 
 fn unbuilt_line(alloc: Global, at: Place) -> Result<Vec<u8>, AllocError>
-    ensures { IfOk result (λ line. line.items ≡ line_of (λ _. codes "") (V.Unbuilt at)) }
+    ensures { IfOk result (λ line. line.items ≡ line_of no_labels (V.Unbuilt at)) }
 {
     let row = at.line;
     let column = at.column;
     Ok(format!(in alloc; "refused {row}:{column} form 1 not yet\n")?.into_bytes())
 }
 
-fn line(alloc: Global, file: &str, end: &End) -> Result<Vec<u8>, AllocError>
-    ensures { IfOk result (λ line. line.items ≡ line_of (λ _. file.now) end.now) }
+// What is wrong with a line of a history, by its number.
+fn wrong(number: u8) -> &'static str
+    ensures { result.now ≡ wrong_text number }
+{
+    if number == 1 { "form" } else { "number" }
+}
+
+fn bad_line(alloc: Global, fault: &HistoryFault) -> Result<Vec<u8>, AllocError>
+    ensures { IfOk result (λ line. line.items ≡ line_of no_labels (V.BadLine fault.now)) }
+{
+    let number = fault.line;
+    let wrong = wrong(fault.number);
+    Ok(format!(in alloc; "history line {number} {wrong}\n")?.into_bytes())
+}
+
+// The name of a file.
+fn name<'a>(inputs: &Inputs<'a>, role: Role) -> &'a str
+    ensures { result.now ≡ name_of (labels inputs.now) role }
+{
+    match role {
+        Role::Text => inputs.text,
+        Role::History => inputs.history,
+    }
+}
+
+// The most bytes of a file.
+fn limit(inputs: &Inputs<'_>, role: Role) -> u64
+    ensures { result ≡ limit_of (labels inputs.now) role }
+{
+    match role {
+        Role::Text => inputs.limit,
+        Role::History => HISTORY_LIMIT as u64,
+    }
+}
+
+fn unread_line(alloc: Global, name: &str) -> Result<Vec<u8>, AllocError>
+    ensures { IfOk result (λ line. line.items ≡ codes "read fault: " ++ (name.now ++ codes "\n")) }
+{
+    Ok(format!(in alloc; "read fault: {name}\n")?.into_bytes())
+}
+
+fn long_line(alloc: Global, name: &str, limit: u64) -> Result<Vec<u8>, AllocError>
+    ensures { IfOk result (λ line. line.items ≡ codes "too long: " ++ (name.now ++ (codes " limit " ++ (decimal limit ++ codes "\n")))) }
+{
+    Ok(format!(in alloc; "too long: {name} limit {limit}\n")?.into_bytes())
+}
+
+fn line(alloc: Global, inputs: &Inputs<'_>, end: &End) -> Result<Vec<u8>, AllocError>
+    ensures { IfOk result (λ line. line.items ≡ line_of (labels inputs.now) end.now) }
 {
     match end {
         End::Done(outcome) => outcome_line(alloc, outcome),
@@ -192,13 +271,11 @@ fn line(alloc: Global, file: &str, end: &End) -> Result<Vec<u8>, AllocError>
         }
         End::Refused(fault) => refused_line(alloc, fault),
         End::Unbuilt(at) => unbuilt_line(alloc, *at),
-        End::Unread(Role::Text) => Ok(format!(in alloc; "read fault: {file}\n")?.into_bytes()),
+        End::Unread(role) => unread_line(alloc, name(inputs, *role)),
         End::Unwritten => b"write fault\n".to_vec(alloc),
         End::Memory => b"no memory\n".to_vec(alloc),
-        End::TooLong(Role::Text) => {
-            let limit = 262_144u64;
-            Ok(format!(in alloc; "too long: {file} limit {limit}\n")?.into_bytes())
-        }
+        End::TooLong(role) => long_line(alloc, name(inputs, *role), limit(inputs, *role)),
+        End::BadLine(fault) => bad_line(alloc, fault),
     }
 }
 
@@ -212,13 +289,13 @@ fn say<E: Sink>(line: &[u8], due: u8, err: &mut E) -> u8
     }
 }
 
-/// Writes the line of an end, or that of want of memory where there is none for the line, and gives the status. `file`
-/// is the name of the file that the words name.
-pub fn conclude<E: Sink>(alloc: Global, file: &str, end: &End, err: &mut E) -> u8
+/// Writes the line of an end, or that of want of memory where there is none for the line, and gives the status. `inputs`
+/// are the files that the words name.
+pub fn conclude<E: Sink>(alloc: Global, inputs: &Inputs<'_>, end: &End, err: &mut E) -> u8
     ensures said { Wrote (E.taken err.old) (E.taken err.new) (λ e. (last : End) × (last ≡ end.now ⊎ last ≡ End.Memory)
-        × Said (line_of (λ _. file.now) last) (status_of last) (Rose (E.faults err.old) (E.faults err.new)) result e) }
+        × Said (line_of (labels inputs.now) last) (status_of last) (Rose (E.faults err.old) (E.faults err.new)) result e) }
 {
-    match line(alloc, file, end) {
+    match line(alloc, inputs, end) {
         Ok(line) => say(line.as_slice(), status(end), err),
         Err(_) => say(b"no memory\n", 11, err),
     }

@@ -2,7 +2,10 @@
 #![tactic(auto)]
 
 mod answer;
+mod reading;
+mod running;
 mod top;
 
-pub use answer::{End, Outcome, Report, Role};
-pub use top::{TEXT_LIMIT, cpc_main};
+pub use answer::{End, Inputs, Outcome, Report, Role};
+pub use reading::{EVENT_TEXT_LIMIT, HISTORY_LIMIT, TEXT_LIMIT};
+pub use top::cpc_main;

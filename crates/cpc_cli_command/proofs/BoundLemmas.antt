@@ -9,9 +9,9 @@ use Rattle.clap.specs.Walk.{Row, first_of}
 use Rattle.clap.specs.Simple.{subcommand_of}
 use Rattle.clap.specs.Faults.{fault_of}
 use Rattle.cpc_base.specs.Bytes.{Text}
-use Rattle.cpc_cli_command.specs.Commands.{Command, Check, Translate, Run, cells_in, command_in, command_named, command_of, cpc_app, if_taken, is_given, run_in, steps_in}
+use Rattle.cpc_cli_command.specs.Commands.{Command, Check, Exec, Options, Translate, Run, cells_in, command_in, command_named, command_of, cpc_app, exec_in, if_taken, is_given, options_in, options_with, run_in, steps_in}
 use Rattle.cpc_cli_command.specs.Number.{default_cells, default_steps, is_numeral, most_cells, most_steps, number_of}
-use Rattle.cpc_cli_command.specs.Usage.{IsBounded}
+use Rattle.cpc_cli_command.specs.Usage.{AreBounded, IsBounded}
 
 -- P of what is there
 abbrev pub IfThere : {A : Type 0} → (A → Type 0) → Option A → Type 0
@@ -41,25 +41,35 @@ given_within : (most default : ℕ) → Within most default → (given : Option 
 given_within most default w None = w
 given_within most default w (Some text) = number_within most text
 
-run_bounded : (file : Text) (text : Bool) (steps cells : Option ℕ) → IfThere (Within most_steps) steps → IfThere (Within most_cells) cells
-    → IfThere IsBounded (option_and_then (λ s. option_map (λ c. Run file s c text) cells) steps)
-run_bounded file text None cells h g = tt
-run_bounded file text (Some s) None h g = tt
-run_bounded file text (Some s) (Some c) h g = (h.0, h.1, g.0, g.1)
+options_bounded : (rows : List Row) (steps cells : Option ℕ) → IfThere (Within most_steps) steps → IfThere (Within most_cells) cells
+    → IfThere AreBounded (option_and_then (λ s. option_map (options_with rows s) cells) steps)
+options_bounded rows None cells h g = tt
+options_bounded rows (Some s) None h g = tt
+options_bounded rows (Some s) (Some c) h g = (h.0, h.1, g.0, g.1)
+
+run_bounded : (file : Text) (text : Bool) (options : Option Options) → IfThere AreBounded options → IfThere IsBounded (option_map (λ o. Run file o text) options)
+run_bounded file text None h = tt
+run_bounded file text (Some o) h = h
+
+exec_bounded : (file : Text) (options : Option Options) → IfThere AreBounded options → IfThere IsBounded (option_map (Exec file) options)
+exec_bounded file None h = tt
+exec_bounded file (Some o) h = h
 
 named_bounded : (name file : Text) (rows : List Row) → IfThere IsBounded (command_named name file rows)
-named_bounded name file rows = go (bytes_eq name (codes "check")) (bytes_eq name (codes "translate")) (bytes_eq name (codes "run"))
+named_bounded name file rows = go (bytes_eq name (codes "check")) (bytes_eq name (codes "translate")) (bytes_eq name (codes "run")) (bytes_eq name (codes "exec"))
   where
-    ran : IfThere IsBounded (run_in file rows)
-    ran = run_bounded file (is_given (codes "text") rows) (steps_in rows) (cells_in rows)
+    given : IfThere AreBounded (options_in rows)
+    given = options_bounded rows (steps_in rows) (cells_in rows)
         (given_within most_steps default_steps (omega arith, omega arith) (first_of (codes "steps") rows))
         (given_within most_cells default_cells (omega arith, omega arith) (first_of (codes "cells") rows))
 
-    go : (c t r : Bool) → IfThere IsBounded (if c then Some (Check file) else (if t then Some (Translate file) else (if r then run_in file rows else None)))
-    go true t r = tt
-    go false true r = tt
-    go false false true = ran
-    go false false false = tt
+    go : (c t r x : Bool) → IfThere IsBounded (if c then Some (Check file) else (if t then Some (Translate file)
+        else (if r then run_in file rows else (if x then exec_in file rows else None))))
+    go true t r x = tt
+    go false true r x = tt
+    go false false true x = run_bounded file (is_given (codes "text") rows) (options_in rows) given
+    go false false false true = exec_bounded file (options_in rows) given
+    go false false false false = tt
 
 in_bounded : (met : Option (Text × List Row)) → IfThere IsBounded (option_and_then command_in met)
 in_bounded None = tt

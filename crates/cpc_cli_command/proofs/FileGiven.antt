@@ -12,7 +12,7 @@ use Rattle.clap.specs.Simple.{App, Shape, built, entered, label_of, names_of, ro
 use Rattle.clap.specs.Faults.{check_fault, defaults_fault, entered_fault, fault_of, level_fault, settle_fault, walk_fault}
 use Rattle.clap.proofs.OnLiterals.{clap_on_literals}
 use Rattle.std.proofs.lemmas.Slice.Eq.{bytes_eq-Decides}
-use Rattle.cpc_cli_command.specs.Commands.{Check, Command, Run, Translate, command_in, cells_in, command_named, command_of, cpc_app, if_taken, steps_in}
+use Rattle.cpc_cli_command.specs.Commands.{Check, Command, Exec, Options, Run, Translate, command_in, cells_in, command_named, command_of, cpc_app, if_taken, is_given as was_given, options_with, steps_in}
 use Rattle.cpc_cli_command.specs.Usage.{BreaksNumber, EntersFile, HasFile, is_verb}
 use Rattle.cpc_cli_command.proofs.CommandLemmas.{command_is}
 use Rattle.cpc_cli_command.proofs.FullRows.{Full, HasSome, IsFed, finished_full, no_kind, or_none, walk_full}
@@ -114,7 +114,7 @@ IsFileApp a = AllTakeFile (built a).subs × ((built a).top.subcommand_required �
 
 file_app : IsFileApp cpc_app
 unfolding cpc_app clap_on_literals
-file_app = (((refl, (refl, refl), refl, refl), ((refl, (refl, refl), refl, refl), ((refl, (refl, refl), refl, refl), tt))), refl, refl)
+file_app = (((refl, (refl, refl), refl, refl), ((refl, (refl, refl), refl, refl), ((refl, (refl, refl), refl, refl), ((refl, (refl, refl), refl, refl), tt)))), refl, refl)
 
 app_enters : (app : App) (words : List Text) → IsFileApp app → fault_of app words ≡ [] → (met : Text × List Row) × (subcommand_of app words ≡ Some met) × HasFile met
 app_enters app words is e =
@@ -138,21 +138,27 @@ same_test a b = go (bytes_eq a b) (bytes_eq b a) (λ e. (bytes_eq-Decides b a).1
     go false false f g = refl
 
 number_wrong : (name file : Text) (rows : List Row) → is_verb name ≡ true → command_named name file rows ≡ None → steps_in rows ≡ None ⊎ cells_in rows ≡ None
-number_wrong name file rows v e = go (bytes_eq name (codes "check")) (bytes_eq name (codes "translate")) (bytes_eq name (codes "run")) (steps_in rows) (cells_in rows)
-    (rw (same_test name (codes "check"), same_test name (codes "translate"), same_test name (codes "run")) v) e
+number_wrong name file rows v e = go (bytes_eq name (codes "check")) (bytes_eq name (codes "translate")) (bytes_eq name (codes "run")) (bytes_eq name (codes "exec")) (steps_in rows) (cells_in rows)
+    (rw (same_test name (codes "check"), same_test name (codes "translate"), same_test name (codes "run"), same_test name (codes "exec")) v) e
   where
-    asks : Option ℕ → Option ℕ → Option Command
-    asks o p = option_and_then (λ steps. option_map (λ cells. Run file steps cells (Rattle.cpc_cli_command.specs.Commands.is_given (codes "text") rows)) p) o
+    asks : Option ℕ → Option ℕ → Option Options
+    asks o p = option_and_then (λ steps. option_map (options_with rows steps) p) o
 
-    go : (c t r : Bool) (o p : Option ℕ) → (c || (t || (r || false))) ≡ true
-        → (if c then Some (Check file) else (if t then Some (Translate file) else (if r then asks o p else None))) ≡ None
+    runs : Option ℕ → Option ℕ → Option Command
+    runs o p = option_map (λ options. Run file options (was_given (codes "text") rows)) (asks o p)
+
+    go : (c t r x : Bool) (o p : Option ℕ) → (c || (t || (r || (x || false)))) ≡ true
+        → (if c then Some (Check file) else (if t then Some (Translate file) else (if r then runs o p else (if x then option_map (Exec file) (asks o p) else None)))) ≡ None
         → o ≡ None ⊎ p ≡ None
-    go true t r o p v e = cc
-    go false true r o p v e = cc
-    go false false true (Some n) (Some m) v e = cc
-    go false false true (Some n) None v e = inr refl
-    go false false true None p v e = inl refl
-    go false false false o p v e = absurd (true≢false (sym v))
+    go true t r x o p v e = cc
+    go false true r x o p v e = cc
+    go false false true x (Some n) (Some m) v e = cc
+    go false false true x (Some n) None v e = inr refl
+    go false false true x None p v e = inl refl
+    go false false false true (Some n) (Some m) v e = cc
+    go false false false true (Some n) None v e = inr refl
+    go false false false true None p v e = inl refl
+    go false false false false o p v e = absurd (true≢false (sym v))
 
 pub breaks_number : (words : List Text) → fault_of cpc_app words ≡ [] → command_of words ≡ None → BreaksNumber words
 breaks_number words e none =

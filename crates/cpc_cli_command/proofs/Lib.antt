@@ -1,6 +1,9 @@
 pub mod NumberLemmas
 pub mod CommandLemmas
 pub mod UsageLemmas
+pub mod AskingLemmas
+pub mod ExecLemmas
+pub mod OtherLemmas
 pub mod FullRows
 pub mod FileGiven
 pub mod BoundLemmas

@@ -11,6 +11,7 @@ use Rattle.clap.specs.declared.builder.command.Command.{Command as Built}
 use Rattle.clap.specs.declared.builder.action.ArgAction.TheVariants.{Set, SetTrue}
 use Rattle.cpc_base.specs.Bytes.{Text}
 use Rattle.cpc_cli_command.specs.Number.{cells_of, default_cells, default_steps, steps_of}
+use Rattle.cpc_cli_command.specs.declared.words.Options.{Options as ParsedOptions}
 use Rattle.cpc_cli_command.specs.declared.words.Command.{Command as Parsed}
 use Rattle.cpc_cli_command.specs.declared.words.Command.TheVariants as P
 
@@ -32,8 +33,15 @@ flag_rule name = record (new_rule name) { long = Some name; action = Some SetTru
 abbrev pub on_file : Text → App
 on_file name = with_rule (new_app name) file_rule
 
+-- the options of a run: `--history H`, `--steps N`, `--cells N` and `--trace`
+abbrev pub with_options : App → App
+with_options app = with_rule (with_rule (with_rule (with_rule app (option_rule (codes "history"))) (option_rule (codes "steps"))) (option_rule (codes "cells"))) (flag_rule (codes "trace"))
+
 abbrev pub run_app : App
-run_app = with_rule (with_rule (with_rule (on_file (codes "run")) (option_rule (codes "steps"))) (option_rule (codes "cells"))) (flag_rule (codes "text"))
+run_app = with_rule (with_options (on_file (codes "run"))) (flag_rule (codes "text"))
+
+abbrev pub exec_app : App
+exec_app = with_options (on_file (codes "exec"))
 
 -- no help, no version, and no name of the program among the words
 abbrev pub bare_app : App
@@ -47,7 +55,7 @@ bare_app = on_top (λ s. record s {
 
 -- the subcommands, in order
 abbrev pub subcommands : List App
-subcommands = on_file (codes "check") ∷ on_file (codes "translate") ∷ run_app ∷ []
+subcommands = on_file (codes "check") ∷ on_file (codes "translate") ∷ run_app ∷ exec_app ∷ []
 
 unfoldable pub cpc_app : App
 cpc_app = fold (λ a s. with_subcommand a s.top) bare_app subcommands
@@ -58,10 +66,21 @@ IsLocal c = (out-Command c).has_globals ≡ false
 
 -- ---- what the words ask for
 
+-- how a program is to run
+pub record Options : Type 0 where
+  -- the file of the history, where one is named
+  pub history : Option Text
+  -- the most steps, and the most live cells
+  pub steps : ℕ
+  pub cells : ℕ
+  -- a trace is wanted, and not the output alone
+  pub trace : Bool
+
 pub data Command : Type 0 where
   Check : (file : Text) → Command
   Translate : (file : Text) → Command
-  Run : (file : Text) (steps cells : ℕ) (text : Bool) → Command
+  Run : (file : Text) (options : Options) (text : Bool) → Command
+  Exec : (file : Text) (options : Options) → Command
 
 -- clap's value of a flag is "true" where it was given, and else "false"
 abbrev pub is_given : (name : Text) → List Row → Bool
@@ -73,15 +92,32 @@ steps_in rows = option_map_or steps_of (first_of (codes "steps") rows) (Some def
 abbrev pub cells_in : List Row → Option ℕ
 cells_in rows = option_map_or cells_of (first_of (codes "cells") rows) (Some default_cells)
 
--- the run that the matches ask for, unless a number breaks its rule
+-- the options of these rows with these numbers
+abbrev pub options_with : List Row → (steps cells : ℕ) → Options
+options_with rows steps cells = record {
+  history = first_of (codes "history") rows;
+  steps = steps;
+  cells = cells;
+  trace = is_given (codes "trace") rows;
+}
+
+-- the options that the matches give, unless a number breaks its rule
+abbrev pub options_in : List Row → Option Options
+options_in rows = option_and_then (λ steps. option_map (options_with rows steps) (cells_in rows)) (steps_in rows)
+
+-- the command of the options, where no number breaks its rule
 abbrev pub run_in : (file : Text) → List Row → Option Command
-run_in file rows = option_and_then (λ steps. option_map (λ cells. Run file steps cells (is_given (codes "text") rows)) (cells_in rows)) (steps_in rows)
+run_in file rows = option_map (λ options. Run file options (is_given (codes "text") rows)) (options_in rows)
+
+abbrev pub exec_in : (file : Text) → List Row → Option Command
+exec_in file rows = option_map (Exec file) (options_in rows)
 
 -- the command of a subcommand's name, its file and its matches
 abbrev pub command_named : (name file : Text) → List Row → Option Command
 command_named name file rows = if bytes_eq name (codes "check") then Some (Check file)
     else (if bytes_eq name (codes "translate") then Some (Translate file)
-    else (if bytes_eq name (codes "run") then run_in file rows else None))
+    else (if bytes_eq name (codes "run") then run_in file rows
+    else (if bytes_eq name (codes "exec") then exec_in file rows else None)))
 
 -- the command of a subcommand's name and its matches
 abbrev pub command_in : Text × List Row → Option Command
@@ -96,8 +132,13 @@ if_taken (_ ∷ _) command = None
 abbrev pub command_of : (words : List Text) → Option Command
 command_of words = if_taken (fault_of cpc_app words) (option_and_then command_in (subcommand_of cpc_app words))
 
+-- the options that the code read
+abbrev pub asked_options : ParsedOptions → Options
+asked_options options = record { history = option_map (λ name. name.now) options.history; steps = options.steps; cells = options.cells; trace = options.trace }
+
 -- the command that the code read
 abbrev pub asked : Parsed → Command
 asked (P.Check file) = Check file.now
 asked (P.Translate file) = Translate file.now
-asked (P.Run file steps cells text) = Run file.now steps cells text
+asked (P.Run file options text) = Run file.now (asked_options options) text
+asked (P.Exec file options) = Exec file.now (asked_options options)

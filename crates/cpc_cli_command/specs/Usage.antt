@@ -4,7 +4,7 @@ use Rattle.std.specs.List.{list_any}
 use Rattle.clap.specs.Walk.{Row, first_of}
 use Rattle.clap.specs.Simple.{subcommand_of}
 use Rattle.cpc_base.specs.Bytes.{Text}
-use Rattle.cpc_cli_command.specs.Commands.{Command, Check, Translate, Run, cells_in, command_of, cpc_app, steps_in}
+use Rattle.cpc_cli_command.specs.Commands.{Command, Check, Translate, Exec, Options, Run, cells_in, command_of, cpc_app, steps_in}
 use Rattle.cpc_cli_command.specs.Number.{cells_of, default_cells, default_steps, most_cells, most_steps, steps_of}
 
 -- the word does not begin with `-`
@@ -17,25 +17,49 @@ IsPlain word = is_plain word ≡ true
 
 -- the word is the name of a subcommand
 abbrev pub is_verb : Text → Bool
-is_verb word = list_any (λ verb. bytes_eq verb word) (codes "check" ∷ codes "translate" ∷ codes "run" ∷ [])
+is_verb word = list_any (λ verb. bytes_eq verb word) (codes "check" ∷ codes "translate" ∷ codes "run" ∷ codes "exec" ∷ [])
 
 -- the words ask for the command
 abbrev pub Means : (words : List Text) → Option Command → Type 0
 Means words command = command_of words ≡ command
 
--- the run of a file for the steps that a text writes
-abbrev pub run_for : (file number : Text) → Option Command
-run_for file number = option_map (λ steps. Run file steps default_cells false) (steps_of number)
+-- the options where the words give none
+abbrev pub defaults : Options
+defaults = record { history = None; steps = default_steps; cells = default_cells; trace = false }
 
--- the run of a file within the cells that a text writes
-abbrev pub run_within : (file number : Text) → Option Command
-run_within file number = option_map (λ cells. Run file default_steps cells false) (cells_of number)
+-- the options with the steps that a text writes
+abbrev pub steps_by : Text → Option Options
+steps_by number = option_map (λ n. record defaults { steps = n }) (steps_of number)
+
+-- the options with the cells that a text writes
+abbrev pub cells_by : Text → Option Options
+cells_by number = option_map (λ n. record defaults { cells = n }) (cells_of number)
+
+-- the options with a history
+abbrev pub told_by : Text → Options
+told_by history = record defaults { history = Some history }
+
+-- the options with a trace
+abbrev pub traced : Options
+traced = record defaults { trace = true }
+
+-- the run of a file, without the printed text, where the options are there
+abbrev pub run_by : (file : Text) → Option Options → Option Command
+run_by file options = option_map (λ o. Run file o false) options
+
+abbrev pub exec_by : (file : Text) → Option Options → Option Command
+exec_by file options = option_map (Exec file) options
+
+-- the numbers of the options are within their bounds
+abbrev pub AreBounded : Options → Type 0
+AreBounded options = (1 ≤ options.steps) × (options.steps ≤ most_steps) × (1 ≤ options.cells) × (options.cells ≤ most_cells)
 
 -- the numbers of a command are within their bounds
 abbrev pub IsBounded : Command → Type 0
 IsBounded (Check file) = Unit {0}
 IsBounded (Translate file) = Unit {0}
-IsBounded (Run file steps cells text) = (1 ≤ steps) × (steps ≤ most_steps) × (1 ≤ cells) × (cells ≤ most_cells)
+IsBounded (Run file options text) = AreBounded options
+IsBounded (Exec file options) = AreBounded options
 
 -- a subcommand's name and its matches, with a value for FILE
 abbrev pub HasFile : Text × List Row → Type 0

@@ -1,8 +1,8 @@
 //! The command line of `cpc`, as it is told to clap. What each function builds is a definition of `specs/Commands.antt`.
 ghost use Rattle.std.specs.Prelude.{◌≡◌, IfOk, codes, false};
 ghost use Rattle.clap.specs.Words.{app_of, rule_of};
-ghost use Rattle.cpc_cli_command.specs.Commands.{IsLocal, bare_app, cpc_app, file_rule, flag_rule};
-ghost use Rattle.cpc_cli_command.specs.Commands.{on_file as on_file_app, option_rule, run_app};
+ghost use Rattle.cpc_cli_command.specs.Commands.{IsLocal, bare_app, cpc_app, exec_app, file_rule, flag_rule};
+ghost use Rattle.cpc_cli_command.specs.Commands.{on_file as on_file_app, option_rule, run_app, with_options};
 
 use clap::{Arg, ArgAction, Command};
 use std::alloc::{AllocError, Global};
@@ -39,15 +39,32 @@ fn on_file<'a>(alloc: Global, name: &'a str) -> Result<Command<'a>, AllocError>
     Command::new(alloc, name).arg(file_argument(alloc))
 }
 
-/// `run FILE [--steps N] [--cells N] [--text]`.
+/// `NAME FILE [--history H] [--steps N] [--cells N] [--trace]`.
+fn of_runs<'a>(alloc: Global, name: &'a str) -> Result<Command<'a>, AllocError>
+    ensures app { IfOk result (λ c. app_of c ≡ with_options (on_file_app name.entry.now)) }
+    ensures local { IfOk result IsLocal }
+{
+    on_file(alloc, name)?
+        .arg(option(alloc, "history"))?
+        .arg(option(alloc, "steps"))?
+        .arg(option(alloc, "cells"))?
+        .arg(flag(alloc, "trace"))
+}
+
+/// `run FILE` with the options of a run and `--text`.
 fn run<'a>(alloc: Global) -> Result<Command<'a>, AllocError>
     ensures app { IfOk result (λ c. app_of c ≡ run_app) }
     ensures local { IfOk result IsLocal }
 {
-    on_file(alloc, "run")?
-        .arg(option(alloc, "steps"))?
-        .arg(option(alloc, "cells"))?
-        .arg(flag(alloc, "text"))
+    of_runs(alloc, "run")?.arg(flag(alloc, "text"))
+}
+
+/// `exec FILE` with the options of a run.
+fn exec<'a>(alloc: Global) -> Result<Command<'a>, AllocError>
+    ensures app { IfOk result (λ c. app_of c ≡ exec_app) }
+    ensures local { IfOk result IsLocal }
+{
+    of_runs(alloc, "exec")
 }
 
 /// `cpc` with no subcommand yet. There is no help and no version, and the words do not begin with the program's name.
@@ -69,5 +86,6 @@ pub(crate) fn cpc<'a>(alloc: Global) -> Result<Command<'a>, AllocError>
     bare(alloc)
         .subcommand(on_file(alloc, "check")?)?
         .subcommand(on_file(alloc, "translate")?)?
-        .subcommand(run(alloc)?)
+        .subcommand(run(alloc)?)?
+        .subcommand(exec(alloc)?)
 }

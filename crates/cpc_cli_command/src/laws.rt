@@ -2,41 +2,66 @@
 ghost use Rattle.clap.specs.Words.{fault_of};
 ghost use Rattle.std.specs.Prelude.{◌≡◌, false, true, List, Some, None, [], ◌∷◌, ◌++◌, codes};
 ghost use Rattle.cpc_base.specs.Bytes.{Text};
-ghost use Rattle.cpc_cli_command.specs.Commands.{Check, Command, Run, Translate, command_of, cpc_app};
-ghost use Rattle.cpc_cli_command.specs.Number.{default_cells, default_steps};
-ghost use Rattle.cpc_cli_command.specs.Usage.{BreaksNumber, EntersFile, IsBounded, IsPlain, Means, is_verb, run_for, run_within};
+ghost use Rattle.cpc_cli_command.specs.Commands.{Check, Command, Exec, Run, Translate, command_of, cpc_app};
+ghost use Rattle.cpc_cli_command.specs.Usage.{BreaksNumber, EntersFile, IsBounded, IsPlain, Means, is_verb};
+ghost use Rattle.cpc_cli_command.specs.Usage.{cells_by, defaults, exec_by, run_by, steps_by, told_by, traced};
 
 /// The words that ask for a command, where no file or number begins with `-`.
 pub fn asking_words()
     ensures check { (file : Text) → IsPlain file → Means (codes "check" ∷ file ∷ []) (Some (Check file)) }
     ensures translate { (file : Text) → IsPlain file → Means (codes "translate" ∷ file ∷ []) (Some (Translate file)) }
-    ensures run { (file : Text) → IsPlain file → Means (codes "run" ∷ file ∷ []) (Some (Run file default_steps default_cells false)) }
+    ensures run { (file : Text) → IsPlain file → Means (codes "run" ∷ file ∷ []) (Some (Run file defaults false)) }
     ensures text { (file : Text) → IsPlain file
-        → Means (codes "run" ∷ file ∷ codes "--text" ∷ []) (Some (Run file default_steps default_cells true)) }
+        → Means (codes "run" ∷ file ∷ codes "--text" ∷ []) (Some (Run file defaults true)) }
     ensures steps { (file number : Text) → IsPlain file → IsPlain number
-        → Means (codes "run" ∷ file ∷ codes "--steps" ∷ number ∷ []) (run_for file number) }
+        → Means (codes "run" ∷ file ∷ codes "--steps" ∷ number ∷ []) (run_by file (steps_by number)) }
     ensures joined { (file number : Text) → IsPlain file
-        → Means (codes "run" ∷ file ∷ (codes "--steps=" ++ number) ∷ []) (run_for file number) }
+        → Means (codes "run" ∷ file ∷ (codes "--steps=" ++ number) ∷ []) (run_by file (steps_by number)) }
     ensures before { (file number : Text) → IsPlain file → IsPlain number
-        → Means (codes "run" ∷ codes "--steps" ∷ number ∷ file ∷ []) (run_for file number) }
+        → Means (codes "run" ∷ codes "--steps" ∷ number ∷ file ∷ []) (run_by file (steps_by number)) }
     ensures cells { (file number : Text) → IsPlain file → IsPlain number
-        → Means (codes "run" ∷ file ∷ codes "--cells" ∷ number ∷ []) (run_within file number) }
+        → Means (codes "run" ∷ file ∷ codes "--cells" ∷ number ∷ []) (run_by file (cells_by number)) }
     ensures cells_joined { (file number : Text) → IsPlain file
-        → Means (codes "run" ∷ file ∷ (codes "--cells=" ++ number) ∷ []) (run_within file number) }
+        → Means (codes "run" ∷ file ∷ (codes "--cells=" ++ number) ∷ []) (run_by file (cells_by number)) }
+    ensures history { (file history : Text) → IsPlain file → IsPlain history
+        → Means (codes "run" ∷ file ∷ codes "--history" ∷ history ∷ []) (Some (Run file (told_by history) false)) }
+    // Behind `=` the name of a history may be any, the empty one too.
+    ensures history_joined { (file history : Text) → IsPlain file
+        → Means (codes "run" ∷ file ∷ (codes "--history=" ++ history) ∷ []) (Some (Run file (told_by history) false)) }
+    ensures trace { (file : Text) → IsPlain file → Means (codes "run" ∷ file ∷ codes "--trace" ∷ []) (Some (Run file traced false)) }
     // Behind `--` a file may begin with `-`.
     ensures any_file { (file : Text) → Means (codes "check" ∷ codes "--" ∷ file ∷ []) (Some (Check file)) }
+{}
+
+/// The words that ask for `exec`, which has the options of `run` but `--text`.
+pub fn exec_words()
+    ensures plain { (file : Text) → IsPlain file → Means (codes "exec" ∷ file ∷ []) (Some (Exec file defaults)) }
+    ensures steps { (file number : Text) → IsPlain file
+        → Means (codes "exec" ∷ file ∷ (codes "--steps=" ++ number) ∷ []) (exec_by file (steps_by number)) }
+    ensures cells { (file number : Text) → IsPlain file
+        → Means (codes "exec" ∷ file ∷ (codes "--cells=" ++ number) ∷ []) (exec_by file (cells_by number)) }
+    ensures history { (file history : Text) → IsPlain file → IsPlain history
+        → Means (codes "exec" ∷ file ∷ codes "--history" ∷ history ∷ []) (Some (Exec file (told_by history))) }
+    ensures history_joined { (file history : Text) → IsPlain file
+        → Means (codes "exec" ∷ file ∷ (codes "--history=" ++ history) ∷ []) (Some (Exec file (told_by history))) }
+    ensures trace { (file : Text) → IsPlain file → Means (codes "exec" ∷ file ∷ codes "--trace" ∷ []) (Some (Exec file traced)) }
+    ensures no_text { (file : Text) → IsPlain file → Means (codes "exec" ∷ file ∷ codes "--text" ∷ []) None }
 {}
 
 /// Words that ask for none.
 pub fn other_words()
     ensures nothing { Means [] None }
     ensures verb { (verb : Text) (rest : List Text) → IsPlain verb → is_verb verb ≡ false → Means (verb ∷ rest) None }
-    ensures no_file { Means (codes "check" ∷ []) None × Means (codes "translate" ∷ []) None × Means (codes "run" ∷ []) None }
+    ensures no_file { Means (codes "check" ∷ []) None × Means (codes "translate" ∷ []) None × Means (codes "run" ∷ []) None
+        × Means (codes "exec" ∷ []) None }
     ensures two_files { (one two : Text) → IsPlain one → IsPlain two → Means (codes "check" ∷ one ∷ two ∷ []) None }
     ensures twice { (one two file : Text)
         → Means (codes "run" ∷ (codes "--steps=" ++ one) ∷ (codes "--steps=" ++ two) ∷ file ∷ []) None }
     ensures cells_twice { (one two file : Text)
         → Means (codes "run" ∷ (codes "--cells=" ++ one) ∷ (codes "--cells=" ++ two) ∷ file ∷ []) None }
+    ensures history_twice { (one two file : Text)
+        → Means (codes "run" ∷ (codes "--history=" ++ one) ∷ (codes "--history=" ++ two) ∷ file ∷ []) None }
+    ensures trace_twice { (file : Text) → Means (codes "run" ∷ codes "--trace" ∷ codes "--trace" ∷ file ∷ []) None }
 {}
 
 /// What words ask for that clap takes: it has entered a subcommand, and FILE has a value, so they ask for a command

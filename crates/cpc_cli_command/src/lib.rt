@@ -8,4 +8,4 @@ mod words;
 
 pub use laws::{asking_words, bounded_words, other_words, taken_words};
 pub use number::{DEFAULT_CELLS, DEFAULT_STEPS, MOST_CELLS, MOST_STEPS};
-pub use words::{Command, Usage, read_words};
+pub use words::{Command, Options, Usage, read_words};

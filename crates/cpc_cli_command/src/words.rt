@@ -1,8 +1,10 @@
 //! Reads the words of a command line.
-ghost use Rattle.std.specs.Prelude.{◌≡◌, ◌≢◌, IfOk, map, option_and_then, option_map, string_bytes};
+ghost use Rattle.std.specs.Prelude.{◌≡◌, ◌≢◌, IfOk, codes, map, option_and_then, option_map, string_bytes};
+ghost use Rattle.clap.specs.Walk.{first_of};
 ghost use Rattle.clap.specs.Words.{found_of, kind_of, rows_of, subcommand_rows_of};
-ghost use Rattle.cpc_cli_command.specs.Commands.{asked, command_in, command_named as named_command, command_of};
+ghost use Rattle.cpc_cli_command.specs.Commands.{asked, asked_options, command_in, command_named as named_command, command_of};
 ghost use Rattle.cpc_cli_command.specs.Commands.{cells_in as cells_given, is_given as was_given};
+ghost use Rattle.cpc_cli_command.specs.Commands.{exec_in as exec_given, options_in as options_given};
 ghost use Rattle.cpc_cli_command.specs.Commands.{run_in as run_given, steps_in as steps_given};
 ghost use Rattle.cpc_base.specs.declared.stop.Stop.TheVariants.{Fault};
 
@@ -12,6 +14,19 @@ use clap::ArgMatches;
 use clap::error::{Error, ErrorKind};
 use cpc_base::Stop;
 use std::alloc::Global;
+
+/// How a program is to run.
+#[derive(Clone, Copy, Debug, PartialEq, Eq)]
+pub struct Options<'a> {
+    /// The file that holds the history, where one is named; without one the history has no polls.
+    pub history: Option<&'a str>,
+    /// The most steps that the run takes, within 1 to `MOST_STEPS`.
+    pub steps: u64,
+    /// The most live cells of the run, within 1 to `MOST_CELLS`.
+    pub cells: u64,
+    /// Whether `--trace` was given.
+    pub trace: bool,
+}
 
 /// What a command line asks for. A file is named as the words name it.
 #[derive(Clone, Copy, Debug, PartialEq, Eq)]
@@ -26,16 +41,21 @@ pub enum Command<'a> {
         /// The file that holds the text.
         file: &'a str,
     },
-    /// Runs the text of the file.
+    /// Translates the text of the file, and runs what was made.
     Run {
         /// The file that holds the text.
         file: &'a str,
-        /// The most steps that the run takes, within 1 to `MOST_STEPS`.
-        steps: u64,
-        /// The most live cells of the run, within 1 to `MOST_CELLS`.
-        cells: u64,
+        /// How it is to run.
+        options: Options<'a>,
         /// Whether `--text` was given.
         text: bool,
+    },
+    /// Runs the text of the file, which is one of events.
+    Exec {
+        /// The file that holds the text.
+        file: &'a str,
+        /// How it is to run.
+        options: Options<'a>,
     },
 }
 
@@ -84,22 +104,51 @@ fn command_named<'a>(name: &str, file: &'a str, values: &ArgMatches<'a>) -> Opti
         "check" => Some(Command::Check { file }),
         "translate" => Some(Command::Translate { file }),
         "run" => run_in(file, values),
+        "exec" => exec_in(file, values),
         _ => None,
     }
 }
 
-/// The run that the options ask for.
+/// What `run` asks for.
 fn run_in<'a>(file: &'a str, values: &ArgMatches<'a>) -> Option<Command<'a>>
     ensures { option_map asked result ≡ run_given file.entry.now (rows_of (found_of values.now)) }
 {
-    let steps = steps_in(values)?;
-    let cells = cells_in(values)?;
+    let options = options_in(values)?;
+    let text = is_given("text", values);
     Some(Command::Run {
         file,
+        options,
+        text,
+    })
+}
+
+/// What `exec` asks for.
+fn exec_in<'a>(file: &'a str, values: &ArgMatches<'a>) -> Option<Command<'a>>
+    ensures { option_map asked result ≡ exec_given file.entry.now (rows_of (found_of values.now)) }
+{
+    let options = options_in(values)?;
+    Some(Command::Exec { file, options })
+}
+
+/// How the program is to run.
+fn options_in<'a>(values: &ArgMatches<'a>) -> Option<Options<'a>>
+    ensures { option_map asked_options result ≡ options_given (rows_of (found_of values.now)) }
+{
+    let steps = steps_in(values)?;
+    let cells = cells_in(values)?;
+    Some(Options {
+        history: history_in(values),
         steps,
         cells,
-        text: is_given("text", values),
+        trace: is_given("trace", values),
     })
+}
+
+/// The file of `--history`, where it was given.
+fn history_in<'a>(values: &ArgMatches<'a>) -> Option<&'a str>
+    ensures { first_of (codes "history") (rows_of (found_of values.now)) ≡ option_map (λ name. name.now) result }
+{
+    values.get_str("history")
 }
 
 /// The number of `--steps`, or the default where it was not given.

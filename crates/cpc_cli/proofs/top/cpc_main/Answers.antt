@@ -1,6 +1,8 @@
 use Rattle.std.proofs.Common.{refl, subst, map, string_bytes, List, ℕ}
 use Rattle.cpc_base.specs.Outside.{Rose}
-use Rattle.cpc_cli.proofs.AnswerLemmas.{is_end_last, read_cause}
+use Rattle.cpc_cli.proofs.AnswerLemmas.{is_end_last}
+use Rattle.cpc_cli.proofs.CauseLemmas.{read_cause}
+use Rattle.cpc_cli.specs.Inputs.{labels}
 use Rattle.cpc_cli.specs.Answer.{Counts, Said, rises, status_of}
 use Rattle.cpc_cli.proofs.TopLemmas.{last_line}
 use Rattle.cpc_cli.proofs.ExactLemmas.{exact_where_told}
@@ -11,7 +13,7 @@ returns-clause-answer g c =
     let ended = c.follow-end.ensures.ended in
     let said = c.conclude.ensures.said in
     let last = said.2 in
-    let line = last_line (map string_bytes c.args.words.now) c.follow-end.result.0.now c.follow-end.result.1 last.0 last.1 c.follow-end.ensures.line in
+    let line = last_line (map string_bytes c.args.words.now) (labels c.follow-end.result.0) c.follow-end.result.1 last.0 last.1 c.follow-end.ensures.line in
     let unread = λ (name : List ℕ). Rose (g.F.Shelf.faults c.args.shelf.now name) (g.F.Shelf.faults c.follow-end.new.shelf name) in
     let unwritten = Rose (g.O.Sink.faults c.args.out.now) (g.O.Sink.faults c.follow-end.new.out) in
     let new = record c.follow-end.new.report { status = c.conclude.result } in

@@ -3,6 +3,7 @@ use Rattle.cpc_base.proofs.Pieces.{append_known-nil}
 use Rattle.cpc_cli_command.specs.Commands.{asked}
 use Rattle.cpc_cli_command.proofs.BoundLemmas.{bounded_is}
 use Rattle.cpc_cli.specs.Answer.{misused, starved, performed}
+use Rattle.cpc_cli.specs.Inputs.{labels}
 use Rattle.cpc_cli.proofs.TopLemmas.{line_named}
 use Rattle.cpc_cli.proofs.top.follow.Goals as goal
 
@@ -12,7 +13,7 @@ returns-in-Ok-clause-ended g c =
     (ended.0, ended.1, performed (asked c.in-Ok.command) c.in-Ok.ensures.command ended.2)
 
 pub returns-in-Ok-clause-line : goal.returns-in-Ok-clause-line
-returns-in-Ok-clause-line g c = line_named (map string_bytes c.args.words.now) (asked c.in-Ok.command) c.file_of.result.now c.in-Ok.ensures.command c.file_of.ensures c.perform.result
+returns-in-Ok-clause-line g c = line_named (map string_bytes c.args.words.now) (asked c.in-Ok.command) (labels c.inputs_of.result) c.in-Ok.ensures.command c.inputs_of.ensures c.perform.result
 
 pub returns-in-Err-Memory-clause-ended : goal.returns-in-Err-Memory-clause-ended
 returns-in-Err-Memory-clause-ended g c = ([], sym (append_known-nil (g.O.Sink.taken c.args.out.now)), starved c.requires)

@@ -8,3 +8,6 @@ returns-in-Translate-clause-ended g c = rw c.in-Translate.is c.translate_file.en
 
 pub returns-in-Run-clause-ended : goal.returns-in-Run-clause-ended
 returns-in-Run-clause-ended g c = rw c.in-Run.is c.run_file.ensures.ended
+
+pub returns-in-Exec-clause-ended : goal.returns-in-Exec-clause-ended
+returns-in-Exec-clause-ended g c = rw c.in-Exec.is c.exec_file.ensures.ended

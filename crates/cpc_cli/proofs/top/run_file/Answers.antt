@@ -1,20 +1,34 @@
-use Rattle.std.proofs.Common.{sym, subst, refl, []}
+use Rattle.std.proofs.Common.{◌∙◌, sym, subst, refl, []}
 use Rattle.cpc_base.proofs.Pieces.{append_known-nil}
 use Rattle.cpc_base.specs.Outside.{Rose}
 use Rattle.cpc_tree.specs.Locate.{located}
+use Rattle.cpc_tree.specs.Located.{bare}
 use Rattle.cpc_tree.proofs.Places.{bare_program}
-use Rattle.cpc_cli_command.specs.Commands.{Run}
-use Rattle.cpc_cli.specs.Answer.{RanTo}
-use Rattle.cpc_cli.proofs.TopLemmas.{begun_not, run_ended}
+use Rattle.cpc_cli_command.specs.Commands.{Run, asked_options}
+use Rattle.cpc_cli.specs.Answer.{not_begun}
+use Rattle.cpc_cli.specs.Command.{by_run}
+use Rattle.cpc_cli.specs.Ran.{RanTold}
+use Rattle.cpc_cli.proofs.TopLemmas.{no_steps_printed, rose_earlier, run_ended, run_takes, told_earlier}
 use Rattle.cpc_cli.proofs.top.run_file.Goals as goal
+
+pub run_told-requires-clause-fresh : goal.run_told-requires-clause-fresh
+run_told-requires-clause-fresh g c = no_steps_printed (located c.in-Ok.program.program) c.translated.new.report c.in-Ok.ensures.printed
 
 pub returns-in-Ok-clause-ended : goal.returns-in-Ok-clause-ended
 returns-in-Ok-clause-ended g c =
-    let ran = c.run_back.ensures.ended in
-    let unwritten = Rose (g.O.Sink.faults c.args.out.now) (g.O.Sink.faults c.run_back.new.out) in
-    let ended = subst (λ p. RanTo p c.args.limits.steps c.args.limits.cells c.args.text c.run_back.new.report unwritten ran.0 c.run_back.result) (sym (bare_program c.in-Ok.program.program)) ran.2 in
-    (ran.0, ran.1, run_ended _ _ _ _ _ (located c.in-Ok.program.program) c.in-Ok.ensures.same _ _ c.translated.new.report c.run_back.new.report c.in-Ok.ensures.printed c.run_back.ensures.kept ran.0 c.run_back.result ended)
+    let ran = c.run_told.ensures.ended in
+    let options = asked_options c.args.options in
+    let late = λ (name : _). Rose (g.F.Shelf.faults c.translated.new.shelf name) (g.F.Shelf.faults c.run_told.new.shelf name) in
+    let early = λ (name : _). Rose (g.F.Shelf.faults c.args.shelf.now name) (g.F.Shelf.faults c.run_told.new.shelf name) in
+    let unwritten = Rose (g.O.Sink.faults c.args.out.now) (g.O.Sink.faults c.run_told.new.out) in
+    let new = c.run_told.new.report in
+    let q = located c.in-Ok.program.program in
+    let by_tree = subst (λ p. RanTold (g.F.Shelf.files c.translated.new.shelf) p options c.args.text new late unwritten ran.0 c.run_told.result) (sym (bare_program c.in-Ok.program.program)) ran.2 in
+    let by_files = subst (λ t. RanTold t (bare q) options c.args.text new late unwritten ran.0 c.run_told.result) c.translated.ensures.stays by_tree in
+    let ended = told_earlier (g.F.Shelf.files c.args.shelf.now) (bare q) options c.args.text new late early unwritten ran.0 (λ name. rose_earlier _ _ _ (c.translated.ensures.later name)) c.run_told.result by_files in
+    let takes = run_takes (g.F.Shelf.files c.args.shelf.now) c.args.file.now options c.args.text q c.translated.new.report new c.in-Ok.ensures.printed c.run_told.ensures.kept c.in-Ok.ensures.same in
+    (ran.0, ran.1, run_ended _ _ options c.args.text (by_run c.args.file.now options c.args.text) q early unwritten new ran.0 takes c.run_told.result ended)
 
 pub returns-in-Err-clause-ended : goal.returns-in-Err-clause-ended
 returns-in-Err-clause-ended g c =
-    ([], sym (append_known-nil (g.O.Sink.taken c.args.out.now)), begun_not _ (Run c.args.file.now c.args.limits.steps c.args.limits.cells c.args.text) c.args.file.now refl _ (Unit {0}) (λ h. h) c.in-Err.end (c.in-Err.ensures.refused c.in-Err.end refl) (c.in-Err.ensures.none c.in-Err.end refl))
+    ([], sym (append_known-nil (g.O.Sink.taken c.args.out.now)), not_begun c.in-Err.end (c.in-Err.ensures.refused c.in-Err.end refl) (c.in-Err.ensures.none c.in-Err.end refl))

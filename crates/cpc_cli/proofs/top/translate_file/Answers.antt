@@ -1,16 +1,15 @@
 use Rattle.std.proofs.Common.{sym, subst, refl, take, []}
 use Rattle.cpc_base.proofs.Pieces.{append_known-nil}
 use Rattle.cpc_tree.specs.Locate.{located}
-use Rattle.cpc_cli_command.specs.Commands.{Translate}
-use Rattle.cpc_cli.specs.Answer.{did, unwritten_in}
+use Rattle.cpc_cli.specs.Answer.{did, not_begun, unwritten_in}
 use Rattle.cpc_run.specs.Reports.{IsPrefix}
 use Rattle.cpc_cli.specs.declared.answer.Outcome.TheVariants.{Translated}
-use Rattle.cpc_cli.proofs.TopLemmas.{begun_not, is_front}
+use Rattle.cpc_cli.proofs.TopLemmas.{is_front}
 use Rattle.cpc_cli.proofs.top.translate_file.Goals as goal
 
 pub returns-in-Err-clause-ended : goal.returns-in-Err-clause-ended
 returns-in-Err-clause-ended g c =
-    ([], sym (append_known-nil (g.O.Sink.taken c.args.out.now)), begun_not _ (Translate c.args.file.now) c.args.file.now refl _ (Unit {0}) (λ h. h) c.in-Err.end (c.in-Err.ensures.refused c.in-Err.end refl) (c.in-Err.ensures.none c.in-Err.end refl))
+    ([], sym (append_known-nil (g.O.Sink.taken c.args.out.now)), not_begun c.in-Err.end (c.in-Err.ensures.refused c.in-Err.end refl) (c.in-Err.ensures.none c.in-Err.end refl))
 
 pub returns-in-Ok-clause-ended : goal.returns-in-Ok-clause-ended
 returns-in-Ok-clause-ended g c =

@@ -1,4 +1,5 @@
-use Rattle.cpc_cli_command.proofs.UsageLemmas.{any_file_is, before_is, cells_is, cells_joined_is, check_is, joined_is, run_is, steps_is, text_is, translate_is, value_of}
+use Rattle.cpc_cli_command.proofs.AskingLemmas.{any_file_is, before_is, cells_is, cells_joined_is, check_is, history_is, history_joined_is, joined_is, run_is, steps_is, text_is, trace_is, translate_is}
+use Rattle.cpc_cli_command.proofs.UsageLemmas.{value_of}
 use Rattle.cpc_cli_command.proofs.laws.asking_words.Goals as goal
 
 pub returns : goal.returns
@@ -12,5 +13,8 @@ returns c = record {
   before = λ file number f n. before_is file number (value_of file f) (value_of number n);
   cells = λ file number f n. cells_is file number (value_of file f) (value_of number n);
   cells_joined = λ file number f. cells_joined_is file number (value_of file f);
+  history = λ file history f h. history_is file history (value_of file f) (value_of history h);
+  history_joined = λ file history f. history_joined_is file history (value_of file f);
+  trace = λ file f. trace_is file (value_of file f);
   any_file = any_file_is;
 }

@@ -2,7 +2,7 @@ use Rattle.std.proofs.Common.{◌∙◌, ap, codes, take, ◌++◌}
 use Rattle.cpc_base.proofs.Pieces.{append_known-append}
 use Rattle.std.specs.Io.KnownBytes.{append_known}
 use Rattle.cpc_cli.proofs.TopLemmas.{in_printed, in_line}
-use Rattle.cpc_cli.proofs.top.write_heading.Goals as goal
+use Rattle.cpc_cli.proofs.running.write_heading.Goals as goal
 
 pub returns-in-Err-clause-wrote : goal.returns-in-Err-clause-wrote
 returns-in-Err-clause-wrote g c =

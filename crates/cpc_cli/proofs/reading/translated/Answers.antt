@@ -4,14 +4,15 @@ use Rattle.cpc_tree.specs.Locate.{located}
 use Rattle.cpc_check.specs.Accepted.{Accepts}
 use Rattle.cpc_base.specs.Bytes.{Text}
 use Rattle.cpc_base.specs.Outside.{Rose}
+use Rattle.cpc_convert_served_laws.specs.Serving.{unserved}
 use Rattle.cpc_cli.proofs.TopLemmas.{not_for_any, translated_so}
-use Rattle.cpc_cli.proofs.top.translated.Goals as goal
+use Rattle.cpc_cli.proofs.reading.translated.Goals as goal
 
 pub returns-in-Err-clause-refused : goal.returns-in-Err-clause-refused
 returns-in-Err-clause-refused g c = λ end is.
     let unread = λ (name : Text). Rose (g.F.Shelf.faults c.args.shelf.now name) (g.F.Shelf.faults c.read_text.new.shelf name) in
     let same : c.in-Err.end ≡ end = cc in
-    not_for_any (g.F.Shelf.files c.args.shelf.now) (λ _. c.args.file.now) unread (Unit {0}) end (c.in-Err.ensures.refused end (ap Err same))
+    not_for_any (g.F.Shelf.files c.args.shelf.now) Cpc c.args.file.now unserved unread end (c.in-Err.ensures.refused end (ap Err same))
 
 pub returns-in-Ok-translate-clause-same : goal.returns-in-Ok-translate-clause-same
 returns-in-Ok-translate-clause-same g c = λ files told.
@@ -26,7 +27,7 @@ returns-in-Ok-translate-clause-same g c = λ files told.
         (
           p,
           subst (λ t. Accepts Cpc t p) is c.in-Ok-translate.ensures.source,
-          translated_so c.in-Ok-translate.translated.source.program c.in-Ok-translate.translated.read_back.program t.built t.equal t.same t.within t.shape,
+          translated_so c.in-Ok-translate.translated.source.program c.in-Ok-translate.translated.read_back.program t.built t.equal t.same t.within t.shape t.no_leak,
         ),
       ),
     )

@@ -1,16 +1,19 @@
-use Rattle.std.proofs.Common.{◌≡◌, ◌∙◌, ap, sym, subst, refl, inr, ◌++◌}
+use Rattle.std.proofs.Common.{◌≡◌, ◌∙◌, ap, sym, subst, refl, ◌++◌}
 use Rattle.std.specs.Io.KnownBytes.{append_known}
 use Rattle.cpc_base.proofs.Pieces.{append_known-append}
 use Rattle.cpc_tree.specs.Erase.{program_of}
-use Rattle.cpc_cli.specs.Answer.{heading}
+use Rattle.cpc_cli.specs.Ran.{heading}
 use Rattle.cpc_run.specs.Reports.{IsPrefix}
-use Rattle.cpc_cli.proofs.TopLemmas.{behind, front_heading, rose_earlier}
-use Rattle.cpc_cli.proofs.top.run_back.Goals as goal
+use Rattle.cpc_cli.proofs.TopLemmas.{behind, rose_earlier, unbegun}
+use Rattle.cpc_cli.proofs.running.run_back.Goals as goal
 
 pub returns-in-Err-clause-ended : goal.returns-in-Err-clause-ended
 returns-in-Err-clause-ended g c =
-    let h = c.in-Err.ensures.wrote in
-    (h.0, h.1, (c.in-Err.ensures.cause _ refl, inr c.requires.fresh, front_heading h.0 _ _ (subst (λ t. IsPrefix h.0 (heading c.args.text t)) c.as_slice.ensures.value h.2)))
+    let h = c.in-Err.ensures.wrote in (
+      h.0,
+      h.1,
+      (c.in-Err.ensures.cause _ refl, unbegun _ _ _ c.args.text c.args.report.now h.0 c.requires.fresh (subst (λ t. IsPrefix h.0 (heading c.args.text t)) c.as_slice.ensures.value h.2)),
+    )
 
 pub returns-in-Ok-clause-ended : goal.returns-in-Ok-clause-ended
 returns-in-Ok-clause-ended g c =

@@ -1,0 +1,69 @@
+use Rattle.std.proofs.Common.{refl}
+use Rattle.cpc_tree.specs.Erase.{in_table, program_of}
+use Rattle.cpc_run.specs.Reports.{history_of}
+use Rattle.cpc_cli_command.specs.Commands.{asked_options}
+use Rattle.cpc_cli.proofs.RunLemmas.{ended_full, ended_over, ended_starved, ended_steps, ended_unwritten, over_starved, took_some}
+use Rattle.cpc_cli.proofs.running.run_bare.Goals as goal
+
+pub returns-in-Ok-clause-ended : goal.returns-in-Ok-clause-ended
+returns-in-Ok-clause-ended g c =
+    let told = c.run_event-ran.ensures.told in
+    let p = c.args.program.now.program in (
+      told.0,
+      told.1,
+      ended_over (in_table p.names) (program_of p) (history_of c.args.polls.now) (asked_options c.args.options) _ refl refl c.requires.some c.run_event-ran.result told.0 told.2 c.args.report.now
+          c.in-Over.outcome c.in-Ok.outcome c.in-Over.is c.in-Ok.ensures.is c.in-Ok.ensures.counted,
+    )
+
+pub returns-in-Err-clause-ended : goal.returns-in-Err-clause-ended
+returns-in-Err-clause-ended g c =
+    let told = c.run_event-ran.ensures.told in
+    let p = c.args.program.now.program in (
+      told.0,
+      told.1,
+      over_starved (in_table p.names) (program_of p) (history_of c.args.polls.now) (asked_options c.args.options) _ refl refl c.requires.some c.run_event-ran.result told.0 told.2 c.args.report.now
+          c.in-Over.outcome c.in-Over.is,
+    )
+
+pub returns-in-Steps-clause-ended : goal.returns-in-Steps-clause-ended
+returns-in-Steps-clause-ended g c =
+    let told = c.run_event-ran.ensures.told in
+    let p = c.args.program.now.program in (
+      told.0,
+      told.1,
+      ended_steps (in_table p.names) (program_of p) (history_of c.args.polls.now) (asked_options c.args.options) _ refl refl c.requires.some c.run_event-ran.result told.0 told.2 c.args.report.now
+          c.in-Steps.is,
+    )
+
+pub returns-in-Full-clause-ended : goal.returns-in-Full-clause-ended
+returns-in-Full-clause-ended g c =
+    let told = c.run_event-ran.ensures.told in
+    let p = c.args.program.now.program in (
+      told.0,
+      told.1,
+      ended_full (in_table p.names) (program_of p) (history_of c.args.polls.now) (asked_options c.args.options) _ refl refl c.requires.some c.run_event-ran.result told.0 told.2 c.args.report.now
+          c.in-Full.asked c.in-Full.is,
+    )
+
+pub returns-in-WriteFault-clause-ended : goal.returns-in-WriteFault-clause-ended
+returns-in-WriteFault-clause-ended g c =
+    let told = c.run_event-ran.ensures.told in
+    let p = c.args.program.now.program in (
+      told.0,
+      told.1,
+      (
+        c.run_event-ran.ensures.cause c.in-WriteFault.is,
+        ended_unwritten (in_table p.names) (program_of p) (history_of c.args.polls.now) (asked_options c.args.options) _ refl refl c.requires.some c.run_event-ran.result told.0 told.2 c.args.report.now
+            c.in-WriteFault.is,
+      ),
+    )
+
+pub returns-in-Memory-clause-ended : goal.returns-in-Memory-clause-ended
+returns-in-Memory-clause-ended g c =
+    let told = c.run_event-ran.ensures.told in
+    let p = c.args.program.now.program in (
+      told.0,
+      told.1,
+      ended_starved (in_table p.names) (program_of p) (history_of c.args.polls.now) (asked_options c.args.options) _ refl refl c.requires.some c.run_event-ran.result told.0 told.2 c.args.report.now
+          c.in-Memory.is,
+    )

@@ -1,0 +1,178 @@
+-- How a run came to its end: which history it was told, how it stands, and what it shows.
+use Rattle.std.specs.Prelude.{◌≡◌, ℕ, suc, ◌+◌, ◌<◌, ◌≤◌, Bool, true, false, List, [], ◌++◌, length, Option, None, Some, ◌⊎◌, codes}
+use Rattle.cpc_base.specs.Bytes.{Text}
+use Rattle.cpc_base.specs.Outside.{Files, WhereTold}
+use Rattle.cpc_tree.specs.Syntax.{Program}
+use Rattle.cpc_tree.specs.Trace as T
+use Rattle.cpc_tree.specs.Texts.{Stop, Over, AtSteps, AtCells, Polls, output, read_history}
+use Rattle.cpc_meaning.specs.Events.{event}
+use Rattle.cpc_meaning.specs.History.{History}
+use Rattle.cpc_meaning.specs.Runs.{Full as IsAbove, live_cells}
+use Rattle.cpc_history.specs.Reading.{IsFaultOf}
+use Rattle.cpc_run.specs.Reports.{IsPrefix}
+use Rattle.cpc_run.specs.Shown.{traced}
+use Rattle.cpc_cli_command.specs.Commands.{Options}
+use Rattle.cpc_cli.specs.Command.{history_limit}
+use Rattle.cpc_cli.specs.declared.answer.Role.TheVariants as R
+use Rattle.cpc_cli.specs.declared.answer.Report.{Report}
+use Rattle.cpc_cli.specs.declared.answer.Outcome.{Outcome}
+use Rattle.cpc_cli.specs.declared.answer.Outcome.TheVariants.{Ended, Exited, Failed, HistoryEnded, BadHistory, Stopped, Full, Accepted, Translated}
+use Rattle.cpc_cli.specs.declared.answer.End.{End}
+use Rattle.cpc_cli.specs.declared.answer.End.TheVariants.{Done, Usage, Refused, Unbuilt, Unread, Unwritten, Memory, TooLong, BadLine}
+
+-- ---- what a run is told
+
+-- a file, where it is told, is there and has P
+abbrev pub FileHas : (told : Option Files) → (name : Text) → (Text → Type 0) → Type 0
+FileHas told name P = WhereTold told (λ files. (bytes : Text) × (files name ≡ Some bytes) × P bytes)
+
+-- the polls are those of the history's file where one is named, and none else
+abbrev pub TellsPolls : (told : Option Files) → (history : Option Text) → List T.Told → Type 0
+TellsPolls told None polls = polls ≡ []
+TellsPolls told (Some name) polls = FileHas told name (λ bytes. (length bytes ≤ history_limit) × (read_history bytes ≡ Polls polls))
+
+-- a history is named, and its file was not read, or is too long, or has a line that is no poll; or memory was wanting
+abbrev pub NotTold : (told : Option Files) → (history : Option Text) → (unread : Text → Type 0) → End → Type 0
+NotTold told history unread (Unread R.History) = (name : Text) × (history ≡ Some name) × unread name
+NotTold told history unread (TooLong R.History) = (name : Text) × (history ≡ Some name) × FileHas told name (λ bytes. history_limit < length bytes)
+NotTold told history unread (BadLine fault) =
+    (name : Text) × (history ≡ Some name) × FileHas told name (λ bytes. (length bytes ≤ history_limit) × IsFaultOf fault (read_history bytes))
+NotTold told history unread Memory = Unit {0}
+NotTold told history unread _ = ⊥
+
+-- the history of a run that is told these polls; no host is asked
+abbrev pub history_with : List T.Told → History
+history_with polls = record { polls = polls; answers = []; section_bound = 10000000 }
+
+-- ---- how a run stands
+
+-- no state of q's event run up to that after n steps has more live cells than the cap
+abbrev pub StaysWithin : (q : Program) → History → (cap n : ℕ) → Type 0
+StaysWithin q h cap n = (m : ℕ) → m ≤ n → live_cells (event q h m) ≤ cap
+
+-- q's event run is over so after n steps, and not before, within the bound and the cap
+pub record IsOver (q : Program) (h : History) (bound cap n : ℕ) (outcome : T.Outcome) : Type 0 where
+  pub within : n ≤ bound
+  pub fits : StaysWithin q h cap n
+  pub over : (event q h n).outcome ≡ outcome
+  pub first : (m : ℕ) → m < n → (event q h m).outcome ≡ T.Going
+
+-- q's event run is not over after n steps, which are as many as the bound allows
+pub record IsStopped (q : Program) (h : History) (bound cap n : ℕ) : Type 0 where
+  pub at_bound : n ≡ bound
+  pub fits : StaysWithin q h cap n
+  pub going : (event q h n).outcome ≡ T.Going
+
+-- q's event run is not over after n steps, fewer than the bound allows, and the next would leave m live cells, above the cap
+pub record IsFull (q : Program) (h : History) (bound cap n m : ℕ) : Type 0 where
+  pub within : n < bound
+  pub fits : StaysWithin q h cap n
+  pub above : IsAbove q h n cap
+  pub asked : m ≡ live_cells (event q h (suc n))
+
+-- at the start of q's event run there are m live cells, above the cap
+pub record StartsFull (q : Program) (h : History) (cap n m : ℕ) : Type 0 where
+  pub at_start : n ≡ 0
+  pub above : cap < m
+  pub asked : m ≡ live_cells (event q h 0)
+
+-- of the polls of its history, q's event run has taken so many in n steps
+abbrev pub TookPolls : (q : Program) → History → (n taken : ℕ) → Type 0
+TookPolls q h n taken = length h.polls ≡ taken + length (event q h n).history.polls
+
+-- the outcome of an event run
+abbrev pub outcome_in : Outcome → Option T.Outcome
+outcome_in (Ended waiting) = Some (T.Ended waiting)
+outcome_in (Exited number) = Some (T.Exited number)
+outcome_in (Failed fault function) = Some (T.Failed fault function.items)
+outcome_in (HistoryEnded taken) = Some T.HistoryEnded
+outcome_in (BadHistory poll section) = Some (T.BadHistory section)
+outcome_in _ = None
+
+-- how q's event run stands after n steps, within its bounds on steps and on live cells; polls are counted from 1
+abbrev pub StandsSo : (q : Program) → History → (bound cap n : ℕ) → Outcome → Type 0
+StandsSo q h bound cap n (Ended waiting) = IsOver q h bound cap n (T.Ended waiting)
+StandsSo q h bound cap n (Exited number) = IsOver q h bound cap n (T.Exited number)
+StandsSo q h bound cap n (Failed fault function) = IsOver q h bound cap n (T.Failed fault function.items)
+StandsSo q h bound cap n (HistoryEnded taken) = IsOver q h bound cap n T.HistoryEnded × TookPolls q h n taken
+StandsSo q h bound cap n (BadHistory poll section) = IsOver q h bound cap n (T.BadHistory section) × (taken : ℕ) × (poll ≡ suc taken) × TookPolls q h n taken
+StandsSo q h bound cap n (Stopped m) = (m ≡ n) × IsStopped q h bound cap n
+StandsSo q h bound cap n (Full c m) = (c ≡ cap) × (IsFull q h bound cap n m ⊎ StartsFull q h cap n m)
+StandsSo q h bound cap n Accepted = ⊥
+StandsSo q h bound cap n Translated = ⊥
+
+-- ---- what a run shows
+
+-- why a trace ends
+abbrev pub stop_in : Outcome → Option Stop
+stop_in (Ended waiting) = Some (Over (T.Ended waiting))
+stop_in (Exited number) = Some (Over (T.Exited number))
+stop_in (Failed fault function) = Some (Over (T.Failed fault function.items))
+stop_in (HistoryEnded taken) = Some (Over T.HistoryEnded)
+stop_in (BadHistory poll section) = Some (Over (T.BadHistory section))
+stop_in (Stopped m) = Some AtSteps
+stop_in (Full c m) = Some AtCells
+stop_in Accepted = None
+stop_in Translated = None
+
+-- q's event run was left for this after n steps; nothing is said where it was broken off
+abbrev pub IsLeftBy : (q : Program) → History → (bound cap n : ℕ) → Option Stop → Type 0
+IsLeftBy q h bound cap n (Some (Over outcome)) = IsOver q h bound cap n outcome
+IsLeftBy q h bound cap n (Some AtSteps) = IsStopped q h bound cap n
+IsLeftBy q h bound cap n (Some AtCells) = (m : ℕ) × (IsFull q h bound cap n m ⊎ StartsFull q h cap n m)
+IsLeftBy q h bound cap n None = Unit {0}
+
+-- the trace of these marks, with its last line where the run was left for something; or their output alone
+abbrev pub run_text : (trace : Bool) → Option Stop → List T.Mark → Text
+run_text true last marks = traced last marks
+run_text false last marks = output marks
+
+-- what goes before that: the printed text and a line, where the text is wanted
+abbrev pub heading : (text : Bool) → (printed : Text) → Text
+heading true printed = printed ++ codes "/* run */\n"
+heading false printed = []
+
+-- all that q's event run shows after n steps, behind what goes before it
+abbrev pub shown : (trace text : Bool) → (printed : Text) → (q : Program) → History → (n : ℕ) → Option Stop → Text
+shown trace text printed q h n last = heading text printed ++ run_text trace last (event q h n).trace
+
+-- ---- what is told of a run
+
+-- the report tells the live cells of q's event run after its steps
+abbrev pub HasCells : (q : Program) → History → Report → Type 0
+HasCells q h report = report.cells ≡ live_cells (event q h report.steps)
+
+-- the same, or no state of the run was made
+abbrev pub MayHaveCells : (q : Program) → History → Report → Type 0
+MayHaveCells q h report = HasCells q h report ⊎ ((report.steps ≡ 0) × (report.cells ≡ 0))
+
+-- q's event run stands so after the report's steps, and the bytes are what it shows
+pub record RanWhole (q : Program) (h : History) (options : Options) (text : Bool) (report : Report) (out : Text) (outcome : Outcome) : Type 0 where
+  pub cells : HasCells q h report
+  pub stands : StandsSo q h options.steps options.cells report.steps outcome
+  pub whole : out ≡ shown options.trace text report.printed.items q h report.steps (stop_in outcome)
+
+-- the bytes are a prefix of what q's event run shows after the report's steps, whose states keep to the cap
+pub record RanInPart (q : Program) (h : History) (options : Options) (text : Bool) (report : Report) (out : Text) : Type 0 where
+  pub cells : MayHaveCells q h report
+  pub fits : 0 < report.steps → StaysWithin q h options.cells report.steps
+  pub last : Option Stop
+  pub left : IsLeftBy q h options.steps options.cells report.steps last
+  pub part : IsPrefix out (shown options.trace text report.printed.items q h report.steps last)
+
+-- how a run ended: it stands so, and the bytes are what it shows; or a sink or memory failed, and they are a prefix of that
+abbrev pub RanTo : (q : Program) → History → Options → (text : Bool) → Report → (unwritten : Type 0) → (out : Text) → End → Type 0
+RanTo q h options text report unwritten out (Done outcome) = RanWhole q h options text report out outcome
+RanTo q h options text report unwritten out Unwritten = unwritten × RanInPart q h options text report out
+RanTo q h options text report unwritten out Memory = RanInPart q h options text report out
+RanTo q h options text report unwritten out _ = ⊥
+
+-- no state of a run was made
+pub record NoSteps (report : Report) : Type 0 where
+  pub steps : report.steps ≡ 0
+  pub cells : report.cells ≡ 0
+
+-- how a run by a history's file ended: the history was not told, and no run began; or it ended so
+abbrev pub RanTold : (told : Option Files) → (q : Program) → Options → (text : Bool) → Report → (unread : Text → Type 0) → (unwritten : Type 0) → (out : Text) → End → Type 0
+RanTold told q options text report unread unwritten out end = (NotTold told options.history unread end × NoSteps report × (out ≡ []))
+    ⊎ ((polls : List T.Told) × TellsPolls told options.history polls × RanTo q (history_with polls) options text report unwritten out end)

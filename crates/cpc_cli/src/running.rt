@@ -1,0 +1,198 @@
+//! A run of an event program, by the history that the words name.
+ghost use Rattle.std.specs.Prelude.{◌≡◌, ◌≤◌, ◌<◌, ◌^◌, IfOk, IsErrOf, MatchResult, None, Some, [], map, option_map, false, true};
+ghost use Rattle.cpc_base.specs.Bytes.{Text};
+ghost use Rattle.cpc_base.specs.Outside.{Rose};
+ghost use Rattle.cpc_base.specs.declared.stop.Dialect.TheVariants as D;
+ghost use Rattle.cpc_tree.specs.Erase.{in_table, program_of};
+ghost use Rattle.cpc_meaning.specs.History.{polls_fit};
+ghost use Rattle.cpc_history_marks.specs.Views.{told_of};
+ghost use Rattle.cpc_native_builtins.specs.Served.{is_served_program};
+ghost use Rattle.cpc_run.specs.Outcomes.{outcome_of as run_outcome_of};
+ghost use Rattle.cpc_run.specs.Reports.{IsPrefix, Wrote, history_of};
+ghost use Rattle.cpc_cli_command.specs.Commands.{asked_options};
+ghost use Rattle.cpc_cli_command.specs.Number.{most_cells};
+ghost use Rattle.cpc_cli.specs.declared.answer.End.{End};
+ghost use Rattle.cpc_cli.specs.Counted.{IsCounted};
+ghost use Rattle.cpc_cli.specs.Ran.{NoSteps, NotTold, RanTo, RanTold, TellsPolls, heading, outcome_in};
+
+use crate::answer::{End, Outcome, Report, Role};
+use crate::reading::HISTORY_LIMIT;
+use cpc_base::{Failed, Name, Names, NoMemory, ReadFault, Shelf, Sink, Stop, read_file, write_all};
+use cpc_check::Checked;
+use cpc_cli_command::Options;
+use cpc_history::read_history;
+use cpc_history_marks::Told;
+use cpc_run::{Ended, Limits, Outcome as RunOutcome, before_bars, run_event};
+use std::alloc::Global;
+
+// Reads the polls of a history's file.
+fn read_polls<F: Shelf>(alloc: Global, name: &str, shelf: &mut F) -> Result<Vec<Told>, End>
+    ensures told { IfOk result (λ polls. TellsPolls (F.files shelf.old) (Some name.now) (map told_of polls.items)) }
+    ensures fits { IfOk result (λ polls. polls_fit (map told_of polls.items) ≡ true) }
+    ensures refused { (end : End) → IsErrOf result end → NotTold (F.files shelf.old) (Some name.now)
+        (λ file. Rose (F.faults shelf.old file) (F.faults shelf.new file)) end }
+    ensures stays { F.files shelf.new ≡ F.files shelf.old }
+{
+    let text = match read_file(alloc, shelf, name, HISTORY_LIMIT) {
+        Ok(text) => text,
+        Err(Stop::Memory) => return Err(End::Memory),
+        Err(Stop::Fault(ReadFault::Unread)) => return Err(End::Unread(Role::History)),
+        Err(Stop::Fault(ReadFault::TooLong)) => return Err(End::TooLong(Role::History)),
+    };
+    match read_history(alloc, text.as_slice()) {
+        Ok(polls) => Ok(polls),
+        Err(Stop::Memory) => Err(End::Memory),
+        Err(Stop::Fault(fault)) => Err(End::BadLine(fault)),
+    }
+}
+
+// The polls of a run: those of the history's file where one is named, and none else.
+fn polls_of<F: Shelf>(alloc: Global, history: Option<&str>, shelf: &mut F) -> Result<Vec<Told>, End>
+    ensures told { IfOk result (λ polls. TellsPolls (F.files shelf.old) (option_map (λ name. name.now) history.entry) (map told_of polls.items)) }
+    ensures fits { IfOk result (λ polls. polls_fit (map told_of polls.items) ≡ true) }
+    ensures refused { (end : End) → IsErrOf result end → NotTold (F.files shelf.old) (option_map (λ name. name.now) history.entry)
+        (λ file. Rose (F.faults shelf.old file) (F.faults shelf.new file)) end }
+    ensures stays { F.files shelf.new ≡ F.files shelf.old }
+{
+    match history {
+        Some(name) => read_polls(alloc, name, shelf),
+        None => Ok(Vec::new(alloc)),
+    }
+}
+
+// Writes what goes before the text of a run: the printed text and a line, where the text is wanted.
+fn write_heading<O: Sink>(text: bool, printed: &[u8], out: &mut O) -> Result<(), Failed>
+    ensures wrote { Wrote (O.taken out.old) (O.taken out.new) (λ o. MatchResult result (λ _. o ≡ heading text printed.now) (λ _. IsPrefix o (heading text printed.now))) }
+    ensures cause { (fault : _) → IsErrOf result fault → Rose (O.faults out.old) (O.faults out.new) }
+    ensures later { O.faults out.old ≤ O.faults out.new }
+{
+    if !text {
+        return Ok(());
+    }
+    match write_all(out, printed) {
+        Ok(()) => match write_all(out, b"/* run */\n") {
+            Ok(()) => Ok(()),
+            Err(fault) => Err(fault),
+        },
+        Err(fault) => Err(fault),
+    }
+}
+
+// The text of a name.
+fn text_of(names: &Names, name: Name) -> &[u8]
+    ensures { result.now ≡ in_table names.now name }
+{
+    match names.text(name) {
+        Some(text) => text,
+        None => b"",
+    }
+}
+
+// How a run that took so many polls is over, with the name of the function that has the fault.
+fn over(alloc: Global, outcome: RunOutcome, polls: u64, names: &Names) -> Result<Outcome, NoMemory>
+    requires { polls < 2 ^ 63 }
+    ensures is { IfOk result (λ o. outcome_in o ≡ Some (run_outcome_of (in_table names.now) outcome)) }
+    ensures counted { IfOk result (λ o. IsCounted polls o) }
+{
+    match outcome {
+        RunOutcome::Ended(waiting) => Ok(Outcome::Ended(waiting)),
+        RunOutcome::Exited(number) => Ok(Outcome::Exited(number)),
+        RunOutcome::Failed(fault, function) => {
+            let shown = before_bars(text_of(names, function));
+            Ok(Outcome::Failed(fault, shown.to_vec(alloc)?))
+        }
+        RunOutcome::HistoryEnded => Ok(Outcome::HistoryEnded(polls)),
+        RunOutcome::BadHistory(section) => Ok(Outcome::BadHistory(polls + 1, section)),
+    }
+}
+
+// Runs an event program that is told these polls, with nothing before its text.
+fn run_bare<O: Sink>(
+    alloc: Global,
+    program: &Checked,
+    polls: &[Told],
+    options: Options<'_>,
+    out: &mut O,
+    report: &mut Report,
+) -> End
+    requires dialect { program.now.dialect ≡ D.Event }
+    requires served { is_served_program (program_of program.now.program) ≡ true }
+    requires some { 1 ≤ options.steps }
+    requires room { options.cells ≤ most_cells }
+    requires polls { polls_fit (map told_of polls.now) ≡ true }
+    ensures ended { Wrote (O.taken out.old) (O.taken out.new) (λ o. RanTo (program_of program.now.program) (history_of polls.now)
+        (asked_options options.entry) false report.new (Rose (O.faults out.old) (O.faults out.new)) o result) }
+    ensures kept { report.new.printed ≡ report.old.printed }
+{
+    let _most = polls.len();
+    let limits = Limits {
+        steps: options.steps,
+        cells: options.cells,
+    };
+    let ran = run_event(alloc, program, limits, polls, options.trace, out);
+    report.steps = ran.steps;
+    report.cells = ran.cells;
+    match ran.ended {
+        Ended::Over(outcome) => match over(alloc, outcome, ran.polls, &program.program.names) {
+            Ok(outcome) => End::Done(outcome),
+            Err(NoMemory) => End::Memory,
+        },
+        Ended::Steps => End::Done(Outcome::Stopped(ran.steps)),
+        Ended::Full(asked) => End::Done(Outcome::Full(options.cells, asked)),
+        Ended::WriteFault => End::Unwritten,
+        Ended::Memory => End::Memory,
+    }
+}
+
+// Runs an event program that is told these polls, and writes what goes before its text.
+fn run_back<O: Sink>(
+    alloc: Global,
+    program: &Checked,
+    polls: &[Told],
+    options: Options<'_>,
+    text: bool,
+    out: &mut O,
+    report: &mut Report,
+) -> End
+    requires dialect { program.now.dialect ≡ D.Event }
+    requires served { is_served_program (program_of program.now.program) ≡ true }
+    requires some { 1 ≤ options.steps }
+    requires room { options.cells ≤ most_cells }
+    requires polls { polls_fit (map told_of polls.now) ≡ true }
+    requires fresh { NoSteps report.old }
+    ensures ended { Wrote (O.taken out.old) (O.taken out.new) (λ o. RanTo (program_of program.now.program) (history_of polls.now)
+        (asked_options options.entry) text report.new (Rose (O.faults out.old) (O.faults out.new)) o result) }
+    ensures kept { report.new.printed ≡ report.old.printed }
+{
+    match write_heading(text, report.printed.as_slice(), out) {
+        Ok(()) => run_bare(alloc, program, polls, options, out, report),
+        Err(Failed) => End::Unwritten,
+    }
+}
+
+/// Reads the history that is named, and runs an event program by it.
+pub(crate) fn run_told<F: Shelf, O: Sink>(
+    alloc: Global,
+    program: &Checked,
+    options: Options<'_>,
+    text: bool,
+    shelf: &mut F,
+    out: &mut O,
+    report: &mut Report,
+) -> End
+    requires dialect { program.now.dialect ≡ D.Event }
+    requires served { is_served_program (program_of program.now.program) ≡ true }
+    requires some { 1 ≤ options.steps }
+    requires room { options.cells ≤ most_cells }
+    requires fresh { NoSteps report.old }
+    ensures ended { Wrote (O.taken out.old) (O.taken out.new) (λ o. RanTold (F.files shelf.old) (program_of program.now.program)
+        (asked_options options.entry) text report.new (λ name. Rose (F.faults shelf.old name) (F.faults shelf.new name))
+        (Rose (O.faults out.old) (O.faults out.new)) o result) }
+    ensures kept { report.new.printed ≡ report.old.printed }
+    ensures stays { F.files shelf.new ≡ F.files shelf.old }
+{
+    match polls_of(alloc, options.history, shelf) {
+        Ok(polls) => run_back(alloc, program, polls.as_slice(), options, text, out, report),
+        Err(end) => end,
+    }
+}
