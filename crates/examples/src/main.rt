@@ -25,26 +25,27 @@ const RUN: [&str; 11] = [
 /// The examples that are read and checked, and have forms that no command runs yet.
 const CHECKED: [&str; 1] = ["server.c"];
 
+/// The examples that wait for what comes from outside, each with the history that tells it.
+const TOLD: [(&str, &str); 1] = [("echo.c", "echo.polls")];
+
 fn never(alloc: Global) -> Calls {
     Calls::new(Vec::new(alloc))
 }
 
-// Does what the command of this word does with one text, which stands in a file of that name.
-fn show(rt: &HostRuntime, word: &str, name: &str) -> anyhow::Result<()> {
+// A file of the examples.
+fn file(rt: &HostRuntime, name: &str) -> anyhow::Result<MemFile> {
+    let bytes = fs::read(rt, name)?;
+    let name = String::from_str(rt.alloc(), name)?;
+    Ok(MemFile { name, bytes })
+}
+
+// Does what these words ask for over these files, and shows what comes of it under a name.
+fn show(rt: &HostRuntime, name: &str, words: &[String], files: Vec<MemFile>) -> anyhow::Result<()> {
     let alloc = rt.alloc();
-    let text = fs::read(rt, name)?;
-    let file = MemFile {
-        name: String::from_str(alloc, name)?,
-        bytes: text,
-    };
-    let mut shelf = MemShelf::new(vec![in alloc; file]?, 4096, never(alloc));
+    let mut shelf = MemShelf::new(files, 4096, never(alloc));
     let mut out = MemSink::new(alloc, 4096, never(alloc));
     let mut err = MemSink::new(alloc, 4096, never(alloc));
-    let words = vec![in alloc;
-        String::from_str(alloc, word)?,
-        String::from_str(alloc, name)?,
-    ]?;
-    let report = cpc_main(alloc, words.as_slice(), &mut shelf, &mut out, &mut err);
+    let report = cpc_main(alloc, words, &mut shelf, &mut out, &mut err);
     let status = report.status;
     println!(rt; "== {name}")?;
     print!(rt; "{}", String::from_utf8_lossy(alloc, out.bytes())?)?;
@@ -53,12 +54,39 @@ fn show(rt: &HostRuntime, word: &str, name: &str) -> anyhow::Result<()> {
     Ok(())
 }
 
+// Does what the command of this word does with one text.
+fn show_text(rt: &HostRuntime, word: &str, name: &str) -> anyhow::Result<()> {
+    let alloc = rt.alloc();
+    let words = vec![in alloc;
+        String::from_str(alloc, word)?,
+        String::from_str(alloc, name)?,
+    ]?;
+    let files = vec![in alloc; file(rt, name)?]?;
+    show(rt, name, words.as_slice(), files)
+}
+
+// Runs a text by its history.
+fn show_told(rt: &HostRuntime, name: &str, history: &str) -> anyhow::Result<()> {
+    let alloc = rt.alloc();
+    let words = vec![in alloc;
+        String::from_str(alloc, "run")?,
+        String::from_str(alloc, name)?,
+        String::from_str(alloc, "--history")?,
+        String::from_str(alloc, history)?,
+    ]?;
+    let files = vec![in alloc; file(rt, name)?, file(rt, history)?]?;
+    show(rt, name, words.as_slice(), files)
+}
+
 fn main(rt: HostRuntime) -> anyhow::Result<()> {
     for name in RUN {
-        show(&rt, "run", name)?;
+        show_text(&rt, "run", name)?;
+    }
+    for (name, history) in TOLD {
+        show_told(&rt, name, history)?;
     }
     for name in CHECKED {
-        show(&rt, "check", name)?;
+        show_text(&rt, "check", name)?;
     }
     Ok(())
 }

@@ -21,6 +21,15 @@ pub struct Setting {
     pub said: u64,
 }
 
+/// The files of a call.
+#[derive(Clone, Copy)]
+pub struct Files<'a> {
+    /// The text, the file `a.c`.
+    pub text: &'a [u8],
+    /// The history, the file `h`, where there is one.
+    pub history: Option<&'a [u8]>,
+}
+
 /// What a call left.
 #[derive(Drop)]
 pub struct Left {
@@ -44,13 +53,26 @@ fn failing(alloc: Global, call: u64) -> Result<Calls, AllocError> {
     Ok(Calls::new(calls))
 }
 
-fn shelf(alloc: Global, text: &[u8], setting: Setting) -> Result<MemShelf, AllocError> {
-    let mut files = Vec::new(alloc);
-    files.push(MemFile {
-        name: String::from_str(alloc, "a.c")?,
-        bytes: text.to_vec(alloc)?,
-    })?;
-    Ok(MemShelf::new(files, setting.most as usize, failing(alloc, setting.read)?))
+fn file(alloc: Global, name: &str, bytes: &[u8]) -> Result<MemFile, AllocError> {
+    Ok(MemFile {
+        name: String::from_str(alloc, name)?,
+        bytes: bytes.to_vec(alloc)?,
+    })
+}
+
+// The shelf that has the text under this name.
+fn shelf(
+    alloc: Global,
+    name: &str,
+    files: Files<'_>,
+    setting: Setting,
+) -> Result<MemShelf, AllocError> {
+    let mut held = Vec::new(alloc);
+    held.push(file(alloc, name, files.text)?)?;
+    if let Some(history) = files.history {
+        held.push(file(alloc, "h", history)?)?;
+    }
+    Ok(MemShelf::new(held, setting.most as usize, failing(alloc, setting.read)?))
 }
 
 // The words of a line; '' is an empty one.
@@ -62,13 +84,17 @@ fn words_of(alloc: Global, line: &str) -> Result<Vec<String>, AllocError> {
     Ok(words)
 }
 
-fn command(alloc: Global, line: &str, text: &[u8], setting: Setting) -> Result<Left, AllocError> {
-    let mut shelf = shelf(alloc, text, setting)?;
+// Makes a call of the command over the objects of this setting.
+fn called(
+    alloc: Global,
+    words: &[String],
+    mut shelf: MemShelf,
+    setting: Setting,
+) -> Result<Left, AllocError> {
     let most = setting.most as usize;
     let mut out = MemSink::new(alloc, most, failing(alloc, setting.put)?);
     let mut err = MemSink::new(alloc, most, failing(alloc, setting.said)?);
-    let words = words_of(alloc, line)?;
-    let report = cpc_main(alloc, words.as_slice(), &mut shelf, &mut out, &mut err);
+    let report = cpc_main(alloc, words, &mut shelf, &mut out, &mut err);
     Ok(Left {
         out: out.bytes().to_vec(alloc)?,
         err: err.bytes().to_vec(alloc)?,
@@ -76,6 +102,46 @@ fn command(alloc: Global, line: &str, text: &[u8], setting: Setting) -> Result<L
         steps: report.steps,
         cells: report.cells,
     })
+}
+
+fn command(
+    alloc: Global,
+    line: &str,
+    files: Files<'_>,
+    setting: Setting,
+) -> Result<Left, AllocError> {
+    let words = words_of(alloc, line)?;
+    called(
+        alloc,
+        words.as_slice(),
+        shelf(alloc, "a.c", files, setting)?,
+        setting,
+    )
+}
+
+// The text is translated, and what is printed stands in the file `b.c` of a call of `exec` with these words.
+fn exec_printed(
+    alloc: Global,
+    line: &str,
+    files: Files<'_>,
+    setting: Setting,
+) -> Result<Left, AllocError> {
+    let printed = command(alloc, "translate a.c", files, setting)?;
+    if printed.status != 0 {
+        return Ok(printed);
+    }
+    let mut words = words_of(alloc, "exec b.c")?;
+    words.append(&mut words_of(alloc, line)?)?;
+    let again = Files {
+        text: printed.out.as_slice(),
+        history: files.history,
+    };
+    called(
+        alloc,
+        words.as_slice(),
+        shelf(alloc, "b.c", again, setting)?,
+        setting,
+    )
 }
 
 // What is left where a stage of reading ends with these bytes.
@@ -144,15 +210,23 @@ fn read_event(alloc: Global, text: &[u8]) -> Result<Left, AllocError> {
     }
 }
 
-/// Makes a call with these words: `:print` prints the text, `:event` reads it as an event program, and all others are
-/// the command's, where the file `a.c` has the text.
+/// Makes a call with these words: `:print` prints the text, `:event` reads it as an event program, `:exec WORDS` gives
+/// `exec` what `translate` prints of it, and all others are the command's, where the file `a.c` has the text.
 ///
 /// # Errors
 /// Where memory is wanting.
-pub fn make(alloc: Global, line: &str, text: &[u8], setting: Setting) -> Result<Left, AllocError> {
+pub fn make(
+    alloc: Global,
+    line: &str,
+    files: Files<'_>,
+    setting: Setting,
+) -> Result<Left, AllocError> {
     match line {
-        ":print" => print_twice(alloc, text),
-        ":event" => read_event(alloc, text),
-        _ => command(alloc, line, text, setting),
+        ":print" => print_twice(alloc, files.text),
+        ":event" => read_event(alloc, files.text),
+        _ => match line.strip_prefix(":exec") {
+            Some(words) => exec_printed(alloc, words, files, setting),
+            None => command(alloc, line, files, setting),
+        },
     }
 }

@@ -8,7 +8,7 @@ use row::Row;
 use std::fs;
 
 /// The files of rows, each with the texts of one subject.
-const FILES: [&str; 19] = [
+const FILES: [&str; 22] = [
     "grammar.rows",
     "printed.rows",
     "rules.rows",
@@ -22,9 +22,12 @@ const FILES: [&str; 19] = [
     "bytes.rows",
     "globals.rows",
     "cells.rows",
+    "bounds.rows",
     "faults.rows",
     "control.rows",
     "threads.rows",
+    "waits.rows",
+    "exec.rows",
     "forms.rows",
     "command.rows",
     "failures.rows",
