@@ -84,7 +84,7 @@ module _ (z : Setting) (native : NativeFacts z) (keeps : KeepsFacts z) (bounds :
       let last : Target = running (world_of w c) (beside bs t) (frame_of g.called e.point entered ∷ over z bounds f l lower pointer result frame r.from) None in
       let frames : List (CallFrame Position) = frame_of f (InGraph l r.back) slots ∷ below in
       path_wider most (let i = enough.goes in let j : 1 + 0 ≤ most = omega arith in j)
-      (row_reached z from x' to last 0 0 refl (walk_one to last e.first (record { is_trace = refl; goes = refl }))
+      (row_reached z from x' to last 0 0 refl (walk_one to last e.first (record { is_trace = refl; goes = refl; runs = refl }))
       (subst (λ y. Reached z y 0 w.trace last) same
       (reached_tidied z native keeps (in_callee g (InGraph l r.back) entered t) 0 w.trace last
       (record {

@@ -1,7 +1,8 @@
 -- The row in which a cps `main` is called: the target calls its `main`, which puts the driver with the first frame into the next round, and takes it there.
-use Rattle.std.proofs.Common.{◌≡◌, ◌⊎◌, inl, ℕ, suc, ◌+◌, ◌≤◌, [], ◌∷◌, Some, None, option_map, refl, sym, arith}
+use Rattle.std.proofs.Common.{◌≡◌, ◌⊎◌, inl, inr, ℕ, suc, ◌+◌, ◌≤◌, [], ◌∷◌, Some, None, option_map, refl, sym, arith}
 use Rattle.cpc_store.specs.declared.values.Class.TheVariants.{Frame}
 use Rattle.cpc_store.specs.Store.{Null, Unset, At as Pointer, Blocks}
+use Rattle.cpc_meaning_matching.specs.Simulation.{More}
 use Rattle.cpc_meaning_matching.proofs.Paths.{path_wider}
 use Rattle.cpc_meaning.specs.Agenda.{new_agenda, begin_round}
 use Rattle.cpc_meaning.specs.Machine.{next}
@@ -10,29 +11,26 @@ use Rattle.cpc_meaning.specs.Threads.{Pending, threads_of}
 use Rattle.cpc_meaning.specs.Events.{CallMain, CallWith}
 use Rattle.cpc_meaning.proofs.Both as B
 use Rattle.cpc_lift_laws.specs.Lifted.{tidy}
+use Rattle.cpc_convert_image_laws.specs.Held.{beside}
 use Rattle.cpc_convert_chain_laws.specs.Chains.{Owns, frame_cells}
 use Rattle.cpc_convert_chain_laws.specs.Driver.{drive_name}
-use Rattle.cpc_convert_chain_laws.specs.Walks.{Walk}
-use Rattle.cpc_convert_chain_laws.proofs.Walks.{walk_append, walk_one, walk_then}
+use Rattle.cpc_convert_chain_laws.specs.Walks.{Finishes}
+use Rattle.cpc_convert_chain_laws.proofs.Walks.{walk_then}
 use Rattle.cpc_convert_laws.specs.Bounds.{Bounds, Enough}
 use Rattle.cpc_convert_laws.specs.Items.{first_saved, Tagged, driven, owned_in}
 use Rattle.cpc_convert_laws.proofs.Entry.{EntryFacts}
 use Rattle.cpc_convert_laws.proofs.Idle.{idle_row}
 use Rattle.cpc_convert_laws.proofs.Putting.{agenda_ready, owns_ready, pending_put}
 use Rattle.cpc_convert_laws.proofs.Relation.{Source, Target, Shared, AgendaFor, source_state, target_state, with_main, Related}
-use Rattle.cpc_convert_laws.proofs.Rows.{RowFor, Shows}
+use Rattle.cpc_convert_laws.proofs.Rows.{RowFor, Near, near_quiet, MainWaits, with_first}
 use Rattle.cpc_convert_laws.proofs.Setting.{Setting, from_form, NativeFacts, KeepsFacts, Known}
 use Rattle.cpc_convert_laws.proofs.Turns.{begin_alike}
-
--- the blocks with the first frame of `main`
-abbrev pub with_first : Setting → Blocks
-with_first z = Some (frame_cells (first_saved z.cut main_name []) Null Unset) ∷ []
 
 -- `main` is a cps function: what stands for it makes its first frame and makes it ready, and then nothing runs
 pub record CpsMain (z : Setting) (bounds : Bounds) : Type 0 where
   pub steps : ℕ
   pub within : steps ≤ bounds.mains
-  pub leads : (w : Shared) → Walk z.target w.trace (suc steps) (target_state w [] None (begin_round (with_main CallMain))) (target_state w (with_first z) None (with_main (CallWith drive_name (Pointer Frame 0 0))))
+  pub leads : (w : Shared) → Finishes z.target w.trace steps (target_state w [] None (begin_round (with_main CallMain))) (target_state w (with_first z) None (with_main (CallWith drive_name (Pointer Frame 0 0))))
 
 module _ (z : Setting) (native : NativeFacts z) (keeps : KeepsFacts z) (bounds : Bounds) (entry : EntryFacts z bounds) (most : ℕ) (enough : Enough bounds most) (main : CpsMain z bounds) (w : Shared) where
   -- the source, and the target at the call of `main`, and before and in the round of the driver
@@ -65,8 +63,12 @@ module _ (z : Setting) (native : NativeFacts z) (keeps : KeepsFacts z) (bounds :
 
   pub cps_main_row : (x' : Source) → Known z from → Known z x' → option_map (tidy z.kept) (next (threads_of (from_form z)) from) ≡ Some x' → RowFor z from x' most to
   cps_main_row x' known known' e =
-      path_wider most (let i = enough.begins in let j = main.within in let k : (suc main.steps + 1) + (5 + bounds.begins) ≤ most = omega arith in k)
-      (walk_then {q = z.target} {trace = w.trace} (Related z.codes z.cut z.there x') (λ t. Shows from t ⊎ Shows x' t) (λ t q. inl (record { trace = sym q.is_trace; outcome = sym q.goes })) (suc main.steps + 1) (5 + bounds.begins) to taken
-      (walk_append (suc main.steps) 1 to waiting taken (main.leads w) (walk_one waiting taken refl (record { is_trace = refl; goes = refl })))
+      path_wider most (let i = enough.begins in let j = main.within in let k : main.steps + (2 + (5 + bounds.begins)) ≤ most = omega arith in k)
+      (walk_then {q = z.target} {trace = w.trace} (Related z.codes z.cut z.there x') (λ t. Near z from t ⊎ Near z x' t) (λ t q. inl (near_quiet z from t refl q)) main.steps (2 + (5 + bounds.begins)) to (main.leads w).before (main.leads w).leads
+      (More (2 + (5 + bounds.begins)) (1 + (5 + bounds.begins)) (main.leads w).before waiting (main.leads w).last (omega arith) (inl (record { trace = refl; outcome = refl; runs = inr (main_there waiting refl refl) }))
+      (More (1 + (5 + bounds.begins)) (5 + bounds.begins) waiting taken refl (omega arith) (inl (record { trace = refl; outcome = refl; runs = inr (main_there taken refl refl) }))
       (idle_row z native keeps bounds entry (5 + bounds.begins) (omega arith) enough.less w (with_first z) (begin_round (with_main (Pending main_name []))) (begin_round (with_main item)) (begin_round (with_main item.callback))
-      (begin_alike main_waits) main_owns (refl, tt) x' known known' e))
+      (begin_alike main_waits) main_owns (refl, tt) x' known known' e))))
+    where
+      main_there : (t : Target) → t.running ≡ None → t.store ≡ beside (with_first z) w.store → MainWaits z from t
+      main_there t rests store = record { shared = w; source = refl; rests = rests; store = store }

@@ -95,7 +95,7 @@ module _ (z : Setting) (native : NativeFacts z) (keeps : KeepsFacts z) (bounds :
           let r = goes p e in
           let same = to_state z f (InGraph l n) slots o w a below x' _ (onwards z native keeps bounds entry f l lower pointer result frame (record w { store = s }) a below changed p) (ap (moved z f (InGraph l n) slots o w a below s changed) e) stepped in
           path_wider most (let i = enough.goes in let j : 1 + rest ≤ most = omega arith in j)
-          (row_reached z from x' to _ 0 rest refl (walk_one _ _ r.first (record { is_trace = refl; goes = refl }))
+          (row_reached z from x' to _ 0 rest refl (walk_one _ _ r.first (record { is_trace = refl; goes = refl; runs = refl }))
           (subst (λ y. Reached z y rest w.trace (running (world_of w c) (beside bs s) (over z bounds f l lower pointer result frame r.from) None)) same
           (onward_reached z native keeps bounds entry f l lower pointer result frame (record w { store = s }) bs a c below h changed r.from p r.onward (subst (λ y. Known z y) (sym same) known))))
 
@@ -105,7 +105,7 @@ module _ (z : Setting) (native : NativeFacts z) (keeps : KeepsFacts z) (bounds :
   breaks_row fault name shown r less x' stepped =
       let same : tidy z.kept (ends (Failed fault (shown_in z.source f)) from) ≡ x' = cc in
       path_wider most (let i = enough.goes in let j : r.steps + 1 ≤ most = omega arith in j)
-      (subst (λ y. RowFor z from y (r.steps + 1) to) same (fault_row z from (tidy z.kept (ends (Failed fault (shown_in z.source f)) from)) to name fault refl (record { is_trace = refl; goes = refl }) refl (ap (λ x. Failed fault x) (sym shown)) r))
+      (subst (λ y. RowFor z from y (r.steps + 1) to) same (fault_row z from (tidy z.kept (ends (Failed fault (shown_in z.source f)) from)) to name fault refl (record { is_trace = refl; goes = refl; runs = refl }) refl (ap (λ x. Failed fault x) (sym shown)) r))
 
   -- ---- what is answered in place
 
@@ -130,7 +130,7 @@ module _ (z : Setting) (native : NativeFacts z) (keeps : KeepsFacts z) (bounds :
             → (p : Option Position) → (from_form z).code.goes f (InGraph l n) t ≡ p → Meet (replied_to z f (InGraph l n) slots o below v b u s changed p) (Gives (running (world_of v d) (beside bs s) (over z bounds f l lower pointer result frame first) None))
         moves t s changed first onward None e = Stuck _
         moves t s changed first onward (Some p) e =
-            BothGive _ _ (GoingOn refl (record { is_trace = refl; goes = refl }) (λ known. onward_reached z native keeps bounds entry f l lower pointer result frame (record v { store = s }) bs b d below beside_it changed first p (onward p e) known))
+            BothGive _ _ (GoingOn refl (record { is_trace = refl; goes = refl; runs = refl }) (λ known. onward_reached z native keeps bounds entry f l lower pointer result frame (record v { store = s }) bs b d below beside_it changed first p (onward p e) known))
 
         by : (r : Answer Act) → Replied z bounds f l lower pointer result frame w bs c n slots o piece o' v.store u r → Meet (replied_of z f (InGraph l n) slots o below v b u r) answer
         by _ ReplyStuck = Stuck _

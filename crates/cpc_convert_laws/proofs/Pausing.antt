@@ -33,7 +33,7 @@ use Rattle.cpc_convert_chain_laws.specs.Walks.{running, idle, FaultsAfter}
 use Rattle.cpc_convert_chain_laws.proofs.Chains.{count_append, chain_push, chain_closed}
 use Rattle.cpc_convert_chain_laws.proofs.Owned.{owns_alloc, owns_order}
 use Rattle.cpc_convert_chain_laws.proofs.Pieces.{drive_finishes}
-use Rattle.cpc_convert_chain_laws.proofs.Walks.{walk_append}
+use Rattle.cpc_convert_chain_laws.proofs.Walks.{finishes_after}
 use Rattle.cpc_convert_laws.specs.Bounds.{Bounds, Enough}
 use Rattle.cpc_convert_laws.specs.Sums.{total}
 use Rattle.cpc_convert_laws.specs.Items.{OneWaits, saved_at, Tagged, driven, ItemFor, ForSuspended, IsUntagged, owned_in}
@@ -47,7 +47,7 @@ use Rattle.cpc_convert_laws.proofs.Items.{count_owned}
 use Rattle.cpc_convert_laws.proofs.Onwards.{Beside}
 use Rattle.cpc_convert_laws.proofs.Putting.{agenda_alloc}
 use Rattle.cpc_convert_laws.proofs.Relation.{Source, Target, Shared, AgendaFor, source_state, world_of, Goes}
-use Rattle.cpc_convert_laws.proofs.Rows.{RowFor, row_marked}
+use Rattle.cpc_convert_laws.proofs.Rows.{RowFor, marked_finished}
 use Rattle.cpc_convert_laws.proofs.Setting.{Setting, from_form, NativeFacts, KeepsFacts, is_common}
 use Rattle.cpc_convert_laws.proofs.Standing.{stack, here, comes_of, settles, to_state, no_state}
 use Rattle.cpc_convert_laws.proofs.Sums.{total_section}
@@ -129,15 +129,10 @@ module _ (z : Setting) (native : NativeFacts z) (keeps : KeepsFacts z) (bounds :
     put_row jobs trace b tags d alike weighs asked =
         let v : Shared = record w { jobs = jobs; trace = trace } in
         let u : Target = running (world_of v d) (beside more w.store) (asked.from ∷ alone_there) None in
-        path_wider most (let i = enough.goes in let j = p.within in let k : p.steps + suc (bounds.onward + 3) ≤ most = omega arith in k)
-        (row_marked z from (source_state v None b) to _ u p.steps (bounds.onward + 3) refl refl p.leads asked.first (record { is_trace = refl; goes = refl })
-        (record {
-          steps = asked.steps + 3;
-          within = let i = asked.within in omega arith;
-          last = idle (world_of v d) (beside more w.store);
-          leads = walk_append asked.steps 3 u (running (world_of v d) (beside more w.store) alone_there (Some Null)) (idle (world_of v d) (beside more w.store)) asked.leads (drive_finishes z.target entry.driver (world_of v d) (beside more w.store) pointer result frame);
-          ends = Goes v more None None [] b tags d NothingRuns alike (owns_put tags weighs) (fresh_more bs (Some cells) refl h.fresh);
-        }))
+        path_wider most (let i = enough.goes in let j = p.within in let l = asked.within in let k : p.steps + suc ((asked.steps + 2) + 1) ≤ most = omega arith in k)
+        (marked_finished z from (source_state v None b) to _ u (idle (world_of v d) (beside more w.store)) p.steps (asked.steps + 2) refl refl p.leads asked.first (record { is_trace = refl; goes = refl; runs = refl })
+        (finishes_after asked.steps 2 u (running (world_of v d) (beside more w.store) alone_there (Some Null)) (idle (world_of v d) (beside more w.store)) asked.leads (drive_finishes z.target entry.driver (world_of v d) (beside more w.store) pointer result frame))
+        (Goes v more None None [] b tags d NothingRuns alike (owns_put tags weighs) (fresh_more bs (Some cells) refl h.fresh)))
       where
         alone_there : List (CallFrame Point)
         alone_there = driving pointer result frame ∷ []
@@ -148,7 +143,7 @@ module _ (z : Setting) (native : NativeFacts z) (keeps : KeepsFacts z) (bounds :
         let r : FaultsAfter z.target w.trace p.asker.function fault to = record { steps = p.steps; last = _; leads = p.leads; faults = refuses } in
         path_wider most (let i = enough.goes in let j = p.within in let k : p.steps + 1 ≤ most = omega arith in k)
         (subst (λ y. RowFor z from y (p.steps + 1) to) same
-        (fault_row z from (tidy z.kept (ends (Failed fault (shown_in z.source f)) from)) to p.asker.function fault refl (record { is_trace = refl; goes = refl }) refl (ap (λ x. Failed fault x) (sym p.shown)) r))
+        (fault_row z from (tidy z.kept (ends (Failed fault (shown_in z.source f)) from)) to p.asker.function fault refl (record { is_trace = refl; goes = refl; runs = refl }) refl (ap (λ x. Failed fault x) (sym p.shown)) r))
 
   -- ---- waits
 

@@ -33,8 +33,8 @@ use Rattle.cpc_convert_laws.proofs.Fresh.{fresh_top, fresh_taken}
 use Rattle.cpc_convert_laws.proofs.Inside.{inside, GivesBack, ReturnsValue}
 use Rattle.cpc_convert_laws.proofs.Items.{count_owned, agenda_changed, item_kept}
 use Rattle.cpc_convert_laws.proofs.Onwards.{Beside}
-use Rattle.cpc_convert_laws.proofs.Relation.{Source, Target, Shared, AgendaFor, source_state, world_of, Goes}
-use Rattle.cpc_convert_laws.proofs.Rows.{RowFor, Reached, row_reached}
+use Rattle.cpc_convert_laws.proofs.Relation.{Source, Target, Shared, AgendaFor, source_state, world_of, Related, Goes}
+use Rattle.cpc_convert_laws.proofs.Rows.{RowFor, Reached, row_reached, row_finished}
 use Rattle.cpc_convert_laws.proofs.Setting.{Setting, from_form, NativeFacts, KeepsFacts, Known}
 use Rattle.cpc_convert_laws.proofs.Standing.{stack, here, comes_of, settles, to_state}
 use Rattle.cpc_convert_laws.proofs.Taking.{given_value, goes_on}
@@ -73,17 +73,12 @@ module _ (z : Setting) (native : NativeFacts z) (keeps : KeepsFacts z) (bounds :
         let ended = chain_ended bs lower h.owned (subst (λ fs. Chain bs fs lower h.owned) bare h.chain) in
         let same = to_state z f (InGraph l n) slots o w a below x' (returned below) (source_state (record w { store = t }) None a) (ap returned none) stepped in
         let g = r.ends ended.0 in
-        path_wider most (let i = enough.goes in let k = g.within in let j : suc g.steps + 3 ≤ most = omega arith in j)
-        (row_reached z from x' to (running (world_of w c) (beside bs t) alone_there (Some Null)) g.steps 3 refl
+        path_wider most (let i = enough.goes in let k = g.within in let j : suc g.steps + (2 + 1) ≤ most = omega arith in j)
+        (row_finished z from x' to (running (world_of w c) (beside bs t) alone_there (Some Null)) (idle (world_of w c) (beside bs t)) (suc g.steps) 2 refl
         (subst (λ p. Walk z.target w.trace (suc g.steps) to (running (world_of w c) (beside bs t) alone_there (Some p))) ended.0 g.leads)
-        (subst (λ y. Reached z y 3 w.trace (running (world_of w c) (beside bs t) alone_there (Some Null))) same
-        (record {
-          steps = 3;
-          within = omega arith;
-          last = idle (world_of w c) (beside bs t);
-          leads = drive_finishes z.target entry.driver (world_of w c) (beside bs t) pointer result frame;
-          ends = Goes (record w { store = t }) bs None None [] a h.tags c NothingRuns h.alike (subst (λ ns. Owns bs (ns ++ owned_in h.tags)) ended.1 h.owns) h.fresh;
-        })))
+        (drive_finishes z.target entry.driver (world_of w c) (beside bs t) pointer result frame)
+        (subst (λ y. Related z.codes z.cut z.there y (idle (world_of w c) (beside bs t))) same
+        (Goes (record w { store = t }) bs None None [] a h.tags c NothingRuns h.alike (subst (λ ns. Owns bs (ns ++ owned_in h.tags)) ended.1 h.owns) h.fresh)))
 
     -- a frame is below: its piece takes it up, with the value
     module _ (stepped : Stepped) (y : Text) (m : ℕ) (its : List Slot) (others : List (CallFrame Position)) (more : List Saved) (is_below : below ≡ frame_of y (InGraph (At m) m) its ∷ others) (is_saved : h.saved ≡ saved_at z.cut y its m ∷ more) (waits : FramesWait z.cut others more) where

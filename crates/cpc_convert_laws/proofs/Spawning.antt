@@ -137,7 +137,7 @@ module _ (z : Setting) (native : NativeFacts z) (keeps : KeepsFacts z) (bounds :
         let same : tidy z.kept (ends (Failed fault (shown_in z.source f)) from) ≡ x' = to_same (ap (option_map (tidy z.kept)) (is_step (Faults fault) e)) in
         path_wider most (let m = enough.goes in let j : 0 + 1 ≤ most = omega arith in j)
         (subst (λ y. RowFor z from y (0 + 1) to) same
-        (fault_row z from (tidy z.kept (ends (Failed fault (shown_in z.source f)) from)) to f fault refl (record { is_trace = refl; goes = refl }) refl (ap (λ x. Failed fault x) (sym (native.shown f same_function)))
+        (fault_row z from (tidy z.kept (ends (Failed fault (shown_in z.source f)) from)) to f fault refl (record { is_trace = refl; goes = refl; runs = refl }) refl (ap (λ x. Failed fault x) (sym (native.shown f same_function)))
         (record { steps = 0; last = to; leads = Stay to; faults = target_step (Faults fault) i })))
       where
         same_function : z.cut.whole f ≡ true
@@ -174,8 +174,8 @@ module _ (z : Setting) (native : NativeFacts z) (keeps : KeepsFacts z) (bounds :
               steps = r.0.steps + 1;
               source = asks ∙ ap (λ p. settles z f (InTree b) slots o w a xs (asked p)) (goes ∙ ap (λ p. Some p) on.1);
               leads =
-                  walk_cons (r.0.steps + 1) _ _ _ (walk_one _ _ (target_step (Gives (Enters h.spawner vs)) i ∙ enters_step vs r.0) (record { is_trace = refl; goes = refl }))
-                  (walk_append r.0.steps 1 _ _ _ r.0.leads (walk_one _ _ (arrives_step (world_of w (ready_one (CallWith drive_name (Pointer Frame (length bs) 0)) c)) (beside (bs ++ Some (frame_cells (first_saved z.cut h.spawned vs) Null Unset) ∷ []) w.store) on.0 on.2) (record { is_trace = refl; goes = refl })));
+                  walk_cons (r.0.steps + 1) _ _ _ (walk_one _ _ (target_step (Gives (Enters h.spawner vs)) i ∙ enters_step vs r.0) (record { is_trace = refl; goes = refl; runs = refl }))
+                  (walk_append r.0.steps 1 _ _ _ r.0.leads (walk_one _ _ (arrives_step (world_of w (ready_one (CallWith drive_name (Pointer Frame (length bs) 0)) c)) (beside (bs ++ Some (frame_cells (first_saved z.cut h.spawned vs) Null Unset) ∷ []) w.store) on.0 on.2) (record { is_trace = refl; goes = refl; runs = refl })));
             } in
             path_wider most (let m = enough.goes in let less = r.1 in let j : suc (r.0.steps + 1) ≤ most = omega arith in j)
             (spawn_row z native keeps f b slots xs ys o w bs owned a tags c s same held stacks g owns fresh x' stepped)

@@ -31,7 +31,7 @@ use Rattle.cpc_convert_laws.proofs.Relation.{Source, Target, Shared, AgendaFor, 
 use Rattle.cpc_convert_laws.proofs.Setting.{Setting, from_form, NativeFacts, KeepsFacts}
 use Rattle.cpc_convert_laws.proofs.Tidy.{related_tidied}
 use Rattle.cpc_convert_laws.proofs.Fresh.{fresh_more}
-use Rattle.cpc_convert_laws.proofs.Rows.{RowFor, Shows}
+use Rattle.cpc_convert_laws.proofs.Rows.{RowFor, Near, near_quiet}
 use Rattle.cpc_convert_laws.proofs.Putting.{agenda_alloc, agenda_ready, owns_ready, pending_put, stacks_alloc}
 
 -- a walk leads from a quiet state to a quiet one
@@ -45,7 +45,7 @@ pub walk_row : (z : Setting) → NativeFacts z → KeepsFacts z → (x s x' : So
 walk_row z native keeps x s x' y t n going i r e walk =
     let e' : Some (tidy z.kept s) ≡ Some x' = sym (ap (option_map (tidy z.kept)) i) ∙ e in
     let j : tidy z.kept s ≡ x' = cc in
-    walk_ends {q = z.target} {trace = x.trace} (Related z.codes z.cut z.there x') (λ u. Shows x u ⊎ Shows x' u) (λ u q. inl (record { trace = sym q.is_trace; outcome = going ∙ sym q.goes })) n y t walk
+    walk_ends {q = z.target} {trace = x.trace} (Related z.codes z.cut z.there x') (λ u. Near z x u ⊎ Near z x' u) (λ u q. inl (near_quiet z x u going q)) n y t walk
     (subst (λ s. Related z.codes z.cut z.there s t) j (related_tidied z native keeps s t r))
 
 -- some steps to a fault that the source has in this step
@@ -53,7 +53,7 @@ pub fault_row : (z : Setting) (x x' : Source) (y : Target) (f : Text) (fault : F
     → (a : FaultsAfter z.target x.trace f fault y) → RowFor z x x' (a.steps + 1) y
 fault_row z x x' y f fault going quiet same failed a =
     let last = walk_quiet z.target x.trace a.steps y a.last quiet a.leads in
-    walk_then {q = z.target} {trace = x.trace} (Related z.codes z.cut z.there x') (λ u. Shows x u ⊎ Shows x' u) (λ u q. inl (record { trace = sym q.is_trace; outcome = going ∙ sym q.goes })) a.steps 1 y a.last a.leads
+    walk_then {q = z.target} {trace = x.trace} (Related z.codes z.cut z.there x') (λ u. Near z x u ⊎ Near z x' u) (λ u q. inl (near_quiet z x u going q)) a.steps 1 y a.last a.leads
     (Last 1 a.last (ends (Failed fault (before_bars f)) a.last) a.faults (omega arith)
     (IsOver x' (ends (Failed fault (before_bars f)) a.last) (ap is_over failed) (last.is_trace ∙ sym same) (sym failed)))
 
