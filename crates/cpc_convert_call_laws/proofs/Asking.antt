@@ -1,5 +1,5 @@
 -- Calls in place: of primitives that do not wait, and of the host. The piece asks for what the source asks, and takes the answer as it does.
-use Rattle.std.proofs.Common.{◌≡◌, ℕ, suc, ◌+◌, ◌<◌, ◌≤◌, Bool, true, List, [], ◌∷◌, ◌++◌, length, Option, Some, None, refl, sym, ◌∙◌, ap, subst}
+use Rattle.std.proofs.Common.{◌≡◌, ℕ, suc, ◌+◌, ◌<◌, ◌≤◌, Bool, true, List, [], ◌∷◌, ◌++◌, length, Option, Some, None, refl, sym, ◌∙◌, ap, subst, arith}
 use Rattle.std.specs.List.{All}
 use Rattle.cpc_base.specs.Bytes.{Text}
 use Rattle.cpc_base.specs.declared.stop.Dialect.TheVariants as D
@@ -38,7 +38,8 @@ use Rattle.cpc_lift_laws.specs.Used.{used_in, used_among, used_if}
 use Rattle.cpc_convert_chain_laws.specs.Driver.{driving}
 use Rattle.cpc_convert_chain_laws.specs.Flat.{point_at}
 use Rattle.cpc_convert_chain_laws.specs.Frames.{at as Here_at}
-use Rattle.cpc_convert_chain_laws.specs.Walks.{Stay, frame_at}
+use Rattle.cpc_convert_chain_laws.proofs.Walks.{stay}
+use Rattle.cpc_convert_chain_laws.specs.Walks.{frame_at}
 use Rattle.cpc_convert_chain_laws.proofs.AtLine.{line_path, line_found, line_scope, line_next}
 use Rattle.cpc_convert_event.specs.FlatLaws.{piece_count}
 use Rattle.cpc_convert_event.specs.Lines.{Does, goes, node_lines}
@@ -58,7 +59,7 @@ use Rattle.cpc_convert_piece_laws.specs.Rows.{RowAt, row_index}
 use Rattle.cpc_convert_piece_laws.specs.Stood.{NodeAt, LocalsStand}
 use Rattle.cpc_convert_piece_laws.proofs.Acting.{given_only, found_known, kept_here, source_act, lines_are}
 use Rattle.cpc_convert_piece_laws.proofs.Environment.{InLocal, Used, names_mean, scope_is, changed_stand}
-use Rattle.cpc_convert_piece_laws.proofs.Frames.{Target, code, body, scope, is_code}
+use Rattle.cpc_convert_piece_laws.proofs.Frames.{same_registers, Target, code, body, scope, is_code}
 use Rattle.cpc_convert_piece_laws.proofs.Onwards.{z}
 use Rattle.cpc_convert_piece_laws.proofs.Places.{FirstLine}
 use Rattle.cpc_convert_piece_laws.proofs.Rowed.{OnlyGoes, DoesHere, standing_piece, row_puts, others, rest, first, first_fault, behind}
@@ -205,6 +206,7 @@ module _ (p : Program) (facts : ProgramKnown p) (h : Convertible p) (fine : Call
           (at_line (λ y. answered (trees q) (beside bs t) (record { frames = y ∷ driving pointer result frame ∷ []; arriving = None }) v ≡ Gives (Went (beside bs u) (record { frames = frame_at (piece_name f.called l) (point_at (suc k) left) b ∷ driving pointer result frame ∷ []; arriving = None })))
           (answer_goes q (piece_name f.called l) fn (driving pointer result frame ∷ []) (is_code p f known l owner) slots' (beside bs t) (line_path fn bd k here j x left line.line) here (line_scope fn bd k here j x left line.line (enter line.line.statement)) (Simple x)
           (line_found fn bd k here j x left line.line) None v d (beside bs u) b (point_at (suc k) left) e (line_next fn bd k here j x left line.line d refl refl)))
+          (same_registers p r l slots a slots' b lower stands stand)
           (λ to i.
           behind p fine given bounds f known enough begins l owner shown lower pointer result frame n at has row (Plain x) true (row_puts p fine given bounds f known enough begins l owner shown lower pointer result frame n at has row (Does x ∷ goes at.node.yes) lines) refl refl a b stand bs u to
           (ap (λ h. (split_form p).code.goes f.called (InGraph l n) h) (sym is) ∙ i))
@@ -255,7 +257,7 @@ module _ (p : Program) (facts : ProgramKnown p) (h : Convertible p) (fine : Call
         given_both _ _ (BothAsk a all) i e = Requests a i all (asks_same a e) (λ t v y after autos is_held asked. replies t v after autos is_held y asked)
     does _ _ only (BothFault fault) e =
         Breaks fault (piece_name f.called l) shown
-        (record { steps = 0; last = _; leads = Stay _; faults = first_fault p fine given bounds f known enough begins l owner shown lower pointer result frame n at has row x more left line (world_of w c) slots' (beside bs w.store) (Simple x) refl fault e }) begins
+        (record { steps = 0; grown = 0; last = _; leads = stay _; faults = first_fault p fine given bounds f known enough begins l owner shown lower pointer result frame n at has row x more left line (world_of w c) slots' (beside bs w.store) (Simple x) refl fault e }) begins (omega arith)
     does _ _ only (Stuck y) e = Sticks
 
     -- a call in place

@@ -1,5 +1,5 @@
 -- Calls that are left over a frame: the native function is entered, and the piece waits at the image of the call.
-use Rattle.std.proofs.Common.{◌≡◌, ℕ, ◌+◌, ◌<◌, ◌≤◌, true, List, [], ◌∷◌, ◌++◌, length, Option, Some, None, option_map, refl, sym, ◌∙◌, ap, subst}
+use Rattle.std.proofs.Common.{◌≡◌, ℕ, ◌+◌, ◌<◌, ◌≤◌, true, List, [], ◌∷◌, ◌++◌, length, Option, Some, None, option_map, refl, sym, ◌∙◌, ap, subst, arith}
 use Rattle.std.specs.List.{All}
 use Rattle.cpc_base.specs.Bytes.{Text}
 use Rattle.cpc_store.specs.Store.{Value, Blocks, Store}
@@ -38,7 +38,8 @@ use Rattle.cpc_lift_laws.specs.Used.{used_in, used_among, used_if}
 use Rattle.cpc_convert_chain_laws.specs.Driver.{driving}
 use Rattle.cpc_convert_chain_laws.specs.Flat.{point_at}
 use Rattle.cpc_convert_chain_laws.specs.Frames.{at as Here_at}
-use Rattle.cpc_convert_chain_laws.specs.Walks.{Stay, running, frame_at}
+use Rattle.cpc_convert_chain_laws.proofs.Walks.{stay}
+use Rattle.cpc_convert_chain_laws.specs.Walks.{running, frame_at}
 use Rattle.cpc_convert_chain_laws.proofs.AtLine.{line_path, line_found, line_scope}
 use Rattle.cpc_convert_chain_laws.proofs.Steps.{step_enters}
 use Rattle.cpc_convert_event.specs.FlatLaws.{piece_count}
@@ -224,7 +225,7 @@ module _ (p : Program) (facts : ProgramKnown p) (h : Convertible p) (fine : Call
         given_both _ _ (BothAsk rq _) i e = absurd i
     does _ _ only (BothFault fault) e =
         Breaks fault (piece_name f.called l) shown
-        (record { steps = 0; last = _; leads = Stay _; faults = first_fault p fine given bounds f known enough begins l owner shown lower pointer result frame n at has row x behind left line (world_of w c) slots' (beside bs w.store) (Simple x) refl fault e }) begins
+        (record { steps = 0; grown = 0; last = _; leads = stay _; faults = first_fault p fine given bounds f known enough begins l owner shown lower pointer result frame n at has row x behind left line (world_of w c) slots' (beside bs w.store) (Simple x) refl fault e }) begins (omega arith)
     does _ _ only (Stuck v) e = Sticks
 
     enters_here : Doing calls

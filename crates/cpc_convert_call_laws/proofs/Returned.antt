@@ -1,5 +1,5 @@
 -- A value arrives at a call that was left over a frame: the image of the call takes it as the call does, and control goes on behind it.
-use Rattle.std.proofs.Common.{◌≡◌, ℕ, suc, ◌+◌, ◌<◌, ◌≤◌, Bool, true, not, List, [], ◌∷◌, length, Option, Some, None, refl, sym, ◌∙◌, ap, subst}
+use Rattle.std.proofs.Common.{◌≡◌, ℕ, suc, ◌+◌, ◌<◌, ◌≤◌, Bool, true, not, List, [], ◌∷◌, length, Option, Some, None, refl, sym, ◌∙◌, ap, subst, arith}
 use Rattle.std.specs.List.{All}
 use Rattle.cpc_base.specs.Bytes.{Text}
 use Rattle.cpc_num.specs.declared.kinds.Fault.{Fault}
@@ -32,7 +32,8 @@ use Rattle.cpc_forms.specs.Split.{Position, InGraph, split_form}
 use Rattle.cpc_convert_chain_laws.specs.Driver.{driving}
 use Rattle.cpc_convert_chain_laws.specs.Flat.{point_at}
 use Rattle.cpc_convert_chain_laws.specs.Frames.{at as Here_at}
-use Rattle.cpc_convert_chain_laws.specs.Walks.{Stay, running, frame_at}
+use Rattle.cpc_convert_chain_laws.proofs.Walks.{stay}
+use Rattle.cpc_convert_chain_laws.specs.Walks.{running, frame_at}
 use Rattle.cpc_convert_chain_laws.proofs.AtLine.{line_path, line_found, line_scope, line_next}
 use Rattle.cpc_convert_event.specs.FlatLaws.{piece_count}
 use Rattle.cpc_convert_event.specs.Lines.{Does, goes, behind_arrival, node_lines}
@@ -51,7 +52,7 @@ use Rattle.cpc_convert_piece_laws.specs.Rows.{RowAt, row_index}
 use Rattle.cpc_convert_piece_laws.specs.Stood.{NodeAt, LocalsStand, CallAt, call_point}
 use Rattle.cpc_convert_piece_laws.proofs.Acting.{given_only, kept_here, source_act, lines_are}
 use Rattle.cpc_convert_piece_laws.proofs.Environment.{InLocal, Used, names_mean, scope_is, changed_stand}
-use Rattle.cpc_convert_piece_laws.proofs.Frames.{Target, code, body, scope, is_code}
+use Rattle.cpc_convert_piece_laws.proofs.Frames.{same_registers, Target, code, body, scope, is_code}
 use Rattle.cpc_convert_piece_laws.proofs.Nodes.{piece_shown}
 use Rattle.cpc_convert_piece_laws.proofs.Onwards.{z}
 use Rattle.cpc_convert_piece_laws.proofs.Places.{FirstLine}
@@ -200,6 +201,7 @@ module _ (p : Program) (facts : ProgramKnown p) (fine : CallFrame Position → O
       (λ to i. record {
         from = frame_at (piece_name f.called l) (point_at (suc k) left) b;
         first = step_goes d t b e;
+        same = same_registers p r l slots a slots' b lower stands after;
         onward = behind_framed p fine given bounds f known enough begins l owner shown lower pointer result frame n at has row call.manner m arrival there x lines refl refl a b after bs t to (ap (λ h. (split_form p).code.goes f.called (InGraph l m) h) (sym is) ∙ i);
       })
 
@@ -213,7 +215,7 @@ module _ (p : Program) (facts : ProgramKnown p) (fine : CallFrame Position → O
       given_both _ _ (BothEnter g g' vs _ _ _) only e = absurd (let i = (only _ refl).2 in cc)
       given_both _ _ (BothLeave u t _ _) only e = absurd (let i = (only _ refl).2 in cc)
       given_both _ _ (BothAsk rq _) only e = absurd (let i = (only _ refl).2 in cc)
-  does _ _ only (BothFault fault) e = Breaks fault (piece_name f.called l) shown (record { steps = 0; last = _; leads = Stay _; faults = step_faults fault e }) begins
+  does _ _ only (BothFault fault) e = Breaks fault (piece_name f.called l) shown (record { steps = 0; grown = 0; last = _; leads = stay _; faults = step_faults fault e }) begins (omega arith)
   does _ _ only (Stuck y) e = Sticks
 
   value_taken : Doing taken

@@ -21,6 +21,7 @@ use Rattle.cpc_meaning.specs.Events.{Callback, CallWith, callbacks}
 use Rattle.cpc_meaning.specs.Machine.{next}
 use Rattle.cpc_meaning.specs.Plain.{Frame as CallFrame, context}
 use Rattle.cpc_meaning.specs.Requests.{Request, ToSpawn, arguments}
+use Rattle.cpc_meaning.specs.Runs.{slots_registers}
 use Rattle.cpc_meaning.specs.Start.{before_bars}
 use Rattle.cpc_meaning.specs.Threads.{is_cps_mode, shown_in}
 use Rattle.cpc_meaning.specs.Trees.{trees}
@@ -39,10 +40,10 @@ use Rattle.cpc_forms.specs.Split.{Position, InGraph, split_form}
 use Rattle.cpc_convert_chain_laws.specs.Driver.{drive_name, driving}
 use Rattle.cpc_convert_chain_laws.specs.Flat.{point_at}
 use Rattle.cpc_convert_chain_laws.specs.Frames.{at as Here_at}
-use Rattle.cpc_convert_chain_laws.specs.Walks.{Walk, Stay, running, frame_at}
+use Rattle.cpc_convert_chain_laws.specs.Walks.{Rise, running, frame_at}
 use Rattle.cpc_convert_chain_laws.proofs.AtLine.{line_path, line_found, line_scope, line_next}
 use Rattle.cpc_convert_chain_laws.proofs.Steps.{step_enters}
-use Rattle.cpc_convert_chain_laws.proofs.Walks.{walk_one, walk_append, walk_cons}
+use Rattle.cpc_convert_chain_laws.proofs.Walks.{stay, rise_one, rise_cons, rise_append}
 use Rattle.cpc_convert_event.specs.FillLaws.{AllFit}
 use Rattle.cpc_convert_event.specs.FlatLaws.{piece_count}
 use Rattle.cpc_convert_event.specs.Lines.{Does, goes, save_of, node_lines}
@@ -233,10 +234,24 @@ module _ (p : Program) (facts : ProgramKnown p) (h : Convertible p) (fine : Call
           arrival_goes q (piece_name f.called l) fn (driving pointer result frame ∷ []) (is_code p f known l owner) slots' (beside blocks w.store) (line_path fn bd k here count x left line.line) here (line_scope fn bd k here count x left line.line (enter line.line.statement))
           (Simple x) (line_found fn bd k here count x left line.line) (world_of w ready) Unset true (beside blocks w.store) slots' (point_at (suc k) left) refl (line_next fn bd k here count x left line.line true refl refl)
 
-      leads : Walk q w.trace (suc (runs.steps + 1)) (running (world_of w c) (beside bs w.store) (piece ∷ driving pointer result frame ∷ []) None) (running (world_of w ready) (beside blocks w.store) (from ∷ driving pointer result frame ∷ []) None)
+      -- the registers of the spawner, and its steps
+      abbrev cells : ℕ
+      cells = slots_registers runs.entered + (runs.steps + 0)
+
+      leads : Rise q w.trace (suc (runs.steps + 1)) cells (running (world_of w c) (beside bs w.store) (piece ∷ driving pointer result frame ∷ []) None) (running (world_of w ready) (beside blocks w.store) (from ∷ driving pointer result frame ∷ []) None)
       leads =
-          walk_cons (runs.steps + 1) _ _ _ (walk_one _ _ first_enters (record { is_trace = refl; goes = refl; runs = refl }))
-          (walk_append runs.steps 1 _ _ _ runs.leads (walk_one _ _ last_arrives (record { is_trace = refl; goes = refl; runs = refl })))
+          rise_cons (runs.steps + 1) (slots_registers runs.entered) (runs.steps + 0) _ _ _ (rise_one (slots_registers runs.entered) _ _ first_enters (record { is_trace = refl; goes = refl; runs = refl }) (omega arith))
+          (rise_append runs.steps 1 runs.steps 0 _ _ _ runs.leads (rise_one 0 _ _ last_arrives (record { is_trace = refl; goes = refl; runs = refl }) (omega arith)))
+
+      cells_few : cells ≤ bounds.leads
+      cells_few =
+          let few = passed_few g in
+          let counted = map_length save_of (passed g) in
+          let r = spawner_runs p h g cps vs fits w bs c back (driving pointer result frame ∷ []) (Stood p) fine given in
+          let e = r.1 in
+          let i = r.2 in
+          let most = wide g cps in
+          omega (arith, few, counted, e, i, most)
 
       within : runs.steps + 1 < bounds.leads
       within =
@@ -253,6 +268,8 @@ module _ (p : Program) (facts : ProgramKnown p) (h : Convertible p) (fine : Call
             steps = runs.steps + 1;
             within = within;
             from = from;
+            grown = cells;
+            few = cells_few;
             leads = leads;
             onward = λ to e.
                 behind p fine given bounds f known enough begins l owner shown lower pointer result frame n at has row (Plain x) true (row_puts p fine given bounds f known enough begins l owner shown lower pointer result frame n at has row (Does x ∷ goes at.node.yes) lines) refl refl slots slots' stands
@@ -268,7 +285,7 @@ module _ (p : Program) (facts : ProgramKnown p) (h : Convertible p) (fine : Call
         given_both _ _ (Spawned vs all) e d = does_spawn vs (fitting vs e) d
     does _ _ (BothFault fault) e d =
         Breaks fault (piece_name f.called l) shown
-        (record { steps = 0; last = _; leads = Stay _; faults = first_fault p fine given bounds f known enough begins l owner shown lower pointer result frame n at has row x more left line (world_of w c) slots' (beside bs w.store) (Simple x) refl fault d }) begins
+        (record { steps = 0; grown = 0; last = _; leads = stay _; faults = first_fault p fine given bounds f known enough begins l owner shown lower pointer result frame n at has row x more left line (world_of w c) slots' (beside bs w.store) (Simple x) refl fault d }) begins (omega arith)
     does _ _ (Stuck y) e d = Sticks
 
     spawn_here : (result' : Ty) → Doing (act (context (split_form p) w.store (frame_of f.called (InGraph l n) slots)) result' o ((split_form p).code.stood f.called (InGraph l n)))

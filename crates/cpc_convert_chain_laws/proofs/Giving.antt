@@ -14,8 +14,8 @@ use Rattle.cpc_tree.specs.declared.program.Mode.TheVariants.{Native}
 use Rattle.cpc_meaning.specs.Plain.{Frame as CallFrame}
 use Rattle.cpc_convert_chain_laws.specs.Flat.{before, Stands, LineAt}
 use Rattle.cpc_convert_chain_laws.specs.Frames.{at, PointsTo, Holds, asks_block, pointed_slots, fills_call, Give, gives_one, Giving, NoGiving, AndGiving, GivingFaults, FirstFaults, LaterFaults}
-use Rattle.cpc_convert_chain_laws.specs.Walks.{World, Walk, Stay, at_line, FaultsAfter}
-use Rattle.cpc_convert_chain_laws.proofs.Walks.{walk_cons, walk_append}
+use Rattle.cpc_convert_chain_laws.specs.Walks.{World, Rise, Walk, at_line, FaultsAfter}
+use Rattle.cpc_convert_chain_laws.proofs.Walks.{stay, rise_append, rise_more, rise_then_level, level_cons, walk_cons, walk_append}
 use Rattle.cpc_convert_chain_laws.proofs.AtLine.{line_path, line_found, line_scope, line_passed}
 use Rattle.cpc_convert_chain_laws.proofs.Steps.{step_faults}
 use Rattle.cpc_convert_chain_laws.proofs.Making.{heads_frame, new_field_step, append_one, length_one}
@@ -23,9 +23,9 @@ use Rattle.cpc_convert_chain_laws.proofs.Making.{heads_frame, new_field_step, ap
 module _ (q : Program) (w : World) (fn : Text) (g : Function) (body : Stmts) (below : List (CallFrame Point)) (is_g : function_named q fn ≡ Some g) (scope : Scope) (n : ℕ) (rest : Stmts) (slots : List Slot) (s : Store) (f : Expr) (tag : Text) (points : (t : Store) → PointsTo q scope slots t f tag (next_block Frame s)) where
   -- as many steps as there are arguments
   pub gives_walk : (i k : ℕ) (done : List Value) (ps : List Give) (vs : List Value) → i ≡ length done → Giving q scope slots tag s i ps vs → Stands g body k scope n (before (map (gives_one f) ps) rest)
-      → Walk q w.trace (length ps) (at_line w fn below k (before (map (gives_one f) ps) rest) slots (alloc Frame (done ++ replicate (length ps) Unset) s)) (at_line w fn below (k + length ps) rest slots (alloc Frame (done ++ vs) s))
+      → Rise q w.trace (length ps) 0 (at_line w fn below k (before (map (gives_one f) ps) rest) slots (alloc Frame (done ++ replicate (length ps) Unset) s)) (at_line w fn below (k + length ps) rest slots (alloc Frame (done ++ vs) s))
   gives_walk _ k done _ _ e (NoGiving _) st =
-      subst (λ j. Walk q w.trace 0 (at_line w fn below k rest slots (alloc Frame (done ++ []) s)) (at_line w fn below j rest slots (alloc Frame (done ++ []) s))) (let z : k ≡ k + 0 = omega arith in z) (Stay _)
+      subst (λ j. Rise q w.trace 0 0 (at_line w fn below k rest slots (alloc Frame (done ++ []) s)) (at_line w fn below j rest slots (alloc Frame (done ++ []) s))) (let z : k ≡ k + 0 = omega arith in z) (stay _)
   gives_walk _ k done _ _ e (AndGiving i p t u v ps vs is_field is_value fits more) st =
       let left = before (map (gives_one f) ps) rest in
       let made = alloc Frame (done ++ Unset ∷ replicate (length ps) Unset) s in
@@ -33,9 +33,9 @@ module _ (q : Program) (w : World) (fn : Text) (g : Function) (body : Stmts) (be
       let first = new_field_step q w fn g body below is_g scope n rest slots s f tag points k p.field p.expression left st done (replicate (length ps) Unset) Unset t u v (is_field ∙ ap (λ j. Some (j, t)) e) (is_value _) fits in
       let others = gives_walk (suc i) (suc k) (done ++ v ∷ []) ps vs (ap suc e ∙ sym (length_one done v)) more (line_passed g body k scope n (gives_one f p) left l) in
       let start = at_line w fn below k (AndStmt (gives_one f p) left) slots made in
-      subst (λ xs. Walk q w.trace (suc (length ps)) start (at_line w fn below (k + suc (length ps)) rest slots (alloc Frame xs s))) (append_one done v vs)
-      (subst (λ j. Walk q w.trace (suc (length ps)) start (at_line w fn below j rest slots (alloc Frame ((done ++ v ∷ []) ++ vs) s))) (let z : suc k + length ps ≡ k + suc (length ps) = omega arith in z)
-      (walk_cons (length ps) _ _ _ first others))
+      subst (λ xs. Rise q w.trace (suc (length ps)) 0 start (at_line w fn below (k + suc (length ps)) rest slots (alloc Frame xs s))) (append_one done v vs)
+      (subst (λ j. Rise q w.trace (suc (length ps)) 0 start (at_line w fn below j rest slots (alloc Frame ((done ++ v ∷ []) ++ vs) s))) (let z : suc k + length ps ≡ k + suc (length ps) = omega arith in z)
+      (level_cons (length ps) 0 _ _ _ first others))
 
   -- or up to the first that faults
   pub gives_fault : (fault : Fault) (i k : ℕ) (done : List Value) (ps : List Give) → i ≡ length done → GivingFaults q scope slots tag s fault i ps → Stands g body k scope n (before (map (gives_one f) ps) rest)
@@ -46,8 +46,9 @@ module _ (q : Program) (w : World) (fn : Text) (g : Function) (body : Stmts) (be
       let l : LineAt g body k scope n (gives_one f p) left = record { statement = gives_one f p; stands = st; is_bare = refl; is_line = refl } in
       record {
         steps = 0;
+        grown = 0;
         last = at_line w fn below k (AndStmt (gives_one f p) left) slots made;
-        leads = Stay _;
+        leads = stay _;
         faults = step_faults q w fn g below is_g slots made (line_path g body k scope n (gives_one f p) left l) scope (line_scope g body k scope n (gives_one f p) left l _) (Simple (gives_one f p)) (line_found g body k scope n (gives_one f p) left l) fault
             (let v = is_fault (done ++ Unset ∷ replicate (length ps) Unset) in simp (v) refl);
       }
@@ -56,7 +57,7 @@ module _ (q : Program) (w : World) (fn : Text) (g : Function) (body : Stmts) (be
       let l : LineAt g body k scope n (gives_one f p) left = record { statement = gives_one f p; stands = st; is_bare = refl; is_line = refl } in
       let first = new_field_step q w fn g body below is_g scope n rest slots s f tag points k p.field p.expression left st done (replicate (length ps) Unset) Unset t u v (is_field ∙ ap (λ j. Some (j, t)) e) (is_value _) fits in
       let others = gives_fault fault (suc i) (suc k) (done ++ v ∷ []) ps (ap suc e ∙ sym (length_one done v)) more (line_passed g body k scope n (gives_one f p) left l) in
-      record { steps = suc others.steps; last = others.last; leads = walk_cons others.steps _ _ _ first others.leads; faults = others.faults }
+      record { steps = suc others.steps; grown = others.grown; last = others.last; leads = level_cons others.steps others.grown _ _ _ first others.leads; faults = others.faults }
 
 -- ---- a whole frame of a call
 
@@ -72,7 +73,8 @@ module _ (q : Program) (w : World) (fn : Text) (g : Function) (body : Stmts) (be
       let slots' = pointed_slots slots h.slot (next_block Frame s) in
       let left = before (map (gives_one f) ps) rest in
       let top = heads_frame q w fn g body below is_g k scope n left slots s to tag head code next piece start lower (length ps) l is_named is_size small t old h begins r r' params params' is_piece is_code t' v p is_next is_lower fits in
-      walk_append 3 (length ps) _ _ _ top.0 (gives_walk q w fn g body below is_g scope n rest slots' s f tag points 3 (suc (suc (suc k))) (Code piece ∷ p ∷ Unset ∷ []) ps vs refl giving top.1)
+      rise_more (3 + length ps) (suc (suc (suc (length ps)))) (3 + length ps) _ _ (omega arith)
+      (rise_then_level 3 (length ps) (suc (suc (suc (length ps)))) _ _ _ top.0 (gives_walk q w fn g body below is_g scope n rest slots' s f tag points 3 (suc (suc (suc k))) (Code piece ∷ p ∷ Unset ∷ []) ps vs refl giving top.1))
 
   -- or up to the first argument that faults
   pub calls_fault : (fault : Fault) → GivingFaults q scope (pointed_slots slots h.slot (next_block Frame s)) tag s fault 3 ps
@@ -82,4 +84,4 @@ module _ (q : Program) (w : World) (fn : Text) (g : Function) (body : Stmts) (be
       let left = before (map (gives_one f) ps) rest in
       let top = heads_frame q w fn g body below is_g k scope n left slots s to tag head code next piece start lower (length ps) l is_named is_size small t old h begins r r' params params' is_piece is_code t' v p is_next is_lower fits in
       let tail = gives_fault q w fn g body below is_g scope n rest slots' s f tag points fault 3 (suc (suc (suc k))) (Code piece ∷ p ∷ Unset ∷ []) ps refl giving top.1 in
-      record { steps = 3 + tail.steps; last = tail.last; leads = walk_append 3 tail.steps _ _ _ top.0 tail.leads; faults = tail.faults }
+      record { steps = 3 + tail.steps; grown = suc (suc (suc (length ps))) + tail.grown; last = tail.last; leads = rise_append 3 tail.steps (suc (suc (suc (length ps)))) tail.grown _ _ _ top.0 tail.leads; faults = tail.faults }

@@ -1,5 +1,5 @@
 -- Tests and gotos of a flat body, and a value that is written to the frame below, if there is one.
-use Rattle.std.proofs.Common.{◌≡◌, ℕ, suc, true, false, List, [], ◌∷◌, pos, Some, None, refl, ◌∙◌, ap, arith}
+use Rattle.std.proofs.Common.{◌≡◌, ℕ, suc, ◌+◌, ◌≤◌, true, false, List, [], ◌∷◌, pos, Some, None, refl, ◌∙◌, ap, arith}
 use Rattle.cpc_base.specs.Bytes.{Text}
 use Rattle.cpc_num.specs.declared.kinds.Kind.TheVariants.{Int}
 use Rattle.cpc_tree.specs.Syntax.{Ty, TyPointer, Expr, ENamed, EArrow, Stmt, Empty, Assign, If, Goto, Absent, Stmts, AndStmt, Function, Program, TyStruct}
@@ -11,7 +11,7 @@ use Rattle.cpc_store.specs.declared.values.Class.TheVariants.{Frame}
 use Rattle.cpc_store.specs.Store.{Value, Null, Whole, At, Store}
 use Rattle.cpc_meaning.specs.Answer.{Gives}
 use Rattle.cpc_meaning.specs.Eval.{Slot, value, holds, assigned}
-use Rattle.cpc_meaning.specs.Act.{GoesOn, simple_act}
+use Rattle.cpc_meaning.specs.Act.{AtStatement, GoesOn, simple_act}
 use Rattle.cpc_meaning.specs.Plain.{Frame as CallFrame}
 use Rattle.cpc_convert_chain_laws.specs.Chains.{Saved, frame_cells, Top}
 use Rattle.cpc_convert_chain_laws.specs.Flat.{point_at, dropped, onward, arm, label_in, LineAt}
@@ -23,6 +23,7 @@ use Rattle.cpc_convert_chain_laws.proofs.Fields.{named_pointer, field_assign}
 use Rattle.cpc_convert_chain_laws.proofs.AtLine.{line_path, line_found, line_scope, line_goes, test_holds, test_fails, arm_found, arm_next, arm_goes}
 use Rattle.cpc_convert_chain_laws.proofs.LineSteps.{line_step}
 use Rattle.cpc_convert_chain_laws.proofs.Steps.{step_on}
+use Rattle.cpc_meaning_cell_laws.proofs.Going.{going_on_keeps}
 use Rattle.cpc_convert_chain_laws.proofs.Walks.{walk_one, walk_cons}
 
 module _ (q : Program) (w : World) (fn : Text) (g : Function) (body : Stmts) (below : List (CallFrame Point)) (is_g : function_named q fn ≡ Some g) (k : ℕ) (scope : Scope) (n : ℕ) (rest : Stmts) (slots : List Slot) (s : Store) where
@@ -38,6 +39,7 @@ module _ (q : Program) (w : World) (fn : Text) (g : Function) (body : Stmts) (be
       walk_one _ _
       (step_on q w fn g below is_g slots s (line_path g body k scope n x rest l) scope (line_scope g body k scope n x rest l _) (Simple x) (line_found g body k scope n x rest l) true s slots (point_at j (dropped j body)) refl (line_goes g body k scope n x rest l true m j refl refl leads))
       (record { is_trace = refl; goes = refl; runs = refl })
+      (omega arith)
 
   module _ (t : Expr) (a : Stmt) (l : LineAt g body k scope n (If t a Absent) rest) (u : Value) (is_value : value (at q scope slots s) t ≡ Gives u) where
     -- a test that fails
@@ -47,6 +49,7 @@ module _ (q : Program) (w : World) (fn : Text) (g : Function) (body : Stmts) (be
         walk_one _ _
         (step_on q w fn g below is_g slots s (line_path g body k scope n x rest l) scope (line_scope g body k scope n x rest l _) (Test (Some t)) (line_found g body k scope n x rest l) false s slots (point_at (suc k) rest) (simp (is_value, fails) refl) (test_fails g body k scope n x rest l t a refl))
         (record { is_trace = refl; goes = refl; runs = refl })
+        (omega arith)
 
     -- one that holds leads to the statement behind it
     holds_step : holds u ≡ Gives true → Walk q w.trace 1 (at_line w fn below k (AndStmt l.statement rest) slots s) (in_function w fn below (P.Here (Nth k ∷ arm l.statement)) slots s)
@@ -55,16 +58,19 @@ module _ (q : Program) (w : World) (fn : Text) (g : Function) (body : Stmts) (be
         walk_one _ _
         (step_on q w fn g below is_g slots s (line_path g body k scope n x rest l) scope (line_scope g body k scope n x rest l _) (Test (Some t)) (line_found g body k scope n x rest l) true s slots (P.Here (Nth k ∷ arm l.statement)) (simp (is_value, is_true) refl) (test_holds g body k scope n x rest l t a refl))
         (record { is_trace = refl; goes = refl; runs = refl })
+        (omega arith)
 
     -- which is done
     pub then_step : holds u ≡ Gives true → onward a ≡ Out → (r : Store) (slots' : List Slot) → simple_act (at q scope slots s) g.result a ≡ Gives (GoesOn true r slots')
         → Walk q w.trace 2 (at_line w fn below k (AndStmt l.statement rest) slots s) (at_line w fn below (suc k) rest slots' r)
     then_step is_true out r slots' is_act =
         let x = If t a Absent in
+        let keeps = going_on_keeps (at q scope slots s) g.result None (AtStatement (Simple a)) true r slots' is_act in
         walk_cons 1 _ _ _ (holds_step is_true)
         (walk_one _ _
         (step_on q w fn g below is_g slots s (Nth k ∷ arm l.statement) scope (line_scope g body k scope n x rest l _) (Simple a) (arm_found g body k scope n x rest l t a refl) true r slots' (point_at (suc k) rest) is_act (arm_next g body k scope n x rest l t a true refl out))
-        (record { is_trace = refl; goes = refl; runs = refl }))
+        (record { is_trace = refl; goes = refl; runs = refl })
+        (let a = keeps.0 in let b = keeps.1 in omega (arith, a, b)))
 
     -- or is a goto
     pub jumps_step : holds u ≡ Gives true → (m : Text) → a ≡ Goto m → (j : ℕ) → label_in m body ≡ Some j
@@ -74,7 +80,8 @@ module _ (q : Program) (w : World) (fn : Text) (g : Function) (body : Stmts) (be
         walk_cons 1 _ _ _ (holds_step is_true)
         (walk_one _ _
         (step_on q w fn g below is_g slots s (Nth k ∷ arm l.statement) scope (line_scope g body k scope n x rest l _) (Simple (Goto m)) (arm_found g body k scope n x rest l t a refl ∙ ap Simple is_goto) true s slots (point_at j (dropped j body)) refl (arm_goes g body k scope n x rest l t a true m j refl (ap onward is_goto) leads))
-        (record { is_trace = refl; goes = refl; runs = refl }))
+        (record { is_trace = refl; goes = refl; runs = refl })
+        (omega arith))
 
 -- ---- the frame below
 

@@ -14,10 +14,11 @@ use Rattle.cpc_convert_chain_laws.specs.Flat.{before, LineAt}
 use Rattle.cpc_convert_chain_laws.specs.Frames.{at, Holds, Save, Saving, asks_block, fills_frame, frame_through, pointed_slots, register_slots, AreRegisters}
 use Rattle.cpc_convert_chain_laws.specs.Boxes.{AllRegisters}
 use Rattle.cpc_convert_chain_laws.specs.Driver.{any_pointer, DriverFacts, driving, entered, IsPiece}
-use Rattle.cpc_convert_chain_laws.specs.Walks.{World, Walk, at_line}
+use Rattle.cpc_meaning_cell_laws.specs.Cells.{call_cells}
+use Rattle.cpc_convert_chain_laws.specs.Walks.{World, Rise, at_line}
 use Rattle.cpc_convert_chain_laws.proofs.Chains.{chain_push}
 use Rattle.cpc_convert_chain_laws.proofs.Fields.{named_pointer, cast_pointer, held}
-use Rattle.cpc_convert_chain_laws.proofs.Walks.{walk_append, walk_cons}
+use Rattle.cpc_convert_chain_laws.proofs.Walks.{rise_append, rise_cons}
 use Rattle.cpc_convert_chain_laws.proofs.Making.{makes_frame, past_made, holds_new}
 use Rattle.cpc_convert_chain_laws.proofs.Boxes.{registers_set, free_all}
 use Rattle.cpc_convert_chain_laws.proofs.Pieces.{registers_call, return_step, drive_goes_on}
@@ -39,7 +40,7 @@ module _ (q : Program) (facts : DriverFacts q) (w : World) (fn : Text) (g : Func
       → (t' : Ty) (v : Value) → field q head next ≡ Some (1, t') → ((u : Store) → value (at q scope (pointed_slots slots h.slot (next_block Frame s)) u) lower ≡ Gives v) → assigned t' v ≡ Gives p
       → Saving q scope (pointed_slots slots h.slot (next_block Frame s)) tag 3 ps vs
       → (leader : Function) → IsPiece q piece leader → AreRegisters leader 0 (variables leader)
-      → Walk q w.trace (suc (suc (suc (length ps))) + 4) (at_line w fn (driving p0 r0 k0 ∷ []) k (AndStmt l.statement (before (fills_frame (ENamed to) (frame_through to tag) code next piece lower ps) (AndStmt gives_it rest))) slots s)
+      → Rise q w.trace (suc (suc (suc (length ps))) + 4) (suc (suc (suc (length ps))) + (1 + call_cells q leader)) (at_line w fn (driving p0 r0 k0 ∷ []) k (AndStmt l.statement (before (fills_frame (ENamed to) (frame_through to tag) code next piece lower ps) (AndStmt gives_it rest))) slots s)
       (entered q w (with_frame p) leader (register_slots (length (variables leader)) (At Frame (next_block Frame s) 0 ∷ [])) p0 r0 (At Frame (next_block Frame s) 0))
       × Top (with_frame p).frames (record { piece = piece; values = vs }) fs (next_block Frame s) p Unset owned
   leader_walk fs p owned chain l is_frame is_size small old h r r' params params' is_piece is_code t' v is_next is_lower fits saving leader is_leader registers =
@@ -57,4 +58,4 @@ module _ (q : Program) (facts : DriverFacts q) (w : World) (fn : Text) (g : Func
       let l' : LineAt g body j scope n gives_it rest = record { statement = gives_it; stands = st; is_bare = refl; is_line = refl } in
       let second = return_step q w fn g body (driving p0 r0 k0) [] is_g j scope n rest slots' made (ENamed to) l' (At Frame b 0) (At Frame b 0) made (held q scope slots' made to (TyPointer (TyStruct head)) (At Frame b 0) h') (ap (λ u. assigned u (At Frame b 0)) gives_pointer) (free_all slots' made (registers_set slots h.slot (At Frame b 0) all)) in
       let third = drive_goes_on q facts w made (record { piece = piece; values = vs }) fs b p Unset owned top leader is_leader p0 r0 k0 (register_slots (length (variables leader)) (At Frame b 0 ∷ [])) made (registers_call q leader (At Frame b 0 ∷ []) made registers) in
-      (walk_append (suc (suc (suc (length ps)))) 4 _ _ _ first (walk_cons 3 _ _ _ second third), top)
+      (rise_append (suc (suc (suc (length ps)))) 4 (suc (suc (suc (length ps)))) (1 + call_cells q leader) _ _ _ first (rise_cons 3 1 (call_cells q leader) _ _ _ second third), top)

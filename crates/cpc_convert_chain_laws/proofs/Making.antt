@@ -13,10 +13,10 @@ use Rattle.cpc_meaning.specs.Plain.{Frame as CallFrame}
 use Rattle.cpc_meaning.proofs.Stores.{get_set, get_other, set_last, alloc_cells}
 use Rattle.cpc_convert_chain_laws.specs.Chains.{frame_cells}
 use Rattle.cpc_convert_chain_laws.specs.Flat.{before, Stands, LineAt}
-use Rattle.cpc_convert_chain_laws.specs.Walks.{World, at_line, Walk, Stay}
+use Rattle.cpc_convert_chain_laws.specs.Walks.{World, at_line, Rise, Walk}
 use Rattle.cpc_convert_chain_laws.specs.Frames.{at, PointsTo, pointed_slots, Save, saves_one, asks_block, fills_frame, Holds, Saving, NoSaving, AndSaving}
 use Rattle.cpc_convert_chain_laws.proofs.Fields.{held}
-use Rattle.cpc_convert_chain_laws.proofs.Walks.{walk_cons, walk_append, walk_as}
+use Rattle.cpc_convert_chain_laws.proofs.Walks.{stay, rise_steps, rise_then_level, level_cons}
 use Rattle.cpc_convert_chain_laws.proofs.AtLine.{line_passed}
 use Rattle.cpc_convert_chain_laws.proofs.Scopes.{all_lines, past_lines}
 use Rattle.cpc_convert_chain_laws.proofs.LineSteps.{frame_step, field_step}
@@ -59,15 +59,15 @@ holds_new q scope slots x t v w h = record { slot = h.slot; is_local = h.is_loca
 
 module _ (q : Program) (w : World) (fn : Text) (g : Function) (body : Stmts) (below : List (CallFrame Point)) (is_g : function_named q fn ≡ Some g) (scope : Scope) (n : ℕ) (rest : Stmts) (slots : List Slot) (s : Store) where
   -- a store that is the same
-  at_store : (k j i : ℕ) (left : Stmts) (slots' : List Slot) (r t u : Store) → t ≡ u → Walk q w.trace i (at_line w fn below k left slots r) (at_line w fn below j rest slots' t) → Walk q w.trace i (at_line w fn below k left slots r) (at_line w fn below j rest slots' u)
-  at_store k j i left slots' r t u e walk = subst (λ x. Walk q w.trace i (at_line w fn below k left slots r) (at_line w fn below j rest slots' x)) e walk
+  at_store : (k j i : ℕ) (left : Stmts) (slots' : List Slot) (r t u : Store) → t ≡ u → Rise q w.trace i 0 (at_line w fn below k left slots r) (at_line w fn below j rest slots' t) → Rise q w.trace i 0 (at_line w fn below k left slots r) (at_line w fn below j rest slots' u)
+  at_store k j i left slots' r t u e walk = subst (λ x. Rise q w.trace i 0 (at_line w fn below k left slots r) (at_line w fn below j rest slots' x)) e walk
 
 module _ (q : Program) (w : World) (fn : Text) (g : Function) (body : Stmts) (below : List (CallFrame Point)) (is_g : function_named q fn ≡ Some g) (scope : Scope) (n : ℕ) (rest : Stmts) (slots : List Slot) (s : Store) (f : Expr) (tag : Text) (points : (t : Store) → PointsTo q scope slots t f tag (next_block Frame s)) where
   -- one value is written to the newest block
   pub new_field_step : (k : ℕ) (y : Text) (v : Expr) (left : Stmts) → Stands g body k scope n (AndStmt (Assign (EArrow f y) None v) left)
       → (done : List Value) (more : List Value) (old : Value) (t : Ty) (u v' : Value) → field q tag y ≡ Some (length done, t)
       → value (at q scope slots (alloc Frame (done ++ old ∷ more) s)) v ≡ Gives u → assigned t u ≡ Gives v'
-      → Walk q w.trace 1 (at_line w fn below k (AndStmt (Assign (EArrow f y) None v) left) slots (alloc Frame (done ++ old ∷ more) s))
+      → Rise q w.trace 1 0 (at_line w fn below k (AndStmt (Assign (EArrow f y) None v) left) slots (alloc Frame (done ++ old ∷ more) s))
       (at_line w fn below (suc k) left slots (alloc Frame ((done ++ v' ∷ []) ++ more) s))
   new_field_step k y v left st done more old t u v' is_field is_value is_assigned =
       let cells = done ++ old ∷ more in
@@ -80,10 +80,10 @@ module _ (q : Program) (w : World) (fn : Text) (g : Function) (body : Stmts) (be
 
   -- as many steps as there are variables
   pub saves_walk : (i k : ℕ) (done : List Value) (ps : List Save) (vs : List Value) → i ≡ length done → Saving q scope slots tag i ps vs → Stands g body k scope n (before (map (saves_one f) ps) rest)
-      → Walk q w.trace (length ps) (at_line w fn below k (before (map (saves_one f) ps) rest) slots (alloc Frame (done ++ replicate (length ps) Unset) s))
+      → Rise q w.trace (length ps) 0 (at_line w fn below k (before (map (saves_one f) ps) rest) slots (alloc Frame (done ++ replicate (length ps) Unset) s))
       (at_line w fn below (k + length ps) rest slots (alloc Frame (done ++ vs) s))
   saves_walk _ k done _ _ e (NoSaving _) st =
-      subst (λ j. Walk q w.trace 0 (at_line w fn below k rest slots (alloc Frame (done ++ []) s)) (at_line w fn below j rest slots (alloc Frame (done ++ []) s))) (let z : k ≡ k + 0 = omega arith in z) (Stay _)
+      subst (λ j. Rise q w.trace 0 0 (at_line w fn below k rest slots (alloc Frame (done ++ []) s)) (at_line w fn below j rest slots (alloc Frame (done ++ []) s))) (let z : k ≡ k + 0 = omega arith in z) (stay _)
   saves_walk _ k done _ _ e (AndSaving i p t u v ps vs is_field h fits more) st =
       let left = before (map (saves_one f) ps) rest in
       let made = alloc Frame (done ++ Unset ∷ replicate (length ps) Unset) s in
@@ -91,9 +91,9 @@ module _ (q : Program) (w : World) (fn : Text) (g : Function) (body : Stmts) (be
       let first = new_field_step k p.field (ENamed p.variable) left st done (replicate (length ps) Unset) Unset t v v (is_field ∙ ap (λ j. Some (j, t)) e) (held q scope slots made p.variable u v h) fits in
       let others = saves_walk (suc i) (suc k) (done ++ v ∷ []) ps vs (ap suc e ∙ sym (length_one done v)) more (line_passed g body k scope n (saves_one f p) left l) in
       let start = at_line w fn below k (AndStmt (saves_one f p) left) slots made in
-      subst (λ xs. Walk q w.trace (suc (length ps)) start (at_line w fn below (k + suc (length ps)) rest slots (alloc Frame xs s))) (append_one done v vs)
-      (subst (λ j. Walk q w.trace (suc (length ps)) start (at_line w fn below j rest slots (alloc Frame ((done ++ v ∷ []) ++ vs) s))) (let z : suc k + length ps ≡ k + suc (length ps) = omega arith in z)
-      (walk_cons (length ps) _ _ _ first others))
+      subst (λ xs. Rise q w.trace (suc (length ps)) 0 start (at_line w fn below (k + suc (length ps)) rest slots (alloc Frame xs s))) (append_one done v vs)
+      (subst (λ j. Rise q w.trace (suc (length ps)) 0 start (at_line w fn below j rest slots (alloc Frame ((done ++ v ∷ []) ++ vs) s))) (let z : suc k + length ps ≡ k + suc (length ps) = omega arith in z)
+      (level_cons (length ps) 0 _ _ _ first others))
 
 -- ---- a whole frame
 
@@ -105,7 +105,7 @@ module _ (q : Program) (w : World) (fn : Text) (g : Function) (body : Stmts) (be
       → ((u : Store) → PointsTo q scope (pointed_slots slots h.slot (next_block Frame s)) u start head (next_block Frame s))
       → (r r' : Ty) (params : List Ty) (params' : Tys) → named q scope piece ≡ AFunction Native r params → field q head code ≡ Some (0, TyCode r' params')
       → (t' : Ty) (v p : Value) → field q head next ≡ Some (1, t') → ((u : Store) → value (at q scope (pointed_slots slots h.slot (next_block Frame s)) u) lower ≡ Gives v) → assigned t' v ≡ Gives p
-      → Walk q w.trace 3 (at_line w fn below k (AndStmt l.statement (AndStmt (Assign (EArrow start code) None (ENamed piece)) (AndStmt (Assign (EArrow start next) None lower) rest))) slots s)
+      → Rise q w.trace 3 (suc (suc (suc m))) (at_line w fn below k (AndStmt l.statement (AndStmt (Assign (EArrow start code) None (ENamed piece)) (AndStmt (Assign (EArrow start next) None lower) rest))) slots s)
       (at_line w fn below (suc (suc (suc k))) rest (pointed_slots slots h.slot (next_block Frame s)) (alloc Frame (Code piece ∷ p ∷ Unset ∷ replicate m Unset) s))
       × Stands g body (suc (suc (suc k))) scope n rest
   heads_frame to tag head code next piece start lower m l is_named is_size small t old h points r r' params params' is_piece is_code t' v p is_next is_lower fits =
@@ -119,7 +119,7 @@ module _ (q : Program) (w : World) (fn : Text) (g : Function) (body : Stmts) (be
       let made = frame_step q w fn g body below is_g k scope n left0 slots s to tag l is_named (suc (suc (suc m))) is_size small t old h in
       let coded = new_field_step q w fn g body below is_g scope n rest slots' s start head points (suc k) code (ENamed piece) left1 st0 [] (Unset ∷ Unset ∷ blanks) Unset (TyCode r' params') (Code piece) (Code piece) is_code (simp (is_piece) refl) refl in
       let linked = new_field_step q w fn g body below is_g scope n rest slots' s start head points (suc (suc k)) next lower rest st1 (Code piece ∷ []) (Unset ∷ blanks) Unset t' v p is_next (is_lower _) fits in
-      (walk_cons 2 _ _ _ made (walk_cons 1 _ _ _ coded linked), st2)
+      (rise_steps (1 + 2) 3 (suc (suc (suc m))) _ _ (omega arith) (rise_then_level 1 2 (suc (suc (suc m))) _ _ _ made (level_cons 1 0 _ _ _ coded linked)), st2)
 
 module _ (q : Program) (w : World) (fn : Text) (g : Function) (body : Stmts) (below : List (CallFrame Point)) (is_g : function_named q fn ≡ Some g) (k : ℕ) (scope : Scope) (n : ℕ) (rest : Stmts) (slots : List Slot) (s : Store) where
   -- a new frame block of a piece, over the frame below, with the values of these variables
@@ -137,7 +137,7 @@ module _ (q : Program) (w : World) (fn : Text) (g : Function) (body : Stmts) (be
       let left = before (map (saves_one f) ps) rest in
       let top = heads_frame q w fn g body below is_g k scope n left slots s to tag head code next piece start lower (length ps) l is_named is_size small t old h begins r r' params params' is_piece is_code t' v p is_next is_lower fits in
       let saved = saves_walk q w fn g body below is_g scope n rest slots' s f tag points 3 (suc (suc (suc k))) (Code piece ∷ p ∷ Unset ∷ []) ps vs refl saving top.1 in
-      walk_as (3 + length ps) (suc (suc (suc (length ps)))) _ _ (let z : 3 + length ps ≡ suc (suc (suc (length ps))) = omega arith in z) (walk_append 3 (length ps) _ _ _ top.0 saved)
+      rise_steps (3 + length ps) (suc (suc (suc (length ps)))) (suc (suc (suc (length ps)))) _ _ (let z : 3 + length ps ≡ suc (suc (suc (length ps))) = omega arith in z) (rise_then_level 3 (length ps) (suc (suc (suc (length ps)))) _ _ _ top.0 saved)
 
 -- ---- the position behind a new frame
 

@@ -11,9 +11,9 @@ use Rattle.cpc_meaning.specs.Plain.{Frame as CallFrame}
 use Rattle.cpc_meaning.proofs.Functions.{text_same}
 use Rattle.cpc_convert_chain_laws.specs.Flat.{before, Stands, LineAt}
 use Rattle.cpc_convert_chain_laws.specs.Frames.{Holds, Load, loads_one, Loading, loaded_scope, blank, declares_one, declared_scope, frees_frame, opens_frame, takes_frame, taken_scope}
-use Rattle.cpc_convert_chain_laws.specs.Walks.{World, Walk, at_line, Stay}
+use Rattle.cpc_convert_chain_laws.specs.Walks.{World, Rise, Walk, at_line}
 use Rattle.cpc_convert_chain_laws.proofs.Fields.{held}
-use Rattle.cpc_convert_chain_laws.proofs.Walks.{walk_append, walk_cons}
+use Rattle.cpc_convert_chain_laws.proofs.Walks.{stay, rise_more, level_cons, rise_then_level}
 use Rattle.cpc_convert_chain_laws.proofs.Flat.{passed}
 use Rattle.cpc_convert_chain_laws.proofs.AtLine.{line_passed}
 use Rattle.cpc_convert_chain_laws.proofs.LineSteps.{declares_step, frame_free_step}
@@ -24,14 +24,14 @@ use Rattle.cpc_convert_chain_laws.proofs.Taking.{get_front, get_next, slots_leng
 module _ (q : Program) (w : World) (fn : Text) (g : Function) (body : Stmts) (below : List (CallFrame Point)) (is_g : function_named q fn ≡ Some g) (rest : Stmts) (slots : List Slot) (s : Store) where
   -- a step for each
   pub declares_walk : (k : ℕ) (scope : Scope) (n : ℕ) (ds : List Variable) → Stands g body k scope n (before (map declares_one ds) rest)
-      → Walk q w.trace (length ds) (at_line w fn below k (before (map declares_one ds) rest) slots s) (at_line w fn below (k + length ds) rest slots s)
-  declares_walk k scope n [] st = subst (λ j. Walk q w.trace 0 (at_line w fn below k rest slots s) (at_line w fn below j rest slots s)) (let z : k ≡ k + 0 = omega arith in z) (Stay _)
+      → Rise q w.trace (length ds) 0 (at_line w fn below k (before (map declares_one ds) rest) slots s) (at_line w fn below (k + length ds) rest slots s)
+  declares_walk k scope n [] st = subst (λ j. Rise q w.trace 0 0 (at_line w fn below k rest slots s) (at_line w fn below j rest slots s)) (let z : k ≡ k + 0 = omega arith in z) (stay _)
   declares_walk k scope n (d ∷ ds) st =
       let left = before (map declares_one ds) rest in
       let inner : Scope = record { called = d.called; type = d.type; slot = n } ∷ scope in
       let st1 : Stands g body (suc k) inner (suc n) left = subst (λ m. Stands g body (suc k) inner m left) (let z : n + 1 ≡ suc n = omega arith in z) (passed g body k scope n (declares_one d) left st) in
-      subst (λ j. Walk q w.trace (suc (length ds)) (at_line w fn below k (AndStmt (declares_one d) left) slots s) (at_line w fn below j rest slots s)) (let z : suc k + length ds ≡ k + suc (length ds) = omega arith in z)
-      (walk_cons (length ds) _ _ _ (declares_step q w fn g body below is_g k scope n left slots s d.called d.type st) (declares_walk (suc k) inner (suc n) ds st1))
+      subst (λ j. Rise q w.trace (suc (length ds)) 0 (at_line w fn below k (AndStmt (declares_one d) left) slots s) (at_line w fn below j rest slots s)) (let z : suc k + length ds ≡ k + suc (length ds) = omega arith in z)
+      (level_cons (length ds) 0 _ _ _ (declares_step q w fn g body below is_g k scope n left slots s d.called d.type st) (declares_walk (suc k) inner (suc n) ds st1))
 
 -- the position behind them
 pub past_declares : (g : Function) (body : Stmts) (k : ℕ) (scope : Scope) (n : ℕ) (rest : Stmts) (ds : List Variable) → Stands g body k scope n (before (map declares_one ds) rest)
@@ -64,7 +64,7 @@ module _ (q : Program) (w : World) (fn : Text) (g : Function) (body : Stmts) (be
   past_opened = past_declares g body (suc j + length ls) _ (suc n + length ls) rest ds after_loads
 
   module _ (done more : List Slot) (i : ℕ) (t : Ty) (vs : List Value) (len : length done ≡ n) (apart : bytes_eq e k ≡ false) (is_k : named q scope k ≡ ALocal i (TyPointer t)) (is_slot : slice_get done i ≡ Some (Register (At Frame b 0))) (loading : Loading q tag e cells ls vs) where
-    pub opens_walk : Walk q w.trace (suc (length ls + length ds)) (at_line w fn below j (opens_frame k e tag ls ds rest) (done ++ Register Unset ∷ blank (length ls) more) s)
+    pub opens_walk : Rise q w.trace (suc (length ls + length ds)) 0 (at_line w fn below j (opens_frame k e tag ls ds rest) (done ++ Register Unset ∷ blank (length ls) more) s)
         (at_line w fn below (suc j + length ls + length ds) rest (((done ++ Register (At Frame b 0) ∷ []) ++ map Register vs) ++ more) s)
     opens_walk =
         let p = At Frame b 0 in
@@ -79,7 +79,7 @@ module _ (q : Program) (w : World) (fn : Text) (g : Function) (body : Stmts) (be
         let is_e_slot : slice_get done1 n ≡ Some (Register p) = ap (slice_get done1) (sym len) ∙ get_next done [] (Register p) in
         let second = loads_walk q w fn g body below is_g s tag e b cells live (suc j) inner (suc n) (before (map declares_one ds) rest) done1 more n ls vs (slots_length done (Register p) ∙ ap suc len) is_e is_e_slot loading after_first in
         let third = declares_walk q w fn g body below is_g rest done2 s (suc j + length ls) _ (suc n + length ls) ds after_loads in
-        walk_cons (length ls + length ds) _ _ _ first (walk_append (length ls) (length ds) _ _ _ second third)
+        level_cons (length ls + length ds) 0 _ _ _ first (rise_then_level (length ls) (length ds) 0 _ _ _ second third)
 
     -- the parameter still holds the pointer
     pub opened_pointer : slice_get (((done ++ Register (At Frame b 0) ∷ []) ++ map Register vs) ++ more) i ≡ Some (Register (At Frame b 0))
@@ -107,4 +107,4 @@ module _ (q : Program) (w : World) (fn : Text) (g : Function) (body : Stmts) (be
       let kept = opened_pointer q w fn g body below is_g s tag e k b cells live j scope n (AndStmt (frees_frame k) rest) ls ds st done more i t vs len apart is_k is_slot loading in
       let h : Holds q (taken_scope scope n e tag ls ds) final k (TyPointer t) p = record { slot = i; is_local = is_k_there; is_slot = kept } in
       let freed = frame_free_step q w fn g body below is_g (suc j + length ls + length ds) (taken_scope scope n e tag ls ds) (suc n + length ls + length ds) rest final s (ENamed k) last_line is_free b cells (held q (taken_scope scope n e tag ls ds) final s k (TyPointer t) p h) live in
-      walk_append (suc (length ls + length ds)) 1 _ _ _ opened freed
+      rise_more (suc (length ls + length ds) + 1) 0 (suc (length ls + length ds) + 1) _ _ (omega arith) (rise_then_level (suc (length ls + length ds)) 1 0 _ _ _ opened freed)

@@ -14,10 +14,11 @@ use Rattle.cpc_convert_chain_laws.specs.Flat.{LineAt}
 use Rattle.cpc_convert_chain_laws.specs.Frames.{at, Holds, register_slots, AreRegisters}
 use Rattle.cpc_convert_chain_laws.specs.Boxes.{AllRegisters}
 use Rattle.cpc_convert_chain_laws.specs.Driver.{any_pointer, head_fields, patches, DriverFacts, driving, entered, patched, IsPiece}
-use Rattle.cpc_convert_chain_laws.specs.Walks.{World, Walk, Finishes, at_line, idle}
+use Rattle.cpc_meaning_cell_laws.specs.Cells.{call_cells}
+use Rattle.cpc_convert_chain_laws.specs.Walks.{World, Rise, Walk, Finishes, at_line, idle}
 use Rattle.cpc_convert_chain_laws.proofs.Chains.{chain_patched}
 use Rattle.cpc_convert_chain_laws.proofs.Fields.{held}
-use Rattle.cpc_convert_chain_laws.proofs.Walks.{walk_append, walk_cons, finishes_after}
+use Rattle.cpc_convert_chain_laws.proofs.Walks.{rise_append, rise_cons, finishes_after}
 use Rattle.cpc_convert_chain_laws.proofs.AtLine.{line_passed}
 use Rattle.cpc_convert_chain_laws.proofs.Boxes.{free_all}
 use Rattle.cpc_convert_chain_laws.proofs.Jumps.{patch_none, patch_frame}
@@ -31,9 +32,9 @@ module _ (q : Program) (facts : DriverFacts q) (w : World) (fn : Text) (g : Func
   -- the frame below is given back to the driver: its piece is entered
   pub goes_below : (l : LineAt g body k scope n gives_next rest) (t : Ty) (b : ℕ) → Holds q scope slots next (TyPointer t) (At Frame b 0)
       → (f : Saved) (fs : List Saved) (lower v : Value) (owned : List ℕ) → Top s.frames f fs b lower v owned → (leader : Function) → IsPiece q f.piece leader → AreRegisters leader 0 (variables leader)
-      → Walk q w.trace 4 (at_line w fn (driving p0 r0 k0 ∷ []) k (AndStmt l.statement rest) slots s) (entered q w s leader (register_slots (length (variables leader)) (At Frame b 0 ∷ [])) p0 r0 (At Frame b 0))
+      → Rise q w.trace 4 (1 + call_cells q leader) (at_line w fn (driving p0 r0 k0 ∷ []) k (AndStmt l.statement rest) slots s) (entered q w s leader (register_slots (length (variables leader)) (At Frame b 0 ∷ [])) p0 r0 (At Frame b 0))
   goes_below l t b h f fs lower v owned top leader is_leader registers =
-      walk_cons 3 _ _ _
+      rise_cons 3 1 (call_cells q leader) _ _ _
       (return_step q w fn g body (driving p0 r0 k0) [] is_g k scope n rest slots s (ENamed next) l (At Frame b 0) (At Frame b 0) s (held q scope slots s next (TyPointer t) (At Frame b 0) h) (ap (λ u. assigned u (At Frame b 0)) gives_pointer) (free_all slots s all))
       (drive_goes_on q facts w s f fs b lower v owned top leader is_leader p0 r0 k0 (register_slots (length (variables leader)) (At Frame b 0 ∷ [])) s (registers_call q leader (At Frame b 0 ∷ []) s registers))
 
@@ -50,7 +51,7 @@ module _ (q : Program) (facts : DriverFacts q) (w : World) (fn : Text) (g : Func
   pub value_below : (l : LineAt g body k scope n (patches next e) (AndStmt (Return (Some (ENamed next))) rest)) (tag : Text) (u : Ty) (b : ℕ) → Holds q scope slots next (TyPointer (TyStruct tag)) (At Frame b 0) → IsStruct q tag (head_fields u [])
       → (f : Saved) (fs : List Saved) (lower old : Value) (owned : List ℕ) → Top s.frames f fs b lower old owned → (v v' : Value) → value (at q scope slots s) e ≡ Gives v → assigned u v ≡ Gives v'
       → (leader : Function) → IsPiece q f.piece leader → AreRegisters leader 0 (variables leader)
-      → Walk q w.trace (2 + 4) (at_line w fn (driving p0 r0 k0 ∷ []) k (AndStmt l.statement (AndStmt (Return (Some (ENamed next))) rest)) slots s)
+      → Rise q w.trace (2 + 4) (2 + (1 + call_cells q leader)) (at_line w fn (driving p0 r0 k0 ∷ []) k (AndStmt l.statement (AndStmt (Return (Some (ENamed next))) rest)) slots s)
       (entered q w (patched s b f lower v') leader (register_slots (length (variables leader)) (At Frame b 0 ∷ [])) p0 r0 (At Frame b 0))
       × Top (patched s b f lower v').frames f fs b lower v' owned
   value_below l tag u b h struct f fs lower old owned top v v' is_value fits leader is_leader registers =
@@ -60,7 +61,7 @@ module _ (q : Program) (facts : DriverFacts q) (w : World) (fn : Text) (g : Func
       let top' = chain_patched s.frames f fs b lower old v' owned top in
       let st = line_passed g body k scope n (patches next e) last l in
       let l' : LineAt g body (suc k) scope n (Return (Some (ENamed next))) rest = record { statement = Return (Some (ENamed next)); stands = st; is_bare = refl; is_line = refl } in (
-        walk_append 2 4 _ _ _ (patch_frame q w fn g body below is_g k scope n last slots s next tag e l u b h struct f fs lower old owned top v v' is_value fits)
+        rise_append 2 4 2 (1 + call_cells q leader) _ _ _ (patch_frame q w fn g body below is_g k scope n last slots s next tag e l u b h struct f fs lower old owned top v v' is_value fits)
             (goes_below q facts w fn g body is_g gives_pointer p0 r0 k0 (suc k) scope n rest slots s' all next l' (TyStruct tag) b h f fs lower v' owned top' leader is_leader registers),
         top',
       )

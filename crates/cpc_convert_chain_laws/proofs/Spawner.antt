@@ -20,7 +20,7 @@ use Rattle.cpc_convert_chain_laws.specs.Boxes.{AllRegisters}
 use Rattle.cpc_convert_chain_laws.specs.Driver.{drive_name, with_agenda, DriverMeant, readies, spawns}
 use Rattle.cpc_convert_chain_laws.specs.Walks.{World, Walk, at_line, running}
 use Rattle.cpc_convert_chain_laws.proofs.Fields.{named_pointer}
-use Rattle.cpc_convert_chain_laws.proofs.Walks.{walk_one, walk_cons, walk_append}
+use Rattle.cpc_convert_chain_laws.proofs.Walks.{rise_more, walk_one, walk_cons, walk_append}
 use Rattle.cpc_convert_chain_laws.proofs.Flat.{passed}
 use Rattle.cpc_convert_chain_laws.proofs.LineSteps.{declares_step}
 use Rattle.cpc_convert_chain_laws.proofs.Making.{makes_frame, past_made, holds_new}
@@ -65,9 +65,9 @@ module _ (q : Program) (w : World) (fn : Text) (g : Function) (body : Stmts) (fr
       let st2 = past_made g body 1 spawner_scope (suc n) last e tag code next piece (ENamed e) (ENamed e) (EInteger Int (pos 0)) ps l in
       let k = suc (suc (suc 1)) + length ps in
       let l' : LineAt g body k spawner_scope (suc n) (readies e) NoStmt = record { statement = readies e; stands = st2; is_bare = refl; is_line = refl } in
-      let first = declares_step q w fn g body below is_g 0 scope n (AndStmt (asks_block e tag) fills) slots s e (TyPointer (TyStruct tag)) st in
+      let first = rise_more 1 0 1 _ _ (omega arith) (declares_step q w fn g body below is_g 0 scope n (AndStmt (asks_block e tag) fills) slots s e (TyPointer (TyStruct tag)) st) in
       let second = makes_frame q w fn g body below is_g 1 spawner_scope (suc n) last slots s e tag tag code next piece (ENamed e) (ENamed e) (EInteger Int (pos 0)) ps vs l is_frame is_size small (TyStruct tag) Unset h
       (λ u. named_pointer q spawner_scope spawner_slots u e tag b h') (λ u. named_pointer q spawner_scope spawner_slots u e tag b h') r r' params params' is_piece is_code (TyPointer t') (Whole Int (pos 0)) Null is_next (λ u. refl) refl saving in
-      let third = walk_one (at_line w fn below k last spawner_slots made) (at_line readied fn below (suc k) NoStmt spawner_slots made) (ready_step q w fn g body below is_g k spawner_scope (suc n) NoStmt spawner_slots made e l' is_ready is_drive (TyPointer (TyStruct tag)) b h') (record { is_trace = refl; goes = refl; runs = refl }) in
-      let fourth = walk_one (at_line readied fn below (suc k) NoStmt spawner_slots made) (running readied made below (Some Unset)) (step_leaves q readied fn g below is_g spawner_slots made made frame others refl (free_all spawner_slots made (registers_set slots n (At Frame b 0) all))) (record { is_trace = refl; goes = refl; runs = refl }) in
+      let third = walk_one (at_line w fn below k last spawner_slots made) (at_line readied fn below (suc k) NoStmt spawner_slots made) (ready_step q w fn g body below is_g k spawner_scope (suc n) NoStmt spawner_slots made e l' is_ready is_drive (TyPointer (TyStruct tag)) b h') (record { is_trace = refl; goes = refl; runs = refl }) (omega arith) in
+      let fourth = walk_one (at_line readied fn below (suc k) NoStmt spawner_slots made) (running readied made below (Some Unset)) (step_leaves q readied fn g below is_g spawner_slots made made frame others refl (free_all spawner_slots made (registers_set slots n (At Frame b 0) all))) (record { is_trace = refl; goes = refl; runs = refl }) (omega arith) in
       walk_cons (suc (suc (suc (length ps))) + 2) _ _ _ first (walk_append (suc (suc (suc (length ps)))) 2 _ _ _ second (walk_cons 1 _ _ _ third fourth))

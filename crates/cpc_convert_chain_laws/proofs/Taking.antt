@@ -11,11 +11,11 @@ use Rattle.cpc_meaning.specs.Eval.{Slot, Register, value, assigned}
 use Rattle.cpc_meaning.specs.Plain.{Frame as CallFrame}
 use Rattle.cpc_meaning.proofs.Functions.{text_same}
 use Rattle.cpc_convert_chain_laws.specs.Flat.{before, Stands}
-use Rattle.cpc_convert_chain_laws.specs.Walks.{World, at_line, Walk, Stay}
+use Rattle.cpc_convert_chain_laws.specs.Walks.{World, at_line, Rise}
 use Rattle.cpc_convert_chain_laws.specs.Frames.{at, Load, loads_one, Holds, Loading, NoLoading, AndLoading, loaded_scope, blank}
 use Rattle.cpc_convert_chain_laws.proofs.Fields.{named_pointer, field_value}
 use Rattle.cpc_convert_chain_laws.proofs.Asking.{local_assign}
-use Rattle.cpc_convert_chain_laws.proofs.Walks.{walk_cons}
+use Rattle.cpc_convert_chain_laws.proofs.Walks.{stay, level_cons}
 use Rattle.cpc_convert_chain_laws.proofs.Flat.{passed}
 use Rattle.cpc_convert_chain_laws.proofs.LineSteps.{declare_step}
 
@@ -56,7 +56,7 @@ module _ (q : Program) (w : World) (fn : Text) (g : Function) (body : Stmts) (be
   -- a local that begins with a value is declared, in the first slot that is blank
   pub local_step : (k : ℕ) (scope : Scope) (n : ℕ) (rest : Stmts) (done more : List Slot) (x : Text) (t : Ty) (e : Expr) (u v : Value) → length done ≡ n → Stands g body k scope n (AndStmt (Declare x t (Some e)) rest)
       → value (at q (record { called = x; type = t; slot = n } ∷ scope) (done ++ Register Unset ∷ more) s) e ≡ Gives u → assigned t u ≡ Gives v
-      → Walk q w.trace 1 (at_line w fn below k (AndStmt (Declare x t (Some e)) rest) (done ++ Register Unset ∷ more) s) (at_line w fn below (suc k) rest ((done ++ Register v ∷ []) ++ more) s)
+      → Rise q w.trace 1 0 (at_line w fn below k (AndStmt (Declare x t (Some e)) rest) (done ++ Register Unset ∷ more) s) (at_line w fn below (suc k) rest ((done ++ Register v ∷ []) ++ more) s)
   local_step k scope n rest done more x t e u v len st is_value fits =
       let slots = done ++ Register Unset ∷ more in
       let inner : Scope = record { called = x; type = t; slot = n } ∷ scope in
@@ -72,12 +72,12 @@ module _ (q : Program) (w : World) (fn : Text) (g : Function) (body : Stmts) (be
   pub loads_walk : (tag e : Text) (b : ℕ) (cells : List Value) → cells_of Frame b s ≡ Some cells → (k : ℕ) (scope : Scope) (n : ℕ) (rest : Stmts) (done more : List Slot) (i : ℕ) (ls : List Load) (vs : List Value)
       → length done ≡ n → named q scope e ≡ ALocal i (TyPointer (TyStruct tag)) → slice_get done i ≡ Some (Register (At Frame b 0)) → Loading q tag e cells ls vs
       → Stands g body k scope n (before (map (loads_one e) ls) rest)
-      → Walk q w.trace (length ls) (at_line w fn below k (before (map (loads_one e) ls) rest) (done ++ blank (length ls) more) s)
+      → Rise q w.trace (length ls) 0 (at_line w fn below k (before (map (loads_one e) ls) rest) (done ++ blank (length ls) more) s)
       (at_line w fn below (k + length ls) rest ((done ++ map Register vs) ++ more) s)
   loads_walk tag e b cells live k scope n rest done more i _ _ len is_e is_slot NoLoading st =
       let start = at_line w fn below k rest (done ++ more) s in
-      subst (λ xs. Walk q w.trace 0 start (at_line w fn below (k + 0) rest (xs ++ more) s)) (sym (slots_none done))
-      (subst (λ j. Walk q w.trace 0 start (at_line w fn below j rest (done ++ more) s)) (let z : k ≡ k + 0 = omega arith in z) (Stay _))
+      subst (λ xs. Rise q w.trace 0 0 start (at_line w fn below (k + 0) rest (xs ++ more) s)) (sym (slots_none done))
+      (subst (λ j. Rise q w.trace 0 0 start (at_line w fn below j rest (done ++ more) s)) (let z : k ≡ k + 0 = omega arith in z) (stay _))
   loads_walk tag e b cells live k scope n rest done more i _ _ len is_e is_slot (AndLoading l t j v ls vs apart is_field sc is_cell fits fits' others) st =
       let left = before (map (loads_one e) ls) rest in
       let inner : Scope = record { called = l.variable; type = l.type; slot = n } ∷ scope in
@@ -92,9 +92,9 @@ module _ (q : Program) (w : World) (fn : Text) (g : Function) (body : Stmts) (be
       let done' = done ++ Register v ∷ [] in
       let more' = loads_walk tag e b cells live (suc k) inner (suc n) rest done' more i ls vs (slots_length done (Register v) ∙ ap suc len) is_e' (get_front done (Register v ∷ []) i (Register (At Frame b 0)) is_slot) others st1 in
       let start = at_line w fn below k (AndStmt (loads_one e l) left) slots s in
-      subst (λ xs. Walk q w.trace (suc (length ls)) start (at_line w fn below (k + suc (length ls)) rest (xs ++ more) s)) (slots_one done (map Register vs) (Register v))
-      (subst (λ j. Walk q w.trace (suc (length ls)) start (at_line w fn below j rest ((done' ++ map Register vs) ++ more) s)) (let z : suc k + length ls ≡ k + suc (length ls) = omega arith in z)
-      (walk_cons (length ls) _ _ _ first more'))
+      subst (λ xs. Rise q w.trace (suc (length ls)) 0 start (at_line w fn below (k + suc (length ls)) rest (xs ++ more) s)) (slots_one done (map Register vs) (Register v))
+      (subst (λ j. Rise q w.trace (suc (length ls)) 0 start (at_line w fn below j rest ((done' ++ map Register vs) ++ more) s)) (let z : suc k + length ls ≡ k + suc (length ls) = omega arith in z)
+      (level_cons (length ls) 0 _ _ _ first more'))
 
 -- ---- what holds behind the loads
 

@@ -1,5 +1,5 @@
 -- The boxes of a call are given back, one statement for each: alike with the call's own, be it a fault.
-use Rattle.std.proofs.Common.{◌≡◌, ℕ, suc, ◌+◌, List, ◌∷◌, length, map, Some, None, Result, Ok, Err, refl, ◌∙◌, ap, subst, codes, arith}
+use Rattle.std.proofs.Common.{◌≡◌, ℕ, suc, ◌+◌, List, [], ◌∷◌, length, map, Some, None, Result, Ok, Err, refl, ◌∙◌, ap, subst, codes, arith}
 use Rattle.cpc_base.specs.Bytes.{Text}
 use Rattle.cpc_num.specs.declared.kinds.Fault.{Fault}
 use Rattle.cpc_tree.specs.Syntax.{Ty, ENamed, NoExpr, AndExpr, Stmts, AndStmt, Function, Program}
@@ -10,7 +10,7 @@ use Rattle.cpc_tree.specs.Trace.{Failed}
 use Rattle.cpc_store.specs.declared.values.Class.TheVariants.{Auto}
 use Rattle.cpc_store.specs.Store.{Unset, At, Store, free}
 use Rattle.cpc_meaning.specs.Answer.{Gives, Faults, ◌>>=◌, of_result}
-use Rattle.cpc_meaning.specs.Eval.{Slot}
+use Rattle.cpc_meaning.specs.Eval.{Slot, Boxed}
 use Rattle.cpc_meaning.specs.Slots.{free_slots}
 use Rattle.cpc_meaning.specs.Section.{freed}
 use Rattle.cpc_meaning.specs.Plain.{Frame as CallFrame}
@@ -19,13 +19,14 @@ use Rattle.cpc_meaning.specs.Machine.{next, ends, replies}
 use Rattle.cpc_meaning.specs.Start.{before_bars}
 use Rattle.cpc_meaning.specs.Events.{callbacks}
 use Rattle.cpc_convert_chain_laws.specs.Flat.{before, Stands, LineAt}
-use Rattle.cpc_convert_chain_laws.specs.Walks.{World, at_line, Walk, Stay, FaultsAfter, frame_at}
+use Rattle.cpc_convert_chain_laws.specs.Walks.{World, at_line, Walk, FaultsAfter, frame_at}
 use Rattle.cpc_convert_chain_laws.specs.Frames.{Holds}
 use Rattle.cpc_convert_chain_laws.specs.Boxes.{unboxes_one, Unboxing, NoUnboxing, PassSlot, AndUnbox}
+use Rattle.cpc_meaning_cell_laws.proofs.Calls.{leaving_gives_back}
 use Rattle.cpc_convert_chain_laws.proofs.Fields.{held}
 use Rattle.cpc_convert_chain_laws.proofs.Asking.{asks_unbox}
 use Rattle.cpc_convert_chain_laws.proofs.Flat.{path_at}
-use Rattle.cpc_convert_chain_laws.proofs.Walks.{walk_cons}
+use Rattle.cpc_convert_chain_laws.proofs.Walks.{stay, rise_cons, rise_more, walk_cons}
 use Rattle.cpc_convert_chain_laws.proofs.AtLine.{line_path, line_found, line_scope, line_passed}
 use Rattle.cpc_convert_chain_laws.proofs.LineSteps.{call_step}
 use Rattle.cpc_convert_chain_laws.proofs.Steps.{step_fails}
@@ -37,10 +38,13 @@ module _ (q : Program) (w : World) (fn : Text) (g : Function) (body : Stmts) (be
   unbox_gives k y left s t u b h st is_free =
       let l : LineAt g body k scope n (unboxes_one y) left = record { statement = unboxes_one y; stands = st; is_bare = refl; is_line = refl } in
       let answer : freed Auto (At Auto b 0) s ≡ Gives (t, Unset) = ap (λ r. of_result r >>= λ t. Gives (t, Unset)) is_free in
-      call_step q w fn g body below is_g k scope n left slots s None (ENamed (codes "rt_unbox")) (AndExpr (ENamed y) NoExpr) l _ t Unset
+      let back : free_slots (Boxed b ∷ []) s ≡ Gives t = ap (λ r. of_result r >>= free_slots []) is_free in
+      let few = leaving_gives_back (Boxed b ∷ []) s t back in
+      rise_more 1 0 1 _ _ (omega arith)
+      (call_step q w fn g body below is_g k scope n left slots s None (ENamed (codes "rt_unbox")) (AndExpr (ENamed y) NoExpr) l _ t Unset
       (asks_unbox q scope slots s g.result None (ENamed y) Auto b is_named (held q scope slots s y u (At Auto b 0) h))
       (λ j. ap (λ a. replies (trees q) j a (at_line w fn below k (AndStmt (unboxes_one y) left) slots s)) answer)
-      t slots refl
+      t slots refl 0 (omega (arith, few)))
 
   -- one that cannot be given back
   unbox_faults : (k : ℕ) (y : Text) (left : Stmts) (s : Store) (u : Ty) (b : ℕ) (fault : Fault) → Holds q scope slots y u (At Auto b 0) → Stands g body k scope n (AndStmt (unboxes_one y) left) → free Auto (At Auto b 0) s ≡ Err fault
@@ -58,7 +62,7 @@ module _ (q : Program) (w : World) (fn : Text) (g : Function) (body : Stmts) (be
   unboxes_walk k _ _ s t NoUnboxing e st =
       let same : s ≡ t = cc in
       subst (λ u. Walk q w.trace 0 (at_line w fn below k rest slots s) (at_line w fn below (k + 0) rest slots u)) same
-      (subst (λ j. Walk q w.trace 0 (at_line w fn below k rest slots s) (at_line w fn below j rest slots s)) (let z : k ≡ k + 0 = omega arith in z) (Stay _))
+      (subst (λ j. Walk q w.trace 0 (at_line w fn below k rest slots s) (at_line w fn below j rest slots s)) (let z : k ≡ k + 0 = omega arith in z) (stay _))
   unboxes_walk k _ ys s t (PassSlot v xs _ more) e st = unboxes_walk k xs ys s t more e st
   unboxes_walk k _ _ s t (AndUnbox b xs y u ys h more) e st =
       by_free (free Auto (At Auto b 0) s) refl e (λ r is. unboxes_walk (suc k) xs ys r t more is (line_passed g body k scope n (unboxes_one y) (before (map unboxes_one ys) rest) (record { statement = unboxes_one y; stands = st; is_bare = refl; is_line = refl })))
@@ -90,7 +94,7 @@ module _ (q : Program) (w : World) (fn : Text) (g : Function) (body : Stmts) (be
           → FaultsAfter q w.trace fn fault (at_line w fn below k (AndStmt (unboxes_one y) (before (map unboxes_one ys) rest)) slots s)
       by_free (Err other) is f deeper =
           let same : other ≡ fault = cc in
-          record { steps = 0; last = _; leads = Stay _; faults = unbox_faults k y left s u b fault h st (is ∙ ap Err same) }
+          record { steps = 0; grown = 0; last = _; leads = stay _; faults = unbox_faults k y left s u b fault h st (is ∙ ap Err same) }
       by_free (Ok r) is f deeper =
           let d = deeper r f in
-          record { steps = suc d.steps; last = d.last; leads = walk_cons d.steps _ _ _ (unbox_gives k y left s r u b h st is) d.leads; faults = d.faults }
+          record { steps = suc d.steps; grown = 1 + d.grown; last = d.last; leads = rise_cons d.steps 1 d.grown _ _ _ (unbox_gives k y left s r u b h st is) d.leads; faults = d.faults }

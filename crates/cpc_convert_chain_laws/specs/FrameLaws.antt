@@ -18,7 +18,8 @@ use Rattle.cpc_meaning.specs.Events.{Callback, CallWith}
 use Rattle.cpc_convert_chain_laws.specs.Chains.{Saved, frame_cells, Top}
 use Rattle.cpc_convert_chain_laws.specs.Structs.{IsStruct}
 use Rattle.cpc_convert_chain_laws.specs.Flat.{before, Stands, LineAt}
-use Rattle.cpc_convert_chain_laws.specs.Walks.{World, Walk, Finishes, at_line, running, idle, FaultsAfter}
+use Rattle.cpc_meaning_cell_laws.specs.Cells.{call_cells}
+use Rattle.cpc_convert_chain_laws.specs.Walks.{World, Rise, Walk, Swell, Finishes, at_line, running, idle, FaultsAfter}
 use Rattle.cpc_convert_chain_laws.specs.Frames.{at, PointsTo, Holds, Save, asks_block, fills_frame, Saving, pointed_slots, Load, loads_one, Loading, blank}
 use Rattle.cpc_convert_chain_laws.specs.Boxes.{AllRegisters, Boxing, Made, Unboxing, unboxes_one}
 use Rattle.cpc_convert_chain_laws.specs.Driver.{drive_name, head_fields, DriverFacts, with_round, driving, entered, patched, IsPiece, patches}
@@ -37,14 +38,14 @@ FramesAreMade =
     → Walk q w.trace (suc (suc (suc (length ps)))) (at_line w fn below k (AndStmt l.statement (before (fills_frame start f code next piece lower ps) rest)) slots s)
     (at_line w fn below (suc (suc (suc k)) + length ps) rest (pointed_slots slots h.slot (next_block Frame s)) (alloc Frame (frame_cells (record { piece = piece; values = vs }) p Unset) s))
 
--- the fields of a frame are loaded into new locals: a step for each
+-- the fields of a frame are loaded into new locals, with as many live cells as before: a step for each
 abbrev pub FramesAreTaken : Type 0
 FramesAreTaken =
     (q : Program) (w : World) (fn : Text) (g : Function) (body : Stmts) (below : List (CallFrame Point)) (is_g : function_named q fn ≡ Some g) (s : Store) (tag e : Text) (b : ℕ) (cells : List Value)
     → cells_of Frame b s ≡ Some cells → (k : ℕ) (scope : Scope) (n : ℕ) (rest : Stmts) (done more : List Slot) (i : ℕ) (ls : List Load) (vs : List Value)
     → length done ≡ n → named q scope e ≡ ALocal i (TyPointer (TyStruct tag)) → slice_get done i ≡ Some (Register (At Frame b 0)) → Loading q tag e cells ls vs
     → Stands g body k scope n (before (map (loads_one e) ls) rest)
-    → Walk q w.trace (length ls) (at_line w fn below k (before (map (loads_one e) ls) rest) (done ++ blank (length ls) more) s) (at_line w fn below (k + length ls) rest ((done ++ map Register vs) ++ more) s)
+    → Rise q w.trace (length ls) 0 (at_line w fn below k (before (map (loads_one e) ls) rest) (done ++ blank (length ls) more) s) (at_line w fn below (k + length ls) rest ((done ++ map Register vs) ++ more) s)
 
 -- a value is written to the frame below, if there is one: two steps, or one
 pub record FramesArePatched : Type 0 where
@@ -63,7 +64,7 @@ BoxesAreMade =
     (is_box : named q scope (codes "rt_box") ≡ NotMeant) (is_frame : named q scope e ≡ ALocal frame (TyPointer (TyStruct tag)))
     (k n : ℕ) (xs : List Variable) (vs : List Value) (places : List (Option ℕ)) (ss : List Stmt) (slots : List Slot) (s : Store) → Boxing p f q scope count frame tag e cells n xs vs places ss
     → AllRegisters slots → length slots ≡ count → slice_get slots frame ≡ Some (Register (At Frame b 0)) → cells_of Frame b s ≡ Some cells → Stands g body k scope c (before ss rest)
-    → Made p f n xs vs places slots s (λ slots' s'. Walk q w.trace (length ss) (at_line w fn below k (before ss rest) slots s) (at_line w fn below (k + length ss) rest slots' s'))
+    → Made p f n xs vs places slots s (λ slots' s'. Swell q w.trace (length ss) (at_line w fn below k (before ss rest) slots s) (at_line w fn below (k + length ss) rest slots' s'))
 
 -- and given back as the call gives them back, a step for each, or with the same fault
 pub record BoxesAreFreed : Type 0 where
@@ -79,8 +80,8 @@ pub record Drives : Type 0 where
   pub begins : (q : Program) (facts : DriverFacts q) (w : World) (s : Store) (f : Saved) (fs : List Saved) (b : ℕ) (next v : Value) (owned : List ℕ) (top : Top s.frames f fs b next v owned) (piece : Function) (is_piece : IsPiece q f.piece piece)
       (ds : List (Due Callback)) (x r : Value) → w.agenda.round ≡ record { item = CallWith drive_name (At Frame b 0); result = x } ∷ ds → assigned (TyInt Int) x ≡ Gives r
       → (slots : List Slot) (t : Store) → call_slots q piece (At Frame b 0 ∷ []) (patched s b f next r) ≡ Gives (slots, t)
-      → Walk q w.trace 5 (idle w s) (entered q (with_round w ds) t piece slots (At Frame b 0) r (At Frame b 0))
+      → Rise q w.trace 5 (3 + call_cells q piece) (idle w s) (entered q (with_round w ds) t piece slots (At Frame b 0) r (At Frame b 0))
   pub goes_on : (q : Program) (facts : DriverFacts q) (w : World) (s : Store) (f : Saved) (fs : List Saved) (b : ℕ) (next v : Value) (owned : List ℕ) (top : Top s.frames f fs b next v owned) (piece : Function) (is_piece : IsPiece q f.piece piece)
       (p r k : Value) (slots : List Slot) (t : Store) → call_slots q piece (At Frame b 0 ∷ []) s ≡ Gives (slots, t)
-      → Walk q w.trace 3 (running w s (driving p r k ∷ []) (Some (At Frame b 0))) (entered q w t piece slots p r (At Frame b 0))
+      → Rise q w.trace 3 (call_cells q piece) (running w s (driving p r k ∷ []) (Some (At Frame b 0))) (entered q w t piece slots p r (At Frame b 0))
   pub finishes : (q : Program) (facts : DriverFacts q) (w : World) (s : Store) (p r k : Value) → Finishes q w.trace 2 (running w s (driving p r k ∷ []) (Some Null)) (idle w s)

@@ -23,7 +23,8 @@ use Rattle.cpc_convert_chain_laws.specs.Chains.{Saved, frame_cells, Chain, Top, 
 use Rattle.cpc_convert_chain_laws.specs.Driver.{drive_name, any_pointer, DriverFacts, driving, entered, IsPiece, with_agenda, with_marks, DriverMeant, readies, sleeps, waits, awaits, spawns}
 use Rattle.cpc_convert_chain_laws.specs.Flat.{before, Stands, LineAt}
 use Rattle.cpc_convert_chain_laws.specs.Frames.{at, Holds, Save, Saving, asks_block, fills_frame, frame_through, pointed_slots, Load, Loading, opens_frame, takes_frame, taken_scope, blank, register_slots, AreRegisters}
-use Rattle.cpc_convert_chain_laws.specs.Walks.{World, Walk, at_line, running}
+use Rattle.cpc_meaning_cell_laws.specs.Cells.{call_cells}
+use Rattle.cpc_convert_chain_laws.specs.Walks.{World, Rise, Walk, at_line, running}
 
 -- a piece takes its frame: its locals have the values of the fields
 abbrev pub FramesAreOpened : Type 0
@@ -31,7 +32,7 @@ FramesAreOpened =
     (q : Program) (w : World) (fn : Text) (g : Function) (body : Stmts) (below : List (CallFrame Point)) (is_g : function_named q fn ≡ Some g) (s : Store) (tag e k : Text) (b : ℕ) (cells : List Value) (live : cells_of Frame b s ≡ Some cells)
     (j : ℕ) (scope : Scope) (n : ℕ) (rest : Stmts) (ls : List Load) (ds : List Variable) (st : Stands g body j scope n (opens_frame k e tag ls ds rest))
     (done more : List Slot) (i : ℕ) (t : Ty) (vs : List Value) (len : length done ≡ n) (apart : bytes_eq e k ≡ false) (is_k : named q scope k ≡ ALocal i (TyPointer t)) (is_slot : slice_get done i ≡ Some (Register (At Frame b 0))) (loading : Loading q tag e cells ls vs)
-    → Walk q w.trace (suc (length ls + length ds)) (at_line w fn below j (opens_frame k e tag ls ds rest) (done ++ Register Unset ∷ blank (length ls) more) s)
+    → Rise q w.trace (suc (length ls + length ds)) 0 (at_line w fn below j (opens_frame k e tag ls ds rest) (done ++ Register Unset ∷ blank (length ls) more) s)
     (at_line w fn below (suc j + length ls + length ds) rest (((done ++ Register (At Frame b 0) ∷ []) ++ map Register vs) ++ more) s)
 
 -- and gives it back: the block is freed
@@ -57,7 +58,7 @@ LeadersAreEntered =
     → (t' : Ty) (v : Value) → field q head next ≡ Some (1, t') → ((u : Store) → value (at q scope (pointed_slots slots h.slot (next_block Frame s)) u) lower ≡ Gives v) → assigned t' v ≡ Gives p
     → Saving q scope (pointed_slots slots h.slot (next_block Frame s)) tag 3 ps vs
     → (leader : Function) → IsPiece q piece leader → AreRegisters leader 0 (variables leader)
-    → Walk q w.trace (suc (suc (suc (length ps))) + 4) (at_line w fn (driving p0 r0 k0 ∷ []) k (AndStmt l.statement (before (fills_frame (ENamed to) (frame_through to tag) code next piece lower ps) (AndStmt (Return (Some (ENamed to))) rest))) slots s)
+    → Rise q w.trace (suc (suc (suc (length ps))) + 4) (suc (suc (suc (length ps))) + (1 + call_cells q leader)) (at_line w fn (driving p0 r0 k0 ∷ []) k (AndStmt l.statement (before (fills_frame (ENamed to) (frame_through to tag) code next piece lower ps) (AndStmt (Return (Some (ENamed to))) rest))) slots s)
     (entered q w (alloc Frame (frame_cells (record { piece = piece; values = vs }) p Unset) s) leader (register_slots (length (variables leader)) (At Frame (next_block Frame s) 0 ∷ [])) p0 r0 (At Frame (next_block Frame s) 0))
     × Top (alloc Frame (frame_cells (record { piece = piece; values = vs }) p Unset) s).frames (record { piece = piece; values = vs }) fs (next_block Frame s) p Unset owned
 

@@ -29,7 +29,8 @@ use Rattle.cpc_convert_chain_laws.specs.Driver.{drive_name, any_pointer, head_fi
 use Rattle.cpc_convert_chain_laws.specs.Flat.{before, standing, LineAt}
 use Rattle.cpc_convert_chain_laws.specs.Frames.{at, PointsTo, Holds, asks_block, pointed_slots, Give, fills_call, Giving, GivingFaults, register_slots, AreRegisters}
 use Rattle.cpc_convert_chain_laws.specs.Structs.{IsStruct}
-use Rattle.cpc_convert_chain_laws.specs.Walks.{World, Walk, Finishes, at_line, running, idle, frame_at, line_stack, arriving_at, FaultsAfter}
+use Rattle.cpc_meaning_cell_laws.specs.Cells.{call_cells}
+use Rattle.cpc_convert_chain_laws.specs.Walks.{World, Rise, Walk, Finishes, at_line, running, idle, frame_at, line_stack, arriving_at, FaultsAfter}
 
 -- what is known where the start frame of a call is made
 pub record CallMade (q : Program) (g : Function) (body : Stmts) (k : ℕ) (scope : Scope) (n : ℕ) (rest : Stmts) (slots : List Slot) (s : Store) (to tag head code next piece : Text) (start f lower : Expr) (ps : List Give) (p : Value) : Type 0 where
@@ -68,13 +69,13 @@ pub record CallsAreFramed : Type 0 where
 pub record PiecesReturn (q : Program) (w : World) (fn : Text) (g : Function) (body : Stmts) (p0 r0 k0 : Value) (k : ℕ) (scope : Scope) (n : ℕ) (rest : Stmts) (slots : List Slot) (s : Store) (next : Text) : Type 0 where
   pub goes : (l : LineAt g body k scope n (Return (Some (ENamed next))) rest) (t : Ty) (b : ℕ) → Holds q scope slots next (TyPointer t) (At Frame b 0)
       → (f : Saved) (fs : List Saved) (lower v : Value) (owned : List ℕ) → Top s.frames f fs b lower v owned → (leader : Function) → IsPiece q f.piece leader → AreRegisters leader 0 (variables leader)
-      → Walk q w.trace 4 (at_line w fn (driving p0 r0 k0 ∷ []) k (AndStmt l.statement rest) slots s) (entered q w s leader (register_slots (length (variables leader)) (At Frame b 0 ∷ [])) p0 r0 (At Frame b 0))
+      → Rise q w.trace 4 (1 + call_cells q leader) (at_line w fn (driving p0 r0 k0 ∷ []) k (AndStmt l.statement rest) slots s) (entered q w s leader (register_slots (length (variables leader)) (At Frame b 0 ∷ [])) p0 r0 (At Frame b 0))
   pub ends : (l : LineAt g body k scope n (Return (Some (ENamed next))) rest) (t : Ty) → Holds q scope slots next (TyPointer t) Null
       → Finishes q w.trace 3 (at_line w fn (driving p0 r0 k0 ∷ []) k (AndStmt l.statement rest) slots s) (idle w s)
   pub gives : (tag : Text) (e : Expr) (l : LineAt g body k scope n (patches next e) (AndStmt (Return (Some (ENamed next))) rest)) (u : Ty) (b : ℕ) → Holds q scope slots next (TyPointer (TyStruct tag)) (At Frame b 0) → IsStruct q tag (head_fields u [])
       → (f : Saved) (fs : List Saved) (lower old : Value) (owned : List ℕ) → Top s.frames f fs b lower old owned → (v v' : Value) → value (at q scope slots s) e ≡ Gives v → assigned u v ≡ Gives v'
       → (leader : Function) → IsPiece q f.piece leader → AreRegisters leader 0 (variables leader)
-      → Walk q w.trace (2 + 4) (at_line w fn (driving p0 r0 k0 ∷ []) k (AndStmt l.statement (AndStmt (Return (Some (ENamed next))) rest)) slots s)
+      → Rise q w.trace (2 + 4) (2 + (1 + call_cells q leader)) (at_line w fn (driving p0 r0 k0 ∷ []) k (AndStmt l.statement (AndStmt (Return (Some (ENamed next))) rest)) slots s)
       (entered q w (patched s b f lower v') leader (register_slots (length (variables leader)) (At Frame b 0 ∷ [])) p0 r0 (At Frame b 0))
       × Top (patched s b f lower v').frames f fs b lower v' owned
   pub gives_none : (e : Expr) (l : LineAt g body k scope n (patches next e) (AndStmt (Return (Some (ENamed next))) rest)) (t : Ty) → Holds q scope slots next (TyPointer t) Null

@@ -1,5 +1,5 @@
 -- Some steps of the event machine that leave no mark and do not end the run.
-use Rattle.std.specs.Prelude.{◌≡◌, ℕ, zero, suc, true, List, ◌∷◌, Option, Some, None, is_some}
+use Rattle.std.specs.Prelude.{◌≡◌, ℕ, zero, suc, ◌+◌, ◌≤◌, true, List, ◌∷◌, Option, Some, None, is_some}
 use Rattle.cpc_base.specs.Bytes.{Text}
 use Rattle.cpc_tree.specs.Syntax.{Stmt, Stmts, Program}
 use Rattle.cpc_tree.specs.Points.{Nth, Point, Arrival, enter}
@@ -12,6 +12,7 @@ use Rattle.cpc_meaning.specs.Plain.{Frame, Stack}
 use Rattle.cpc_meaning.specs.History.{History}
 use Rattle.cpc_meaning.specs.Section.{Job}
 use Rattle.cpc_meaning.specs.Machine.{State, next, ends}
+use Rattle.cpc_meaning.specs.Runs.{live_cells}
 use Rattle.cpc_meaning.specs.Start.{before_bars}
 use Rattle.cpc_num.specs.declared.kinds.Fault.{Fault}
 use Rattle.cpc_convert_chain_laws.specs.Flat.{point_at}
@@ -69,10 +70,28 @@ pub record Quiet (trace : List Mark) (s : Here) : Type 0 where
   pub goes : s.outcome ≡ Going
   pub runs : is_some s.running ≡ true
 
--- so many steps lead from a state to another, over quiet ones
-pub data Walk (q : Program) (trace : List Mark) : ℕ → Here → Here → Type 0 where
-  Stay : (s : Here) → Walk q trace zero s s
-  Step : (n : ℕ) (s t u : Here) → next (callbacks q) s ≡ Some t → Quiet trace t → Walk q trace n t u → Walk q trace (suc n) s u
+-- so many steps lead from a state to another, over quiet ones with at most so many live cells
+pub data Climb (q : Program) (trace : List Mark) (most : ℕ) : ℕ → Here → Here → Type 0 where
+  Rest : (s : Here) → Climb q trace most zero s s
+  Go : (n : ℕ) (s t u : Here) → next (callbacks q) s ≡ Some t → Quiet trace t → live_cells t ≤ most → Climb q trace most n t u → Climb q trace most (suc n) s u
+
+-- so many steps, over states with at most so many more live cells than the first has
+pub record Rise (q : Program) (trace : List Mark) (n grown : ℕ) (s u : Here) : Type 0 where
+  pub climb : (most : ℕ) → live_cells s + grown ≤ most → Climb q trace most n s u
+
+-- so many steps, in which the live cells do not rise by more
+abbrev pub Walk : (q : Program) → (trace : List Mark) → ℕ → Here → Here → Type 0
+Walk q trace n s u = Rise q trace n n s u
+
+-- so many steps, over states with at most so many more live cells than the first or the last has
+pub record Climbs (q : Program) (trace : List Mark) (n grown : ℕ) (s u : Here) : Type 0 where
+  pub climb : (most : ℕ) → live_cells s + grown ≤ most → live_cells u + grown ≤ most → Climb q trace most n s u
+
+-- so many steps, in which the live cells rise up to those of the last state
+pub record Swell (q : Program) (trace : List Mark) (n : ℕ) (s u : Here) : Type 0 where
+  pub grown : ℕ
+  pub rise : Rise q trace n grown s u
+  pub full : live_cells s + grown ≡ live_cells u
 
 -- so many steps over states in which something runs, and then a last one to this state
 pub record Finishes (q : Program) (trace : List Mark) (n : ℕ) (s u : Here) : Type 0 where
@@ -83,6 +102,7 @@ pub record Finishes (q : Program) (trace : List Mark) (n : ℕ) (s u : Here) : T
 -- so many steps lead to a state whose next step is this fault, in this function
 pub record FaultsAfter (q : Program) (trace : List Mark) (f : Text) (fault : Fault) (s : Here) : Type 0 where
   pub steps : ℕ
+  pub grown : ℕ
   pub last : Here
-  pub leads : Walk q trace steps s last
+  pub leads : Rise q trace steps grown s last
   pub faults : next (callbacks q) last ≡ Some (ends (Failed fault (before_bars f)) last)

@@ -1,17 +1,20 @@
 -- The start takes up the first frame of a call: its piece stands before the first node, or gives the frame of the leader that this is to the driver.
 use Rattle.std.proofs.Common.{◌≡◌, inl, ℕ, zero, suc, ◌+◌, ◌*◌, ◌≤◌, Bool, true, false, not, ◌&&◌, ◌||◌, ◌==◌, List, [], ◌∷◌, ◌++◌, length, slice_get, slice_set, Option, Some, None, refl, sym, ◌∙◌, ap, subst, arith}
+use Rattle.std.proofs.lemmas.List.Sums.{sum_by_push}
 use Rattle.cpc_base.specs.Bytes.{Text}
 use Rattle.cpc_tree.specs.Lists.{holds_number}
 use Rattle.cpc_tree.specs.Registers.{variables}
 use Rattle.cpc_tree.specs.Syntax.{Ty, Function, Program}
 use Rattle.cpc_store.specs.declared.values.Class.TheVariants.{Frame}
-use Rattle.cpc_store.specs.Store.{Value, Unset, At as Pointer, Blocks, Store}
+use Rattle.cpc_store.specs.Store.{Value, Unset, At as Pointer, Blocks, Store, block_cells, cells_in, store_cells}
 use Rattle.cpc_meaning.specs.Answer.{Gives}
 use Rattle.cpc_meaning.specs.Eval.{Slot}
 use Rattle.cpc_meaning.specs.Plain.{Frame as CallFrame}
+use Rattle.cpc_meaning.specs.Runs.{slots_registers}
 use Rattle.cpc_meaning.specs.Slots.{call_slots}
 use Rattle.cpc_meaning.specs.Ways.{ways}
 use Rattle.cpc_meaning.proofs.Stores.{set_length}
+use Rattle.cpc_meaning_cell_laws.specs.Cells.{call_cells}
 use Rattle.cpc_forms.specs.Flow.{Place, Start, At, is_leader, owner_by}
 use Rattle.cpc_forms.specs.Graph.{graph_of}
 use Rattle.cpc_forms.specs.Pieces.{is_owned_by}
@@ -26,13 +29,13 @@ use Rattle.cpc_convert_image_laws.specs.Held.{beside}
 use Rattle.cpc_convert_chain_laws.specs.Chains.{Saved, frame_cells, Top}
 use Rattle.cpc_convert_chain_laws.specs.Driver.{any_pointer, DriverFacts, driving, entered}
 use Rattle.cpc_convert_chain_laws.specs.Fits.{Fits}
-use Rattle.cpc_convert_chain_laws.specs.Walks.{World, Walk, running, frame_at}
-use Rattle.cpc_convert_chain_laws.proofs.Walks.{walk_append}
+use Rattle.cpc_convert_chain_laws.specs.Walks.{World, Walk, Climbs, running, frame_at}
+use Rattle.cpc_convert_chain_laws.proofs.Walks.{rise_climbs, climbs_append}
 use Rattle.cpc_convert_event.specs.BoxingLaws.{VariablesHaveSizes}
 use Rattle.cpc_convert_event.specs.Lines.{save_of}
 use Rattle.cpc_convert_event.specs.NameLaws.{TheStart}
 use Rattle.cpc_convert_event.specs.Names.{piece_name}
-use Rattle.cpc_convert_event.specs.Routines.{Routine, routine_of, closure_of, is_plain, variable_of, local_of, owner_number}
+use Rattle.cpc_convert_event.specs.Routines.{Routine, routine_of, closure_of, is_plain, variable_of, local_of, passed, owner_number}
 use Rattle.cpc_convert_event.specs.Rows.{owner_at, is_own, onwards_all, rows_nodes, reached, stubs_of}
 use Rattle.cpc_convert_event.proofs.Heads.{pieces_begin}
 use Rattle.cpc_convert_event.proofs.Numbers.{chosen_has, later}
@@ -42,24 +45,25 @@ use Rattle.cpc_convert_laws.proofs.Setting.{Setting}
 use Rattle.cpc_convert_laws.proofs.Starting.{StartLeads, start_opens}
 use Rattle.cpc_convert_native_laws.specs.Instance.{cut_of}
 use Rattle.cpc_convert_accepted_laws.specs.Lifted.{kept_of}
+use Rattle.cpc_convert_native_laws.proofs.SpawnerCall.{passed_few}
 use Rattle.cpc_convert_piece_laws.specs.Known.{CpsKnown}
 use Rattle.cpc_convert_piece_laws.specs.Rows.{row_point}
 use Rattle.cpc_convert_piece_laws.specs.Stood.{NodeAt, NoneArrives, AtRow}
-use Rattle.cpc_convert_piece_laws.proofs.Frames.{code, saves_of, kept_number, map_length, with_frame}
+use Rattle.cpc_convert_piece_laws.proofs.Frames.{registers_all, code, saves_of, kept_number, map_length, with_frame}
 use Rattle.cpc_convert_piece_laws.proofs.Scopes.{q}
 use Rattle.cpc_convert_piece_laws.proofs.Stubs.{stub_walk}
 use Rattle.cpc_convert_piece_laws.proofs.Tidied.{closure_kept, stood_tidied}
 use Rattle.cpc_convert_piece_laws.proofs.Ways.{is_split, place_self}
 use Rattle.cpc_convert_entry_laws.specs.Taken.{KeptIn, IsValue, IsBlock, FrameTaken, CallTaken}
-use Rattle.cpc_convert_entry_laws.proofs.Counting.{start_number}
+use Rattle.cpc_convert_entry_laws.proofs.Counting.{start_locals, start_number}
 use Rattle.cpc_convert_entry_laws.proofs.Leaders.{EntryAt, entry_at, entry_row}
-use Rattle.cpc_convert_entry_laws.proofs.Opening.{FirstRow, first_row, is_piece, called_locals, is_called, opening_steps, opening_walk}
+use Rattle.cpc_convert_entry_laws.proofs.Opening.{FirstRow, first_row, is_piece, locals_number, called_locals, is_called, call_number, opening_steps, opening_walk}
 use Rattle.cpc_convert_entry_laws.proofs.Resuming.{z, chain_fits, saved_is, leader_opens}
-use Rattle.cpc_convert_entry_laws.proofs.Starting.{owner, cells, args, loading, locals, all_kept, locals_there, pointer_there, boxed}
+use Rattle.cpc_convert_entry_laws.proofs.Starting.{all_number, owner, cells, args, loading, locals, all_kept, locals_there, pointer_there, boxed}
 
 -- with more steps allowed
-opens_wider : (z' : Setting) (a b : ℕ) (name : Text) (w : World) (bs : Blocks) (s : Store) (k : ℕ) (f : Text) (l : Place) (n : ℕ) (slots : List Slot) (o : Option Value) (next : Value) (t : Store) → a ≤ b → Opens z' a name w bs s k f l n slots o next t → Opens z' b name w bs s k f l n slots o next t
-opens_wider z' a b name w bs s k f l n slots o next t h g = record {
+opens_wider : (z' : Setting) (a b rise : ℕ) (name : Text) (w : World) (bs : Blocks) (s : Store) (k : ℕ) (f : Text) (l : Place) (n : ℕ) (slots : List Slot) (o : Option Value) (next : Value) (t : Store) → a ≤ b → Opens z' a rise name w bs s k f l n slots o next t → Opens z' b rise name w bs s k f l n slots o next t
+opens_wider z' a b rise name w bs s k f l n slots o next t h g = record {
   function = g.function;
   is_piece = g.is_piece;
   locals = g.locals;
@@ -69,6 +73,8 @@ opens_wider z' a b name w bs s k f l n slots o next t h g = record {
   piece = g.piece;
   more = g.more;
   taken = g.taken;
+  grown = g.grown;
+  few = g.few;
   leads = g.leads;
   stands = g.stands;
 }
@@ -122,19 +128,26 @@ module _ (p : Program) (fine : CallFrame Position → Option Value → Type 0) (
 
     -- the opening leads to the first row
     opens_at : (n : ℕ) (first : FirstRow p r Start n) (pointer result frame : Value)
-        → Walk (q p f known) w.trace (opening_steps p f known Start TheStart) (entered (q p f known) w (beside bs s) its (called_locals p f known Start TheStart b) pointer result frame)
+        → Climbs (q p f known) w.trace (opening_steps p f known Start TheStart) (length (cells p f known sizes vs call next v fits)) (entered (q p f known) w (beside bs s) its (called_locals p f known Start TheStart b) pointer result frame)
         (running w (beside freed t) (frame_at name (row_point p r Start n first.row) there ∷ driving pointer result frame ∷ []) None)
     opens_at n first pointer result frame =
         opening_walk p f known Start TheStart w pointer result frame (beside bs s) b (cells p f known sizes vs call next v fits) top.cells (next ∷ args p f known sizes vs call) (loading p f known sizes vs call next v fits)
         there (beside bs t) (boxed p f known sizes vs call next v fits b s t slots made bs top.cells w pointer result frame) top.cells (pointer_there p f known sizes vs call next v fits b s t slots made) n first
+
+    -- the cells of the first frame, and those of the call of the piece
+    cells_number : length (cells p f known sizes vs call next v fits) ≤ 3 + length (variables f)
+    cells_number = let a = all_number (passed f) vs call.fit in let b = passed_few f in omega (arith, a, b)
+
+    called_number : call_cells (q p f known) its ≤ 7 + length (variables f)
+    called_number = let a = call_number p f known Start TheStart in let b = start_locals p known.names f known.found.cps in omega (arith, a, b)
 
     abbrev keep : Place → ℕ → Bool
     keep l k = kept_of p f.called (InGraph l entry) k
 
     -- ---- the first node is the start's own
 
-    own_opens : (bound : ℕ) → 6 + 3 * length (variables f) ≤ bound → EntryAt p f Start → Opens zz bound name w bs s b f.called Start entry (tidy_slots (keep Start) slots) None next t
-    own_opens bound wide at = record {
+    own_opens : (bound rise : ℕ) → 6 + 3 * length (variables f) ≤ bound → 10 + 2 * length (variables f) ≤ rise → EntryAt p f Start → Opens zz bound rise name w bs s b f.called Start entry (tidy_slots (keep Start) slots) None next t
+    own_opens bound rise wide high at = record {
       function = its;
       is_piece = is_piece p f known Start TheStart;
       locals = called_locals p f known Start TheStart b;
@@ -144,6 +157,8 @@ module _ (p : Program) (fine : CallFrame Position → Option Value → Type 0) (
       piece = frame_at name (row_point p r Start entry first.row) there;
       more = 0;
       taken = λ k. k;
+      grown = length (cells p f known sizes vs call next v fits);
+      few = let a = cells_number in let b = called_number in omega (arith, a, b, high);
       leads = opens_at entry first;
       stands =
           stood_tidied p known.names f.called Start entry slots None next (frame_at name (row_point p r Start entry first.row) there) None
@@ -212,7 +227,32 @@ module _ (p : Program) (fine : CallFrame Position → Option Value → Type 0) (
           ap (λ us. freed ++ Some (frame_cells (record { piece = piece_name f.called l; values = us }) next Unset) ∷ []) (sym (copied_same slots tidied (closure_of r l) same_slot))
           ∙ ap (λ x. freed ++ Some (frame_cells x next Unset) ∷ []) (sym (saved_is p fine given f known tidied entry))
 
-      start_leads : StartLeads zz (10 + 4 * length (variables f)) name w bs s b f.called entry tidied next t
+      -- the registers of the piece behind its opening
+      there_number : slots_registers there ≤ 7 + length (variables f)
+      there_number =
+          let at' = locals_there p f known sizes vs call next v fits b s t slots made in
+          let a = registers_all there at'.registers in
+          let m = at'.number in
+          let c = locals_number p f known Start TheStart in
+          let d = start_locals p known.names f known.found.cps in
+          omega (arith, a, m, c, d)
+
+      abbrev saves_number : ℕ
+      saves_number = suc (suc (suc (length (saves_of p f known Start TheStart entry)))) + 1
+
+      saves_few : saves_number ≤ 4 + length (variables f)
+      saves_few =
+          let c = map_length (λ k. save_of (local_of r k)) (closure_of r l) in
+          let d = kept_number p f known Start TheStart l in
+          omega (arith, c, d)
+
+      -- the leader's frame, in the place of the first
+      made_cells : store_cells (beside freed t) ≤ store_cells (beside (freed ++ Some (frame_cells (saved_at (cut_of p) f.called tidied entry) next Unset) ∷ []) t)
+      made_cells =
+          let a : cells_in (freed ++ Some (frame_cells (saved_at (cut_of p) f.called tidied entry) next Unset) ∷ []) ≡ cells_in freed + length (frame_cells (saved_at (cut_of p) f.called tidied entry) next Unset) = sum_by_push block_cells freed (Some (frame_cells (saved_at (cut_of p) f.called tidied entry) next Unset)) in
+          omega (arith, a)
+
+      start_leads : StartLeads zz (10 + 4 * length (variables f)) (18 + 3 * length (variables f)) name w bs s b f.called entry tidied next t
       start_leads = record {
         function = its;
         is_piece = is_piece p f known Start TheStart;
@@ -220,29 +260,53 @@ module _ (p : Program) (fine : CallFrame Position → Option Value → Type 0) (
         called = is_called p f known Start TheStart b (beside bs s);
         steps = steps;
         within = steps_number;
+        grown = 11 + 2 * length (variables f);
+        few = let a = called_number in omega (arith, a);
         leads = λ pointer result frame.
-            walk_append (opening_steps p f known Start TheStart) (suc (suc (suc (length (saves_of p f known Start TheStart entry)))) + 1) _ _ _ (opens_at entry first pointer result frame)
+            let opened = opens_at entry first pointer result frame in
+            let low = cells_number in
+            let few = saves_few in
+            let there_few = there_number in
+            let made_few = made_cells in
+            climbs_append (opening_steps p f known Start TheStart) saves_number (length (cells p f known sizes vs call next v fits)) saves_number (7 + length (variables f)) (11 + 2 * length (variables f)) _ _ _ opened (omega (arith, there_few, made_few))
+            (rise_climbs saves_number saves_number _ _
             (subst (λ k. Walk (q p f known) w.trace (suc (suc (suc (length (saves_of p f known Start TheStart entry)))) + 1) (running w (beside freed t) (frame_at name (row_point p r Start entry first.row) there ∷ driving pointer result frame ∷ []) None)
             (running w (beside (freed ++ Some (frame_cells (saved_at (cut_of p) f.called tidied entry) next Unset) ∷ []) t) (driving pointer result frame ∷ []) (Some (Pointer Frame k 0)))) (set_length bs b None)
             (subst (λ cs. Walk (q p f known) w.trace (suc (suc (suc (length (saves_of p f known Start TheStart entry)))) + 1) (running w (beside freed t) (frame_at name (row_point p r Start entry first.row) there ∷ driving pointer result frame ∷ []) None)
             (running w (beside cs t) (driving pointer result frame ∷ []) (Some (Pointer Frame (length freed) 0)))) frame_is
-            (stub_walk p f known Start TheStart entry stub_there first.row in_start slots there next (locals_there p f known sizes vs call next v fits b s t slots made) w freed t pointer result frame)));
+            (stub_walk p f known Start TheStart entry stub_there first.row in_start slots there next (locals_there p f known sizes vs call next v fits b s t slots made) w freed t pointer result frame)))) (omega (arith, low)) (omega (arith, few));
       }
 
-      pub leader_first : (driver : DriverFacts zz.target) (bound : ℕ) → 21 + 5 * length (variables f) ≤ bound → Opens zz bound name w bs s b f.called l entry tidied None next t
-      leader_first driver bound wide =
-          opens_wider zz ((10 + 4 * length (variables f)) + (3 + (8 + length (variables f)))) bound name w bs s b f.called l entry tidied None next t (omega (arith, wide))
-          (start_opens zz driver (10 + 4 * length (variables f)) (8 + length (variables f)) name w bs s b f.called entry tidied next t below owned v (first_saved (cut_of p) f.called vs) top start_leads
-          (λ cs top'. leader_opens p fine given f known (8 + length (variables f)) (omega arith) w cs t entry tidied None Unset below (length bs) next owned frame_taken (inl refl) (λ e. refl) top'))
+      start_grown : start_leads.grown ≡ 11 + 2 * length (variables f)
+      unfolding start_leads
+      start_grown = refl
+
+      start_called : (rise : ℕ) → 21 + 4 * length (variables f) ≤ rise → call_cells zz.target start_leads.function + (14 + 3 * length (variables f)) ≤ rise
+      unfolding start_leads
+      start_called rise high = let a : call_cells zz.target its ≤ 7 + length (variables f) = called_number in let z : call_cells zz.target its + (14 + 3 * length (variables f)) ≤ rise = omega (arith, a, high) in z
+
+      saved_number : 3 + length (saved_at (cut_of p) f.called tidied entry).values ≤ 3 + length (variables f)
+      saved_number =
+          let e = ap (λ (x : Saved). length x.values) (saved_is p fine given f known tidied entry) in
+          let c = map_length (λ (k : ℕ). value_in (slice_get tidied k)) (closure_of r l) in
+          let d = kept_number p f known Start TheStart l in
+          omega (arith, e, c, d)
+
+      pub leader_first : (driver : DriverFacts zz.target) (bound rise : ℕ) → 21 + 5 * length (variables f) ≤ bound → 21 + 4 * length (variables f) ≤ rise → Opens zz bound rise name w bs s b f.called l entry tidied None next t
+      leader_first driver bound rise wide high =
+          opens_wider zz ((10 + 4 * length (variables f)) + (3 + (8 + length (variables f)))) bound rise name w bs s b f.called l entry tidied None next t (omega (arith, wide))
+          (start_opens zz driver (10 + 4 * length (variables f)) (8 + length (variables f)) (18 + 3 * length (variables f)) (10 + 2 * length (variables f)) (3 + length (variables f)) (14 + 3 * length (variables f)) rise name w bs s b f.called entry tidied next t below owned v (first_saved (cut_of p) f.called vs) top start_leads
+          (λ cs top'. leader_opens p fine given f known (8 + length (variables f)) (10 + 2 * length (variables f)) (omega arith) (omega arith) w cs t entry tidied None Unset below (length bs) next owned frame_taken (inl refl) (λ e. refl) top')
+          (let a = saved_number in omega (arith, a)) (let a = start_grown in omega (arith, a)) (omega arith) (start_called rise high))
 
     -- ---- either
 
-    abbrev pub Begun : ℕ → Type 0
-    Begun bound = (l : Place) × (n : ℕ) × ((split_form p).code.first f.called ≡ InGraph l n) × Opens zz bound name w bs s b f.called l n (tidy_slots (kept_of p f.called (InGraph l n)) slots) None next t
+    abbrev pub Begun : (bound rise : ℕ) → Type 0
+    Begun bound rise = (l : Place) × (n : ℕ) × ((split_form p).code.first f.called ≡ InGraph l n) × Opens zz bound rise name w bs s b f.called l n (tidy_slots (kept_of p f.called (InGraph l n)) slots) None next t
 
-    pub call_opens : (driver : DriverFacts zz.target) (bound : ℕ) → 21 + 5 * length (variables f) ≤ bound → Begun bound
-    call_opens driver bound wide = go (is_leader (flow_in p f) entry) refl (entry_at p f)
+    pub call_opens : (driver : DriverFacts zz.target) (bound rise : ℕ) → 21 + 5 * length (variables f) ≤ bound → 21 + 4 * length (variables f) ≤ rise → Begun bound rise
+    call_opens driver bound rise wide high = go (is_leader (flow_in p f) entry) refl (entry_at p f)
       where
-        go : (c : Bool) → is_leader (flow_in p f) entry ≡ c → EntryAt p f (owner_by c Start entry) → Begun bound
-        go true e at = (At entry, entry, first_is (At entry) at.owned, leader_first e at driver bound wide)
-        go false e at = (Start, entry, first_is Start at.owned, own_opens bound (omega (arith, wide)) at)
+        go : (c : Bool) → is_leader (flow_in p f) entry ≡ c → EntryAt p f (owner_by c Start entry) → Begun bound rise
+        go true e at = (At entry, entry, first_is (At entry) at.owned, leader_first e at driver bound rise wide high)
+        go false e at = (Start, entry, first_is Start at.owned, own_opens bound rise (omega (arith, wide)) (omega (arith, high)) at)

@@ -90,6 +90,18 @@ module _ (p : Program) (ok : IsNamed p) (f : Function) (cps : IsCps p f) where
       omega (arith, e, g, h)
 
   -- the steps of the opening of the start
+  -- the locals of the start
+  pub start_locals : suc (suc (length (loads_of p r Start) + length (declares_of p r Start))) ≤ 7 + length (variables f)
+  start_locals =
+      let a = variables_shared in
+      let b = map_length load_of (locals_of r (loaded r Start)) in
+      let c = map_length (local_of r) (loaded r Start) in
+      let d = append_length (words_of p r Start) (locals_of r (begun r Start)) in
+      let e = map_length (local_of r) (begun r Start) in
+      let g = append_length (chosen begins (closure_of r Start)) r.boxes in
+      let h = words_of_number p r Start in
+      omega (arith, a, b, c, d, e, g, h)
+
   pub start_number : suc (length (loads_of p r Start) + length (declares_of p r Start)) + (length (boxing_of r Start) + 1) ≤ 6 + 3 * length (variables f)
   start_number =
       let a = variables_shared in

@@ -1,29 +1,34 @@
 -- The opening of a piece: it takes up its frame, loads its locals, makes its boxes, gives the frame back, and stands before its first row.
-use Rattle.std.proofs.Common.{◌≡◌, ℕ, zero, suc, ◌+◌, Bool, true, false, ◌&&◌, cond, List, [], ◌∷◌, ◌++◌, map, length, slice_get, slice_set, Some, None, refl, sym, ◌∙◌, ap, subst, codes, arith}
+use Rattle.std.proofs.Common.{◌≡◌, ℕ, zero, suc, ◌+◌, Bool, true, false, ◌&&◌, cond, List, [], ◌∷◌, ◌++◌, map, length, slice_get, slice_set, option_map, Some, None, refl, sym, ◌∙◌, ap, subst, codes, arith}
 use Rattle.cpc_base.specs.Bytes.{Text}
+use Rattle.cpc_tree.specs.Lists.{rest_of}
 use Rattle.cpc_tree.specs.Points.{Point}
 use Rattle.cpc_tree.specs.Primitives.{RtFrameFree}
 use Rattle.cpc_tree.specs.Registers.{variables, outer_scope}
 use Rattle.cpc_tree.specs.Syntax.{TyVoid, ENamed, Stmt, Stmts, NoStmt, AndStmt, Variable, Function, Program}
 use Rattle.cpc_store.specs.declared.values.Class.TheVariants.{Frame}
-use Rattle.cpc_store.specs.Store.{Value, Unset, At as Pointer, Store, blocks, with_blocks, cells_of}
+use Rattle.cpc_store.specs.Store.{Value, Unset, At as Pointer, Store, empty_store, blocks, with_blocks, cells_of}
+use Rattle.cpc_store.proofs.CellLemmas.{store_cells-free}
 use Rattle.cpc_meaning.specs.Answer.{Gives}
 use Rattle.cpc_meaning.specs.Eval.{Slot, Register}
 use Rattle.cpc_meaning.specs.Plain.{Frame as CallFrame}
+use Rattle.cpc_meaning.specs.Runs.{slots_registers}
 use Rattle.cpc_meaning.specs.Slots.{call_slots}
 use Rattle.cpc_meaning.specs.Trees.{first_point}
+use Rattle.cpc_meaning_cell_laws.specs.Cells.{call_cells}
+use Rattle.cpc_meaning_cell_laws.proofs.Calls.{call_takes}
 use Rattle.cpc_forms.specs.Flow.{Place}
 use Rattle.cpc_convert_chain_laws.specs.Driver.{any_pointer, driving, entered, IsPiece}
 use Rattle.cpc_convert_chain_laws.specs.Flat.{before, point_at, Stands, LineAt}
 use Rattle.cpc_convert_chain_laws.specs.Frames.{Holds, Load, Loading, blank, register_slots, frees_frame, opens_frame, AreRegisters}
-use Rattle.cpc_convert_chain_laws.specs.Walks.{World, Walk, at_line, running, frame_at}
+use Rattle.cpc_convert_chain_laws.specs.Walks.{World, Rise, Climbs, Swell, at_line, running, frame_at}
 use Rattle.cpc_convert_chain_laws.proofs.Fields.{held}
 use Rattle.cpc_convert_chain_laws.proofs.Flat.{at_first}
 use Rattle.cpc_convert_chain_laws.proofs.LineSteps.{frame_free_step}
 use Rattle.cpc_convert_chain_laws.proofs.Pieces.{registers_call, blank_slots}
 use Rattle.cpc_convert_chain_laws.proofs.Prologue.{opens_walk, past_opened}
 use Rattle.cpc_convert_chain_laws.proofs.Scopes.{all_lines, past_lines}
-use Rattle.cpc_convert_chain_laws.proofs.Walks.{walk_append}
+use Rattle.cpc_convert_chain_laws.proofs.Walks.{rise_climbs, rise_then, climbs_more, climbs_append, swell_climbs}
 use Rattle.cpc_convert_event.specs.FlatLaws.{opening, piece_scope, piece_count}
 use Rattle.cpc_convert_event.specs.Frames.{arriving_type}
 use Rattle.cpc_convert_event.specs.LabelLaws.{put_in}
@@ -87,6 +92,11 @@ first_point_is p r l n first =
 
 -- ---- the opening
 
+-- the locals of a call are registers
+called_registers : (n : ℕ) (vs : List Value) → slots_registers (register_slots n vs) ≡ n
+called_registers zero vs = refl
+called_registers (suc n) vs = let h = called_registers n (rest_of vs) in omega (arith, h)
+
 module _ (p : Program) (f : Function) (known : CpsKnown p f) (l : Place) (owner : IsOwner (routine_of p f) l) where
   abbrev r : Routine
   r = routine_of p f
@@ -147,6 +157,14 @@ module _ (p : Program) (f : Function) (known : CpsKnown p f) (l : Place) (owner 
   pub is_called : (b : ℕ) (s : Store) → call_slots q its (Pointer Frame b 0 ∷ []) s ≡ Gives (called_locals b, s)
   is_called b s = registers_call q its (Pointer Frame b 0 ∷ []) s are_registers
 
+  -- a call takes a register for each
+  pub call_number : call_cells q its ≡ suc (suc (length ls + length ds))
+  call_number =
+      let e = call_takes q its (Pointer Frame 0 0 ∷ []) empty_store empty_store (called_locals 0) (is_called 0 empty_store) in
+      let a = called_registers (length (variables its)) (Pointer Frame 0 0 ∷ []) in
+      let n = variables_number in
+      omega (arith, e, a, n)
+
   blank_locals : (b : ℕ) → called_locals b ≡ (Register (Pointer Frame b 0) ∷ []) ++ Register Unset ∷ blank (length ls) (blank (length ds) [])
   blank_locals b =
       ap (λ n. register_slots n (Pointer Frame b 0 ∷ [])) variables_number
@@ -176,17 +194,17 @@ module _ (p : Program) (f : Function) (known : CpsKnown p f) (l : Place) (owner 
       boxes_stand = past_opened q w name its all under (is_code p f known l owner) s name frame_name pointer_name b cells live 0 (outer_scope its) 1 boxes ls ds stands_first
 
       pub loads_walk : (vs : List Value) → Loading q name frame_name cells ls vs
-          → Walk q w.trace (suc (length ls + length ds)) (entered q w s its (called_locals b) pointer result frame) (at_line w name under before_boxes boxes (opened b vs) s)
+          → Rise q w.trace (suc (length ls + length ds)) 0 (entered q w s its (called_locals b) pointer result frame) (at_line w name under before_boxes boxes (opened b vs) s)
       loads_walk vs loading =
           let walk = opens_walk q w name its all under (is_code p f known l owner) s name frame_name pointer_name b cells live 0 (outer_scope its) 1 boxes ls ds stands_first
           (Register (Pointer Frame b 0) ∷ []) (blank (length ds) []) 0 TyVoid vs refl refl refl refl loading in
-          subst (λ o. Walk q w.trace (suc (length ls + length ds)) (running w s (frame_at name (first_point o) (called_locals b) ∷ under) None) (at_line w name under before_boxes boxes (opened b vs) s)) (sym (is_code p f known l owner))
-          (subst (λ slots. Walk q w.trace (suc (length ls + length ds)) (running w s (frame_at name (first_point (Some its)) slots ∷ under) None) (at_line w name under before_boxes boxes (opened b vs) s)) (sym (blank_locals b)) walk)
+          subst (λ o. Rise q w.trace (suc (length ls + length ds)) 0 (running w s (frame_at name (first_point o) (called_locals b) ∷ under) None) (at_line w name under before_boxes boxes (opened b vs) s)) (sym (is_code p f known l owner))
+          (subst (λ slots. Rise q w.trace (suc (length ls + length ds)) 0 (running w s (frame_at name (first_point (Some its)) slots ∷ under) None) (at_line w name under before_boxes boxes (opened b vs) s)) (sym (blank_locals b)) walk)
 
     -- the frame is given back
     pub frees_walk : (s : Store) (b : ℕ) (cells : List Value) → cells_of Frame b s ≡ Some cells → (slots : List Slot) → slice_get slots 0 ≡ Some (Register (Pointer Frame b 0))
         → Stands its all (before_boxes + length (boxing_of r l)) (piece_scope p r l) (piece_count p r l) (AndStmt (frees_frame pointer_name) lines)
-        → Walk q w.trace 1 (at_line w name under (before_boxes + length (boxing_of r l)) (AndStmt (frees_frame pointer_name) lines) slots s)
+        → Rise q w.trace 1 0 (at_line w name under (before_boxes + length (boxing_of r l)) (AndStmt (frees_frame pointer_name) lines) slots s)
         (at_line w name under (opening p r l) lines slots (with_blocks Frame (slice_set (blocks Frame s) b None) s))
     frees_walk s b cells live slots there st =
         let k = before_boxes + length (boxing_of r l) in
@@ -200,15 +218,18 @@ module _ (p : Program) (f : Function) (known : CpsKnown p f) (l : Place) (owner 
     -- where its boxes lead to these locals and this store
     abbrev pub Boxed : (s : Store) (b : ℕ) (vs : List Value) (slots : List Slot) (t : Store) → Type 0
     Boxed s b vs slots t =
-        Walk q w.trace (length (boxing_of r l)) (at_line w name under before_boxes boxes (opened b vs) s) (at_line w name under (before_boxes + length (boxing_of r l)) (AndStmt (frees_frame pointer_name) lines) slots t)
+        Swell q w.trace (length (boxing_of r l)) (at_line w name under before_boxes boxes (opened b vs) s) (at_line w name under (before_boxes + length (boxing_of r l)) (AndStmt (frees_frame pointer_name) lines) slots t)
 
     pub opening_walk : (s : Store) (b : ℕ) (cells : List Value) → cells_of Frame b s ≡ Some cells → (vs : List Value) → Loading q name frame_name cells ls vs
         → (slots : List Slot) (t : Store) → Boxed s b vs slots t → cells_of Frame b t ≡ Some cells → slice_get slots 0 ≡ Some (Register (Pointer Frame b 0)) → (n : ℕ) (first : FirstRow p r l n)
-        → Walk q w.trace opening_steps (entered q w s its (called_locals b) pointer result frame)
+        → Climbs q w.trace opening_steps (length cells) (entered q w s its (called_locals b) pointer result frame)
         (running w (with_blocks Frame (slice_set (blocks Frame t) b None) t) (frame_at name (row_point p r l n first.row) slots ∷ under) None)
     opening_walk s b cells live vs loading slots t boxed live' there n first =
         let st = past_lines its all before_boxes (piece_scope p r l) (piece_count p r l) (boxing_of r l) (AndStmt (frees_frame pointer_name) lines) (all_true (boxing_of r l) (bare_lines (boxing_of r l) (boxes_done r l))) (boxes_stand s b cells live) in
         let u = with_blocks Frame (slice_set (blocks Frame t) b None) t in
         let ends = frees_walk t b cells live' slots there st in
-        let ends' = subst (λ point. Walk q w.trace 1 (at_line w name under (before_boxes + length (boxing_of r l)) (AndStmt (frees_frame pointer_name) lines) slots t) (running w u (frame_at name point slots ∷ under) None)) (first_point_is p r l n first) ends in
-        walk_append (suc (length ls + length ds)) (length (boxing_of r l) + 1) _ _ _ (loads_walk s b cells live vs loading) (walk_append (length (boxing_of r l)) 1 _ _ _ boxed ends')
+        let ends' = subst (λ point. Rise q w.trace 1 0 (at_line w name under (before_boxes + length (boxing_of r l)) (AndStmt (frees_frame pointer_name) lines) slots t) (running w u (frame_at name point slots ∷ under) None)) (first_point_is p r l n first) ends in
+        let left = store_cells-free Frame b (length cells) t (ap (option_map length) live') in
+        climbs_more opening_steps (0 + length cells) (length cells) _ _ (omega arith)
+        (rise_then (suc (length ls + length ds)) (length (boxing_of r l) + 1) 0 (length cells) _ _ _ (loads_walk s b cells live vs loading)
+        (climbs_append (length (boxing_of r l)) 1 0 0 (length cells) (length cells) _ _ _ (swell_climbs (length (boxing_of r l)) _ _ boxed) (omega (arith, left)) (rise_climbs 1 0 _ _ ends') (omega arith) (omega arith)))

@@ -1,5 +1,5 @@
 -- A leader takes up a frame: its locals stand for the frame that was saved, and its piece stands before its row.
-use Rattle.std.proofs.Common.{◌≡◌, ◌⊎◌, inl, inr, ℕ, suc, ◌+◌, ◌≤◌, Bool, true, false, cond, List, [], ◌∷◌, ◌++◌, map, length, slice_get, Option, Some, None, refl, sym, ◌∙◌, ap, subst, codes, arith}
+use Rattle.std.proofs.Common.{◌≡◌, ◌⊎◌, inl, inr, ℕ, suc, ◌+◌, ◌*◌, ◌≤◌, Bool, true, false, cond, List, [], ◌∷◌, ◌++◌, map, length, slice_get, Option, Some, None, refl, sym, ◌∙◌, ap, subst, codes, arith}
 use Rattle.cpc_base.specs.Bytes.{Text}
 use Rattle.cpc_tree.specs.Lists.{holds_number}
 use Rattle.cpc_tree.specs.Registers.{variables}
@@ -18,7 +18,8 @@ use Rattle.cpc_convert_chain_laws.specs.Driver.{any_pointer}
 use Rattle.cpc_convert_chain_laws.specs.Fits.{Fits}
 use Rattle.cpc_convert_chain_laws.specs.Flat.{before}
 use Rattle.cpc_convert_chain_laws.specs.Frames.{Loading, blank, frees_frame}
-use Rattle.cpc_convert_chain_laws.specs.Walks.{World, Walk, Stay, at_line, frame_at}
+use Rattle.cpc_convert_chain_laws.proofs.Walks.{swell_stay}
+use Rattle.cpc_convert_chain_laws.specs.Walks.{World, Swell, at_line, frame_at}
 use Rattle.cpc_convert_event.specs.FillLaws.{value_before}
 use Rattle.cpc_convert_event.specs.Frames.{arriving_type}
 use Rattle.cpc_convert_event.specs.LocalLaws.{piece_locals}
@@ -42,7 +43,7 @@ use Rattle.cpc_convert_piece_laws.proofs.Frames.{code, kept_number, map_length}
 use Rattle.cpc_convert_piece_laws.proofs.Scopes.{q}
 use Rattle.cpc_convert_entry_laws.specs.Taken.{FrameTaken}
 use Rattle.cpc_convert_entry_laws.proofs.Leaders.{LeaderAt, leader_at}
-use Rattle.cpc_convert_entry_laws.proofs.Opening.{append_length, FirstRow, first_row, is_piece, locals_number, called_locals, is_called, opened, before_boxes, opening_steps, under, opening_walk}
+use Rattle.cpc_convert_entry_laws.proofs.Opening.{append_length, call_number, FirstRow, first_row, is_piece, locals_number, called_locals, is_called, opened, before_boxes, opening_steps, under, opening_walk}
 use Rattle.cpc_convert_entry_laws.proofs.Standing.{got_front, got_register, got_behind, all_registers, registers_number, loading_number, KeptOf, copies_fit, value_at, same_index, HasValue, locals_stand}
 
 -- the pointer of a chain is one of any type
@@ -146,10 +147,10 @@ module _ (p : Program) (fine : CallFrame Position → Option Value → Type 0) (
   pub saved_is : (slots : List Slot) (n : ℕ) → saved_at (cut_of p) f.called slots n ≡ record { piece = piece_name f.called (At n); values = copied slots (closure_of rout (At n)) }
   saved_is slots n = ap (λ o. record { piece = piece_name f.called (At n); values = copied slots (keeps_in p o (At n)) }) known.found.named
 
-  pub leader_opens : (bound : ℕ) → 8 + length (variables f) ≤ bound → (w : World) (bs : Blocks) (s : Store) (n : ℕ) (slots : List Slot) (o : Option Value) (v : Value) (below : List Saved) (b : ℕ) (next : Value) (owned : List ℕ)
+  pub leader_opens : (bound rise : ℕ) → 8 + length (variables f) ≤ bound → 10 + 2 * length (variables f) ≤ rise → (w : World) (bs : Blocks) (s : Store) (n : ℕ) (slots : List Slot) (o : Option Value) (v : Value) (below : List Saved) (b : ℕ) (next : Value) (owned : List ℕ)
       → FrameTaken p f n slots o → (o ≡ None) ⊎ (o ≡ Some v) → (takes_value rout (At n) ≡ true → Fits (arriving_type p rout (At n)) v) → Top bs (saved_at (cut_of p) f.called slots n) below b next v owned
-      → Opens z bound (piece_name f.called (At n)) w bs s b f.called (At n) n slots o next s
-  leader_opens bound wide w bs s n slots o v below b next owned taken is fits top = record {
+      → Opens z bound rise (piece_name f.called (At n)) w bs s b f.called (At n) n slots o next s
+  leader_opens bound rise wide high w bs s n slots o v below b next owned taken is fits top = record {
     function = code p f known (At n) owner;
     is_piece = is_piece p f known (At n) owner;
     locals = called_locals p f known (At n) owner b;
@@ -159,10 +160,18 @@ module _ (p : Program) (fine : CallFrame Position → Option Value → Type 0) (
     piece = frame_at (piece_name f.called (At n)) (row_point p rout (At n) n first.row) there;
     more = 0;
     taken = λ k. k;
+    grown = length (cells p f known n at.leads slots next v);
+    few =
+        let a = loads_number p f known n at.leads in
+        let c = declares_number p f known n at.leads in
+        let d = call_number p f known (At n) owner in
+        let e = kept_number p f known (At n) owner (At n) in
+        let g = map_length (λ (k : ℕ). value_in (slice_get slots k)) (closure_of rout (At n)) in
+        omega (arith, a, c, d, e, g, high);
     leads = λ pointer result frame.
         opening_walk p f known (At n) owner w pointer result frame (beside bs s) b (cells p f known n at.leads slots next v) live (loaded_values p f known n at.leads slots next v) load there (beside bs s)
-        (subst (λ j. Walk (q p f known) w.trace 0 (at_line w (piece_name f.called (At n)) (under p f known (At n) owner w pointer result frame) (before_boxes p f known (At n) owner) left there (beside bs s)) (at_line w (piece_name f.called (At n)) (under p f known (At n) owner w pointer result frame) j left there (beside bs s)))
-        (let y : before_boxes p f known (At n) owner ≡ before_boxes p f known (At n) owner + 0 = omega arith in y) (Stay _)) live refl n first;
+        (subst (λ j. Swell (q p f known) w.trace 0 (at_line w (piece_name f.called (At n)) (under p f known (At n) owner w pointer result frame) (before_boxes p f known (At n) owner) left there (beside bs s)) (at_line w (piece_name f.called (At n)) (under p f known (At n) owner w pointer result frame) j left there (beside bs s)))
+        (let y : before_boxes p f known (At n) owner ≡ before_boxes p f known (At n) owner + 0 = omega arith in y) (swell_stay _)) live refl n first;
     stands =
         AtRow f (At n) n slots o next there known.found at.node at.has first.row
         (stands p f known n at.leads slots next v b (loading_number (q p f known) (piece_name f.called (At n)) frame_name (cells p f known n at.leads slots next v) (loads_of p rout (At n)) (loaded_values p f known n at.leads slots next v) load) pointer_fits taken.kept)

@@ -25,7 +25,7 @@ use Rattle.cpc_convert_chain_laws.specs.Driver.{any_pointer}
 use Rattle.cpc_convert_chain_laws.specs.Fits.{Fits}
 use Rattle.cpc_convert_chain_laws.specs.Flat.{before}
 use Rattle.cpc_convert_chain_laws.specs.Frames.{Loading, blank, frees_frame}
-use Rattle.cpc_convert_chain_laws.specs.Walks.{World, Walk, at_line}
+use Rattle.cpc_convert_chain_laws.specs.Walks.{World, Swell, at_line}
 use Rattle.cpc_convert_chain_laws.proofs.Beside.{slots_beside}
 use Rattle.cpc_convert_chain_laws.proofs.Boxes.{boxes_walk}
 use Rattle.cpc_convert_event.specs.BoxingLaws.{VariablesHaveSizes, ArePlaces, StartBoxes}
@@ -71,7 +71,7 @@ got_blank [] ys (u ∷ us) i y e g = absurd (omega (arith, e))
 got_blank (x ∷ xs) ys [] i y e g = absurd (omega (arith, e))
 got_blank (x ∷ xs) ys (u ∷ us) i y e g = let d = got_blank xs ys us i y (omega (arith, e)) g in (suc d.0, d.1, d.2)
 
-all_number : (xs : List Variable) (vs : List Value) → AllFit xs vs → length vs ≡ length xs
+pub all_number : (xs : List Variable) (vs : List Value) → AllFit xs vs → length vs ≡ length xs
 all_number _ _ NoneFit = refl
 all_number _ _ (OneFits x v xs vs e more) = ap suc (all_number xs vs more)
 
@@ -299,7 +299,7 @@ module _ (p : Program) (f : Function) (known : CpsKnown p f) (sizes : VariablesH
               let both : Gives (m.made, m.store) ≡ Gives (slots, beside bs t) = sym m.is_made ∙ same_made in
               let pair : (m.made, m.store) ≡ (slots, beside bs t) = cc in
               subst
-              (λ (x : List Slot × Store). Walk (q p f known) w.trace (length (boxing_of r Start)) (at_line w name below k (before (boxing_of r Start) left) first_locals (beside bs s)) (at_line w name below (k + length (boxing_of r Start)) left (with_boxes boxing.places x.0 first_locals) x.1))
+              (λ (x : List Slot × Store). Swell (q p f known) w.trace (length (boxing_of r Start)) (at_line w name below k (before (boxing_of r Start) left) first_locals (beside bs s)) (at_line w name below (k + length (boxing_of r Start)) left (with_boxes boxing.places x.0 first_locals) x.1))
               pair m.leads
             where
               count_is : suc (suc (length (loads_of p r Start) + length (declares_of p r Start))) ≡ piece_count p r Start

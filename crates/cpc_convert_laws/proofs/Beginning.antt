@@ -1,5 +1,5 @@
 -- The row in which a native `main` is called: it begins in both, with the same variables.
-use Rattle.std.proofs.Common.{◌≡◌, List, [], ◌∷◌, Option, Some, None, option_map, refl, sym, subst, arith}
+use Rattle.std.proofs.Common.{◌≡◌, ℕ, List, [], ◌∷◌, Option, Some, None, option_map, refl, sym, subst, arith}
 use Rattle.cpc_base.specs.Bytes.{Text}
 use Rattle.cpc_store.specs.Store.{Store}
 use Rattle.cpc_tree.specs.Syntax.{Function}
@@ -29,8 +29,8 @@ use Rattle.cpc_convert_laws.proofs.Setting.{Setting, from_form, to_form, NativeF
 use Rattle.cpc_convert_laws.proofs.Rows.{RowFor, BothTo, settled_alike, one_step}
 
 -- the call of `main` is put into the first round
-pub first_row : (z : Setting) → NativeFacts z → KeepsFacts z → (w : Shared) (x' : Source) → option_map (tidy z.kept) (next (threads_of (from_form z)) (source_state w None (with_main (Pending main_name [])))) ≡ Some x'
-    → RowFor z (source_state w None (with_main (Pending main_name []))) x' 1 (target_state w [] None (with_main CallMain))
+pub first_row : {k : ℕ} (z : Setting) → NativeFacts z → KeepsFacts z → (w : Shared) (x' : Source) → option_map (tidy z.kept) (next (threads_of (from_form z)) (source_state w None (with_main (Pending main_name [])))) ≡ Some x'
+    → RowFor z k (source_state w None (with_main (Pending main_name []))) x' 1 (target_state w [] None (with_main CallMain))
 first_row z native keeps w x' e =
     one_step z native keeps (source_state w None (with_main (Pending main_name []))) x' (target_state w [] None (with_main CallMain)) _ _ (BothTo _ _ (MainIsNext w)) e refl
 
@@ -76,9 +76,9 @@ module _ (z : Setting) (native : NativeFacts z) (keeps : KeepsFacts z) (w : Shar
           (begins g.called _ _ e.first _ _ (slots_beside z.codes z.source z.target native.common.types g g' e.marks [] 0 (variables g) [] w.store source (λ k d lt. absurd (omega arith)))))
 
   -- `main`, where it is native, is called in both
-  pub main_row : Found z.pairs (function_named z.source main_name) (function_named z.target main_name) → (x' : Source)
+  pub main_row : {k : ℕ} → Found z.pairs (function_named z.source main_name) (function_named z.target main_name) → (x' : Source)
       → option_map (tidy z.kept) (next (threads_of (from_form z)) (source_state w None (begin_round (with_main (Pending main_name []))))) ≡ Some x'
-      → RowFor z (source_state w None (begin_round (with_main (Pending main_name [])))) x' 1 (target_state w [] None (begin_round (with_main CallMain)))
+      → RowFor z k (source_state w None (begin_round (with_main (Pending main_name [])))) x' 1 (target_state w [] None (begin_round (with_main CallMain)))
   main_row h x' e =
       one_step z native keeps (source_state w None (begin_round (with_main (Pending main_name [])))) x' (target_state w [] None (begin_round (with_main CallMain))) _ _
       (settled_alike z (source_state w None (begin_round (with_main (Pending main_name [])))) (target_state w [] None (begin_round (with_main CallMain))) refl (sym native.nobody) _ _ (found _ _ h)) e refl

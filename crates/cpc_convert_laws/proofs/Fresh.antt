@@ -1,6 +1,7 @@
 -- Frames at which no value has arrived: where blocks are made, freed and written; and blocks that were made and freed.
-use Rattle.std.proofs.Common.{◌≡◌, ℕ, zero, suc, List, [], ◌∷◌, ◌++◌, slice_get, slice_set, Option, Some, None, refl, sym, ◌∙◌, ap}
-use Rattle.cpc_store.specs.Store.{Value, Unset, Blocks}
+use Rattle.std.proofs.Common.{◌≡◌, ℕ, zero, suc, ◌+◌, List, [], ◌∷◌, ◌++◌, slice_get, slice_set, Option, Some, None, refl, sym, ◌∙◌, ap, arith}
+use Rattle.std.proofs.lemmas.List.Sums.{sum_by_push}
+use Rattle.cpc_store.specs.Store.{Value, Unset, Blocks, block_cells, cells_in}
 use Rattle.cpc_meaning.specs.Agenda.{Agenda}
 use Rattle.cpc_meaning.specs.Threads.{Thread}
 use Rattle.cpc_meaning.specs.Events.{Callback}
@@ -70,3 +71,11 @@ chain_beyond (suc n) bs fs p owned h = chain_beyond n (bs ++ None ∷ []) fs p o
 pub agenda_beyond : (n : ℕ) (cut : Cut) (bs : Blocks) (a : Agenda (Thread Position)) (tags : Agenda Tagged) (b : Agenda Callback) → AgendaFor cut bs a tags b → AgendaFor cut (beyond n bs) a tags b
 agenda_beyond zero cut bs a tags b g = g
 agenda_beyond (suc n) cut bs a tags b g = agenda_beyond n cut (bs ++ None ∷ []) a tags b (agenda_alloc cut bs None a tags b g)
+
+-- blocks that were made and freed have no cells
+pub beyond_cells : (n : ℕ) (bs : Blocks) → cells_in (beyond n bs) ≡ cells_in bs
+beyond_cells zero bs = refl
+beyond_cells (suc n) bs =
+    let a : cells_in (bs ++ None ∷ []) ≡ cells_in bs + 0 = sum_by_push block_cells bs None in
+    let h = beyond_cells n (bs ++ None ∷ []) in
+    omega (arith, a, h)

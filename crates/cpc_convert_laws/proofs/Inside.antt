@@ -18,6 +18,7 @@ use Rattle.cpc_meaning.specs.Eval.{Slot}
 use Rattle.cpc_meaning.specs.Machine.{next, ends}
 use Rattle.cpc_meaning.specs.Plain.{Frame as CallFrame, Went, Asks, context, frames_step, answered, asking}
 use Rattle.cpc_meaning.specs.Requests.{Request, Primitive, Builtin, ToSpawn, Section}
+use Rattle.cpc_meaning.specs.Runs.{slots_registers}
 use Rattle.cpc_meaning.specs.Slots.{call_slots}
 use Rattle.cpc_meaning.specs.Start.{before_bars}
 use Rattle.cpc_meaning.specs.Threads.{shown_in}
@@ -28,7 +29,7 @@ use Rattle.cpc_convert_image_laws.specs.Held.{IsHeld, IsHeldSlot, IsHeldStore, b
 use Rattle.cpc_convert_image_laws.specs.Stacks.{frame_of}
 use Rattle.cpc_convert_chain_laws.specs.Chains.{Saved, Top, frame_cells}
 use Rattle.cpc_convert_chain_laws.specs.Driver.{drive_name, driving}
-use Rattle.cpc_convert_chain_laws.specs.Walks.{World, Walk, FaultsAfter, running}
+use Rattle.cpc_convert_chain_laws.specs.Walks.{World, Rise, Walk, FaultsAfter, running}
 use Rattle.cpc_convert_laws.specs.Bounds.{Bounds}
 use Rattle.cpc_convert_laws.specs.Items.{saved_at, first_saved}
 use Rattle.cpc_convert_laws.specs.Running.{SamePoint}
@@ -70,10 +71,11 @@ module _ (z : Setting) (bounds : Bounds) (f : Text) (l : Place) (lower pointer r
 
     -- ---- in place
 
-    -- the first step of the piece is that of the source, and then control goes on
+    -- the first step of the piece is that of the source, and keeps its registers; and then control goes on
     pub record GoesTo (t : Store) (changed : List Slot) (to : Position) : Type 0 where
       pub from : CallFrame Point
       pub first : next (callbacks z.target) inside ≡ Some (running (world_of w c) (beside bs t) (over from) None)
+      pub same : slots_registers from.slots ≡ slots_registers piece.slots
       pub onward : Onward bs t changed from to
 
     -- what the piece does where a value is the answer to what it asked, in a store with the same boxes: by what the source does
@@ -82,7 +84,7 @@ module _ (z : Setting) (bounds : Bounds) (f : Text) (l : Place) (lower pointer r
       ReplyFaults : (fault : Fault) → answered (to_form z) (beside bs s) (record { frames = over piece; arriving = o' }) v ≡ Faults fault → Replied s v (Faults fault)
       ReplyGoes : (h : Bool) (t : Store) (changed : List Slot) (from : CallFrame Point)
           → answered (to_form z) (beside bs s) (record { frames = over piece; arriving = o' }) v ≡ Gives (Went (beside bs t) (record { frames = over from; arriving = None }))
-          → ((to : Position) → (from_form z).code.goes f (InGraph l n) h ≡ Some to → Onward bs t changed from to) → Replied s v (Gives (GoesOn h t changed))
+          → slots_registers from.slots ≡ slots_registers piece.slots → ((to : Position) → (from_form z).code.goes f (InGraph l n) h ≡ Some to → Onward bs t changed from to) → Replied s v (Gives (GoesOn h t changed))
 
     -- for each answer that may come
     abbrev pub Replies : Type 0
@@ -145,7 +147,9 @@ module _ (z : Setting) (bounds : Bounds) (f : Text) (l : Place) (lower pointer r
       pub steps : ℕ
       pub within : steps < bounds.leads
       pub from : CallFrame Point
-      pub leads : Walk z.target w.trace (suc steps) inside (running (world_of w (ready_one (CallWith drive_name (Pointer Frame (length bs) 0)) c)) (beside (with_spawned g vs) w.store) (over from) None)
+      pub grown : ℕ
+      pub few : grown ≤ bounds.leads
+      pub leads : Rise z.target w.trace (suc steps) grown inside (running (world_of w (ready_one (CallWith drive_name (Pointer Frame (length bs) 0)) c)) (beside (with_spawned g vs) w.store) (over from) None)
       pub onward : (to : Position) → (from_form z).code.goes f (InGraph l n) true ≡ Some to → Onward (with_spawned g vs) w.store slots from to
 
     -- ---- waits
@@ -158,10 +162,11 @@ module _ (z : Setting) (bounds : Bounds) (f : Text) (l : Place) (lower pointer r
     abbrev pub asks_wait : ℕ → CallFrame Point → Target
     asks_wait back asker = running (world_of w c) (beside (with_leader bs slots back) w.store) (over asker) None
 
-    -- it asked, which left this in common and this agenda, and gives null to the driver
+    -- it asked, which left this in common and this agenda, and it gives null to the driver; it has the registers that it had
     pub record HasAsked (back : ℕ) (asker : CallFrame Point) (v : Shared) (d : Agenda Callback) : Type 0 where
       pub from : CallFrame Point
       pub first : next (callbacks z.target) (asks_wait back asker) ≡ Some (running (world_of v d) (beside (with_leader bs slots back) w.store) (over from) None)
+      pub same : slots_registers from.slots ≡ slots_registers piece.slots
       pub steps : ℕ
       pub within : steps ≤ bounds.onward
       pub leads : Walk z.target v.trace steps (running (world_of v d) (beside (with_leader bs slots back) w.store) (over from) None) (running (world_of v d) (beside (with_leader bs slots back) w.store) alone (Some Null))
@@ -208,7 +213,7 @@ module _ (z : Setting) (bounds : Bounds) (f : Text) (l : Place) (lower pointer r
 
     pub data Does : Answer Act → Type 0 where
       Sticks : Does NoAnswer
-      Breaks : (fault : Fault) (name : Text) → before_bars name ≡ shown_in z.source f → (a : FaultsAfter z.target w.trace name fault inside) → a.steps < bounds.leads → Does (Faults fault)
+      Breaks : (fault : Fault) (name : Text) → before_bars name ≡ shown_in z.source f → (a : FaultsAfter z.target w.trace name fault inside) → a.steps < bounds.leads → a.grown ≤ bounds.leads → Does (Faults fault)
       Moves : (h : Bool) (t : Store) (changed : List Slot) → ((to : Position) → (from_form z).code.goes f (InGraph l n) h ≡ Some to → GoesTo t changed to) → Does (Gives (GoesOn h t changed))
       Requests : (r : Request) → is_answered r.asked ≡ true → All (IsHeld z.codes) r.arguments → frames_step (to_form z) (beside bs w.store) o' (over piece) ≡ Gives (Asks r) → Replies → Does (Gives (AsksFor r))
       SpawnsOne : (g : Text) (vs : List Value) → SpawnsCall g vs → Does (Gives (AsksFor (record { asked = ToSpawn g; arguments = vs })))

@@ -1,9 +1,9 @@
 -- The row in which a cps `main` is called: the target calls its `main`, which puts the driver with the first frame into the next round, and takes it there.
-use Rattle.std.proofs.Common.{◌≡◌, ◌⊎◌, inl, inr, ℕ, suc, ◌+◌, ◌≤◌, [], ◌∷◌, Some, None, option_map, refl, sym, arith}
+use Rattle.std.proofs.Common.{◌≡◌, inl, inr, ℕ, suc, ◌+◌, ◌≤◌, [], ◌∷◌, Some, None, option_map, refl, sym, arith}
 use Rattle.cpc_store.specs.declared.values.Class.TheVariants.{Frame}
 use Rattle.cpc_store.specs.Store.{Null, Unset, At as Pointer, Blocks}
 use Rattle.cpc_meaning_matching.specs.Simulation.{More}
-use Rattle.cpc_meaning_matching.proofs.Paths.{path_wider}
+use Rattle.cpc_meaning_matching.proofs.Paths.{path_map, path_wider}
 use Rattle.cpc_meaning.specs.Agenda.{new_agenda, begin_round}
 use Rattle.cpc_meaning.specs.Machine.{next}
 use Rattle.cpc_meaning.specs.Start.{main_name}
@@ -15,14 +15,14 @@ use Rattle.cpc_convert_image_laws.specs.Held.{beside}
 use Rattle.cpc_convert_chain_laws.specs.Chains.{Owns, frame_cells}
 use Rattle.cpc_convert_chain_laws.specs.Driver.{drive_name}
 use Rattle.cpc_convert_chain_laws.specs.Walks.{Finishes}
-use Rattle.cpc_convert_chain_laws.proofs.Walks.{walk_then}
+use Rattle.cpc_convert_chain_laws.proofs.Walks.{climb_then, whole_climb}
 use Rattle.cpc_convert_laws.specs.Bounds.{Bounds, Enough}
 use Rattle.cpc_convert_laws.specs.Items.{first_saved, Tagged, driven, owned_in}
 use Rattle.cpc_convert_laws.proofs.Entry.{EntryFacts}
 use Rattle.cpc_convert_laws.proofs.Idle.{idle_row}
 use Rattle.cpc_convert_laws.proofs.Putting.{agenda_ready, owns_ready, pending_put}
 use Rattle.cpc_convert_laws.proofs.Relation.{Source, Target, Shared, AgendaFor, source_state, target_state, with_main, Related}
-use Rattle.cpc_convert_laws.proofs.Rows.{RowFor, Near, near_quiet, MainWaits, with_first}
+use Rattle.cpc_convert_laws.proofs.Rows.{RowFor, Midway, AtFirst, AtLast, near_quiet, MainWaits, with_first}
 use Rattle.cpc_convert_laws.proofs.Setting.{Setting, from_form, NativeFacts, KeepsFacts, Known}
 use Rattle.cpc_convert_laws.proofs.Turns.{begin_alike}
 
@@ -61,14 +61,21 @@ module _ (z : Setting) (native : NativeFacts z) (keeps : KeepsFacts z) (bounds :
   main_owns : Owns (with_first z) (owned_in (begin_round (with_main item)))
   main_owns = owns_ready [] (frame_cells (first_saved z.cut main_name []) Null Unset) [] item.callback new_agenda (record { each = λ b. refl })
 
-  pub cps_main_row : (x' : Source) → Known z from → Known z x' → option_map (tidy z.kept) (next (threads_of (from_form z)) from) ≡ Some x' → RowFor z from x' most to
+  pub cps_main_row : (x' : Source) → Known z from → Known z x' → option_map (tidy z.kept) (next (threads_of (from_form z)) from) ≡ Some x' → RowFor z bounds.rise from x' most to
   cps_main_row x' known known' e =
       path_wider most (let i = enough.begins in let j = main.within in let k : main.steps + (2 + (5 + bounds.begins)) ≤ most = omega arith in k)
-      (walk_then {q = z.target} {trace = w.trace} (Related z.codes z.cut z.there x') (λ t. Near z from t ⊎ Near z x' t) (λ t q. inl (near_quiet z from t refl q)) main.steps (2 + (5 + bounds.begins)) to (main.leads w).before (main.leads w).leads
-      (More (2 + (5 + bounds.begins)) (1 + (5 + bounds.begins)) (main.leads w).before waiting (main.leads w).last (omega arith) (inl (record { trace = refl; outcome = refl; runs = inr (main_there waiting refl refl) }))
-      (More (1 + (5 + bounds.begins)) (5 + bounds.begins) waiting taken refl (omega arith) (inl (record { trace = refl; outcome = refl; runs = inr (main_there taken refl refl) }))
-      (idle_row z native keeps bounds entry (5 + bounds.begins) (omega arith) enough.less w (with_first z) (begin_round (with_main (Pending main_name []))) (begin_round (with_main item)) (begin_round (with_main item.callback))
-      (begin_alike main_waits) main_owns (refl, tt) x' known known' e))))
+      (climb_then {q = z.target} {trace = w.trace} (Related z.codes z.cut z.there x') (Midway z bounds.rise from x' to) (λ t q few. AtFirst (near_quiet z from t refl q) (let i = enough.begun in let m = main.within in omega (arith, i, m, few)))
+      main.steps (2 + (5 + bounds.begins)) to (main.leads w).before (whole_climb main.steps main.steps to (main.leads w).before (main.leads w).leads)
+      (More (2 + (5 + bounds.begins)) (1 + (5 + bounds.begins)) (main.leads w).before waiting (main.leads w).last (omega arith) (AtFirst (record { trace = refl; outcome = refl; runs = inr (main_there waiting refl refl) }) (let i = enough.begun in omega (arith, i)))
+      (More (1 + (5 + bounds.begins)) (5 + bounds.begins) waiting taken refl (omega arith) (AtFirst (record { trace = refl; outcome = refl; runs = inr (main_there taken refl refl) }) (let i = enough.begun in omega (arith, i)))
+      (path_map (λ t s. s) (few_there x')
+      (idle_row z native keeps bounds entry (5 + bounds.begins) (3 + bounds.opens) (omega arith) (omega arith) enough.taken enough.less w (with_first z) (begin_round (with_main (Pending main_name []))) (begin_round (with_main item)) (begin_round (with_main item.callback))
+      (begin_alike main_waits) main_owns (refl, tt) x' known known' e)))))
     where
+      -- from the first state of the row
+      few_there : (x' : Source) (t : Target) → Midway z (3 + bounds.opens) from x' taken t → Midway z bounds.rise from x' to t
+      few_there x' t (AtFirst near less) = AtFirst near (let i = enough.begun in omega (arith, i, less))
+      few_there x' t (AtLast near last stands goes less) = AtLast near last stands goes (let i = enough.begun in omega (arith, i, less))
+
       main_there : (t : Target) → t.running ≡ None → t.store ≡ beside (with_first z) w.store → MainWaits z from t
       main_there t rests store = record { shared = w; source = refl; rests = rests; store = store }

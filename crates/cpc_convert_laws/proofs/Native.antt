@@ -98,7 +98,7 @@ module _ (z : Setting) (facts : NativeFacts z) (keeps : KeepsFacts z) (bs : Bloc
   runs_alike _ _ i (BothAsked r h) = asked_alike z facts bs owned f b slots xs ys same held stacks at o w a tags c source g r.asked (at.asks w.store o xs r i) r.arguments h
 
   -- a step of native code, with the answer to what it asks for, is one of the target
-  pub native_row : (x' : Source) → option_map (tidy z.kept) (next (threads_of (from_form z)) from) ≡ Some x' → RowFor z from x' 1 to
+  pub native_row : {k : ℕ} (x' : Source) → option_map (tidy z.kept) (next (threads_of (from_form z)) from) ≡ Some x' → RowFor z k from x' 1 to
   native_row x' e =
       one_step z facts keeps from x' to _ _
       (settled_alike z from to refl (sym (facts.shown f same)) _ _

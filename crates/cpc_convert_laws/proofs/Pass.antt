@@ -18,7 +18,7 @@ use Rattle.cpc_lift_laws.proofs.Lifting.{lifted_ends}
 use Rattle.cpc_convert_laws.specs.Bounds.{Bounds, Enough}
 use Rattle.cpc_convert_laws.proofs.Joined.{RowFacts, row}
 use Rattle.cpc_convert_laws.proofs.Relation.{Source, Target, Shared, going, with_main, Related, MainIsReady, MainIsNext, Goes, IsOver}
-use Rattle.cpc_convert_laws.proofs.Rows.{Near, Shows}
+use Rattle.cpc_convert_laws.proofs.Rows.{Near, midway_near, Shows}
 use Rattle.cpc_convert_laws.proofs.Setting.{Setting, from_form, to_form, Known}
 
 -- states that stand for each other show the same
@@ -47,6 +47,6 @@ module _ (z : Setting) (bounds : Bounds) (facts : RowFacts z bounds) (most : ℕ
           (λ x y r. let s = related_shows z x y r in record { trace = s.trace; outcome = s.outcome })
           (λ x y o r. let i = enough.goes in omega arith)
           (λ x x' y e stuck k k' r.
-          path_map (λ t s. s) (λ t s. ⊎_elim (λ (a : Near z x t). inl (record { trace = a.trace; outcome = a.outcome })) (λ (a : Near z x' t). inr (record { trace = a.trace; outcome = a.outcome })) s)
+          path_map (λ t s. s) (λ t s. ⊎_elim (λ (a : Near z x t). inl (record { trace = a.trace; outcome = a.outcome })) (λ (a : Near z x' t). inr (record { trace = a.trace; outcome = a.outcome })) (midway_near z bounds.rise x x' y t s))
           (row z bounds facts most enough x x' y e k k' r));
     }

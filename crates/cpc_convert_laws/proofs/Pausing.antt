@@ -18,6 +18,7 @@ use Rattle.cpc_meaning.specs.Eval.{Slot}
 use Rattle.cpc_meaning.specs.Machine.{ends}
 use Rattle.cpc_meaning.specs.Plain.{Frame as CallFrame, Stack}
 use Rattle.cpc_meaning.specs.Requests.{Primitive, Builtin, Section}
+use Rattle.cpc_meaning.specs.Runs.{slots_registers}
 use Rattle.cpc_meaning.specs.Section.{Job}
 use Rattle.cpc_meaning.specs.Threads.{Thread, Suspended, suspends, shown_in}
 use Rattle.cpc_meaning.specs.Events.{Callback}
@@ -65,7 +66,7 @@ three_put : (z : Setting) (bs : Blocks) (t : Tagged) (tags : Agenda Tagged) (u :
 three_put z bs t tags _ _ _ weighs (BothOk b more g) (BothOk _ d i) = AllPut b more d (record { items = g; untagged = i }) (weighs more refl)
 three_put z bs t tags _ _ _ weighs (BothErr fault) (BothErr _) = NonePut fault
 
-module _ (z : Setting) (native : NativeFacts z) (keeps : KeepsFacts z) (bounds : Bounds) (entry : EntryFacts z bounds) (most : ℕ) (enough : Enough bounds most) (f : Text) (l : Place) (lower pointer result frame : Value) (w : Shared) (bs : Blocks) (c : Agenda Callback) (n : ℕ) (slots : List Slot) (o : Option Value) (piece : CallFrame Point) (o' : Option Value) (a : Agenda (Thread Position)) (below : List (CallFrame Position)) (h : Beside z bs a c below lower) where
+module _ (z : Setting) (native : NativeFacts z) (keeps : KeepsFacts z) (bounds : Bounds) (entry : EntryFacts z bounds) (most : ℕ) (enough : Enough bounds most) (f : Text) (l : Place) (lower pointer result frame : Value) (w : Shared) (bs : Blocks) (c : Agenda Callback) (n : ℕ) (slots : List Slot) (o : Option Value) (piece : CallFrame Point) (o' : Option Value) (a : Agenda (Thread Position)) (below : List (CallFrame Position)) (h : Beside z bs a c below lower) (thin : slots_registers piece.slots ≤ bounds.piece) where
   -- the states of both
   abbrev from : Source
   from = here z f (InGraph l n) slots o w a below
@@ -125,25 +126,27 @@ module _ (z : Setting) (native : NativeFacts z) (keeps : KeepsFacts z) (bounds :
     -- the item is taken: nothing runs
     put_row : (jobs : List Job) (trace : List Mark) (b : Agenda (Thread Position)) (tags : Agenda Tagged) (d : Agenda Callback) → AgendaFor z.cut more b tags d
         → ((m : ℕ) → total (λ (x : Tagged). count m x.owned) tags ≡ count m item.owned + total (λ (x : Tagged). count m x.owned) h.tags)
-        → Asked p.back p.asker (record w { jobs = jobs; trace = trace }) d → RowFor z from (source_state (record w { jobs = jobs; trace = trace }) None b) most to
+        → Asked p.back p.asker (record w { jobs = jobs; trace = trace }) d → RowFor z bounds.rise from (source_state (record w { jobs = jobs; trace = trace }) None b) most to
     put_row jobs trace b tags d alike weighs asked =
         let v : Shared = record w { jobs = jobs; trace = trace } in
         let u : Target = running (world_of v d) (beside more w.store) (asked.from ∷ alone_there) None in
         path_wider most (let i = enough.goes in let j = p.within in let l = asked.within in let k : p.steps + suc ((asked.steps + 2) + 1) ≤ most = omega arith in k)
-        (marked_finished z from (source_state v None b) to _ u (idle (world_of v d) (beside more w.store)) p.steps (asked.steps + 2) refl refl p.leads asked.first (record { is_trace = refl; goes = refl; runs = refl })
+        (marked_finished z bounds.rise from (source_state v None b) to _ u (idle (world_of v d) (beside more w.store)) p.steps (asked.steps + 2) (3 + bounds.piece) refl refl p.leads (let i = enough.spawned in let m = p.within in omega (arith, i, m)) asked.first
+        (record { is_trace = refl; goes = refl; runs = refl })
         (finishes_after asked.steps 2 u (running (world_of v d) (beside more w.store) alone_there (Some Null)) (idle (world_of v d) (beside more w.store)) asked.leads (drive_finishes z.target entry.driver (world_of v d) (beside more w.store) pointer result frame))
+        (let same = asked.same in omega (arith, same, thin)) (let i = enough.paused in let m = asked.within in omega (arith, i, m))
         (Goes v more None None [] b tags d NothingRuns alike (owns_put tags weighs) (fresh_more bs (Some cells) refl h.fresh)))
       where
         alone_there : List (CallFrame Point)
         alone_there = driving pointer result frame ∷ []
 
     -- it is refused
-    refused_row : (fault : Fault) → Refuses p fault → (x' : Source) → tidy z.kept (ends (Failed fault (shown_in z.source f)) from) ≡ x' → RowFor z from x' most to
+    refused_row : (fault : Fault) → Refuses p fault → (x' : Source) → tidy z.kept (ends (Failed fault (shown_in z.source f)) from) ≡ x' → RowFor z bounds.rise from x' most to
     refused_row fault refuses x' same =
-        let r : FaultsAfter z.target w.trace p.asker.function fault to = record { steps = p.steps; last = _; leads = p.leads; faults = refuses } in
+        let r : FaultsAfter z.target w.trace p.asker.function fault to = record { steps = p.steps; grown = p.steps; last = _; leads = p.leads; faults = refuses } in
         path_wider most (let i = enough.goes in let j = p.within in let k : p.steps + 1 ≤ most = omega arith in k)
-        (subst (λ y. RowFor z from y (p.steps + 1) to) same
-        (fault_row z from (tidy z.kept (ends (Failed fault (shown_in z.source f)) from)) to p.asker.function fault refl (record { is_trace = refl; goes = refl; runs = refl }) refl (ap (λ x. Failed fault x) (sym p.shown)) r))
+        (subst (λ y. RowFor z bounds.rise from y (p.steps + 1) to) same
+        (fault_row z bounds.rise from (tidy z.kept (ends (Failed fault (shown_in z.source f)) from)) to p.asker.function fault refl (record { is_trace = refl; goes = refl; runs = refl }) refl (ap (λ x. Failed fault x) (sym p.shown)) r (let i = enough.spawned in let j = p.within in omega (arith, i, j))))
 
   -- ---- waits
 
@@ -160,25 +163,25 @@ module _ (z : Setting) (native : NativeFacts z) (keeps : KeepsFacts z) (bounds :
     abbrev suspended : Result (Agenda (Thread Position)) Fault → Answer Source
     suspended u = suspends (record from { trace = wait_marks q w.trace }) u
 
-    waits_row : (x' : Source) → option_map (tidy z.kept) (settles z f (InGraph l n) slots o w a below (suspended (put_waiting q (Suspended (waiting_stack r.prepares)) a))) ≡ Some x' → RowFor z from x' most to
+    waits_row : (x' : Source) → option_map (tidy z.kept) (settles z f (InGraph l n) slots o w a below (suspended (put_waiting q (Suspended (waiting_stack r.prepares)) a))) ≡ Some x' → RowFor z bounds.rise from x' most to
     waits_row x' stepped = go _ _ refl refl three
       where
-        go : (u : Result (Agenda (Thread Position)) Fault) (v : Result (Agenda Callback) Fault) → put_waiting q (Suspended (waiting_stack r.prepares)) a ≡ u → put_waiting q item_here.callback c ≡ v → ThreePut z (more r.prepares) item_here h.tags u v → RowFor z from x' most to
+        go : (u : Result (Agenda (Thread Position)) Fault) (v : Result (Agenda Callback) Fault) → put_waiting q (Suspended (waiting_stack r.prepares)) a ≡ u → put_waiting q item_here.callback c ≡ v → ThreePut z (more r.prepares) item_here h.tags u v → RowFor z bounds.rise from x' most to
         go _ _ e i (AllPut b tags d alike weighs) =
-            subst (λ y. RowFor z from y most to) (to_state z f (InGraph l n) slots o w a below x' _ (source_state (record w { trace = wait_marks q w.trace }) None b) (ap suspended e) stepped)
+            subst (λ y. RowFor z bounds.rise from y most to) (to_state z f (InGraph l n) slots o w a below x' _ (source_state (record w { trace = wait_marks q w.trace }) None b) (ap suspended e) stepped)
             (put_row r.prepares w.jobs (wait_marks q w.trace) b tags d alike weighs (r.waits d i))
         go _ _ e i (NonePut fault) =
             refused_row r.prepares fault (r.faults fault i) x'
             (let s : option_map (tidy z.kept) (settles z f (InGraph l n) slots o w a below (Faults fault)) ≡ Some x' = sym (ap (λ u. option_map (tidy z.kept) (settles z f (InGraph l n) slots o w a below (suspended u))) e) ∙ stepped in cc)
 
   pub pauses_row : (prim : Primitive) (vs : List Value) → is_common prim ≡ false → ((q : Awaited) → awaited prim vs ≡ Some q → WaitsFor z bounds f l lower pointer result frame w bs c n slots o piece o' q)
-      → (x' : Source) → StepsTo (Gives (AsksFor (record { asked = Builtin prim; arguments = vs }))) x' → RowFor z from x' most to
+      → (x' : Source) → StepsTo (Gives (AsksFor (record { asked = Builtin prim; arguments = vs }))) x' → RowFor z bounds.rise from x' most to
   pauses_row prim vs own waits x' stepped = go (awaited prim vs) refl
     where
       comes : comes_of z f (InGraph l n) slots o w a below (Gives (AsksFor (record { asked = Builtin prim; arguments = vs }))) ≡ waits_by (from_form z) (stack z f (InGraph l n) slots o w a below) from (awaited prim vs)
       comes = primitive_waits (from_form z) (stack z f (InGraph l n) slots o w a below) from prim vs own
 
-      go : (q : Option Awaited) → awaited prim vs ≡ q → RowFor z from x' most to
+      go : (q : Option Awaited) → awaited prim vs ≡ q → RowFor z bounds.rise from x' most to
       go None e = absurd (no_state z f (InGraph l n) slots o w a below x' _ (comes ∙ ap (waits_by (from_form z) (stack z f (InGraph l n) slots o w a below) from) e) stepped)
       go (Some q) e =
           let r = waits q e in
@@ -230,9 +233,9 @@ module _ (z : Setting) (native : NativeFacts z) (keeps : KeepsFacts z) (bounds :
 
       taken_row : (b : Agenda (Thread Position)) (tags : Agenda Tagged) (d : Agenda Callback) → AgendaFor z.cut (more r.prepares) b tags d
           → ((m : ℕ) → total (λ (x : Tagged). count m x.owned) tags ≡ count m item_out.owned + total (λ (x : Tagged). count m x.owned) h.tags)
-          → section item_out.callback c ≡ Ok d → (m : Answer (List Value)) → section_cells z bounds f l lower pointer result frame w bs c n slots o piece o' g vs ≡ m → Steps (by_cells b m) → RowFor z from x' most to
+          → section item_out.callback c ≡ Ok d → (m : Answer (List Value)) → section_cells z bounds f l lower pointer result frame w bs c n slots o piece o' g vs ≡ m → Steps (by_cells b m) → RowFor z bounds.rise from x' most to
       taken_row b tags d alike weighs i (Gives taken) e stepped =
-          subst (λ y. RowFor z from y most to) (to_state z f (InGraph l n) slots o w a below x' _ (source_state (left a.sections_made taken) None b) refl stepped)
+          subst (λ y. RowFor z bounds.rise from y most to) (to_state z f (InGraph l n) slots o w a below x' _ (source_state (left a.sections_made taken) None b) refl stepped)
           (put_row r.prepares (left a.sections_made taken).jobs (left a.sections_made taken).trace b tags d alike weighs
           (subst (λ m. Asked r.prepares.back r.prepares.asker (left m taken) d) same_number (r.waits d taken i e)))
       taken_row b tags d alike weighs i (Faults fault) e stepped = refused_row r.prepares fault (r.faults d fault i e) x' (cc)
@@ -240,17 +243,17 @@ module _ (z : Setting) (native : NativeFacts z) (keeps : KeepsFacts z) (bounds :
 
       function_row : (b : Agenda (Thread Position)) (tags : Agenda Tagged) (d : Agenda Callback) → AgendaFor z.cut (more r.prepares) b tags d
           → ((m : ℕ) → total (λ (x : Tagged). count m x.owned) tags ≡ count m item_out.owned + total (λ (x : Tagged). count m x.owned) h.tags)
-          → section item_out.callback c ≡ Ok d → (k : Option Function) → function_named z.source g ≡ k → Steps (by_function b k) → RowFor z from x' most to
+          → section item_out.callback c ≡ Ok d → (k : Option Function) → function_named z.source g ≡ k → Steps (by_function b k) → RowFor z bounds.rise from x' most to
       function_row b tags d alike weighs i None e stepped = absurd (no_state z f (InGraph l n) slots o w a below x' _ refl stepped)
       function_row b tags d alike weighs i (Some k) e stepped =
           taken_row b tags d alike weighs i (copy_of z.source k (first_or Unset vs) w.store) (ap (λ o. needed o >>= λ (k : Function). copy_of z.source k (first_or Unset vs) w.store) e) stepped
 
-      out_row : (u : Result (Agenda (Thread Position)) Fault) (v : Result (Agenda Callback) Fault) → section item_out.callback c ≡ v → ThreePut z (more r.prepares) item_out h.tags u v → Steps (by_agenda u) → RowFor z from x' most to
+      out_row : (u : Result (Agenda (Thread Position)) Fault) (v : Result (Agenda Callback) Fault) → section item_out.callback c ≡ v → ThreePut z (more r.prepares) item_out h.tags u v → Steps (by_agenda u) → RowFor z bounds.rise from x' most to
       out_row _ _ i (AllPut b tags d alike weighs) stepped = function_row b tags d alike weighs i (function_named z.source g) refl stepped
       out_row _ _ i (NonePut fault) stepped = refused_row r.prepares fault (r.refused fault i) x' (cc)
 
   pub submits_row : (g : Text) (vs : List Value) → SubmitsSection z bounds f l lower pointer result frame w bs c n slots o piece o' g vs
-      → (x' : Source) → StepsTo (Gives (AsksFor (record { asked = Section g; arguments = vs }))) x' → RowFor z from x' most to
+      → (x' : Source) → StepsTo (Gives (AsksFor (record { asked = Section g; arguments = vs }))) x' → RowFor z bounds.rise from x' most to
   submits_row g vs r x' stepped =
       let arrives : Option Position → Answer Source = λ back. (needed back >>= λ back. Gives (record { frames = frame_of f back slots ∷ below; arriving = None })) >>= λ (j : Stack Position). by_agenda g vs r (section (Suspended j) a) in
       out_row g vs r x' (section (Suspended (waiting_stack r.prepares)) a) (section (item_out g vs r).callback c) refl (three_out g vs r)

@@ -1,8 +1,8 @@
 -- The row of a return inside a piece: the frame below is given to the driver with the value, or the thread is over.
-use Rattle.std.proofs.Common.{◌≡◌, ℕ, suc, ◌+◌, ◌≤◌, List, [], ◌∷◌, ◌++◌, map, Option, Some, None, option_map, refl, sym, ◌∙◌, ap, subst, arith}
+use Rattle.std.proofs.Common.{◌≡◌, ℕ, suc, ◌+◌, ◌≤◌, List, [], ◌∷◌, ◌++◌, map, slice_set, Option, Some, None, option_map, refl, sym, ◌∙◌, ap, subst, arith}
 use Rattle.cpc_base.specs.Bytes.{Text}
 use Rattle.cpc_store.specs.declared.values.Class.TheVariants.{Frame}
-use Rattle.cpc_store.specs.Store.{Value, Unset, Null, At as Pointer, Blocks, Store}
+use Rattle.cpc_store.specs.Store.{Value, Unset, Null, At as Pointer, Blocks, Store, store_cells}
 use Rattle.cpc_tree.specs.Points.{Point}
 use Rattle.cpc_meaning_matching.proofs.Paths.{path_wider}
 use Rattle.cpc_meaning.specs.Act.{Leaves}
@@ -68,15 +68,15 @@ module _ (z : Setting) (native : NativeFacts z) (keeps : KeepsFacts z) (bounds :
     Stepped = option_map (tidy z.kept) (settles z f (InGraph l n) slots o w a below (returned below)) ≡ Some x'
 
     -- nothing is below: the thread is over
-    over_row : Stepped → below ≡ [] → h.saved ≡ [] → RowFor z from x' most to
+    over_row : Stepped → below ≡ [] → h.saved ≡ [] → RowFor z bounds.rise from x' most to
     over_row stepped none bare =
         let ended = chain_ended bs lower h.owned (subst (λ fs. Chain bs fs lower h.owned) bare h.chain) in
         let same = to_state z f (InGraph l n) slots o w a below x' (returned below) (source_state (record w { store = t }) None a) (ap returned none) stepped in
         let g = r.ends ended.0 in
         path_wider most (let i = enough.goes in let k = g.within in let j : suc g.steps + (2 + 1) ≤ most = omega arith in j)
-        (row_finished z from x' to (running (world_of w c) (beside bs t) alone_there (Some Null)) (idle (world_of w c) (beside bs t)) (suc g.steps) 2 refl
+        (row_finished z bounds.rise from x' to (running (world_of w c) (beside bs t) alone_there (Some Null)) (idle (world_of w c) (beside bs t)) (suc g.steps) 2 refl
         (subst (λ p. Walk z.target w.trace (suc g.steps) to (running (world_of w c) (beside bs t) alone_there (Some p))) ended.0 g.leads)
-        (drive_finishes z.target entry.driver (world_of w c) (beside bs t) pointer result frame)
+        (drive_finishes z.target entry.driver (world_of w c) (beside bs t) pointer result frame) (let i = enough.ended in let m = g.within in omega (arith, i, m))
         (subst (λ y. Related z.codes z.cut z.there y (idle (world_of w c) (beside bs t))) same
         (Goes (record w { store = t }) bs None None [] a h.tags c NothingRuns h.alike (subst (λ ns. Owns bs (ns ++ owned_in h.tags)) ended.1 h.owns) h.fresh)))
 
@@ -129,23 +129,23 @@ module _ (z : Setting) (native : NativeFacts z) (keeps : KeepsFacts z) (bounds :
       same : tidy z.kept resumed ≡ x'
       same = to_state z f (InGraph l n) slots o w a below x' (returned below) resumed (ap returned is_below) stepped
 
-      below_row : RowFor z from x' most to
+      below_row : RowFor z bounds.rise from x' most to
       below_row =
           path_wider most (let i = enough.goes in let k = given.within in let j : suc given.steps + (3 + bounds.resumes) ≤ most = omega arith in j)
-          (row_reached z from x' to (running (world_of w c) (beside cs t) alone_there (Some (Pointer Frame b 0))) given.steps (3 + bounds.resumes) refl
+          (row_reached z bounds.rise from x' to (running (world_of w c) (beside cs t) alone_there (Some (Pointer Frame b 0))) given.steps (suc given.steps) (3 + bounds.resumes) bounds.takes refl
           (subst (λ p. Walk z.target w.trace (suc given.steps) to (running (world_of w c) (beside cs t) alone_there (Some p))) opened.is_pointer given.leads)
-          (subst (λ s. Reached z s (3 + bounds.resumes) w.trace (running (world_of w c) (beside cs t) alone_there (Some (Pointer Frame b 0)))) same
-          (goes_on z bounds.resumes entry.driver (record w { store = t }) a h.tags c cs saved more b opened.next v opened.rest patched alike
+          (subst (λ s. Reached z s (3 + bounds.resumes) bounds.takes (store_cells (beside (slice_set cs b None) t)) w.trace (running (world_of w c) (beside cs t) alone_there (Some (Pointer Frame b 0)))) same
+          (goes_on z bounds.resumes bounds.takes entry.driver (record w { store = t }) a h.tags c cs saved more b opened.next v opened.rest patched alike
           (owns_set bs b (frame_cells saved opened.next v) (b ∷ (opened.rest ++ owned_in h.tags)) (lives_there bs b (frame_cells saved opened.next Unset) top.cells) owns)
           (fresh_taken bs b (Some (frame_cells saved opened.next v)) h.fresh)
           y (At m) m tidied (Some v) t (map (tidy_frame z.kept) others) (waits_tidied z native keeps others more waits)
           (entry.resumes (world_of w c) cs t y m tidied v more b opened.next opened.rest
           (known.running (frame_of y (InGraph (At m) m) tidied) (map (tidy_frame z.kept) others) (Some v) (sym (ap (λ (s : Source). s.running) same))) patched)
-          pointer result frame)))
+          pointer result frame)) (let i = enough.spawned in let m = given.within in omega (arith, i, m)))
 
-    pub returns_row : option_map (tidy z.kept) (settles z f (InGraph l n) slots o w a below (comes_of z f (InGraph l n) slots o w a below (Gives (Leaves v t)))) ≡ Some x' → RowFor z from x' most to
+    pub returns_row : option_map (tidy z.kept) (settles z f (InGraph l n) slots o w a below (comes_of z f (InGraph l n) slots o w a below (Gives (Leaves v t)))) ≡ Some x' → RowFor z bounds.rise from x' most to
     returns_row stepped = go (lowest z.cut below h.saved h.waits)
       where
-        go : Lowest z.cut below h.saved → RowFor z from x' most to
+        go : Lowest z.cut below h.saved → RowFor z bounds.rise from x' most to
         go (Nothing none bare) = over_row stepped none bare
         go (Something y m its others more is_below is_saved waits) = below_row stepped y m its others more is_below is_saved waits

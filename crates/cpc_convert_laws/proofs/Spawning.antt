@@ -18,6 +18,7 @@ use Rattle.cpc_meaning.specs.Machine.{next, ends, settled, runs_on}
 use Rattle.cpc_meaning.specs.Plain.{Frame as CallFrame, Stack, Done, Went, perform, context, asking}
 use Rattle.cpc_meaning.specs.Requests.{ToSpawn}
 use Rattle.cpc_meaning.specs.Slots.{call_slots}
+use Rattle.cpc_meaning.specs.Runs.{slots_registers}
 use Rattle.cpc_meaning.specs.Threads.{Thread, Pending, threads_of, shown_in}
 use Rattle.cpc_meaning.specs.Events.{Callback, CallWith, callbacks}
 use Rattle.cpc_forms.specs.Split.{Position, InTree}
@@ -27,8 +28,8 @@ use Rattle.cpc_convert_image_laws.specs.Relations.{Meets, BothGive, BothFault, S
 use Rattle.cpc_convert_image_laws.specs.Stacks.{frame_of, Native}
 use Rattle.cpc_convert_chain_laws.specs.Chains.{Owns, frame_cells}
 use Rattle.cpc_convert_chain_laws.specs.Driver.{drive_name}
-use Rattle.cpc_convert_chain_laws.specs.Walks.{World, Walk, Stay, running}
-use Rattle.cpc_convert_chain_laws.proofs.Walks.{walk_one, walk_append, walk_cons}
+use Rattle.cpc_convert_chain_laws.specs.Walks.{World, Walk, running}
+use Rattle.cpc_convert_chain_laws.proofs.Walks.{stay, rise_one, rise_append, rise_cons}
 use Rattle.cpc_convert_laws.specs.Bounds.{Bounds, Enough}
 use Rattle.cpc_convert_laws.specs.Fresh.{AllFresh}
 use Rattle.cpc_convert_laws.specs.Items.{first_saved, Tagged, owned_in}
@@ -65,7 +66,7 @@ pub record SpawnAt (z : Setting) (bounds : Bounds) (f : Text) (b : Point) (slots
   pub arrives : (to_form z).code.stood f back ≡ AtArrival (Simple (Call None (ENamed (z.cut.spawner spawned)) arguments))
   pub onwards : (p : Position) → (from_form z).code.goes f (InTree b) true ≡ Some p → (q : Point) × (p ≡ InTree q) × ((to_form z).code.goes f back true ≡ Some q)
   pub runs : (vs : List Value) → spawns (context (from_form z) w.store (frame_of f (InTree b) slots)) spawned arguments ≡ Gives (AsksFor (record { asked = ToSpawn spawned; arguments = vs }))
-      → (r : SpawnerRuns z spawner spawned vs w bs c (frame_of f back slots) ys) × (r.steps + 1 < bounds.leads)
+      → (r : SpawnerRuns z spawner spawned vs w bs c (frame_of f back slots) ys) × (r.steps + 1 < bounds.leads) × (slots_registers r.entered + r.steps ≤ bounds.leads)
 
 -- nothing is not a state
 none_some : {x : Source} → ¬ (None ≡ Some x)
@@ -132,13 +133,13 @@ module _ (z : Setting) (native : NativeFacts z) (keeps : KeepsFacts z) (bounds :
     is_step u e = steps_by z f (InTree b) slots o w a xs k is_k u (does_here k ∙ e)
 
     -- the arguments fault
-    faults_row : (fault : Fault) → does ≡ Faults fault → calls ≡ Faults fault → RowFor z from x' most to
+    faults_row : (fault : Fault) → does ≡ Faults fault → calls ≡ Faults fault → RowFor z bounds.rise from x' most to
     faults_row fault e i =
         let same : tidy z.kept (ends (Failed fault (shown_in z.source f)) from) ≡ x' = to_same (ap (option_map (tidy z.kept)) (is_step (Faults fault) e)) in
         path_wider most (let m = enough.goes in let j : 0 + 1 ≤ most = omega arith in j)
-        (subst (λ y. RowFor z from y (0 + 1) to) same
-        (fault_row z from (tidy z.kept (ends (Failed fault (shown_in z.source f)) from)) to f fault refl (record { is_trace = refl; goes = refl; runs = refl }) refl (ap (λ x. Failed fault x) (sym (native.shown f same_function)))
-        (record { steps = 0; last = to; leads = Stay to; faults = target_step (Faults fault) i })))
+        (subst (λ y. RowFor z bounds.rise from y (0 + 1) to) same
+        (fault_row z bounds.rise from (tidy z.kept (ends (Failed fault (shown_in z.source f)) from)) to f fault refl (record { is_trace = refl; goes = refl; runs = refl }) refl (ap (λ x. Failed fault x) (sym (native.shown f same_function)))
+        (record { steps = 0; grown = 0; last = to; leads = stay to; faults = target_step (Faults fault) i }) (omega arith)))
       where
         same_function : z.cut.whole f ≡ true
         same_function = same
@@ -147,7 +148,7 @@ module _ (z : Setting) (native : NativeFacts z) (keeps : KeepsFacts z) (bounds :
         to_same r = some_same (sym r ∙ stepped)
 
     -- the call is made ready
-    spawned_row : (vs : List Value) → does ≡ Gives (AsksFor (record { asked = ToSpawn h.spawned; arguments = vs })) → calls ≡ Gives (Enters h.spawner vs) → RowFor z from x' most to
+    spawned_row : (vs : List Value) → does ≡ Gives (AsksFor (record { asked = ToSpawn h.spawned; arguments = vs })) → calls ≡ Gives (Enters h.spawner vs) → RowFor z bounds.rise from x' most to
     spawned_row vs e i = go ((from_form z).code.goes f (InTree b) true) refl
       where
         spawned : Agenda (Thread Position)
@@ -162,34 +163,36 @@ module _ (z : Setting) (native : NativeFacts z) (keeps : KeepsFacts z) (bounds :
             is_step (Gives (AsksFor (record { asked = ToSpawn h.spawned; arguments = vs }))) e
             ∙ ap (λ s. settles z f (InTree b) slots o w a xs (replied_by z f (InTree b) slots o xs w spawned Unset (asking s))) h.is_spawn
 
-        go : (p : Option Position) → (from_form z).code.goes f (InTree b) true ≡ p → RowFor z from x' most to
+        go : (p : Option Position) → (from_form z).code.goes f (InTree b) true ≡ p → RowFor z bounds.rise from x' most to
         go None goes = absurd (none_some (sym (ap (option_map (tidy z.kept)) (asks ∙ ap (λ p. settles z f (InTree b) slots o w a xs (asked p)) goes)) ∙ stepped))
         go (Some p) goes =
             let on = h.onwards p goes in
             let r = h.runs vs e in
-            let s : Spawns z f b slots xs ys o w bs a c = record {
+            let s : Spawns z bounds.rise f b slots xs ys o w bs a c = record {
               spawned = h.spawned;
               arguments = vs;
               onwards = on.0;
               steps = r.0.steps + 1;
+              grown = slots_registers r.0.entered + (r.0.steps + 0);
+              few = (let m = enough.spawned in let less = r.2 in omega (arith, m, less));
               source = asks ∙ ap (λ p. settles z f (InTree b) slots o w a xs (asked p)) (goes ∙ ap (λ p. Some p) on.1);
               leads =
-                  walk_cons (r.0.steps + 1) _ _ _ (walk_one _ _ (target_step (Gives (Enters h.spawner vs)) i ∙ enters_step vs r.0) (record { is_trace = refl; goes = refl; runs = refl }))
-                  (walk_append r.0.steps 1 _ _ _ r.0.leads (walk_one _ _ (arrives_step (world_of w (ready_one (CallWith drive_name (Pointer Frame (length bs) 0)) c)) (beside (bs ++ Some (frame_cells (first_saved z.cut h.spawned vs) Null Unset) ∷ []) w.store) on.0 on.2) (record { is_trace = refl; goes = refl; runs = refl })));
+                  rise_cons (r.0.steps + 1) (slots_registers r.0.entered) (r.0.steps + 0) _ _ _ (rise_one (slots_registers r.0.entered) _ _ (target_step (Gives (Enters h.spawner vs)) i ∙ enters_step vs r.0) (record { is_trace = refl; goes = refl; runs = refl }) (omega arith))
+                  (rise_append r.0.steps 1 r.0.steps 0 _ _ _ r.0.leads (rise_one 0 _ _ (arrives_step (world_of w (ready_one (CallWith drive_name (Pointer Frame (length bs) 0)) c)) (beside (bs ++ Some (frame_cells (first_saved z.cut h.spawned vs) Null Unset) ∷ []) w.store) on.0 on.2) (record { is_trace = refl; goes = refl; runs = refl }) (omega arith)));
             } in
             path_wider most (let m = enough.goes in let less = r.1 in let j : suc (r.0.steps + 1) ≤ most = omega arith in j)
-            (spawn_row z native keeps f b slots xs ys o w bs owned a tags c s same held stacks g owns fresh x' stepped)
+            (spawn_row z bounds.rise native keeps f b slots xs ys o w bs owned a tags c s same held stacks g owns fresh x' stepped)
 
     -- whatever comes of the arguments
-    acts_row : (u v : Answer Act) → does ≡ u → calls ≡ v → Meets (SpawnAct z.codes h.spawned h.spawner) u v → RowFor z from x' most to
+    acts_row : (u v : Answer Act) → does ≡ u → calls ≡ v → Meets (SpawnAct z.codes h.spawned h.spawner) u v → RowFor z bounds.rise from x' most to
     acts_row _ _ e i (BothGive _ _ (Spawned vs _)) = spawned_row vs e i
     acts_row _ _ e i (BothFault fault) = faults_row fault e i
     acts_row _ _ e i (Stuck v) = absurd (none_some (sym (ap (option_map (tidy z.kept)) (is_step NoAnswer e)) ∙ stepped))
 
   -- the row
-  pub spawn_at_row : (x' : Source) → option_map (tidy z.kept) (next (threads_of (from_form z)) from) ≡ Some x' → RowFor z from x' most to
+  pub spawn_at_row : (x' : Source) → option_map (tidy z.kept) (next (threads_of (from_form z)) from) ≡ Some x' → RowFor z bounds.rise from x' most to
   spawn_at_row x' stepped = go (function_named z.source f) refl
     where
-      go : (k : Option Function) → function_named z.source f ≡ k → RowFor z from x' most to
+      go : (k : Option Function) → function_named z.source f ≡ k → RowFor z bounds.rise from x' most to
       go None e = absurd (none_some (sym (ap (option_map (tidy z.kept)) (no_step z f (InTree b) slots o w a xs e)) ∙ stepped))
       go (Some k) e = acts_row x' stepped k e does calls refl refl h.acts

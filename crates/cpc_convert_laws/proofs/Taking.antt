@@ -1,9 +1,9 @@
 -- A frame is taken up by its piece: where a thread is taken, and where a piece gives a frame to the driver.
-use Rattle.std.proofs.Common.{◌≡◌, ℕ, ◌+◌, List, [], ◌∷◌, ◌++◌, slice_set, Option, Some, None, refl, ap, arith}
+use Rattle.std.proofs.Common.{◌≡◌, ℕ, ◌+◌, ◌≤◌, List, [], ◌∷◌, ◌++◌, slice_set, Option, Some, None, refl, ap, arith}
 use Rattle.cpc_base.specs.Bytes.{Text}
 use Rattle.cpc_num.specs.declared.kinds.Kind.TheVariants.{Int}
 use Rattle.cpc_store.specs.declared.values.Class.TheVariants.{Frame}
-use Rattle.cpc_store.specs.Store.{Value, Unset, At as Pointer, Blocks, Store}
+use Rattle.cpc_store.specs.Store.{Value, Unset, At as Pointer, Blocks, Store, store_cells}
 use Rattle.cpc_tree.specs.Syntax.{TyInt}
 use Rattle.cpc_meaning.specs.Answer.{Gives}
 use Rattle.cpc_meaning.specs.Agenda.{Agenda, Due}
@@ -27,10 +27,11 @@ use Rattle.cpc_convert_laws.specs.Fresh.{AllFresh, beyond}
 use Rattle.cpc_convert_laws.specs.Sums.{sum, total}
 use Rattle.cpc_convert_laws.specs.Items.{Cut, FramesWait, Tagged, ItemFor, IsUntagged, owned_in}
 use Rattle.cpc_convert_laws.specs.Running.{AtNode, PieceRuns}
-use Rattle.cpc_convert_laws.proofs.Fresh.{agenda_beyond, chain_beyond, owns_beyond, fresh_beyond, fresh_taken, set_same}
+use Rattle.cpc_convert_laws.proofs.Fresh.{beyond_cells, agenda_beyond, chain_beyond, owns_beyond, fresh_beyond, fresh_taken, set_same}
 use Rattle.cpc_convert_laws.proofs.Items.{count_owned, agenda_changed, item_kept}
 use Rattle.cpc_convert_laws.proofs.Relation.{Source, Shared, AgendaFor, source_state, target_state, world_of, Goes}
-use Rattle.cpc_convert_laws.proofs.Rows.{RowFor, Reached, reached_after, row_reached}
+use Rattle.cpc_meaning_cell_laws.specs.Cells.{call_cells}
+use Rattle.cpc_convert_laws.proofs.Rows.{RowFor, few_cells, Reached, reached_after, reached_within, row_reached}
 use Rattle.cpc_convert_laws.proofs.Setting.{Setting}
 use Rattle.cpc_convert_laws.proofs.Entry.{Opens}
 
@@ -92,9 +93,9 @@ owned_rest tags d ds e n =
 
 -- ---- the rows
 
-module _ (z : Setting) (bound : ℕ) (driver : DriverFacts z.target) (w : Shared) (a : Agenda (Thread Position)) (tags : Agenda Tagged) (c : Agenda Callback) where
+module _ (z : Setting) (bound rise : ℕ) (driver : DriverFacts z.target) (w : Shared) (a : Agenda (Thread Position)) (tags : Agenda Tagged) (c : Agenda Callback) where
   -- a frame that a piece takes up: the piece goes to where it stands for this frame of the source
-  module _ (cs : Blocks) (f : Saved) (fs : List Saved) (b : ℕ) (below v : Value) (owned : List ℕ) (top : Top cs f fs b below v owned) (g : AgendaFor z.cut cs a tags c) (owns : Owns cs (b ∷ (owned ++ owned_in tags))) (fresh : AllFresh (slice_set cs b None)) (x : Text) (l : Place) (n : ℕ) (slots : List Slot) (o : Option Value) (t : Store) (frames : List (CallFrame Position)) (waits : FramesWait z.cut frames fs) (opens : Opens z bound f.piece (world_of w c) cs w.store b x l n slots o below t) where
+  module _ (cs : Blocks) (f : Saved) (fs : List Saved) (b : ℕ) (below v : Value) (owned : List ℕ) (top : Top cs f fs b below v owned) (g : AgendaFor z.cut cs a tags c) (owns : Owns cs (b ∷ (owned ++ owned_in tags))) (fresh : AllFresh (slice_set cs b None)) (x : Text) (l : Place) (n : ℕ) (slots : List Slot) (o : Option Value) (t : Store) (frames : List (CallFrame Position)) (waits : FramesWait z.cut frames fs) (opens : Opens z bound rise f.piece (world_of w c) cs w.store b x l n slots o below t) where
     -- the state of the source
     abbrev pub resumed_state : Source
     resumed_state = source_state (record w { store = t }) (Some (record { frames = frame_of x (InGraph l n) slots ∷ frames; arriving = o })) a
@@ -111,12 +112,15 @@ module _ (z : Setting) (bound : ℕ) (driver : DriverFacts z.target) (w : Shared
         let j = same_number b in
         omega (arith, once, h, i, j)
 
-    pub opened : (pointer result frame : Value) → Reached z resumed_state bound w.trace (entered z.target (world_of w c) (beside cs w.store) opens.function opens.locals pointer result frame)
+    pub opened : (pointer result frame : Value) → Reached z resumed_state bound opens.grown (store_cells (beside (slice_set cs b None) t)) w.trace (entered z.target (world_of w c) (beside cs w.store) opens.function opens.locals pointer result frame)
     opened pointer result frame = record {
       steps = opens.steps;
       within = opens.within;
       last = running (world_of w c) (beside freed_blocks t) (opens.piece ∷ driving pointer result (opens.taken frame) ∷ []) None;
       leads = opens.leads pointer result frame;
+      goes = refl;
+      shows = refl;
+      kept = few_cells (store_cells (beside (slice_set cs b None) t)) (store_cells (beside freed_blocks t)) _ (let e = beyond_cells opens.more (slice_set cs b None) in omega (arith, e));
       ends =
           Goes (record w { store = t }) freed_blocks _ _ owned a tags c
           (PieceRuns _ o _ None owned (AtNode x l n slots o below opens.piece None opens.stands frames fs owned waits (chain_beyond opens.more (slice_set cs b None) fs below owned (chain_taken cs f fs b below v owned top)) pointer result (opens.taken frame)))
@@ -127,12 +131,13 @@ module _ (z : Setting) (bound : ℕ) (driver : DriverFacts z.target) (w : Shared
     }
 
     -- the driver takes the frame that a piece returned
-    pub goes_on : (pointer result frame : Value) → Reached z resumed_state (3 + bound) w.trace (running (world_of w c) (beside cs w.store) (driving pointer result frame ∷ []) (Some (Pointer Frame b 0)))
+    pub goes_on : (pointer result frame : Value) → Reached z resumed_state (3 + bound) rise (store_cells (beside (slice_set cs b None) t)) w.trace (running (world_of w c) (beside cs w.store) (driving pointer result frame ∷ []) (Some (Pointer Frame b 0)))
     goes_on pointer result frame =
-        reached_after z resumed_state 3 bound w.trace (running (world_of w c) (beside cs w.store) (driving pointer result frame ∷ []) (Some (Pointer Frame b 0))) (entered z.target (world_of w c) (beside cs w.store) opens.function opens.locals pointer result (Pointer Frame b 0))
-        (drive_goes_on z.target driver (world_of w c) (beside cs w.store) f fs b below v owned top opens.function opens.is_piece pointer result frame opens.locals (beside cs w.store) opens.called) (opened pointer result (Pointer Frame b 0))
+        reached_within z resumed_state (3 + bound) (3 + bound) (call_cells z.target opens.function + opens.grown) rise (store_cells (beside (slice_set cs b None) t)) (store_cells (beside (slice_set cs b None) t)) w.trace _ (omega arith) opens.few (omega arith)
+        (reached_after z resumed_state 3 (call_cells z.target opens.function) bound opens.grown (store_cells (beside (slice_set cs b None) t)) w.trace (running (world_of w c) (beside cs w.store) (driving pointer result frame ∷ []) (Some (Pointer Frame b 0))) (entered z.target (world_of w c) (beside cs w.store) opens.function opens.locals pointer result (Pointer Frame b 0))
+        (drive_goes_on z.target driver (world_of w c) (beside cs w.store) f fs b below v owned top opens.function opens.is_piece pointer result frame opens.locals (beside cs w.store) opens.called) (opened pointer result (Pointer Frame b 0)))
 
-module _ (z : Setting) (bound : ℕ) (driver : DriverFacts z.target) (w : Shared) (bs : Blocks) (a : Agenda (Thread Position)) (tags : Agenda Tagged) (c : Agenda Callback) (g : AgendaFor z.cut bs a tags c) (owns : Owns bs (owned_in tags)) (fresh : AllFresh bs) where
+module _ (z : Setting) (k bound rise : ℕ) (fits : 3 + rise ≤ k) (driver : DriverFacts z.target) (w : Shared) (bs : Blocks) (a : Agenda (Thread Position)) (tags : Agenda Tagged) (c : Agenda Callback) (g : AgendaFor z.cut bs a tags c) (owns : Owns bs (owned_in tags)) (fresh : AllFresh bs) where
   module _ (ds : List (Due (Thread Position))) (ts : List (Due Tagged)) (es : List (Due Callback)) (both : Both (SameDue (ItemFor z.cut bs)) ds ts) (bare : Both (SameDue IsUntagged) ts es) (v : Value) (is_int : assigned (TyInt Int) v ≡ Gives v) (f : Saved) (fs : List Saved) (b : ℕ) (below old : Value) (owned : List ℕ) (top : Top bs f fs b below old owned) (first : tags.round ≡ record { item = record { callback = CallWith drive_name (Pointer Frame b 0); owned = b ∷ owned }; result = v } ∷ ts) (is_round : c.round ≡ record { item = CallWith drive_name (Pointer Frame b 0); result = v } ∷ es) where
     -- the block is owned by this item alone
     others_apart : total (λ (t : Tagged). count b t.owned) (with_rest tags ts) ≡ 0
@@ -149,14 +154,14 @@ module _ (z : Setting) (bound : ℕ) (driver : DriverFacts z.target) (w : Shared
 
     -- the frame is taken up, and its piece goes to where it stands for this frame of the source
     pub takes_up : (x : Text) (l : Place) (n : ℕ) (slots : List Slot) (o : Option Value) (t : Store) (frames : List (CallFrame Position)) → FramesWait z.cut frames fs
-        → Opens z bound f.piece (world_of w (with_rest c es)) (given_value bs b f below v) w.store b x l n slots o below t
-        → RowFor z (source_state w None a) (source_state (record w { store = t }) (Some (record { frames = frame_of x (InGraph l n) slots ∷ frames; arriving = o })) (with_rest a ds)) (5 + bound) (target_state w bs None c)
+        → Opens z bound rise f.piece (world_of w (with_rest c es)) (given_value bs b f below v) w.store b x l n slots o below t
+        → RowFor z k (source_state w None a) (source_state (record w { store = t }) (Some (record { frames = frame_of x (InGraph l n) slots ∷ frames; arriving = o })) (with_rest a ds)) (5 + bound) (target_state w bs None c)
     takes_up x l n slots o t frames waits opens =
-        row_reached z (source_state w None a) _ (target_state w bs None c) (entered z.target (with_round (world_of w c) es) (beside cs w.store) opens.function opens.locals (Pointer Frame b 0) v (Pointer Frame b 0)) 4 bound refl
+        row_reached z k (source_state w None a) _ (target_state w bs None c) (entered z.target (with_round (world_of w c) es) (beside cs w.store) opens.function opens.locals (Pointer Frame b 0) v (Pointer Frame b 0)) 4 (3 + call_cells z.target opens.function) bound opens.grown refl
         (drive_begins z.target driver (world_of w c) (beside bs w.store) f fs b below old owned top opens.function opens.is_piece es v v is_round is_int opens.locals (beside cs w.store) opens.called)
-        (opened z bound driver w (with_rest a ds) (with_rest tags ts) (with_rest c es) cs f fs b below v owned (chain_patched bs f fs b below old v owned top) kept
+        (opened z bound rise driver w (with_rest a ds) (with_rest tags ts) (with_rest c es) cs f fs b below v owned (chain_patched bs f fs b below old v owned top) kept
         (owns_set bs b (frame_cells f below v) (b ∷ (owned ++ owned_in (with_rest tags ts))) (lives_there bs b (frame_cells f below old) top.cells) owns_rest)
-        (fresh_taken bs b (Some (frame_cells f below v)) fresh) x l n slots o t frames waits opens (Pointer Frame b 0) v (Pointer Frame b 0))
+        (fresh_taken bs b (Some (frame_cells f below v)) fresh) x l n slots o t frames waits opens (Pointer Frame b 0) v (Pointer Frame b 0)) (let h = opens.few in omega (arith, h, fits))
       where
         cs : Blocks
         cs = given_value bs b f below v

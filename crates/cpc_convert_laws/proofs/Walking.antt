@@ -1,5 +1,5 @@
 -- Rows made of walks: to a state that stands for the next one of the source, and to a fault of both; and the row of a spawn in native code.
-use Rattle.std.proofs.Common.{◌≡◌, ◌⊎◌, inl, ℕ, suc, ◌+◌, true, List, [], ◌∷◌, ◌++◌, length, Option, Some, None, option_map, refl, sym, ◌∙◌, ap, subst, arith}
+use Rattle.std.proofs.Common.{◌≡◌, ◌⊎◌, inl, ℕ, suc, ◌+◌, ◌≤◌, true, List, [], ◌∷◌, ◌++◌, length, Option, Some, None, option_map, refl, sym, ◌∙◌, ap, subst, arith}
 use Rattle.std.specs.List.{All}
 use Rattle.cpc_base.specs.Bytes.{Text}
 use Rattle.cpc_num.specs.declared.kinds.Fault.{Fault}
@@ -22,8 +22,8 @@ use Rattle.cpc_convert_image_laws.specs.Held.{IsHeldSlot}
 use Rattle.cpc_convert_image_laws.specs.Stacks.{frame_of, Native, OneMore}
 use Rattle.cpc_convert_chain_laws.specs.Chains.{Owns, frame_cells}
 use Rattle.cpc_convert_chain_laws.specs.Driver.{drive_name}
-use Rattle.cpc_convert_chain_laws.specs.Walks.{Here, Quiet, Walk, Stay, Step, FaultsAfter}
-use Rattle.cpc_convert_chain_laws.proofs.Walks.{walk_then, walk_ends}
+use Rattle.cpc_convert_chain_laws.specs.Walks.{Here, Quiet, Climb, Rest, Go, Rise, Walk, FaultsAfter}
+use Rattle.cpc_convert_chain_laws.proofs.Walks.{whole_climb, climb_then}
 use Rattle.cpc_convert_laws.specs.Fresh.{AllFresh}
 use Rattle.cpc_convert_laws.specs.Items.{first_saved, Tagged, driven, owned_in}
 use Rattle.cpc_convert_laws.specs.Running.{SamePoint, Under, NativeRuns}
@@ -31,29 +31,36 @@ use Rattle.cpc_convert_laws.proofs.Relation.{Source, Target, Shared, AgendaFor, 
 use Rattle.cpc_convert_laws.proofs.Setting.{Setting, from_form, NativeFacts, KeepsFacts}
 use Rattle.cpc_convert_laws.proofs.Tidy.{related_tidied}
 use Rattle.cpc_convert_laws.proofs.Fresh.{fresh_more}
-use Rattle.cpc_convert_laws.proofs.Rows.{RowFor, Near, near_quiet}
+use Rattle.cpc_convert_laws.proofs.Rows.{RowFor, Midway, AtFirst, near_quiet, row_rises}
 use Rattle.cpc_convert_laws.proofs.Putting.{agenda_alloc, agenda_ready, owns_ready, pending_put, stacks_alloc}
 
 -- a walk leads from a quiet state to a quiet one
+climb_quiet : (q : Program) (trace : List Mark) (most n : ℕ) (s t : Here) → Quiet trace s → Climb q trace most n s t → Quiet trace t
+climb_quiet q trace most _ s _ h (Rest _) = h
+climb_quiet q trace most _ s t h (Go n _ r _ e quiet few more) = climb_quiet q trace most n r t quiet more
+
+rise_quiet : (q : Program) (trace : List Mark) (n g : ℕ) (s t : Here) → Quiet trace s → Rise q trace n g s t → Quiet trace t
+rise_quiet q trace n g s t h r = climb_quiet q trace _ n s t h (whole_climb n g s t r)
+
 pub walk_quiet : (q : Program) (trace : List Mark) (n : ℕ) (s t : Here) → Quiet trace s → Walk q trace n s t → Quiet trace t
-walk_quiet q trace _ s _ h (Stay _) = h
-walk_quiet q trace _ s t h (Step n _ r _ e quiet more) = walk_quiet q trace n r t quiet more
+walk_quiet q trace n s t h w = rise_quiet q trace n n s t h w
 
 -- a walk to a state that stands for the one to which the source steps
-pub walk_row : (z : Setting) → NativeFacts z → KeepsFacts z → (x s x' : Source) (y t : Target) (n : ℕ) → x.outcome ≡ Going → next (threads_of (from_form z)) x ≡ Some s → Related z.codes z.cut z.there s t
-    → option_map (tidy z.kept) (next (threads_of (from_form z)) x) ≡ Some x' → Walk z.target x.trace (suc n) y t → RowFor z x x' (suc n) y
-walk_row z native keeps x s x' y t n going i r e walk =
+pub walk_row : (z : Setting) (k : ℕ) → NativeFacts z → KeepsFacts z → (x s x' : Source) (y t : Target) (n grown : ℕ) → x.outcome ≡ Going → next (threads_of (from_form z)) x ≡ Some s → Related z.codes z.cut z.there s t
+    → option_map (tidy z.kept) (next (threads_of (from_form z)) x) ≡ Some x' → Rise z.target x.trace (suc n) grown y t → grown ≤ k → RowFor z k x x' (suc n) y
+walk_row z k native keeps x s x' y t n grown going i r e walk le =
     let e' : Some (tidy z.kept s) ≡ Some x' = sym (ap (option_map (tidy z.kept)) i) ∙ e in
     let j : tidy z.kept s ≡ x' = cc in
-    walk_ends {q = z.target} {trace = x.trace} (Related z.codes z.cut z.there x') (λ u. Near z x u ⊎ Near z x' u) (λ u q. inl (near_quiet z x u going q)) n y t walk
+    row_rises z k x x' y t n grown going walk le
     (subst (λ s. Related z.codes z.cut z.there s t) j (related_tidied z native keeps s t r))
 
 -- some steps to a fault that the source has in this step
-pub fault_row : (z : Setting) (x x' : Source) (y : Target) (f : Text) (fault : Fault) → x.outcome ≡ Going → Quiet x.trace y → x'.trace ≡ x.trace → x'.outcome ≡ Failed fault (before_bars f)
-    → (a : FaultsAfter z.target x.trace f fault y) → RowFor z x x' (a.steps + 1) y
-fault_row z x x' y f fault going quiet same failed a =
-    let last = walk_quiet z.target x.trace a.steps y a.last quiet a.leads in
-    walk_then {q = z.target} {trace = x.trace} (Related z.codes z.cut z.there x') (λ u. Near z x u ⊎ Near z x' u) (λ u q. inl (near_quiet z x u going q)) a.steps 1 y a.last a.leads
+pub fault_row : (z : Setting) (k : ℕ) (x x' : Source) (y : Target) (f : Text) (fault : Fault) → x.outcome ≡ Going → Quiet x.trace y → x'.trace ≡ x.trace → x'.outcome ≡ Failed fault (before_bars f)
+    → (a : FaultsAfter z.target x.trace f fault y) → a.grown ≤ k → RowFor z k x x' (a.steps + 1) y
+fault_row z k x x' y f fault going quiet same failed a le =
+    let last = rise_quiet z.target x.trace a.steps a.grown y a.last quiet a.leads in
+    climb_then {q = z.target} {trace = x.trace} (Related z.codes z.cut z.there x') (Midway z k x x' y) (λ u q few. AtFirst (near_quiet z x u going q) (omega (arith, few, le))) a.steps 1 y a.last
+    (whole_climb a.steps a.grown y a.last a.leads)
     (Last 1 a.last (ends (Failed fault (before_bars f)) a.last) a.faults (omega arith)
     (IsOver x' (ends (Failed fault (before_bars f)) a.last) (ap is_over failed) (last.is_trace ∙ sym same) (sym failed)))
 
@@ -61,29 +68,31 @@ fault_row z x x' y f fault going quiet same failed a =
 
 -- A spawn of native code at this state: the source makes the call ready and goes on, and some steps of the target put the call's first
 -- frame into a new block, make it ready, and come to the same point.
-pub record Spawns (z : Setting) (f : Text) (b : Point) (slots : List Slot) (xs : List (CallFrame Position)) (ys : List (CallFrame Point)) (o : Option Value) (w : Shared) (bs : Blocks) (a : Agenda (Thread Position)) (c : Agenda Callback) : Type 0 where
+pub record Spawns (z : Setting) (k : ℕ) (f : Text) (b : Point) (slots : List Slot) (xs : List (CallFrame Position)) (ys : List (CallFrame Point)) (o : Option Value) (w : Shared) (bs : Blocks) (a : Agenda (Thread Position)) (c : Agenda Callback) : Type 0 where
   pub spawned : Text
   pub arguments : List Value
   pub onwards : Point
   pub steps : ℕ
   pub source : next (threads_of (from_form z)) (source_state w (Some (record { frames = frame_of f (InTree b) slots ∷ xs; arriving = o })) a)
       ≡ Some (source_state w (Some (record { frames = frame_of f (InTree onwards) slots ∷ xs; arriving = None })) (ready_one (Pending spawned arguments) a))
-  pub leads : Walk z.target w.trace (suc steps) (target_state w bs (Some (record { frames = frame_of f b slots ∷ ys; arriving = o })) c)
+  pub grown : ℕ
+  pub few : grown ≤ k
+  pub leads : Rise z.target w.trace (suc steps) grown (target_state w bs (Some (record { frames = frame_of f b slots ∷ ys; arriving = o })) c)
       (target_state w (bs ++ Some (frame_cells (first_saved z.cut spawned arguments) Null Unset) ∷ []) (Some (record { frames = frame_of f onwards slots ∷ ys; arriving = None })) (ready_one (CallWith drive_name (Pointer Frame (length bs) 0)) c))
 
 -- so both come to states that stand for each other
-pub spawn_row : (z : Setting) → NativeFacts z → KeepsFacts z → (f : Text) (b : Point) (slots : List Slot) (xs : List (CallFrame Position)) (ys : List (CallFrame Point)) (o : Option Value) (w : Shared) (bs : Blocks) (owned : List ℕ) (a : Agenda (Thread Position)) (tags : Agenda Tagged) (c : Agenda Callback)
-    → (h : Spawns z f b slots xs ys o w bs a c) → z.cut.whole f ≡ true → All (IsHeldSlot z.codes) slots → Native z.codes (SamePoint z.cut) (Under z.codes z.cut z.there bs owned) xs ys → AgendaFor z.cut bs a tags c → Owns bs (owned ++ owned_in tags) → AllFresh bs
+pub spawn_row : (z : Setting) (k : ℕ) → NativeFacts z → KeepsFacts z → (f : Text) (b : Point) (slots : List Slot) (xs : List (CallFrame Position)) (ys : List (CallFrame Point)) (o : Option Value) (w : Shared) (bs : Blocks) (owned : List ℕ) (a : Agenda (Thread Position)) (tags : Agenda Tagged) (c : Agenda Callback)
+    → (h : Spawns z k f b slots xs ys o w bs a c) → z.cut.whole f ≡ true → All (IsHeldSlot z.codes) slots → Native z.codes (SamePoint z.cut) (Under z.codes z.cut z.there bs owned) xs ys → AgendaFor z.cut bs a tags c → Owns bs (owned ++ owned_in tags) → AllFresh bs
     → (x' : Source) → option_map (tidy z.kept) (next (threads_of (from_form z)) (source_state w (Some (record { frames = frame_of f (InTree b) slots ∷ xs; arriving = o })) a)) ≡ Some x'
-    → RowFor z (source_state w (Some (record { frames = frame_of f (InTree b) slots ∷ xs; arriving = o })) a) x' (suc h.steps) (target_state w bs (Some (record { frames = frame_of f b slots ∷ ys; arriving = o })) c)
-spawn_row z native keeps f b slots xs ys o w bs owned a tags c h same held stacks g owns fresh x' e =
+    → RowFor z k (source_state w (Some (record { frames = frame_of f (InTree b) slots ∷ xs; arriving = o })) a) x' (suc h.steps) (target_state w bs (Some (record { frames = frame_of f b slots ∷ ys; arriving = o })) c)
+spawn_row z k native keeps f b slots xs ys o w bs owned a tags c h same held stacks g owns fresh x' e =
     let cells = frame_cells (first_saved z.cut h.spawned h.arguments) Null Unset in
     let more : Blocks = bs ++ Some cells ∷ [] in
     let item = driven (Pointer Frame (length bs) 0) (length bs ∷ []) in
-    walk_row z native keeps _ _ x' _ _ h.steps refl h.source
+    walk_row z k native keeps _ _ x' _ _ h.steps h.grown refl h.source
     (Goes w more _ _ owned (ready_one (Pending h.spawned h.arguments) a) (ready_one item tags) (ready_one item.callback c)
     (NativeRuns (frame_of f (InTree h.onwards) slots ∷ xs) (frame_of f h.onwards slots ∷ ys) None owned
     (OneMore f (InTree h.onwards) h.onwards slots xs ys (refl, same) held (stacks_alloc z.codes z.cut z.there bs (Some cells) owned xs ys stacks)) tt)
     (agenda_ready z.cut more (Pending h.spawned h.arguments) item a tags c (pending_put z.cut bs h.spawned h.arguments) (agenda_alloc z.cut bs (Some cells) a tags c g))
     (owns_ready bs cells owned item.callback tags owns) (fresh_more bs (Some cells) refl fresh))
-    e h.leads
+    e h.leads h.few

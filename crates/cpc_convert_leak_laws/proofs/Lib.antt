@@ -2,8 +2,8 @@ mod Blocks
 mod Weights
 mod Threads
 mod Related
-mod Locals
 mod Ended
+mod Ending
 mod Overs
 mod Runs
 mod Plain

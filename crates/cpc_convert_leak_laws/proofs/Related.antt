@@ -2,17 +2,16 @@
 use Rattle.std.proofs.Common.{◌≡◌, ℕ, ◌+◌, ◌≤◌, Bool, true, false, not, List, ◌++◌, length, slice_get, Option, None, is_some, refl, sym, ◌∙◌, ap, arith, Some}
 use Rattle.std.proofs.lemmas.List.{length-map}
 use Rattle.cpc_base.specs.Bytes.{Text}
-use Rattle.cpc_store.specs.Store.{Value, Unset, Blocks, Store, block_cells, cells_in}
+use Rattle.cpc_store.specs.Store.{Value, Unset, Blocks, Store, block_cells, cells_in, store_cells}
 use Rattle.cpc_tree.specs.Points.{Point}
 use Rattle.cpc_tree.specs.Syntax.{Function, Program}
 use Rattle.cpc_tree.specs.Trace.{Going, is_over}
 use Rattle.cpc_meaning.specs.Agenda.{Agenda}
-use Rattle.cpc_meaning.specs.Eval.{Slot}
 use Rattle.cpc_meaning.specs.Events.{Callback}
-use Rattle.cpc_meaning.specs.Runs.{slots_registers, frames_registers, registers, most_variables}
+use Rattle.cpc_meaning.specs.Runs.{slots_registers, frames_registers, registers, live_cells, most_variables}
 use Rattle.cpc_meaning.specs.Plain.{Frame, Stack}
 use Rattle.cpc_meaning.specs.Threads.{Thread, is_cps_mode, is_cps}
-use Rattle.cpc_forms.specs.Flow.{Place, At}
+use Rattle.cpc_forms.specs.Flow.{At}
 use Rattle.cpc_forms.specs.Split.{Position}
 use Rattle.cpc_tree.specs.Typing.{function_named}
 use Rattle.cpc_convert_chain_laws.specs.Chains.{Saved, block, one_if, Owns}
@@ -26,6 +25,7 @@ use Rattle.cpc_convert_laws.proofs.Rows.{Near, MainWaits, with_first}
 use Rattle.cpc_convert_laws.proofs.Setting.{Setting}
 use Rattle.cpc_meaning.proofs.Agendas.{SameAgenda}
 use Rattle.cpc_convert_native_laws.specs.Instance.{stays_whole, cut_of, keeps_in}
+use Rattle.cpc_convert_runs_laws.proofs.Locals.{ArePlacesThin}
 use Rattle.cpc_convert_leak_laws.specs.Need.{where_so, thread_weight, stack_weight, native_registers}
 use Rattle.cpc_convert_leak_laws.specs.Held.{live_blocks}
 use Rattle.cpc_convert_leak_laws.proofs.Threads.{split_count, split_need, running_at, split_running}
@@ -48,9 +48,17 @@ pub record Bounded (p : Program) (x : Source) (y : Target) : Type 0 where
   pub store : y.store ≡ beside y.store.frames x.store
   pub registers : registers y.running ≤ stack_weight (sum (native_registers p)) x.running + wide p
 
--- no piece has more registers than this
-abbrev pub ArePlacesThin : Program → Places → Type 0
-ArePlacesThin p There = (f : Text) (l : Place) (n : ℕ) (slots : List Slot) (o : Option Value) (next : Value) (piece : Frame Point) (o' : Option Value) → There f l n slots o next piece o' → slots_registers piece.slots ≤ 7 + most_variables p
+-- the measure of a state of the lifted run
+abbrev pub split_measure : Program → Source → ℕ
+split_measure p x = store_cells x.store + (stack_weight (sum (native_registers p)) x.running + (stack_weight (split_running p) x.running + total (thread_weight (λ f vs. 8 + length vs) (split_need p)) x.agenda))
+
+-- its live cells are within the measure, but for the registers of a piece and the driver
+pub bounded_live : (p : Program) (x : Source) (y : Target) → Bounded p x y → live_cells y ≤ split_measure p x + wide p
+bounded_live p x y b =
+    let here = ap (λ (s : Store). store_cells s) b.store in
+    let c = b.cells in
+    let r = b.registers in
+    omega (arith, here, c, r)
 
 module _ (p : Program) where
   -- frames that wait, and what is saved of them

@@ -1,5 +1,5 @@
 -- The rows between the lifted run and the event run, whose ends are states that stand for each other.
-use Rattle.std.proofs.Common.{◌≡◌, ◌⊎◌, inl, inr, ⊎_elim, ℕ, zero, suc, ◌+◌, Bool, true, false, List, [], ◌++◌, length, Option, Some, None, option_map, is_some, refl, sym, ◌∙◌, ap, subst, arith}
+use Rattle.std.proofs.Common.{◌≡◌, ◌⊎◌, inl, inr, ⊎_elim, ℕ, zero, suc, ◌+◌, ◌≤◌, Bool, true, false, List, [], ◌++◌, length, Option, Some, None, option_map, is_some, refl, sym, ◌∙◌, ap, subst, arith}
 use Rattle.std.specs.List.{All}
 use Rattle.std.proofs.lemmas.List.Elements.{All-head}
 use Rattle.cpc_base.specs.Bytes.{Text}
@@ -17,7 +17,7 @@ use Rattle.cpc_meaning_matching.proofs.Systems.{over_stays}
 use Rattle.cpc_meaning.specs.Agenda.{Due, Agenda, begin_round}
 use Rattle.cpc_meaning.specs.History.{History}
 use Rattle.cpc_meaning.specs.Matching.{event_system}
-use Rattle.cpc_meaning.specs.Runs.{cost, registers}
+use Rattle.cpc_meaning.specs.Runs.{cost, registers, live_cells}
 use Rattle.cpc_meaning.specs.Start.{main_name, globals, make_globals}
 use Rattle.cpc_meaning.specs.Threads.{Thread, Pending, is_cps_mode, threads_of}
 use Rattle.cpc_meaning.specs.Machine.{next, settled, code_step, step_running, unless_over}
@@ -41,7 +41,7 @@ use Rattle.cpc_convert_laws.specs.Running.{RunningFor, NothingRuns, NativeRuns, 
 use Rattle.cpc_convert_laws.specs.Sums.{total}
 use Rattle.cpc_convert_laws.proofs.Tidy.{related_tidied}
 use Rattle.cpc_convert_laws.proofs.Relation.{Source, Target, Shared, AgendaFor, going, source_state, target_state, with_main, Related, MainIsReady, MainIsNext, Goes, IsOver}
-use Rattle.cpc_convert_laws.proofs.Rows.{Near, MainWaits, RowFor}
+use Rattle.cpc_convert_laws.proofs.Rows.{Shows, Near, Midway, AtFirst, AtLast, MainWaits, RowFor, midway_near}
 use Rattle.cpc_convert_laws.proofs.Setting.{Setting, from_form, Known}
 use Rattle.cpc_convert_accepted_laws.specs.Functions.{HasMain}
 use Rattle.cpc_convert_accepted_laws.specs.Lifted.{kept_of, lifted_threads, lifted_after}
@@ -55,13 +55,13 @@ use Rattle.cpc_convert_runs_laws.proofs.Called.{cps_from_then, OfCps, AllCpsIn}
 use Rattle.cpc_convert_runs_laws.proofs.Had.{Had}
 use Rattle.cpc_convert_runs_laws.proofs.Join.{setting, PiecesDo, FineSays, rows}
 use Rattle.cpc_convert_runs_laws.proofs.Known.{state_known}
+use Rattle.cpc_convert_runs_laws.proofs.Locals.{ArePlacesThin, stood_thin}
 use Rattle.cpc_convert_runs_laws.proofs.Natives.{cps_same}
 use Rattle.cpc_convert_leak_laws.specs.Need.{thread_weight}
 use Rattle.cpc_convert_leak_laws.specs.Held.{live_blocks}
 use Rattle.cpc_convert_leak_laws.proofs.Ended.{thread_idle, callback_idle, idle_rests}
 use Rattle.cpc_convert_leak_laws.proofs.Overs.{stand_shows, round_over, ends_both}
-use Rattle.cpc_convert_leak_laws.proofs.Locals.{stood_thin}
-use Rattle.cpc_convert_leak_laws.proofs.Related.{Bounded, ArePlacesThin, going_bounded, main_bounded, related_bounded}
+use Rattle.cpc_convert_leak_laws.proofs.Related.{Bounded, wide, split_measure, bounded_live, going_bounded, main_bounded, related_bounded}
 use Rattle.cpc_convert_leak_laws.proofs.Threads.{split_count, split_need}
 
 -- an outcome of a run that is not over
@@ -82,7 +82,7 @@ module _ (p : Program) (had : Had p) where
   Stand = Related z.codes z.cut z.there
 
   thin : ArePlacesThin p z.there
-  thin = stood_thin p had
+  thin = stood_thin p had.convertible.named had.cps
 
   main : HasMain p
   main = had.convertible.main
@@ -106,10 +106,11 @@ module _ (p : Program) (had : Had p) where
     abbrev B : System Target Mark Outcome
     B = event_system (trees (converted p)) h
 
-    -- a state inside a row shows the same, and where nothing runs in it the blocks are bounded
+    -- a state inside a row shows the same, and where nothing runs in it the blocks are bounded; its live cells are within the measure and the cost, where the run goes on or nothing runs
     pub record Inside (x : Source) (t : Target) : Type 0 where
       pub alike : Alike A B x t
       pub bounded : t.running ≡ None → Bounded p x t
+      pub few : (is_over t.outcome ≡ true → t.running ≡ None) → live_cells t ≤ split_measure p x + cost p
 
     abbrev pub RunsStand : Type 0
     RunsStand = Rows Holds Inside (Moves A) (Moves B) (λ (s : Source). cost p) one (run A) (run B)
@@ -138,23 +139,44 @@ module _ (p : Program) (had : Had p) where
 
     -- what stands for a state of the source is near it
     pub holds_inside : (x : Source) (y : Target) → Holds x y → Inside x y
-    holds_inside x y held = let k = stand_shows z x y held.stands in record { alike = record { trace = k.trace; outcome = k.outcome }; bounded = λ none. held.bounded (held.rests none) }
+    holds_inside x y held = record { alike = record { trace = k.trace; outcome = k.outcome }; bounded = λ none. held.bounded (held.rests none); few = λ calm. go calm (is_over y.outcome) refl }
+      where
+        k : Shows x y
+        k = stand_shows z x y held.stands
+
+        go : (is_over y.outcome ≡ true → y.running ≡ None) → (b : Bool) → is_over y.outcome ≡ b → live_cells y ≤ split_measure p x + cost p
+        go calm true over = let b = bounded_live p x y (held.bounded (held.rests (calm over))) in omega (arith, b)
+        go calm false i = let b = bounded_live p x y (related_bounded p z.codes z.there thin x y held.stands (k.outcome ∙ going_of y.outcome i)) in omega (arith, b)
 
     -- a row, as a path
     abbrev PathTo : (Target → Type 0) → Source → Source → Target → Type 0
     PathTo End x x' y = Path B.next one End (λ t. Inside x t ⊎ Inside x' t) (cost p) y
 
-    -- a state that is near one of the source
-    near_inside : (x : Source) (t : Target) → Near z x t → Inside x t
-    near_inside x t n = record { alike = record { trace = n.trace; outcome = n.outcome }; bounded = go n.runs }
+    -- where nothing runs in a state that is near one of the source
+    near_rests : (x : Source) (t : Target) → Near z x t → t.running ≡ None → Bounded p x t
+    near_rests x t n = go n.runs
       where
         go : (is_some t.running ≡ true) ⊎ MainWaits z x t → t.running ≡ None → Bounded p x t
         go (inl runs) none = absurd (let i = ap is_some none in cc)
         go (inr main) none = main_bounded p z.codes z.there thin z x t n main
 
-    both_inside : (x x' : Source) (t : Target) → Near z x t ⊎ Near z x' t → Inside x t ⊎ Inside x' t
-    both_inside x x' t (inl n) = inl (near_inside x t n)
-    both_inside x x' t (inr n) = inr (near_inside x' t n)
+    -- a state inside a row from one with few live cells
+    both_inside : (x x' : Source) (y t : Target) → live_cells y ≤ split_measure p x + wide p → Midway z (bounds_of p).rise x x' y t → Inside x t ⊎ Inside x' t
+    both_inside x x' y t start (AtFirst n less) = inl (record { alike = record { trace = n.trace; outcome = n.outcome }; bounded = near_rests x t n; few = λ calm. omega (arith, start, less) })
+    both_inside x x' y t start (AtLast n last stands goes less) =
+        let b = bounded_live p x' last (related_bounded p z.codes z.there thin x' last stands goes) in
+        inr (record { alike = record { trace = n.trace; outcome = n.outcome }; bounded = near_rests x' t n; few = λ calm. omega (arith, b, less) })
+
+    -- a state of the source with a next one goes on
+    source_going : (x x' : Source) → A.next x ≡ Some x' → x.outcome ≡ Going
+    source_going x x' e = go (is_over x.outcome) refl
+      where
+        go : (b : Bool) → is_over x.outcome ≡ b → x.outcome ≡ Going
+        go true over = absurd (let i = (lifted_ends Position (split_form p) (kept_of p) h).none x over in let j : None ≡ Some x' = sym i ∙ e in cc)
+        go false i = going_of x.outcome i
+
+    start_few : (x x' : Source) (y : Target) → Stand x y → A.next x ≡ Some x' → live_cells y ≤ split_measure p x + wide p
+    start_few x x' y stands e = bounded_live p x y (related_bounded p z.codes z.there thin x y stands (source_going x x' e))
 
     -- the step before the source forgets
     untidied : (x' : Source) (u : Option Source) → option_map (tidy z.kept) u ≡ Some x' → (s : Source) × (u ≡ Some s) × (tidy z.kept s ≡ x')
@@ -227,18 +249,18 @@ module _ (p : Program) (had : Had p) where
               let shown = (stand_shows z x' u end).outcome in
               absurd (let l = ap is_over (shown ∙ goes) in cc)
 
-      past : (n : ℕ) (t : Target) → is_some t.running ≡ true → Path B.next one (Stand x') (λ t. Near z x t ⊎ Near z x' t) n t → Path B.next one (Holds x') (λ t. Inside x t ⊎ Inside x' t) n t
+      past : (n : ℕ) (t : Target) → is_some t.running ≡ true → Path B.next one (Stand x') (Midway z (bounds_of p).rise x x' y) n t → Path B.next one (Holds x') (λ t. Inside x t ⊎ Inside x' t) n t
       past _ t is (Last c _ u q le end) =
           Last c t u q le (record { stands = end; bounded = λ none. absurd (let i : Some k ≡ None = sym runs ∙ none in cc); rests = λ none. absurd (not_idle t u is q end none) })
-      past _ t is (More c d _ u q le mid more) = More c d t u q le (both_inside x x' u mid) (past d u (near_runs u mid) more)
+      past _ t is (More c d _ u q le mid more) = More c d t u q le (both_inside x x' y u (start_few x x' y stands e) mid) (past d u (near_runs u (midway_near z (bounds_of p).rise x x' y u mid)) more)
 
-    as_path : (x x' : Source) (y : Target) → Stand x y → A.next x ≡ Some x' → (is_over x'.outcome ≡ true → x'.running ≡ None → PathTo (Holds x') x x' y) → RowFor z x x' (cost p) y → PathTo (Holds x') x x' y
+    as_path : (x x' : Source) (y : Target) → Stand x y → A.next x ≡ Some x' → (is_over x'.outcome ≡ true → x'.running ≡ None → PathTo (Holds x') x x' y) → RowFor z (bounds_of p).rise x x' (cost p) y → PathTo (Holds x') x x' y
     as_path x x' y stands e ended r = by_end (is_over x'.outcome) refl x'.running refl
       where
         goes_on : x'.outcome ≡ Going → PathTo (Holds x') x x' y
         goes_on fine =
             path_map (λ t s. let b = related_bounded p z.codes z.there thin x' t s fine in record { stands = s; bounded = λ none. b; rests = b.rested })
-            (both_inside x x') r
+            (λ t m. both_inside x x' y t (start_few x x' y stands e) m) r
 
         by_end : (b : Bool) → is_over x'.outcome ≡ b → (k : Option (Stack Position)) → x'.running ≡ k → PathTo (Holds x') x x' y
         by_end false i k j = goes_on (going_of x'.outcome i)

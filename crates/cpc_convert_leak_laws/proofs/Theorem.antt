@@ -1,20 +1,22 @@
 -- From row to row the event program of an accepted program holds no more frames than its threads need.
-use Rattle.std.proofs.Common.{◌≡◌, ◌⊎◌, inl, inr, Bool, true, false, not, ◌&&◌, ℕ, ◌+◌, ◌*◌, ◌≤◌, List, [], ◌∷◌, Option, Some, refl, sym, ◌∙◌, ap, subst, arith, ◌<◌, suc, None}
+use Rattle.std.proofs.Common.{◌≡◌, ◌⊎◌, inl, inr, Bool, true, false, not, ◌&&◌, ℕ, ◌+◌, ◌*◌, ◌≤◌, List, [], ◌∷◌, Option, Some, refl, sym, ◌∙◌, ap, subst, arith, ◌<◌, zero, suc, None}
 use Rattle.cpc_store.specs.Store.{Store, Blocks, cells_in, store_cells}
 use Rattle.cpc_tree.specs.Located.{bare}
 use Rattle.cpc_base.specs.Bytes.{Text}
 use Rattle.cpc_tree.specs.Points.{Point}
 use Rattle.cpc_tree.specs.Syntax.{Function, Program}
 use Rattle.cpc_tree.specs.Typing.{function_named}
-use Rattle.cpc_tree.specs.Trace.{is_over}
+use Rattle.cpc_tree.specs.Trace.{Outcome, Going, Ended, Exited, Failed, HistoryEnded, BadHistory, is_over}
+use Rattle.cpc_meaning_matching.specs.Steps.{or_stay}
 use Rattle.cpc_meaning_matching.specs.Systems.{run, NeverStuck}
 use Rattle.cpc_meaning_matching.proofs.Laws.{near_some, spent-one, spent-within, place_ge, place_cost, row_at}
 use Rattle.cpc_meaning_matching.proofs.Systems.{matches_live}
-use Rattle.cpc_meaning.specs.Events.{event}
+use Rattle.cpc_meaning.specs.Events.{CallMain, event, callbacks, callbacks_of}
 use Rattle.cpc_meaning.specs.History.{History}
 use Rattle.cpc_meaning.specs.Matching.{event_system}
 use Rattle.cpc_meaning.specs.Plain.{Frame, Stack}
-use Rattle.cpc_meaning.specs.Runs.{slots_registers, frames_registers, registers, cost}
+use Rattle.cpc_meaning.specs.Machine.{next, try_step, unless_over}
+use Rattle.cpc_meaning.specs.Runs.{slots_registers, frames_registers, registers, live_cells, cost}
 use Rattle.cpc_meaning.specs.Start.{main_name}
 use Rattle.cpc_meaning.specs.Threads.{Pending, is_cps, threaded, threads_of}
 use Rattle.cpc_meaning.specs.Trees.{trees}
@@ -35,12 +37,13 @@ use Rattle.cpc_convert_runs_laws.proofs.Pieces.{pieces_do}
 use Rattle.cpc_convert_runs_laws.proofs.Had.{Had, accepted_had}
 use Rattle.cpc_convert_runs_laws.proofs.Join.{PiecesDo}
 use Rattle.cpc_convert_leak_laws.specs.Held.{live_blocks, GoesOrRests, FramesHeld}
-use Rattle.cpc_convert_leak_laws.specs.Laws.{ComesTo, ComesFrom, Rests, ConvertedComesTo, ConvertedComesFrom, ConvertedRests}
+use Rattle.cpc_convert_leak_laws.specs.Laws.{ComesTo, ComesFrom, Rests, Measured, ConvertedComesTo, ConvertedComesFrom, ConvertedRests}
 use Rattle.cpc_convert_laws.specs.Sums.{sum}
-use Rattle.cpc_convert_leak_laws.specs.Need.{where_so, stack_weight, native_registers}
-use Rattle.cpc_convert_leak_laws.proofs.Locals.{stood_thin}
+use Rattle.cpc_convert_leak_laws.specs.Need.{where_so, stack_weight, native_registers, measure}
+use Rattle.cpc_convert_runs_laws.proofs.Locals.{stood_thin}
 use Rattle.cpc_convert_leak_laws.proofs.Plain.{plain_same}
-use Rattle.cpc_convert_leak_laws.proofs.Related.{Bounded, related_bounded}
+use Rattle.cpc_convert_leak_laws.proofs.Related.{Bounded, split_measure, related_bounded}
+use Rattle.cpc_convert_leak_laws.proofs.Ending.{step_ends}
 use Rattle.cpc_convert_leak_laws.proofs.Runs.{z, RunsStand, runs_stand, holds_inside}
 use Rattle.cpc_convert_leak_laws.proofs.Threads.{lifted_rest, lifted_count, lifted_needs, lifted_registers}
 
@@ -79,7 +82,7 @@ module _ (p : Program) (had : Had p) (does : PiecesDo p had.known (IsFine p) (Ca
     held_at m fine = held_by p h m (event (converted p) h (stand.place m)) (bounded fine)
       where
         bounded : GoesOrRests (threaded p h m) → Bounded p (lifted_after p h m) (event (converted p) h (stand.place m))
-        bounded (inl going) = related_bounded p (z p had).codes (z p had).there (stood_thin p had) _ _ (stand.meets m).stands (sym (lifted_rest p h m).outcome ∙ going)
+        bounded (inl going) = related_bounded p (z p had).codes (z p had).there (stood_thin p had.convertible.named had.cps) _ _ (stand.meets m).stands (sym (lifted_rest p h m).outcome ∙ going)
         bounded (inr none) = (stand.meets m).bounded ((lifted_rest p h m).rests none)
 
     -- wherever nothing runs in the event program they are held
@@ -88,6 +91,73 @@ module _ (p : Program) (had : Had p) (does : PiecesDo p had.known (IsFine p) (Ca
         let near = near_some stand (holds_inside p had does h) n in
         let held = held_by p h near.0 (event (converted p) h n) (near.2.bounded none) in
         (near.0, near.1, held.rested none, held)
+
+    -- the measure of the lifted run is within that of the threads
+    within_measure : (m : ℕ) → split_measure p (lifted_after p h m) ≤ measure p (threaded p h m)
+    within_measure m =
+        let same = lifted_rest p h m in
+        let needs = lifted_needs p h m in
+        let native = lifted_registers p h m in
+        let there = ap (λ (s : Store). store_cells s) same.store in
+        omega (arith, needs, native, there)
+
+    -- after n steps
+    abbrev Few : ℕ → Target → Type 0
+    Few n t = (m : ℕ) × (m ≤ n) × ((threaded p h m).trace ≡ t.trace) × (live_cells t ≤ measure p (threaded p h m) + cost p)
+
+    abbrev states : ℕ → Target
+    states = event (converted p) h
+
+    -- where the run goes on, or nothing runs
+    calm_few : (n : ℕ) → (is_over (states n).outcome ≡ true → (states n).running ≡ None) → Few n (states n)
+    calm_few n calm =
+        let near = near_some stand (holds_inside p had does h) n in
+        let few = near.2.few calm in
+        let same = within_measure near.0 in
+        (near.0, near.1, (lifted_rest p h near.0).trace ∙ near.2.alike.trace, omega (arith, few, same))
+
+    later_few : (n : ℕ) (t : Target) → Few n t → Few (suc n) t
+    later_few n t few = let before = few.1 in (few.0, omega (arith, before), few.2, few.3)
+
+    -- after a step of a state that goes on
+    next_few : (n : ℕ) → (states n).outcome ≡ Going → Few n (states n) → (o : Option Target) → next (callbacks (converted p)) (states n) ≡ o → Few (suc n) (states (suc n))
+    next_few n going few None e = later_few n (states (suc n)) (subst (Few n) (sym (ap (or_stay (states n)) e)) few)
+    next_few n going few (Some t) e = subst (Few (suc n)) same (by_over (is_over t.outcome) refl t.running refl)
+      where
+        same : t ≡ states (suc n)
+        same = sym (ap (or_stay (states n)) e)
+
+        stepped : try_step (callbacks (converted p)) (states n) ≡ Some t
+        stepped = sym (ap (λ o. unless_over o (try_step (callbacks (converted p)) (states n))) going) ∙ e
+
+        here : (is_over t.outcome ≡ true → t.running ≡ None) → Few (suc n) t
+        here calm = subst (Few (suc n)) (sym same) (calm_few (suc n) (subst (λ (u : Target). is_over u.outcome ≡ true → u.running ≡ None) same calm))
+
+        ended : (t.running ≡ None) ⊎ ((t.trace ≡ (states n).trace) × (live_cells t ≡ live_cells (states n))) → Few (suc n) t
+        ended (inl none) = here (λ over. none)
+        ended (inr kept) = let before = few.1 in let few' = few.3 in let live = kept.1 in (few.0, omega (arith, before), few.2 ∙ sym kept.0, omega (arith, few', live))
+
+        by_over : (b : Bool) → is_over t.outcome ≡ b → (k : Option (Stack Point)) → t.running ≡ k → Few (suc n) t
+        by_over false i k j = here (λ over. absurd (let l : true ≡ false = sym over ∙ i in cc))
+        by_over true i None j = here (λ over. j)
+        by_over true i (Some k) j = ended (step_ends (trees (converted p)) (states n) t going stepped i)
+
+    -- at every number of steps
+    cps_few : (n : ℕ) → Few n (states n)
+    cps_few zero = calm_few zero (λ over. refl)
+    cps_few (suc n) = go (cps_few n) (is_over (states n).outcome) refl
+      where
+        going : (o : Outcome) → is_over o ≡ false → o ≡ Going
+        going Going e = refl
+        going (Ended k) e = absurd (cc)
+        going (Exited k) e = absurd (cc)
+        going (Failed fault f) e = absurd (cc)
+        going HistoryEnded e = absurd (cc)
+        going (BadHistory k) e = absurd (cc)
+
+        go : Few n (states n) → (b : Bool) → is_over (states n).outcome ≡ b → Few (suc n) (states (suc n))
+        go few true over = later_few n (states (suc n)) (subst (Few n) (sym (ap (or_stay (states n)) ((machine_ends (callbacks_of (trees (converted p))) CallMain h).none (states n) over))) few)
+        go few false i = next_few n (going (states n).outcome i) few (next (callbacks (converted p)) (states n)) refl
 
     abbrev events : ℕ → Target
     events = run (event_system (trees (converted p)) h)
@@ -155,7 +225,7 @@ plain_held p plain none h m =
 
 -- the three laws
 abbrev All : Program → Type 0
-All p = ComesTo p × ComesFrom p × Rests p
+All p = ComesTo p × ComesFrom p × Rests p × Measured p (converted p)
 
 converted_all : OfAccepted All
 converted_all list end p read unbroken = go (some_cps (bare p) (bare p))
@@ -170,6 +240,7 @@ converted_all list end p read unbroken = go (some_cps (bare p) (bare p))
           λ h n. (n, n, omega arith, omega arith, omega arith, λ fine. subst (λ q. FramesHeld (bare p) (threaded (bare p) h n) (event q h n)) (sym is.same) (held h n)),
           λ h n none.
               let f = subst (λ q. FramesHeld (bare p) (threaded (bare p) h n) (event q h n)) (sym is.same) (held h n) in (n, omega arith, f.rested none, f),
+          λ h n. let f = subst (λ q. FramesHeld (bare p) (threaded (bare p) h n) (event q h n)) (sym is.same) (held h n) in (n, omega arith, f.trace, f.live),
         )
 
     go : (routines (bare p) ≡ []) ⊎ CpsAmong (bare p) → All (bare p)
@@ -177,7 +248,7 @@ converted_all list end p read unbroken = go (some_cps (bare p) (bare p))
     go (inr (f, has, mode)) =
         let had = accepted_had list end p read unbroken in
         let does = pieces_do (bare p) had f (record { has = has; mode = mode }) in
-        (cps_comes_to (bare p) had does, cps_comes_from (bare p) had does, cps_rests (bare p) had does)
+        (cps_comes_to (bare p) had does, cps_comes_from (bare p) had does, cps_rests (bare p) had does, cps_few (bare p) had does)
 
 pub converted_comes_to : ConvertedComesTo
 converted_comes_to list end p read unbroken = (converted_all list end p read unbroken).0
@@ -186,4 +257,6 @@ pub converted_comes_from : ConvertedComesFrom
 converted_comes_from list end p read unbroken = (converted_all list end p read unbroken).1
 
 pub converted_rests : ConvertedRests
-converted_rests list end p read unbroken = (converted_all list end p read unbroken).2
+converted_rests list end p read unbroken =
+    let all = converted_all list end p read unbroken in
+    record { rests = all.2; live = all.3 }

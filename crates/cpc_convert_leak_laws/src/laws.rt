@@ -13,7 +13,8 @@ pub fn converted_comes_from_held_frames()
 {}
 
 /// Wherever nothing runs in its event program, nothing runs in the threads after no more steps; they show the same, its frame blocks are at most as many as their cps
-/// frames, with at most the cells that these need, its `auto` blocks are theirs, and its live cells are at most the measure of the threads.
+/// frames, with at most the cells that these need, its `auto` blocks are theirs, and its live cells are at most the measure of the threads. At every number of steps
+/// its live cells are at most the measure of a state of the threads that is reached in no more steps and shows the same trace, and the cost of a step.
 pub fn converted_rests_with_held_frames()
     ensures law { ConvertedRests }
 {}

@@ -1,5 +1,5 @@
 -- A cps `main`: what stands for it calls the spawner, which makes the first frame and makes it ready, and returns.
-use Rattle.std.proofs.Common.{◌≡◌, suc, ◌+◌, ◌≤◌, true, List, [], ◌∷◌, map, length, Some, None, refl, sym, ◌∙◌, ap, subst}
+use Rattle.std.proofs.Common.{◌≡◌, suc, ◌+◌, ◌≤◌, true, List, [], ◌∷◌, map, length, Some, None, refl, sym, ◌∙◌, ap, subst, arith}
 use Rattle.cpc_base.specs.Bytes.{Text}
 use Rattle.cpc_store.specs.declared.values.Class.TheVariants.{Frame}
 use Rattle.cpc_store.specs.Store.{Value, Unset, At as Pointer, Store}
@@ -13,6 +13,7 @@ use Rattle.cpc_meaning.specs.Eval.{Slot}
 use Rattle.cpc_meaning.specs.Events.{CallMain, CallWith, callbacks}
 use Rattle.cpc_meaning.specs.Machine.{next}
 use Rattle.cpc_meaning.specs.Plain.{Frame as CallFrame}
+use Rattle.cpc_meaning.specs.Runs.{slots_registers}
 use Rattle.cpc_meaning.specs.Slots.{call_slots}
 use Rattle.cpc_meaning.specs.Start.{main_name}
 use Rattle.cpc_meaning.specs.Threads.{is_cps_mode}
@@ -24,7 +25,7 @@ use Rattle.cpc_convert_image_laws.specs.Held.{beside}
 use Rattle.cpc_convert_chain_laws.specs.Driver.{drive_name}
 use Rattle.cpc_convert_chain_laws.specs.Walks.{World, Finishes, frame_at, running, idle, in_function}
 use Rattle.cpc_convert_chain_laws.proofs.Steps.{step_enters, step_arrives}
-use Rattle.cpc_convert_chain_laws.proofs.Walks.{walk_one, walk_append, walk_cons}
+use Rattle.cpc_convert_chain_laws.proofs.Walks.{rise_one, rise_more, level_cons, rise_append, rise_cons}
 use Rattle.cpc_convert_event.specs.Converted.{main_function, converted}
 use Rattle.cpc_convert_event.specs.FillLaws.{AllFit, NoneFit}
 use Rattle.cpc_convert_event.specs.Lines.{save_of}
@@ -96,11 +97,11 @@ module _ (p : Program) (h : Convertible p) (there : Places) (fine : CallFrame Po
   none_passed = ap (λ ps. passed_from 0 (length ps) (variables g)) h.main.parameters
 
   module _ (w : Shared) where
-    runs : (r : SpawnerRuns z (spawner_function g) main_name [] w [] new_agenda (frame_at main_name (Arrival at_call) []) []) × (r.steps ≡ 6)
+    runs : (r : SpawnerRuns z (spawner_function g) main_name [] w [] new_agenda (frame_at main_name (Arrival at_call) []) []) × (r.steps ≡ 6) × (slots_registers r.entered ≡ 1)
     runs =
         let s = spawner_runs p h g is_cps [] (subst (λ xs. AllFit xs []) (sym none_passed) NoneFit) w [] new_agenda (frame_at main_name (Arrival at_call) []) [] there fine given in
-        subst (λ x. (r : SpawnerRuns z (spawner_function g) x [] w [] new_agenda (frame_at main_name (Arrival at_call) []) []) × (r.steps ≡ 6)) called
-        (s.0, s.1 ∙ ap (λ xs. suc (suc (suc (suc (length (map save_of xs)))) + 2)) none_passed)
+        subst (λ x. (r : SpawnerRuns z (spawner_function g) x [] w [] new_agenda (frame_at main_name (Arrival at_call) []) []) × (r.steps ≡ 6) × (slots_registers r.entered ≡ 1)) called
+        (s.0, s.1 ∙ ap (λ xs. suc (suc (suc (suc (length (map save_of xs)))) + 2)) none_passed, s.2 ∙ ap (λ xs. suc (length xs)) none_passed)
 
     means : item_named 0 q (spawner_name main_name) ≡ AFunction Native TyVoid []
     means = ap (λ x. item_named 0 q (spawner_name x)) (sym called) ∙ ((items_meant p h.named).spawners g is_cps ∙ ap (λ xs. AFunction Native TyVoid (map parameter_type (map parameter_of xs))) none_passed)
@@ -126,10 +127,10 @@ module _ (p : Program) (h : Convertible p) (there : Places) (fine : CallFrame Po
         (record {
           before = _;
           leads =
-              walk_cons (suc (r.0.steps + 1)) _ _ _ (walk_one _ _ (main_begins q is_main w) (record { is_trace = refl; goes = refl; runs = refl }))
-              (walk_cons (r.0.steps + 1) _ _ _ (walk_one _ _ (spawner_entered q is_main v s (spawner_function g) r.0.entered means is_spawner takes r.0.made) (record { is_trace = refl; goes = refl; runs = refl }))
-              (walk_append r.0.steps 1 _ _ _ walk
-              (walk_one _ _ (value_arrives q is_main v' s') (record { is_trace = refl; goes = refl; runs = refl }))));
+              rise_more (suc (suc (r.0.steps + 1))) (1 + (r.0.steps + 0)) (suc (suc (r.0.steps + 1))) _ _ (omega arith)
+              (level_cons (suc (r.0.steps + 1)) (1 + (r.0.steps + 0)) _ _ _ (rise_one 0 _ _ (main_begins q is_main w) (record { is_trace = refl; goes = refl; runs = refl }) (omega arith))
+              (rise_cons (r.0.steps + 1) 1 (r.0.steps + 0) _ _ _ (rise_one 1 _ _ (spawner_entered q is_main v s (spawner_function g) r.0.entered means is_spawner takes r.0.made) (record { is_trace = refl; goes = refl; runs = refl }) (let e = r.2 in omega (arith, e)))
+              (rise_append r.0.steps 1 r.0.steps 0 _ _ _ walk (rise_one 0 _ _ (value_arrives q is_main v' s') (record { is_trace = refl; goes = refl; runs = refl }) (omega arith)))));
           last = main_returns q is_main v' s';
         })
 

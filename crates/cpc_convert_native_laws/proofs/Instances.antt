@@ -1,5 +1,5 @@
 -- The facts of the rows, where those of pieces are known: the native half is had of the program alone.
-use Rattle.std.proofs.Common.{◌≡◌, ℕ, ◌+◌, ◌<◌, ◌≤◌, Bool, true, false, List, length, Option, Some, refl}
+use Rattle.std.proofs.Common.{◌≡◌, ℕ, ◌+◌, ◌*◌, ◌<◌, ◌≤◌, Bool, true, false, List, length, Option, Some, refl}
 use Rattle.cpc_base.specs.Bytes.{Text}
 use Rattle.cpc_store.specs.Store.{Value, Blocks}
 use Rattle.cpc_tree.specs.Points.{Point, Found}
@@ -10,6 +10,7 @@ use Rattle.cpc_meaning.specs.Agenda.{Agenda}
 use Rattle.cpc_meaning.specs.Eval.{Slot}
 use Rattle.cpc_meaning.specs.Events.{Callback}
 use Rattle.cpc_meaning.specs.Plain.{Frame as CallFrame}
+use Rattle.cpc_meaning.specs.Runs.{slots_registers}
 use Rattle.cpc_meaning.specs.Threads.{Thread, is_cps_mode}
 use Rattle.cpc_forms.specs.Flow.{Place}
 use Rattle.cpc_forms.specs.Split.{Position, InGraph}
@@ -38,9 +39,10 @@ pub record PieceFacts (z : Setting) (bounds : Bounds) : Type 0 where
   pub entry : EntryFacts z bounds
   pub pieces : (f : Text) (l : Place) (lower pointer result frame : Value) (w : Shared) (bs : Blocks) (c : Agenda Callback) (n : ℕ) (slots : List Slot) (o : Option Value) (piece : CallFrame Point) (o' : Option Value) (a : Agenda (Thread Position)) (below : List (CallFrame Position))
       → z.there f l n slots o lower piece o' → Beside z bs a c below lower → Known z (here z f (InGraph l n) slots o w a below) → PieceAt z bounds f l lower pointer result frame w bs c n slots o piece o'
+  pub thin : (f : Text) (l : Place) (n : ℕ) (slots : List Slot) (o : Option Value) (lower : Value) (piece : CallFrame Point) (o' : Option Value) → z.there f l n slots o lower piece o' → slots_registers piece.slots ≤ bounds.piece
   pub arrivals : (f : Text) (l : Place) (n : ℕ) (slots : List Slot) (v lower : Value) (piece : CallFrame Point) → z.there f l n slots (Some v) lower piece (Some v) → (g : Found) × ((from_form z).code.stood f (InGraph l n) ≡ AtArrival g)
 
-module _ (p : Program) (h : Convertible p) (there : Places) (fine : CallFrame Position → Option Value → Type 0) (given : Text → List Value → Type 0) (bounds : Bounds) (leads : (g : Function) → IsCps p g → 7 + length (variables g) < bounds.leads) (mains : 9 ≤ bounds.mains) where
+module _ (p : Program) (h : Convertible p) (there : Places) (fine : CallFrame Position → Option Value → Type 0) (given : Text → List Value → Type 0) (bounds : Bounds) (leads : (g : Function) → IsCps p g → 7 + 2 * length (variables g) < bounds.leads) (mains : 9 ≤ bounds.mains) where
   abbrev z : Setting
   z = setting_of p there fine given
 
@@ -60,5 +62,6 @@ module _ (p : Program) (h : Convertible p) (there : Places) (fine : CallFrame Po
     globals = globals_stay p h;
     natives = natives_do p h there fine given bounds (all_spawn p h there fine given bounds leads) stands;
     pieces = facts.pieces;
+    thin = facts.thin;
     arrivals = facts.arrivals;
   }

@@ -1,5 +1,5 @@
 -- Spawns of native code: the spawner is called with the arguments, makes the first frame of the call, and makes it ready.
-use Rattle.std.proofs.Common.{◌≡◌, ℕ, suc, ◌+◌, ◌<◌, ◌≤◌, true, false, List, [], ◌∷◌, ◌++◌, map, length, slice_get, slice_set, option_map, Option, Some, None, refl, sym, ◌∙◌, ap, subst, codes, arith}
+use Rattle.std.proofs.Common.{◌≡◌, ℕ, suc, ◌+◌, ◌*◌, ◌<◌, ◌≤◌, true, false, List, [], ◌∷◌, ◌++◌, map, length, slice_get, slice_set, option_map, Option, Some, None, refl, sym, ◌∙◌, ap, subst, codes, arith}
 use Rattle.std.specs.List.{All}
 use Rattle.cpc_base.specs.Bytes.{Text}
 use Rattle.cpc_num.specs.declared.kinds.Kind.TheVariants.{Int}
@@ -21,6 +21,7 @@ use Rattle.cpc_meaning.specs.Eval.{Slot, Register, Context, values}
 use Rattle.cpc_meaning.specs.Events.{Callback, CallWith}
 use Rattle.cpc_meaning.specs.Plain.{Frame as CallFrame}
 use Rattle.cpc_meaning.specs.Requests.{Request, ToSpawn, arguments}
+use Rattle.cpc_meaning.specs.Runs.{slots_registers}
 use Rattle.cpc_meaning.specs.Threads.{Thread, is_cps_mode}
 use Rattle.cpc_meaning.specs.Trees.{trees, first_point, stood_at, scope_from, point_after}
 use Rattle.cpc_meaning.specs.Ways.{only_if, way_from, goes_in_step, manner_of}
@@ -85,7 +86,7 @@ cps_mode Native e = absurd (cc)
 cps_mode Detached e = absurd (cc)
 
 -- the steps of a spawner are few
-enough : (n v steps leads : ℕ) → n ≤ v → steps ≡ suc (suc (suc (suc n)) + 2) → 7 + v < leads → steps + 1 < leads
+enough : (n v steps leads : ℕ) → n ≤ v → steps ≡ suc (suc (suc (suc n)) + 2) → 7 + 2 * v < leads → steps + 1 < leads
 enough n v steps leads a b c = omega (arith, a, b, c)
 
 same_length : {A B : Type 0} (f : A → B) (xs : List A) → length (map f xs) ≡ length xs
@@ -164,6 +165,10 @@ module _ (p : Program) (h : Convertible p) (g : Function) (cps : IsCps p g) wher
   number : length (map save_of (passed g)) ≤ length (variables g)
   number = let a = passed_few g in let c = same_length save_of (passed g) in omega (arith, a, c)
 
+  -- its registers and its steps, together
+  pub spawner_fits : (steps registers leads : ℕ) → steps ≡ suc (suc (suc (suc (length (map save_of (passed g))))) + 2) → registers ≡ suc (length (passed g)) → 7 + 2 * length (variables g) < leads → registers + steps ≤ leads
+  spawner_fits steps registers leads e i wide = let a = passed_few g in let c = same_length save_of (passed g) in omega (arith, a, c, e, i, wide)
+
   few : suc (suc (suc (length (map save_of (passed g))))) ≤ 258
   few = let a = passed_few g in let b = (h.names.functions g cps.has).few in let c = same_length save_of (passed g) in omega (arith, a, b, c)
 
@@ -187,7 +192,12 @@ module _ (p : Program) (h : Convertible p) (g : Function) (cps : IsCps p g) wher
     abbrev steps : ℕ
     steps = suc (suc (suc (suc (length (map save_of (passed g))))) + 2)
 
-    pub spawner_runs : (there : Places) (fine : CallFrame Position → Option Value → Type 0) (given : Text → List Value → Type 0) → (r : SpawnerRuns (setting_of p there fine given) spawner g.called vs w bs c frame others) × (r.steps ≡ steps)
+    -- all slots are registers
+    registers_of : (us : List Value) → slots_registers (map Register us ++ Register Unset ∷ []) ≡ suc (length (map Register us))
+    registers_of [] = refl
+    registers_of (u ∷ us) = let h = registers_of us in omega (arith, h)
+
+    pub spawner_runs : (there : Places) (fine : CallFrame Position → Option Value → Type 0) (given : Text → List Value → Type 0) → (r : SpawnerRuns (setting_of p there fine given) spawner g.called vs w bs c frame others) × (r.steps ≡ steps) × (slots_registers r.entered ≡ suc (length (passed g)))
     spawner_runs there fine given =
         let struct = (structs_there p h.named).start g cps in
         let is_g = (functions_found p h.named).spawners g cps in
@@ -207,11 +217,12 @@ module _ (p : Program) (h : Convertible p) (g : Function) (cps : IsCps p g) wher
                 (saves_all q scope_in pointed tag (TyInt Int) (passed g) vs struct (holds_all q top pointed 0 (passed g) vs (Register (Pointer Frame (length bs) 0) ∷ []) [] fields (no_frame 0 (passed g) rising) fits pointed_is)));
           },
           refl,
+          (let e = same_number (passed g) vs fits in let i = registers_of vs in let j = same_length parameter_of (passed g) in omega (arith, e, i, j)),
         )
 
 -- ---- the point of a spawn
 
-module _ (p : Program) (h : Convertible p) (there : Places) (fine : CallFrame Position → Option Value → Type 0) (given : Text → List Value → Type 0) (bounds : Bounds) (wide : (g : Function) → IsCps p g → 7 + length (variables g) < bounds.leads) where
+module _ (p : Program) (h : Convertible p) (there : Places) (fine : CallFrame Position → Option Value → Type 0) (given : Text → List Value → Type 0) (bounds : Bounds) (wide : (g : Function) → IsCps p g → 7 + 2 * length (variables g) < bounds.leads) where
   abbrev z : Setting
   z = setting_of p there fine given
 
@@ -297,7 +308,7 @@ module _ (p : Program) (h : Convertible p) (there : Places) (fine : CallFrame Po
       onwards = goes_there;
       runs = λ vs i.
           let r = spawner_runs p h k cps vs (fitting vs i) w bs c (frame_of f (Arrival path) slots) ys there fine given in
-          (r.0, enough (length (map save_of (passed k))) (length (variables k)) r.0.steps bounds.leads (number p h k cps) r.1 (wide k cps));
+          (r.0, enough (length (map save_of (passed k))) (length (variables k)) r.0.steps bounds.leads (number p h k cps) r.1 (wide k cps), spawner_fits p h k cps _ _ bounds.leads r.1 r.2 (wide k cps));
     }
 
   -- each spawn of native code

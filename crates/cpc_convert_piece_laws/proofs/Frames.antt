@@ -11,6 +11,7 @@ use Rattle.cpc_store.specs.declared.values.Class.TheVariants.{Frame}
 use Rattle.cpc_store.specs.Store.{Value, Unset, At as Pointer, Blocks, Store}
 use Rattle.cpc_meaning.specs.Eval.{Slot, Register}
 use Rattle.cpc_meaning.specs.Plain.{Frame as CallFrame}
+use Rattle.cpc_meaning.specs.Runs.{slots_registers}
 use Rattle.cpc_meaning.proofs.Functions.{text_same}
 use Rattle.cpc_convert.specs.Marks.{has_marks}
 use Rattle.cpc_convert.specs.Members.{Has, OnTop, Below}
@@ -20,6 +21,7 @@ use Rattle.cpc_convert_image_laws.proofs.Locals.{stands_apart}
 use Rattle.cpc_convert_image_laws.proofs.Slots.{got_other}
 use Rattle.cpc_forms.specs.Flow.{Place, At}
 use Rattle.cpc_graph_laws.proofs.Formed.{equal_self}
+use Rattle.cpc_convert_chain_laws.specs.Boxes.{AllRegisters, NoSlot, AndSlot}
 use Rattle.cpc_convert_chain_laws.specs.Chains.{frame_cells}
 use Rattle.cpc_convert_chain_laws.specs.Driver.{code_field, next_field, any_pointer, frame_tag}
 use Rattle.cpc_convert_chain_laws.specs.Fits.{Fits}
@@ -48,6 +50,21 @@ use Rattle.cpc_convert_piece_laws.specs.Known.{CpsKnown}
 use Rattle.cpc_convert_piece_laws.specs.Stood.{LocalsStand}
 use Rattle.cpc_convert_piece_laws.proofs.Places.{Before}
 use Rattle.cpc_convert_piece_laws.proofs.Scopes.{q, unmarked_name, piece_meant, primitive_meant, meant, local_slot, next_holds}
+
+-- ---- registers
+
+pub registers_all : (slots : List Slot) → AllRegisters slots → slots_registers slots ≡ length slots
+registers_all _ NoSlot = refl
+registers_all _ (AndSlot v slots more) = let h = registers_all slots more in omega (arith, h)
+
+-- the locals of a piece are as many registers wherever it stands
+pub same_registers : (p : Program) (r : Routine) (l : Place) (xs ys a b : List Slot) (lower : Value) → LocalsStand p r l xs a lower → LocalsStand p r l ys b lower → slots_registers b ≡ slots_registers a
+same_registers p r l xs ys a b lower s t =
+    let e = registers_all a s.registers in
+    let i = registers_all b t.registers in
+    let m = s.number in
+    let n = t.number in
+    omega (arith, e, i, m, n)
 
 -- ---- numbers
 

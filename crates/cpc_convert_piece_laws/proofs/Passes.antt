@@ -118,6 +118,7 @@ module _ (p : Program) (facts : ProgramKnown p) (fine : CallFrame Position → O
           from = frame_at (piece_name f.called l) (point_at (suc k) after) slots';
           first = first_step p fine given bounds f known enough begins l owner shown lower pointer result frame n at has row Empty [] after line (world_of w c) slots' (beside bs w.store) (Simple Empty) refl true (beside bs w.store) slots' (point_at (suc k) after) refl
               (line_next (code p f known l owner) (body p f known l owner) k (scope p f known l owner) (piece_count p r l) Empty after line.line true refl refl);
+          same = refl;
           onward = from_there (point_at (suc k) after) (falls_row p f l (Target p f known l owner) (is_code p f known l owner) known.few_nodes m there (suc k) after (let x : row_index p r l m there ≡ suc k = omega (arith, index, counted) in x) next.1) to g;
         })
 
@@ -136,6 +137,7 @@ module _ (p : Program) (facts : ProgramKnown p) (fine : CallFrame Position → O
           first = first_step p fine given bounds f known enough begins l owner shown lower pointer result frame n at has row (Goto (node_label m)) [] after line (world_of w c) slots' (beside bs w.store) (Simple (Goto (node_label m))) refl true (beside bs w.store) slots'
               (point_at j (dropped j (body p f known l owner))) refl
               (line_goes (code p f known l owner) (body p f known l owner) k (scope p f known l owner) (piece_count p r l) (Goto (node_label m)) after line.line true (node_label m) j refl refl label);
+          same = refl;
           onward = from_there (point_at j (dropped j (body p f known l owner)))
               (falls_row p f l (Target p f known l owner) (is_code p f known l owner) known.few_nodes m there j (dropped j (body p f known l owner)) refl (sym (row_stands p f l m there).is_left)) to g;
         })

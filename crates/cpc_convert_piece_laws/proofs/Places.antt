@@ -10,7 +10,8 @@ use Rattle.cpc_meaning.specs.Plain.{Frame}
 use Rattle.cpc_forms.specs.Flow.{Place}
 use Rattle.cpc_forms.specs.Graph.{graph_of}
 use Rattle.cpc_convert_chain_laws.specs.Flat.{before, point_at, bare, is_line, label_in, Stands, LineAt}
-use Rattle.cpc_convert_chain_laws.specs.Walks.{World, Walk, Stay, at_line, running, frame_at}
+use Rattle.cpc_convert_chain_laws.proofs.Walks.{stay}
+use Rattle.cpc_convert_chain_laws.specs.Walks.{World, Walk, at_line, running, frame_at}
 use Rattle.cpc_convert_chain_laws.proofs.Jumps.{goto_step}
 use Rattle.cpc_convert_chain_laws.proofs.Rows.{before_append}
 use Rattle.cpc_convert_event.specs.Names.{piece_name, node_label}
@@ -156,7 +157,7 @@ module _ (p : Program) (f : Function) (l : Place) where
     falls_row m b k left e i = record {
       steps = 0;
       within = omega arith;
-      walk = λ w below slots s. subst (λ x. Walk q w.trace 0 (at_line w name below k left slots s) (running w s (frame_at name x slots ∷ below) None)) (sym (ap (λ j. point_at j (row_rest p r l m b)) e ∙ ap (point_at k) i)) (Stay _);
+      walk = λ w below slots s. subst (λ x. Walk q w.trace 0 (at_line w name below k left slots s) (running w s (frame_at name x slots ∷ below) None)) (sym (ap (λ j. point_at j (row_rest p r l m b)) e ∙ ap (point_at k) i)) (stay _);
     }
 
     -- behind the other lines of a row, control falls to the next one, or goes to another

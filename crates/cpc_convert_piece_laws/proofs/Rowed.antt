@@ -27,7 +27,8 @@ use Rattle.cpc_graph_laws.proofs.Formed.{mapped, equal_self}
 use Rattle.cpc_convert_chain_laws.specs.Driver.{driving}
 use Rattle.cpc_convert_chain_laws.specs.Flat.{before, point_at, bare, is_line, is_test, standing, onward}
 use Rattle.cpc_convert_chain_laws.specs.Frames.{at as Here_at}
-use Rattle.cpc_convert_chain_laws.specs.Walks.{World, Stay, running, frame_at}
+use Rattle.cpc_convert_chain_laws.proofs.Walks.{stay}
+use Rattle.cpc_convert_chain_laws.specs.Walks.{World, running, frame_at}
 use Rattle.cpc_convert_chain_laws.proofs.AtLine.{line_path, line_found, line_scope, line_next, line_passed}
 use Rattle.cpc_convert_chain_laws.proofs.Steps.{step_on, step_faults}
 use Rattle.cpc_convert_event.specs.FlatLaws.{piece_count}
@@ -48,7 +49,7 @@ use Rattle.cpc_convert_piece_laws.specs.Rows.{next_number, put_row, RowAt, row_i
 use Rattle.cpc_convert_piece_laws.specs.Stood.{NodeAt, LocalsStand}
 use Rattle.cpc_convert_piece_laws.proofs.Environment.{InLocal, changed_stand}
 use Rattle.cpc_convert_piece_laws.proofs.Filled.{row_filled}
-use Rattle.cpc_convert_piece_laws.proofs.Frames.{Target, code, body, scope, is_code}
+use Rattle.cpc_convert_piece_laws.proofs.Frames.{same_registers, Target, code, body, scope, is_code}
 use Rattle.cpc_convert_piece_laws.proofs.Onwards.{z, goes_onward}
 use Rattle.cpc_convert_piece_laws.proofs.Places.{Before, FirstLine, first_line, wanted_in, goes_row}
 use Rattle.cpc_convert_piece_laws.proofs.Ways.{way_next, onwards_way, row_for, goes_is, place_self}
@@ -191,6 +192,7 @@ module _ (p : Program) (fine : CallFrame Position → Option Value → Type 0) (
               from = frame_at (piece_name f.called l) (point_at (suc k) (rest (Plain x) (goes at.node.yes))) b;
               first = first_step x (others (Plain x) (goes at.node.yes)) (rest (Plain x) (goes at.node.yes)) line (world_of w c) slots' (beside bs w.store) (Simple x) stood h (beside bs t) b (point_at (suc k) (rest (Plain x) (goes at.node.yes))) is_act
                   (line_next (code p f known l owner) (body p f known l owner) k (scope p f known l owner) (piece_count p r l) x (rest (Plain x) (goes at.node.yes)) line.line h no_test out);
+              same = same_registers p r l slots a slots' b lower stands after;
               onward = behind (Plain x) true (row_puts (Does x ∷ goes at.node.yes) lines) is_bare lined a b after bs t to (ap (λ d. (split_form p).code.goes f.called (InGraph l n) d) (sym is) ∙ e);
             })
 
@@ -206,5 +208,5 @@ module _ (p : Program) (fine : CallFrame Position → Option Value → Type 0) (
         go _ _ only (BothGive a b s) e = same a b s only e
         go _ _ only (BothFault fault) e =
             Breaks fault (piece_name f.called l) shown
-            (record { steps = 0; last = _; leads = Stay _; faults = first_fault x (others (Plain x) (goes at.node.yes)) (rest (Plain x) (goes at.node.yes)) line (world_of w c) slots' (beside bs w.store) (Simple x) stood fault e }) begins
+            (record { steps = 0; grown = 0; last = _; leads = stay _; faults = first_fault x (others (Plain x) (goes at.node.yes)) (rest (Plain x) (goes at.node.yes)) line (world_of w c) slots' (beside bs w.store) (Simple x) stood fault e }) begins (omega arith)
         go _ _ only (Stuck b) e = Sticks

@@ -27,10 +27,10 @@ use Rattle.cpc_graph_laws.specs.Laws.{flow_in}
 use Rattle.cpc_graph_laws.proofs.Formed.{equal_self}
 use Rattle.cpc_convert_chain_laws.specs.Flat.{point_at, dropped, arm}
 use Rattle.cpc_convert_chain_laws.specs.Frames.{at as Here_at}
-use Rattle.cpc_convert_chain_laws.specs.Walks.{Walk, Stay, running, frame_at}
+use Rattle.cpc_convert_chain_laws.specs.Walks.{Walk, running, frame_at}
 use Rattle.cpc_convert_chain_laws.proofs.AtLine.{line_scope, test_holds, test_fails, arm_found, arm_goes}
 use Rattle.cpc_convert_chain_laws.proofs.Steps.{step_on}
-use Rattle.cpc_convert_chain_laws.proofs.Walks.{walk_one}
+use Rattle.cpc_convert_chain_laws.proofs.Walks.{stay, walk_one}
 use Rattle.cpc_convert_event.specs.FlatLaws.{piece_count}
 use Rattle.cpc_convert_event.specs.LabelLaws.{put_in}
 use Rattle.cpc_convert_event.specs.Lines.{Tests, goes, test_lines, node_lines}
@@ -50,7 +50,7 @@ use Rattle.cpc_convert_piece_laws.specs.Stood.{NodeAt, LocalsStand}
 use Rattle.cpc_convert_piece_laws.proofs.Acting.{found_known, kept_here, source_act, lines_are}
 use Rattle.cpc_convert_piece_laws.proofs.Environment.{InLocal, Used, names_mean, changed_stand}
 use Rattle.cpc_convert_piece_laws.proofs.Filled.{row_filled}
-use Rattle.cpc_convert_piece_laws.proofs.Frames.{Target, code, body, scope, is_code}
+use Rattle.cpc_convert_piece_laws.proofs.Frames.{same_registers, Target, code, body, scope, is_code}
 use Rattle.cpc_convert_piece_laws.proofs.Onwards.{z, goes_onward}
 use Rattle.cpc_convert_piece_laws.proofs.Places.{FirstLine, wanted_in, row_stands, row_label, ToRow}
 use Rattle.cpc_convert_piece_laws.proofs.Rowed.{row_puts, DoesHere, others, rest, first, first_step, first_fault, behind}
@@ -138,7 +138,7 @@ module _ (p : Program) (facts : ProgramKnown p) (fine : CallFrame Position → O
             (walk_one _ _
             (step_on q w (piece_name f.called l) g below (is_code p f known l owner) slots s (Nth k ∷ arm line.line.statement) sc (line_scope g bd k sc count (If test jump Absent) after line.line (arm line.line.statement)) (Simple jump)
             (arm_found g bd k sc count (If test jump Absent) after line.line test jump refl) true s slots (point_at j (dropped j bd)) refl (arm_goes g bd k sc count (If test jump Absent) after line.line test jump true (node_label m) j refl refl label))
-            (record { is_trace = refl; goes = refl; runs = refl }));
+            (record { is_trace = refl; goes = refl; runs = refl }) (omega arith));
       }
 
   abbrev Doing : Answer Act → Type 0
@@ -157,6 +157,7 @@ module _ (p : Program) (facts : ProgramKnown p) (fine : CallFrame Position → O
         from = frame_at (piece_name f.called l) at_jump b;
         first = first_step p fine given bounds f known enough begins l owner shown lower pointer result frame n at has row (If test jump Absent) behind_it after line (world_of w c) slots' (beside bs w.store) (Test (Some test)) refl true (beside bs t) b at_jump is_act
             (test_holds (code p f known l owner) (body p f known l owner) k (scope p f known l owner) (piece_count p r l) (If test jump Absent) after line.line test jump refl);
+        same = same_registers p r l slots a slots' b lower stands then_stands;
         onward =
             let leads : Some (InGraph (owner_by (is_leader (flow_in p f) m) l m) m) ≡ Some to = ap (option_map (λ i. InGraph (owner_by (is_leader (flow_in p f) i) l i) i)) (sym is_yes) ∙ (sym (goes_is p f known l n at true) ∙ g) in
             let is : InGraph (owner_by (is_leader (flow_in p f) m) l m) m ≡ to = cc in
@@ -171,6 +172,7 @@ module _ (p : Program) (facts : ProgramKnown p) (fine : CallFrame Position → O
         from = frame_at (piece_name f.called l) (point_at (suc k) after) b;
         first = first_step p fine given bounds f known enough begins l owner shown lower pointer result frame n at has row (If test jump Absent) behind_it after line (world_of w c) slots' (beside bs w.store) (Test (Some test)) refl false (beside bs t) b (point_at (suc k) after) is_act
             (test_fails (code p f known l owner) (body p f known l owner) k (scope p f known l owner) (piece_count p r l) (If test jump Absent) after line.line test jump refl);
+        same = same_registers p r l slots a slots' b lower stands then_stands;
         onward = behind p fine given bounds f known enough begins l owner shown lower pointer result frame n at has row y false puts refl refl a b then_stands bs t to g;
       })
 
@@ -188,7 +190,7 @@ module _ (p : Program) (facts : ProgramKnown p) (fine : CallFrame Position → O
   both _ _ only (BothGive x x' s) i = same x x' s (only x refl) i
   both _ _ only (BothFault fault) i =
       Breaks fault (piece_name f.called l) shown
-      (record { steps = 0; last = _; leads = Stay _; faults = first_fault p fine given bounds f known enough begins l owner shown lower pointer result frame n at has row (If test jump Absent) behind_it after line (world_of w c) slots' (beside bs w.store) (Test (Some test)) refl fault i }) begins
+      (record { steps = 0; grown = 0; last = _; leads = stay _; faults = first_fault p fine given bounds f known enough begins l owner shown lower pointer result frame n at has row (If test jump Absent) behind_it after line (world_of w c) slots' (beside bs w.store) (Test (Some test)) refl fault i }) begins (omega arith)
   both _ _ only (Stuck v) i = Sticks
 
   -- the test comes to the same, and control goes the same way

@@ -1,5 +1,5 @@
 -- The words of a piece: for the frame that it gives, for one below that, and for the value that it returns, where a node uses them.
-use Rattle.std.proofs.Common.{◌≡◌, ℕ, Bool, true, false, not, ◌||◌, ◌==◌, List, [], ◌∷◌, slice_get, Option, Some, refl, ◌∙◌, ap, codes}
+use Rattle.std.proofs.Common.{◌≡◌, ℕ, Bool, true, false, not, ◌||◌, ◌==◌, List, [], ◌∷◌, slice_get, Some, refl, ◌∙◌, ap, codes}
 use Rattle.cpc_tree.specs.Lists.{holds_number, is_empty}
 use Rattle.cpc_tree.specs.Syntax.{Ty, Function, Program}
 use Rattle.cpc_forms.specs.Flow.{Place}
@@ -7,7 +7,7 @@ use Rattle.cpc_forms.specs.Graph.{Node, at_node}
 use Rattle.cpc_convert_event.specs.LocalLaws.{piece_locals, StandsIn}
 use Rattle.cpc_convert_event.specs.NameLaws.{IsOwner}
 use Rattle.cpc_convert_event.specs.Names.{to_name, under_name, result_name}
-use Rattle.cpc_convert_event.specs.Pieces.{called_so, to_frame, words_of, words_if, any_node, is_wait, is_entry, is_result}
+use Rattle.cpc_convert_event.specs.Pieces.{called_so, to_frame, words_if, any_node, is_wait, is_entry, is_result}
 use Rattle.cpc_convert_event.specs.Routines.{Routine, routine_of}
 use Rattle.cpc_convert_event.specs.Rows.{has_row, rows_nodes, stubs_of}
 use Rattle.cpc_convert_event.proofs.Fields.{word_apart}

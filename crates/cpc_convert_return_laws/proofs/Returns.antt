@@ -11,13 +11,14 @@ use Rattle.cpc_convert_chain_laws.proofs.Jumps.{patch_frame, patch_none}
 use Rattle.cpc_convert_chain_laws.proofs.Pieces.{return_step}
 use Rattle.cpc_convert_chain_laws.proofs.Rows.{before_append}
 use Rattle.cpc_convert_chain_laws.proofs.Scopes.{all_lines, past_lines}
-use Rattle.cpc_convert_chain_laws.proofs.Walks.{walk_append, walk_as, walk_cons, walk_one}
+use Rattle.cpc_meaning_cell_laws.proofs.Going.{going_on_keeps}
+use Rattle.cpc_convert_chain_laws.proofs.Walks.{stay, rise_cons, walk_append, walk_as, walk_cons, walk_one}
 use Rattle.cpc_convert_chain_laws.specs.Boxes.{Unboxing, unboxes_one}
 use Rattle.cpc_convert_chain_laws.specs.Driver.{driving, patches}
 use Rattle.cpc_convert_chain_laws.specs.Fits.{Fits}
 use Rattle.cpc_convert_chain_laws.specs.Flat.{LineAt, Stands, before, point_at}
 use Rattle.cpc_convert_chain_laws.specs.Frames.{Holds, at as Here_at}
-use Rattle.cpc_convert_chain_laws.specs.Walks.{FaultsAfter, Here, Stay, Walk, World, at_line, frame_at, running}
+use Rattle.cpc_convert_chain_laws.specs.Walks.{FaultsAfter, Here, Walk, World, at_line, frame_at, running}
 use Rattle.cpc_convert_event.proofs.BoxesThere.{structs_there}
 use Rattle.cpc_convert_event.proofs.Locals.{counted}
 use Rattle.cpc_convert_event.proofs.Numbers.{equal_is, later}
@@ -180,7 +181,7 @@ module _ (p : Program) (fine : CallFrame Position → Option Value → Type 0) (
   -- what it does before its last line or its patch, by what freeing the source's slots answers
   abbrev ByFreed : (Store → Type 0) → Answer Store → Type 0
   ByFreed Then (Gives t) = Then t
-  ByFreed Then (Faults fault) = (a : FaultsAfter q w.trace (piece_name f.called l) fault inside) × (a.steps < bounds.leads)
+  ByFreed Then (Faults fault) = (a : FaultsAfter q w.trace (piece_name f.called l) fault inside) × (a.steps < bounds.leads) × (a.grown ≤ bounds.leads)
   ByFreed Then NoAnswer = Unit {0}
 
   abbrev Doing : Answer Act → Type 0
@@ -192,7 +193,7 @@ module _ (p : Program) (fine : CallFrame Position → Option Value → Type 0) (
   -- the function is left with this value
   does_leave : (v : Value) (a : Answer Store) → ByFreed (Returns v) a → Doing (a >>= λ t. Gives (Leaves v t))
   does_leave v (Gives t) h = GivesUp v t h
-  does_leave v (Faults fault) h = Breaks fault (piece_name f.called l) shown h.0 h.1
+  does_leave v (Faults fault) h = Breaks fault (piece_name f.called l) shown h.0 h.1 h.2
   does_leave v NoAnswer h = Sticks
 
   -- ---- boxes
@@ -229,12 +230,12 @@ module _ (p : Program) (fine : CallFrame Position → Option Value → Type 0) (
           line = first.line;
           steps = 0;
           within = omega arith;
-          leads = subst (λ left. Walk q w.trace 0 (running world (beside bs w.store) (frame_at name (point_at k left) slots' ∷ below) None) (at_line world name below k (AndStmt first.line.statement behind) slots' (beside bs w.store))) (sym first.is_rest) (Stay _);
+          leads = subst (λ left. Walk q w.trace 0 (running world (beside bs w.store) (frame_at name (point_at k left) slots' ∷ below) None) (at_line world name below k (AndStmt first.line.statement behind) slots' (beside bs w.store))) (sym first.is_rest) (stay _);
         })
 
     handed : (m : ℕ) → m ≤ length (variables f) → Left (k + m) (AndStmt hands behind) → (a : Answer Store) → Steps k slots' m (AndStmt hands behind) inside (a >>= λ t. Gives (beside bs t)) → ByFreed (Handing slots' bs) a
     handed m less st (Gives t) come = record { number = k + m; line = record { statement = hands; stands = st; is_bare = refl; is_line = refl }; steps = m; within = omega (arith, less); leads = come }
-    handed m less st (Faults fault) come = (come.0, let one = come.1 in omega (arith, one, less, wide))
+    handed m less st (Faults fault) come = (come.0, let one = come.1 in omega (arith, one, less, wide), let low = come.2 in omega (arith, low, less, wide))
     handed m less st NoAnswer come = tt
 
     some_boxes : (y : Text) (ys : List Text) → names ≡ y ∷ ys → ByFreed (Handing slots' bs) (free_slots slots w.store)
@@ -360,7 +361,7 @@ module _ (p : Program) (fine : CallFrame Position → Option Value → Type 0) (
       leads = walk_cons (length names) _ _ _ one come;
     }
     come_to_patch v one st (Faults fault) come =
-        (record { steps = suc come.0.steps; last = come.0.last; leads = walk_cons come.0.steps _ _ _ one come.0.leads; faults = come.0.faults }, let less = come.1 in omega (arith, less, few, wide))
+        (record { steps = suc come.0.steps; grown = 1 + come.0.grown; last = come.0.last; leads = rise_cons come.0.steps 1 come.0.grown _ _ _ one come.0.leads; faults = come.0.faults }, let less = come.1 in omega (arith, less, few, wide), let low = come.2 in omega (arith, low, few, wide))
     come_to_patch v one st NoAnswer come = tt
 
     value_returned : (v : Value) → Fits f.result v → (a : Answer Store) → ByFreed (Patching v) a → ByFreed (Returns v) a
@@ -373,10 +374,12 @@ module _ (p : Program) (fine : CallFrame Position → Option Value → Type 0) (
 
     first_walk : (v : Value) → acts ≡ Gives (GoesOn true (beside bs w.store) (with_value v)) → Walk q w.trace 1 inside (behind_first v)
     first_walk v is_act =
+        let keeps = going_on_keeps (Here_at q (scope p f known l owner) slots' (beside bs w.store)) (code p f known l owner).result None (AtStatement (Simple x)) true (beside bs w.store) (with_value v) is_act in
         walk_one _ _
         (first_step p fine given bounds f known enough begins l owner shown lower pointer result frame n at has row x (map unboxes_one names ++ patch ∷ hands ∷ []) left_behind first world slots' (beside bs w.store) (Simple x) refl true (beside bs w.store) (with_value v) (point_at (suc k) left_behind) is_act
         (line_next (code p f known l owner) (body p f known l owner) k (scope p f known l owner) (piece_count p r l) x left_behind first.line true refl refl))
         (record { is_trace = refl; goes = refl; runs = refl })
+        (let a = keeps.1 in omega (arith, a))
 
     after_value : (v : Value) → Fits f.result v → acts ≡ Gives (GoesOn true (beside bs w.store) (with_value v)) → Doing (free_slots slots w.store >>= λ t. Gives (Leaves v t))
     after_value v fits is_act =
@@ -403,7 +406,7 @@ module _ (p : Program) (fine : CallFrame Position → Option Value → Type 0) (
     by_value _ _ i (BothGive v _ (Stored _ h)) j = after_value v (fits_after (value ctx e) v i) j
     by_value _ _ i (BothFault fault) j =
         Breaks fault name shown
-        (record { steps = 0; last = inside; leads = Stay inside; faults = first_fault p fine given bounds f known enough begins l owner shown lower pointer result frame n at has row x (map unboxes_one names ++ patch ∷ hands ∷ []) left_behind first world slots' (beside bs w.store) (Simple x) refl fault j }) begins
+        (record { steps = 0; grown = 0; last = inside; leads = stay inside; faults = first_fault p fine given bounds f known enough begins l owner shown lower pointer result frame n at has row x (map unboxes_one names ++ patch ∷ hands ∷ []) left_behind first world slots' (beside bs w.store) (Simple x) refl fault j }) begins (omega arith)
     by_value _ _ i (Stuck b) j = Sticks
 
     abbrev Names : Text → Type 0

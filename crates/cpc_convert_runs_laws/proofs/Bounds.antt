@@ -32,7 +32,19 @@ most_within p f cps = most_has p f cps.has cps.mode
 
 -- what is asked of the bounds
 pub bounds_enough : (p : Program) → Enough (bounds_of p) (cost p)
-bounds_enough p = record { goes = omega arith; calls = omega arith; begins = omega arith; less = omega arith }
+bounds_enough p = record {
+  goes = omega arith;
+  calls = omega arith;
+  begins = omega arith;
+  less = omega arith;
+  in_place = omega arith;
+  paused = omega arith;
+  spawned = omega arith;
+  ended = omega arith;
+  called = omega arith;
+  begun = omega arith;
+  taken = omega arith;
+}
 
 module _ (p : Program) (f : Function) (cps : IsCps p f) where
   pub onward_enough : 5 + length (variables f) ≤ (bounds_of p).onward
@@ -41,11 +53,17 @@ module _ (p : Program) (f : Function) (cps : IsCps p f) where
   pub leads_enough : 16 + 3 * length (variables f) ≤ (bounds_of p).leads
   leads_enough = let h = most_within p f cps in omega (arith, h)
 
-  pub spawns_enough : 7 + length (variables f) < (bounds_of p).leads
+  pub spawns_enough : 7 + 2 * length (variables f) < (bounds_of p).leads
   spawns_enough = let h = most_within p f cps in omega (arith, h)
 
   pub resumes_enough : 8 + 2 * length (variables f) ≤ (bounds_of p).resumes
   resumes_enough = let h = most_within p f cps in omega (arith, h)
+
+  pub takes_enough : 10 + 2 * length (variables f) ≤ (bounds_of p).takes
+  takes_enough = let h = most_within p f cps in omega (arith, h)
+
+  pub opens_enough : 21 + 4 * length (variables f) ≤ (bounds_of p).opens
+  opens_enough = let h = most_within p f cps in omega (arith, h)
 
   pub begins_enough : 24 + 5 * length (variables f) ≤ (bounds_of p).begins
   begins_enough = let h = most_within p f cps in omega (arith, h)

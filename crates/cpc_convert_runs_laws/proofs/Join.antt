@@ -54,6 +54,7 @@ use Rattle.cpc_convert_piece_laws.proofs.Rowed.{DoesHere}
 use Rattle.cpc_convert_call_laws.proofs.Arrivals.{arrivals}
 use Rattle.cpc_convert_runs_laws.specs.Bounds.{bounds_of}
 use Rattle.cpc_convert_runs_laws.proofs.Bounds.{onward_enough, spawns_enough}
+use Rattle.cpc_convert_runs_laws.proofs.Locals.{stood_thin}
 
 module _ (p : Program) (facts : ProgramKnown p) (fine : CallFrame Position → Option Value → Type 0) (given : Text → List Value → Type 0) where
   -- the setting, with the bounds of the program
@@ -108,7 +109,7 @@ module _ (p : Program) (facts : ProgramKnown p) (fine : CallFrame Position → O
 
     module _ (convertible : Convertible p) where
       piece_facts : PieceFacts setting (bounds_of p)
-      piece_facts = record { keeps = keeps_facts p convertible.names convertible.named (bounds_of p) fine given; entry = does.entry; pieces = pieces; arrivals = arrivals p }
+      piece_facts = record { keeps = keeps_facts p convertible.names convertible.named (bounds_of p) fine given; entry = does.entry; pieces = pieces; thin = stood_thin p convertible.named cps; arrivals = arrivals p }
 
       pub rows : RowFacts setting (bounds_of p)
       rows = row_facts p convertible (Stood p) fine given (bounds_of p) (spawns_enough p) (omega arith) says.stands piece_facts

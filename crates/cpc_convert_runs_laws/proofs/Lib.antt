@@ -1,5 +1,6 @@
 mod Accepted
 pub mod Bounds
+pub mod Locals
 pub mod Known
 pub mod Join
 mod Signed

@@ -24,7 +24,7 @@ use Rattle.cpc_convert_laws.specs.Bounds.{Bounds, Enough}
 use Rattle.cpc_convert_laws.proofs.Beginning.{main_row}
 use Rattle.cpc_convert_laws.proofs.Joined.{RowFacts, row}
 use Rattle.cpc_convert_laws.proofs.Relation.{Source, Target, Shared, going, source_state, target_state, with_main, Related, MainIsReady, MainIsNext, Goes, IsOver}
-use Rattle.cpc_convert_laws.proofs.Rows.{Near, Shows, RowFor}
+use Rattle.cpc_convert_laws.proofs.Rows.{Near, midway_near, Shows, RowFor}
 use Rattle.cpc_convert_laws.proofs.Setting.{Setting, from_form, to_form, Known}
 
 module _ (z : Setting) (bounds : Bounds) (facts : RowFacts z bounds) (most : ℕ) (enough : Enough bounds most) (found : Found z.pairs (function_named z.source main_name) (function_named z.target main_name)) (h : History) where
@@ -80,10 +80,10 @@ module _ (z : Setting) (bounds : Bounds) (facts : RowFacts z bounds) (most : ℕ
     next_along x x' n e i = sym (ap (or_stay x) e) ∙ ap (λ s. or_stay s (A.next s)) i
 
     -- a row of states that stand for each other
-    as_path : (x x' : Source) (y : Target) (n : ℕ) → x' ≡ run A (suc (suc n)) → RowFor z x x' most y → PathTo x x' y
+    as_path : (x x' : Source) (y : Target) (n : ℕ) → x' ≡ run A (suc (suc n)) → RowFor z bounds.rise x x' most y → PathTo x x' y
     as_path x x' y n i r =
         path_map (λ t s. (suc (suc n), i, s))
-        (λ t s. ⊎_elim (λ (a : Near z x t). inl (record { trace = a.trace; outcome = a.outcome })) (λ (a : Near z x' t). inr (record { trace = a.trace; outcome = a.outcome })) s) r
+        (λ t s. ⊎_elim (λ (a : Near z x t). inl (record { trace = a.trace; outcome = a.outcome })) (λ (a : Near z x' t). inr (record { trace = a.trace; outcome = a.outcome })) (midway_near z bounds.rise x x' y t s)) r
 
     -- a run that is over has no step
     no_step : {X : Type 0} (x x' : Source) (n : ℕ) → is_over (run A 2).outcome ≡ true → A.next x ≡ Some x' → x ≡ run A (suc (suc n)) → X

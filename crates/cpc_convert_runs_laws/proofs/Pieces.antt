@@ -47,7 +47,7 @@ use Rattle.cpc_convert_wait_laws.specs.Asked.{GivenWhereFit}
 use Rattle.cpc_convert_wait_laws.proofs.Waits.{waits}
 use Rattle.cpc_convert_runs_laws.specs.Bounds.{bounds_of}
 use Rattle.cpc_convert_runs_laws.specs.Runs.{CallsCps}
-use Rattle.cpc_convert_runs_laws.proofs.Bounds.{onward_enough, leads_enough, resumes_enough, begins_enough}
+use Rattle.cpc_convert_runs_laws.proofs.Bounds.{onward_enough, leads_enough, resumes_enough, takes_enough, opens_enough, begins_enough}
 use Rattle.cpc_convert_runs_laws.proofs.Had.{Had}
 use Rattle.cpc_convert_runs_laws.proofs.Join.{setting, PiecesDo}
 
@@ -69,7 +69,7 @@ module _ (p : Program) (had : Had p) where
   entry : (f : Function) → IsCps p f → EntryFacts (setting p had.known (IsFine p) (CallsCps p)) (bounds_of p)
   entry f cps =
       entry_facts p (IsFine p) (CallsCps p) (bounds_of p) had.cps (λ g c. sizes_known p g (had.suits g c.has).cells) frames_taken calls_taken
-      (λ g c. let h = resumes_enough p g c in omega (arith, h)) (λ g c. let h = begins_enough p g c in omega (arith, h)) f cps
+      (λ g c. let h = resumes_enough p g c in omega (arith, h)) (λ g c. let h = begins_enough p g c in omega (arith, h)) (takes_enough p) (opens_enough p) f cps
 
   -- ---- calls in code
 

@@ -1,4 +1,4 @@
--- How many steps of the event program there are at most in the parts of a row.
+-- How many steps of the event program there are at most in the parts of a row, and how far its live cells rise.
 use Rattle.std.specs.Prelude.{◌+◌, ◌*◌}
 use Rattle.cpc_tree.specs.Syntax.{Program}
 use Rattle.cpc_meaning.specs.Runs.{most_variables}
@@ -12,4 +12,8 @@ bounds_of p = record {
   resumes = 8 + 2 * most_variables p;
   begins = 24 + 5 * most_variables p;
   mains = 9;
+  piece = 7 + most_variables p;
+  takes = 10 + 2 * most_variables p;
+  opens = 21 + 4 * most_variables p;
+  rise = 54 + 7 * most_variables p;
 }

@@ -221,7 +221,8 @@ module _ (p : Program) (facts : ProgramKnown p) (names : HasNames p) (fine : Cal
       let wide_f = wide f known.found.cps in
       let wide_g = wide g cps in
       let most = a.1 in
-      Breaks fault (piece_name f.called l) shown a.0 (omega (arith, most, wide_f, wide_g))
+      let low = a.2 in
+      Breaks fault (piece_name f.called l) shown a.0 (omega (arith, most, wide_f, wide_g)) (omega (arith, low, wide_f, wide_g))
 
   -- the call is entered as in the source
   pub enters_there : (result' : Ty) → DoesHere p fine given bounds f known enough begins l owner shown lower pointer result frame n at has row w bs c slots slots' o (act (context (split_form p) w.store (frame_of f.called (InGraph l n) slots)) result' o ((split_form p).code.stood f.called (InGraph l n)))

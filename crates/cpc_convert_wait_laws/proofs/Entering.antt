@@ -29,7 +29,7 @@ use Rattle.cpc_convert_chain_laws.proofs.Giving.{calls_frame}
 use Rattle.cpc_convert_chain_laws.proofs.Making.{holds_set, holds_new}
 use Rattle.cpc_convert_chain_laws.proofs.Pieces.{return_step}
 use Rattle.cpc_convert_chain_laws.proofs.Rows.{before_append}
-use Rattle.cpc_convert_chain_laws.proofs.Walks.{walk_append}
+use Rattle.cpc_convert_chain_laws.proofs.Walks.{rise_append, walk_append}
 use Rattle.cpc_convert_event.specs.FlatLaws.{piece_count}
 use Rattle.cpc_convert_event.specs.Lines.{gives_from, call_lines, all_do, frame_lines, hands_over, node_lines}
 use Rattle.cpc_convert_event.specs.LocalLaws.{piece_locals}
@@ -235,7 +235,7 @@ module _ (p : Program) (fine : CallFrame Position → Option Value → Type 0) (
 
     -- or one faults
     pub enters_fault : (fault : Fault) → GivingFaults q (scope p f known l owner) slots2 start (beside mid t) fault 3 gives
-        → (a : FaultsAfter q w.trace fn fault (running w (beside bs t) (frame_at fn (row_point p r l n row) slots' ∷ below) None)) × (a.steps ≤ 6 + (length (variables f) + length (variables g)))
+        → (a : FaultsAfter q w.trace fn fault (running w (beside bs t) (frame_at fn (row_point p r l n row) slots' ∷ below) None)) × (a.steps ≤ 6 + (length (variables f) + length (variables g))) × (a.grown ≤ 6 + (length (variables f) + length (variables g)))
     enters_fault fault giving =
         let head = (structs_there p known.names).any g cps in
         let called = call_faults q w fn (code p f known l owner) (body p f known l owner) below (is_code p f known l owner) j (scope p f known l owner) (piece_count p r l) (AndStmt hands left) slots1 (beside mid t) to_name start frame_tag code_field next_field start (ENamed to_name) (frame_through to_name start) (ENamed under_name) gives line
@@ -246,4 +246,4 @@ module _ (p : Program) (fine : CallFrame Position → Option Value → Type 0) (
         let a = P.frame_few p fine given bounds f known enough begins l owner shown lower pointer result frame n at has row behind under_name ju word more second is_second lines slots slots' stands in
         let b = fewer in
         let c = called.1 in
-        (record { steps = first_steps + called.0.steps; last = called.0.last; leads = walk_append first_steps called.0.steps _ _ _ prepared called.0.leads; faults = called.0.faults }, omega (arith, a, b, c))
+        (record { steps = first_steps + called.0.steps; grown = first_steps + called.0.grown; last = called.0.last; leads = rise_append first_steps called.0.steps first_steps called.0.grown _ _ _ prepared called.0.leads; faults = called.0.faults }, omega (arith, a, b, c), let d = called.2 in omega (arith, a, b, d))

@@ -43,7 +43,7 @@ use Rattle.cpc_convert_native_laws.specs.Instance.{keeps_in}
 use Rattle.cpc_convert_piece_laws.specs.Known.{CpsKnown}
 use Rattle.cpc_convert_piece_laws.specs.Rows.{RowAt, row_point}
 use Rattle.cpc_convert_piece_laws.specs.Stood.{NodeAt, LocalsStand}
-use Rattle.cpc_convert_piece_laws.proofs.Frames.{Target, code, body, scope, is_code, Word, with_frame}
+use Rattle.cpc_convert_piece_laws.proofs.Frames.{same_registers, Target, code, body, scope, is_code, Word, with_frame}
 use Rattle.cpc_convert_piece_laws.proofs.Onwards.{z}
 use Rattle.cpc_convert_piece_laws.proofs.Rowed.{standing_piece}
 use Rattle.cpc_convert_piece_laws.proofs.Scopes.{meant}
@@ -133,8 +133,8 @@ module _ (p : Program) (fine : CallFrame Position → Option Value → Type 0) (
 
   -- the question itself may fault
   pub faults_after : (fault : Fault) → next (callbacks q) (asks_there (world_of w c) mid) ≡ Some (ends (Failed fault (before_bars fn)) (asks_there (world_of w c) mid))
-      → (a : FaultsAfter q w.trace fn fault (running (world_of w c) (beside bs w.store) (frame_at fn (row_point p r l n row) slots' ∷ below) None)) × (a.steps < bounds.leads)
-  faults_after fault is_fault = (record { steps = first_steps; last = asks_there (world_of w c) mid; leads = walk; faults = is_fault }, (let a = few in let b = wide f known.found.cps in omega (arith, a, b)))
+      → (a : FaultsAfter q w.trace fn fault (running (world_of w c) (beside bs w.store) (frame_at fn (row_point p r l n row) slots' ∷ below) None)) × (a.steps < bounds.leads) × (a.grown ≤ bounds.leads)
+  faults_after fault is_fault = (record { steps = first_steps; grown = first_steps; last = asks_there (world_of w c) mid; leads = walk; faults = is_fault }, (let a = few in let b = wide f known.found.cps in omega (arith, a, b)), (let a = few in let b = wide f known.found.cps in omega (arith, a, b)))
 
   -- ---- as the rows say it
 
@@ -162,6 +162,7 @@ module _ (p : Program) (fine : CallFrame Position → Option Value → Type 0) (
   has_asked v d first = record {
     from = frame_at fn (point_at (suc j) rest) slots1;
     first = subst (λ k. next (callbacks q) (asks_there (world_of w c) (saved_by k)) ≡ Some (at_line (world_of v d) fn below (suc j) rest slots1 (beside (saved_by k) w.store))) (sym known.found.named) first;
+    same = same_registers p r l slots slots slots' slots1 lower stands stands1;
     steps = 1;
     within = omega (arith, enough);
     leads = subst (λ k. Walk q v.trace 1 (at_line (world_of v d) fn below (suc j) rest slots1 (beside (saved_by k) w.store)) (running (world_of v d) (beside (saved_by k) w.store) below (Some Null))) (sym known.found.named)

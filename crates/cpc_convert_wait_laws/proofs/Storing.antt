@@ -13,28 +13,30 @@ use Rattle.cpc_meaning.specs.Eval.{Slot, value, assigned}
 use Rattle.cpc_meaning.specs.Plain.{Frame as CallFrame}
 use Rattle.cpc_convert_chain_laws.specs.Flat.{before, Stands, LineAt}
 use Rattle.cpc_convert_chain_laws.specs.Frames.{at, PointsTo, Holds, pointed_slots, asks_block, Give, gives_one, fills_call, GivingFaults, FirstFaults, LaterFaults}
-use Rattle.cpc_convert_chain_laws.specs.Walks.{World, Stay, at_line, FaultsAfter}
+use Rattle.cpc_convert_chain_laws.specs.Walks.{World, at_line, FaultsAfter}
 use Rattle.cpc_convert_chain_laws.proofs.AtLine.{line_path, line_found, line_scope, line_passed}
 use Rattle.cpc_convert_chain_laws.proofs.Making.{heads_frame, new_field_step, length_one}
 use Rattle.cpc_convert_chain_laws.proofs.Scopes.{all_lines, past_lines}
 use Rattle.cpc_convert_chain_laws.proofs.Steps.{step_faults}
-use Rattle.cpc_convert_chain_laws.proofs.Walks.{walk_cons, walk_append}
+use Rattle.cpc_convert_chain_laws.proofs.Walks.{stay, level_cons, rise_append}
 
 module _ (q : Program) (w : World) (fn : Text) (g : Function) (body : Stmts) (below : List (CallFrame Point)) (is_g : function_named q fn ≡ Some g) (scope : Scope) (n : ℕ) (rest : Stmts) (slots : List Slot) (s : Store) (f : Expr) (tag : Text) (points : (t : Store) → PointsTo q scope slots t f tag (next_block Frame s)) (fault : Fault) where
   -- to the first that faults there are fewer steps than arguments
   pub gives_fault : (i k : ℕ) (done : List Value) (ps : List Give) → i ≡ length done → GivingFaults q scope slots tag s fault i ps → Stands g body k scope n (before (map (gives_one f) ps) rest)
-      → (a : FaultsAfter q w.trace fn fault (at_line w fn below k (before (map (gives_one f) ps) rest) slots (alloc Frame (done ++ replicate (length ps) Unset) s))) × (a.steps ≤ length ps)
+      → (a : FaultsAfter q w.trace fn fault (at_line w fn below k (before (map (gives_one f) ps) rest) slots (alloc Frame (done ++ replicate (length ps) Unset) s))) × (a.steps ≤ length ps) × (a.grown ≤ 0)
   gives_fault _ k done _ e (FirstFaults i p ps is_fault) st =
       let left = before (map (gives_one f) ps) rest in
       let made = alloc Frame (done ++ Unset ∷ replicate (length ps) Unset) s in
       let l : LineAt g body k scope n (gives_one f p) left = record { statement = gives_one f p; stands = st; is_bare = refl; is_line = refl } in (
         record {
           steps = 0;
+          grown = 0;
           last = at_line w fn below k (AndStmt (gives_one f p) left) slots made;
-          leads = Stay _;
+          leads = stay _;
           faults = step_faults q w fn g below is_g slots made (line_path g body k scope n (gives_one f p) left l) scope (line_scope g body k scope n (gives_one f p) left l _) (Simple (gives_one f p)) (line_found g body k scope n (gives_one f p) left l) fault
               (let v = is_fault (done ++ Unset ∷ replicate (length ps) Unset) in simp (v) refl);
         },
+        omega arith,
         omega arith,
       )
   gives_fault _ k done _ e (LaterFaults i p t u v ps is_field is_value fits more) st =
@@ -42,7 +44,7 @@ module _ (q : Program) (w : World) (fn : Text) (g : Function) (body : Stmts) (be
       let l : LineAt g body k scope n (gives_one f p) left = record { statement = gives_one f p; stands = st; is_bare = refl; is_line = refl } in
       let first = new_field_step q w fn g body below is_g scope n rest slots s f tag points k p.field p.expression left st done (replicate (length ps) Unset) Unset t u v (is_field ∙ ap (λ j. Some (j, t)) e) (is_value _) fits in
       let others = gives_fault (suc i) (suc k) (done ++ v ∷ []) ps (ap suc e ∙ sym (length_one done v)) more (line_passed g body k scope n (gives_one f p) left l) in
-      (record { steps = suc others.0.steps; last = others.0.last; leads = walk_cons others.0.steps _ _ _ first others.0.leads; faults = others.0.faults }, (let h = others.1 in omega (arith, h)))
+      (record { steps = suc others.0.steps; grown = others.0.grown; last = others.0.last; leads = level_cons others.0.steps others.0.grown _ _ _ first others.0.leads; faults = others.0.faults }, (let h = others.1 in omega (arith, h)), others.2)
 
 -- ---- a whole frame of a call
 
@@ -52,13 +54,13 @@ module _ (q : Program) (w : World) (fn : Text) (g : Function) (body : Stmts) (be
     (t' : Ty) (v p : Value) (is_next : field q head next ≡ Some (1, t')) (is_lower : (u : Store) → value (at q scope (pointed_slots slots h.slot (next_block Frame s)) u) lower ≡ Gives v) (fits : assigned t' v ≡ Gives p) where
   -- up to the first argument that faults
   pub call_faults : (fault : Fault) → GivingFaults q scope (pointed_slots slots h.slot (next_block Frame s)) tag s fault 3 ps
-      → (a : FaultsAfter q w.trace fn fault (at_line w fn below k (AndStmt l.statement (before (fills_call start f code next piece lower ps) rest)) slots s)) × (a.steps ≤ 3 + length ps)
+      → (a : FaultsAfter q w.trace fn fault (at_line w fn below k (AndStmt l.statement (before (fills_call start f code next piece lower ps) rest)) slots s)) × (a.steps ≤ 3 + length ps) × (a.grown ≤ 3 + length ps)
   call_faults fault giving =
       let slots' = pointed_slots slots h.slot (next_block Frame s) in
       let left = before (map (gives_one f) ps) rest in
       let top = heads_frame q w fn g body below is_g k scope n left slots s to tag head code next piece start lower (length ps) l is_named is_size small t old h begins r r' params params' is_piece is_code t' v p is_next is_lower fits in
       let tail = gives_fault q w fn g body below is_g scope n rest slots' s f tag points fault 3 (suc (suc (suc k))) (Code piece ∷ p ∷ Unset ∷ []) ps refl giving top.1 in
-      (record { steps = 3 + tail.0.steps; last = tail.0.last; leads = walk_append 3 tail.0.steps _ _ _ top.0 tail.0.leads; faults = tail.0.faults }, (let i = tail.1 in omega (arith, i)))
+      (record { steps = 3 + tail.0.steps; grown = suc (suc (suc (length ps))) + tail.0.grown; last = tail.0.last; leads = rise_append 3 tail.0.steps (suc (suc (suc (length ps)))) tail.0.grown _ _ _ top.0 tail.0.leads; faults = tail.0.faults }, (let i = tail.1 in omega (arith, i)), (let i = tail.2 in omega (arith, i)))
 
 -- ---- the position behind it
 

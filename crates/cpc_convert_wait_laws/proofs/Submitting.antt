@@ -272,7 +272,7 @@ module _ (p : Program) (facts : ProgramKnown p) (names : HasNames p) (fine : Cal
   both _ _ (BothGive _ _ (Handed vs m)) e = submits vs m e
   both _ _ (BothFault fault) e =
       let a = H.faults_after p fine given bounds wide f known enough begins l owner shown lower pointer result frame n at has row behind to_there.0 to_there.1 asked with_frame lines w bs c slots slots' stands o fault (argument_fault q (world_of w c) (piece_name f.called l) (code p f known l owner) (body p f known l owner) (driving pointer result frame ∷ []) (is_code p f known l owner) j (scope p f known l owner) (piece_count p r l) rest slots1 (beside mid w.store) asked with_frame line fault e) in
-      Breaks fault (piece_name f.called l) shown a.0 a.1
+      Breaks fault (piece_name f.called l) shown a.0 a.1 a.2
   both _ _ (Stuck v) e = Sticks
 
   -- the section is submitted as in the source
