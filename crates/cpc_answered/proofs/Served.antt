@@ -8,18 +8,14 @@ use Rattle.cpc_tree.specs.Erase.{program_of}
 use Rattle.cpc_tree.specs.Locate.{located}
 use Rattle.cpc_tree.proofs.Places.{bare_program}
 use Rattle.cpc_built.specs.Told.{told}
-use Rattle.cpc_native_builtins.specs.Served.{are_served, calls_served, is_extern, is_served_arm, is_served_item, is_served_program, is_served_stmt}
-use Rattle.cpc_convert_served_laws.specs.Serving.{or_then, place_if}
-use Rattle.cpc_answered.specs.Unanswered.{unanswered, unanswered_arm, unanswered_item, unanswered_items, unanswered_stmt, unanswered_stmts}
+use Rattle.cpc_native_builtins.specs.Served.{are_served, calls_served, is_served_arm, is_served_item, is_served_program, is_served_stmt}
+use Rattle.cpc_convert_served_laws.specs.Serving.{or_then}
+use Rattle.cpc_answered.specs.Unanswered.{place_if, unanswered, unanswered_arm, unanswered_item, unanswered_items, unanswered_stmt, unanswered_stmts}
 
 -- neither of two was found
 in_none : (a b : Option Place) → or_then a b ≡ None → (a ≡ None) × (b ≡ None)
 in_none None b e = (refl, e)
 in_none (Some q) b e = cc
-
-not_here : (b : Bool) (q : Place) → place_if b q ≡ None → not b ≡ true
-not_here true q e = cc
-not_here false q e = refl
 
 is_here : (b : Bool) (q : Place) → place_if (not b) q ≡ None → b ≡ true
 is_here true q e = refl
@@ -67,10 +63,8 @@ mutual
 item_served : (x : LItem) → unanswered_item x ≡ None → is_served_item (bare_item x) ≡ true
 item_served (LStruct tag xs) e = refl
 item_served (LGlobal x t start) e = refl
-item_served (LPrototype q mode x r ps) e = not_here (is_extern mode) x.place e
-item_served (LFunctionItem f) e =
-    let two = in_none (place_if (is_extern f.mode) f.called.place) (unanswered_stmt f.body) e in
-    both (not (is_extern f.mode)) (is_served_stmt (bare_stmt f.body)) (not_here (is_extern f.mode) f.called.place two.0) (stmt_served f.body two.1)
+item_served (LPrototype q mode x r ps) e = refl
+item_served (LFunctionItem f) e = stmt_served f.body e
 
 items_served : (xs : List LItem) → unanswered_items xs ≡ None → is_served_program (map bare_item xs) ≡ true
 items_served [] e = refl

@@ -1,10 +1,15 @@
--- Where a program of events first asks for what the loop does not answer: where it declares a function of the host, spawns, submits a section, or
--- calls a primitive that is not served.
-use Rattle.std.specs.Prelude.{not, List, [], ◌∷◌, Option, Some, None}
+-- Where a program of events first asks for what the loop does not answer: where it spawns, submits a section, or calls a primitive that is not
+-- served.
+use Rattle.std.specs.Prelude.{Bool, true, false, not, List, [], ◌∷◌, Option, Some, None}
 use Rattle.cpc_base.specs.declared.stop.Place.{Place}
-use Rattle.cpc_tree.specs.Located.{bare_expr, LStmt, Block, Call, Detach, Spawn, If, While, DoWhile, For, Label, LStmts, NoLStmt, AndLStmt, MaybeLStmt, NoneLStmt, SomeLStmt, LItem, LPrototype, LFunctionItem, LProgram}
-use Rattle.cpc_native_builtins.specs.Served.{calls_served, is_extern}
-use Rattle.cpc_convert_served_laws.specs.Serving.{or_then, place_if}
+use Rattle.cpc_tree.specs.Located.{bare_expr, LStmt, Block, Call, Detach, Spawn, If, While, DoWhile, For, Label, LStmts, NoLStmt, AndLStmt, MaybeLStmt, NoneLStmt, SomeLStmt, LItem, LFunctionItem, LProgram}
+use Rattle.cpc_native_builtins.specs.Served.{calls_served}
+use Rattle.cpc_convert_served_laws.specs.Serving.{or_then}
+
+-- here, where this holds
+abbrev pub place_if : Bool → Place → Option Place
+place_if true q = Some q
+place_if false q = None
 
 abbrev mutual
   -- the first statement that spawns, submits a section, or calls a primitive that is not served
@@ -28,16 +33,15 @@ abbrev mutual
   unanswered_arm NoneLStmt = None
   unanswered_arm (SomeLStmt s) = unanswered_stmt s
 
--- An item stands at its declared name; behind that of a function comes its body.
+-- A function asks for what its body asks for, and no other item for anything.
 abbrev pub unanswered_item : LItem → Option Place
-unanswered_item (LPrototype q mode x r ps) = place_if (is_extern mode) x.place
-unanswered_item (LFunctionItem f) = or_then (place_if (is_extern f.mode) f.called.place) (unanswered_stmt f.body)
+unanswered_item (LFunctionItem f) = unanswered_stmt f.body
 unanswered_item x = None
 
 abbrev pub unanswered_items : List LItem → Option Place
 unanswered_items [] = None
 unanswered_items (x ∷ xs) = or_then (unanswered_item x) (unanswered_items xs)
 
--- the first function of the host that a program declares, or statement that asks for what is not served, in the order of the text
+-- the first statement of a program that asks for what is not served, in the order of the text
 abbrev pub unanswered : LProgram → Option Place
 unanswered p = unanswered_items p.items

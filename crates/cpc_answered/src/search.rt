@@ -5,16 +5,15 @@ ghost use Rattle.cpc_tree.specs.Locate.{located, located_at, located_expr, locat
 ghost use Rattle.cpc_tree.specs.Located.{bare_expr};
 ghost use Rattle.cpc_tree.specs.Primitives.{primitive_named};
 ghost use Rattle.cpc_native_builtins.specs.Builtins.{primitive_of};
-ghost use Rattle.cpc_native_builtins.specs.Served.{calls_served, is_extern, is_served, is_served_program, serves};
-ghost use Rattle.cpc_convert_served_laws.specs.Serving.{place_if};
-ghost use Rattle.cpc_answered.specs.Unanswered.{unanswered, unanswered_item, unanswered_items};
+ghost use Rattle.cpc_native_builtins.specs.Served.{calls_served, is_served, is_served_program, serves};
+ghost use Rattle.cpc_answered.specs.Unanswered.{place_if, unanswered, unanswered_item, unanswered_items};
 ghost use Rattle.cpc_answered.specs.Unanswered.{unanswered_arm, unanswered_stmt, unanswered_stmts};
 ghost use Rattle.cpc_built.specs.Told.{told};
 
 use cpc_base::{Name, Names, Place};
 use cpc_check::Checked;
 use cpc_native_builtins::{Builtin, builtin_named};
-use cpc_tree::program::{Expr, Item, Mode, Statement};
+use cpc_tree::program::{Expr, Item, Statement};
 
 // Whether the loop answers a primitive.
 fn answers(builtin: Builtin) -> bool
@@ -121,27 +120,13 @@ fn answered_row(row: &[Statement], names: &Names) -> Result<(), Place>
     Ok(())
 }
 
-// Nothing, where a function of this mode is one of the program, or else the place at which it is declared.
-fn own(mode: Mode, place: Place) -> Result<(), Place>
-    ensures { told result ≡ place_if (is_extern mode) place }
-{
-    match mode {
-        Mode::Extern => Err(place),
-        Mode::Native | Mode::Cps | Mode::Detached => Ok(()),
-    }
-}
-
 // Nothing, where an item asks only for what the loop answers, or else the place of the first part of it that does not.
 fn answered_item(item: &Item, names: &Names) -> Result<(), Place>
     ensures { told result ≡ unanswered_item (located_item (in_table names.now) item.now) }
 {
     match item {
-        Item::Struct { .. } | Item::Global { .. } => Ok(()),
-        Item::Prototype { mode, word, .. } => own(*mode, word.place),
-        Item::Function(function) => {
-            own(function.mode, function.word.place)?;
-            answered_stmt(&function.body, names)
-        }
+        Item::Struct { .. } | Item::Global { .. } | Item::Prototype { .. } => Ok(()),
+        Item::Function(function) => answered_stmt(&function.body, names),
     }
 }
 
@@ -159,9 +144,8 @@ fn answered_items(items: &[Item], names: &Names) -> Result<(), Place>
 ///
 /// # Errors
 ///
-/// The place of the first function of the host that it declares, or statement that asks for something else, in the order of the text:
-/// of a function that of its declared name, of a statement that of its first token. Such a statement calls a primitive that is not
-/// served, spawns, or submits a section.
+/// The place of the first statement that asks for something else, in the order of the text: that of its first token. Such a statement
+/// calls a primitive that is not served, spawns, or submits a section.
 pub fn answered(program: &Checked) -> Result<(), Place>
     ensures told { told result ≡ unanswered (located program.now.program) }
     ensures served { IfOk result (λ _. is_served_program (program_of program.now.program) ≡ true) }

@@ -1,4 +1,4 @@
-//! Which programs run so far, and where a program first asks for what the loop does not answer.
+//! Which programs run so far, and where a program first asks for what the loop does not answer: a section.
 #![tactic(auto)]
 
 mod items;

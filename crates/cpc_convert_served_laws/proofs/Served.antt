@@ -1,13 +1,12 @@
 -- The items of an event program ask only for what the loop answers.
-use Rattle.std.proofs.Common.{◌≡◌, ℕ, Bool, true, false, not, List, [], ◌∷◌, ◌++◌, map, pos, None, Some, refl, ap}
+use Rattle.std.proofs.Common.{◌≡◌, ℕ, Bool, true, false, List, [], ◌∷◌, ◌++◌, map, pos, None, Some, refl}
 use Rattle.cpc_base.specs.Bytes.{Text}
 use Rattle.cpc_base.specs.declared.stop.Dialect.TheVariants as D
-use Rattle.cpc_base.specs.declared.stop.Place.{Place as Position}
 use Rattle.cpc_num.specs.declared.kinds.Kind.TheVariants.{Int}
 use Rattle.cpc_tree.specs.Points.{Path, found}
 use Rattle.cpc_tree.specs.declared.program.Mode.{Mode}
 use Rattle.cpc_tree.specs.declared.program.Mode.TheVariants.{Native, Cps, Detached, Extern}
-use Rattle.cpc_tree.specs.Located.{LItem, LStruct, LGlobal, LPrototype, LFunctionItem, LFunction, bare, bare_item, bare_function}
+use Rattle.cpc_tree.specs.Located.{LItem, LStruct, LGlobal, LPrototype, LFunctionItem, bare, bare_item, bare_function}
 use Rattle.cpc_tree.specs.Syntax.{Expr, ENamed, EInteger, Variable, Function, Item, FunctionItem, Program, Stmts, NoStmt, AndStmt}
 use Rattle.cpc_tree.specs.Typing.{is_scalar}
 use Rattle.cpc_meaning.specs.Start.{main_name}
@@ -30,8 +29,8 @@ use Rattle.cpc_convert_event.specs.Pieces.{loads_of, declares_of, fills_if, box_
 use Rattle.cpc_convert_event.specs.Names.{start_name, frame_name, pointer_name}
 use Rattle.cpc_convert_event.specs.Lines.{save_of}
 use Rattle.cpc_convert_event.specs.Rows.{piece_statements}
-use Rattle.cpc_native_builtins.specs.Served.{is_served_stmt, are_served, is_extern, is_served_item, is_served_program}
-use Rattle.cpc_convert_served_laws.specs.Serving.{place_if, unserved_stmt, unserved_item, unserved_items}
+use Rattle.cpc_native_builtins.specs.Served.{is_served_stmt, are_served, is_served_item, is_served_program}
+use Rattle.cpc_convert_served_laws.specs.Serving.{unserved_stmt, unserved_item, unserved_items}
 use Rattle.cpc_convert_served_laws.specs.Laws.{ConvertedAreServed}
 use Rattle.cpc_convert_served_laws.proofs.Names.{both, spawner_serves}
 use Rattle.cpc_convert_served_laws.proofs.Sources.{no_first, no_second, NoSection, stmt_has_none, native_served, cps_answered}
@@ -53,10 +52,6 @@ items_served (x ∷ xs) a = both (is_served_item x) (is_served_program xs) a.0 (
 
 -- ---- what is kept
 
-none_there : (b : Bool) (q : Position) → place_if b q ≡ None → not b ≡ true
-none_there true q h = absurd cc
-none_there false q h = refl
-
 prototype_kept : (m : Mode) (x : Item) → is_served_item x ≡ true → (rest : List Item) → EachItem rest → EachItem (item_unless (is_cps_mode m) x rest)
 prototype_kept m x h rest a = go (is_cps_mode m)
   where
@@ -64,18 +59,11 @@ prototype_kept m x h rest a = go (is_cps_mode m)
     go true = a
     go false = (h, a)
 
-function_kept : (m : Mode) (g : Function) → g.mode ≡ m → not (is_extern m) ≡ true → (is_cps_function m ≡ false → is_served_stmt g.body ≡ true) → (rest : List Item) → EachItem rest → EachItem (item_unless (is_cps_mode m) (FunctionItem g) rest)
-function_kept Native g e h k rest a = (both (not (is_extern g.mode)) (is_served_stmt g.body) (ap (λ m. not (is_extern m)) e) (k refl), a)
-function_kept Detached g e h k rest a = (both (not (is_extern g.mode)) (is_served_stmt g.body) (ap (λ m. not (is_extern m)) e) (k refl), a)
-function_kept Cps g e h k rest a = a
-function_kept Extern g e h k rest a = absurd cc
-
--- what is not extern, and where its body submits a section nowhere
-not_extern : (f : LFunction) → unserved_item (LFunctionItem f) ≡ None → not (is_extern f.mode) ≡ true
-not_extern f h = none_there (is_extern f.mode) f.called.place (no_first (place_if (is_extern f.mode) f.called.place) _ h)
-
-body_has_none : (f : LFunction) → unserved_item (LFunctionItem f) ≡ None → unserved_stmt f.body ≡ None
-body_has_none f h = no_second (place_if (is_extern f.mode) f.called.place) _ h
+function_kept : (m : Mode) (g : Function) → (is_cps_function m ≡ false → is_served_stmt g.body ≡ true) → (rest : List Item) → EachItem rest → EachItem (item_unless (is_cps_mode m) (FunctionItem g) rest)
+function_kept Native g k rest a = (k refl, a)
+function_kept Detached g k rest a = (k refl, a)
+function_kept Extern g k rest a = (k refl, a)
+function_kept Cps g k rest a = a
 
 module _ (p : Program) (names : HasNames p) (typed : TypedProgram D.Cpc p) where
   function_served : (f : Function) → Has (FunctionItem f) p → is_cps_function f.mode ≡ false → is_served_stmt (respawned f.body) ≡ true
@@ -86,16 +74,15 @@ module _ (p : Program) (names : HasNames p) (typed : TypedProgram D.Cpc p) where
   kept_served (LStruct tag xs ∷ items) up h = (refl, kept_served items (λ i k. up i (Below i _ _ k)) h)
   kept_served (LGlobal x t start ∷ items) up h = (refl, kept_served items (λ i k. up i (Below i _ _ k)) h)
   kept_served (LPrototype q mode x t ps ∷ items) up h =
-      prototype_kept mode (bare_item (LPrototype q mode x t ps)) (none_there (is_extern mode) x.place (no_first (unserved_item (LPrototype q mode x t ps)) _ h)) (kept_items (map bare_item items))
-      (kept_served items (λ i k. up i (Below i _ _ k)) (no_second (unserved_item (LPrototype q mode x t ps)) _ h))
+      prototype_kept mode (bare_item (LPrototype q mode x t ps)) refl (kept_items (map bare_item items)) (kept_served items (λ i k. up i (Below i _ _ k)) h)
   kept_served (LFunctionItem f ∷ items) up h =
-      function_kept f.mode (kept_function (bare_function f)) refl (not_extern f (no_first (unserved_item (LFunctionItem f)) _ h)) (function_served (bare_function f) (up (FunctionItem (bare_function f)) (OnTop _ _)))
+      function_kept f.mode (kept_function (bare_function f)) (function_served (bare_function f) (up (FunctionItem (bare_function f)) (OnTop _ _)))
       (kept_items (map bare_item items)) (kept_served items (λ i k. up i (Below i _ _ k)) (no_second (unserved_item (LFunctionItem f)) _ h))
 
 -- ---- what is made
 
 abbrev FunctionServed : Function → Type 0
-FunctionServed f = (not (is_extern f.mode) ≡ true) × (is_served_stmt f.body ≡ true)
+FunctionServed f = is_served_stmt f.body ≡ true
 
 abbrev EachFunction : List Function → Type 0
 EachFunction [] = Unit {0}
@@ -105,13 +92,13 @@ both_functions : (fs gs : List Function) → EachFunction fs → EachFunction gs
 both_functions [] gs a b = b
 both_functions (f ∷ fs) gs a b = (a.0, both_functions fs gs a.1 b)
 
-prototypes_served : (fs : List Function) → EachFunction fs → EachItem (map prototype fs)
-prototypes_served [] a = tt
-prototypes_served (f ∷ fs) a = (a.0.0, prototypes_served fs a.1)
+prototypes_served : (fs : List Function) → EachItem (map prototype fs)
+prototypes_served [] = tt
+prototypes_served (f ∷ fs) = (refl, prototypes_served fs)
 
 functions_served : (fs : List Function) → EachFunction fs → EachItem (map function_item fs)
 functions_served [] a = tt
-functions_served (f ∷ fs) a = (both (not (is_extern f.mode)) (is_served_stmt f.body) a.0.0 a.0.1, functions_served fs a.1)
+functions_served (f ∷ fs) a = (a.0, functions_served fs a.1)
 
 loads_served : (e : Text) (ls : List Load) → EachServed (map (loads_one e) ls)
 loads_served e [] = tt
@@ -140,7 +127,7 @@ spawner_served : (f : Function) → FunctionServed (spawner_function f)
 spawner_served f =
     let frame : Expr = ENamed frame_name in
     let filled : EachServed (fills_frame frame frame code_field next_field (start_name f.called) (EInteger Int (pos 0)) (map save_of (passed f))) = (refl, (refl, saves_served frame (map save_of (passed f)))) in
-    (refl, before_served (fills_frame frame frame code_field next_field (start_name f.called) (EInteger Int (pos 0)) (map save_of (passed f))) (AndStmt (readies frame_name) NoStmt) filled refl)
+    before_served (fills_frame frame frame code_field next_field (start_name f.called) (EInteger Int (pos 0)) (map save_of (passed f))) (AndStmt (readies frame_name) NoStmt) filled refl
 
 module _ (p : Program) (names : HasNames p) (typed : TypedProgram D.Cpc p) where
   routine_served : (f : Function) → Has (FunctionItem f) p → ((path : Path) → NoSection (found f.body path)) → (l : Place) → FunctionServed (piece_function p (routine_of p f) l)
@@ -154,7 +141,7 @@ module _ (p : Program) (names : HasNames p) (typed : TypedProgram D.Cpc p) where
       let body_served : are_served body ≡ true = before_served (piece_statements p r l) NoStmt (piece_served p names.primitives f answered r refl l) refl in
       let boxes : are_served boxing ≡ true = before_served (boxing_of r l) (AndStmt (frees_frame pointer_name) body) (boxing_served r l) body_served in
       let words : are_served declares ≡ true = before_served (map declares_one (declares_of p r l)) boxing (declares_served (declares_of p r l)) boxes in
-      (refl, before_served (map (loads_one frame_name) (loads_of p r l)) declares (loads_served frame_name (loads_of p r l)) words)
+      before_served (map (loads_one frame_name) (loads_of p r l)) declares (loads_served frame_name (loads_of p r l)) words
 
   leaders_served : (f : Function) → Has (FunctionItem f) p → ((path : Path) → NoSection (found f.body path)) → (ns : List ℕ) → EachFunction (map (leader_function p (routine_of p f)) ns)
   leaders_served f has none [] = tt
@@ -171,9 +158,9 @@ module _ (p : Program) (names : HasNames p) (typed : TypedProgram D.Cpc p) where
   all_served [] up h = tt
   all_served (LStruct tag xs ∷ items) up h = all_served items (λ i k. up i (Below i _ _ k)) h
   all_served (LGlobal x t start ∷ items) up h = all_served items (λ i k. up i (Below i _ _ k)) h
-  all_served (LPrototype q mode x t ps ∷ items) up h = all_served items (λ i k. up i (Below i _ _ k)) (no_second (unserved_item (LPrototype q mode x t ps)) _ h)
+  all_served (LPrototype q mode x t ps ∷ items) up h = all_served items (λ i k. up i (Below i _ _ k)) h
   all_served (LFunctionItem f ∷ items) up h =
-      routine_made (is_cps_mode f.mode) (bare_function f) (up (FunctionItem (bare_function f)) (OnTop _ _)) (λ path. stmt_has_none f.body (body_has_none f (no_first (unserved_item (LFunctionItem f)) _ h)) path)
+      routine_made (is_cps_mode f.mode) (bare_function f) (up (FunctionItem (bare_function f)) (OnTop _ _)) (λ path. stmt_has_none f.body (no_first (unserved_stmt f.body) _ h) path)
       (routines_in p (map bare_item items)) (all_served items (λ i k. up i (Below i _ _ k)) (no_second (unserved_item (LFunctionItem f)) _ h))
 
   -- ---- structs
@@ -211,7 +198,7 @@ module _ (p : Program) (names : HasNames p) (typed : TypedProgram D.Cpc p) where
   with_served [] made kept = kept
   with_served (r ∷ rs) made kept = (
     refl,
-    both_items (all_structs p (r ∷ rs)) _ (structs_served (r ∷ rs)) (both_items (map prototype (all_made p (r ∷ rs))) _ (prototypes_served (all_made p (r ∷ rs)) made) (
+    both_items (all_structs p (r ∷ rs)) _ (structs_served (r ∷ rs)) (both_items (map prototype (all_made p (r ∷ rs))) _ (prototypes_served (all_made p (r ∷ rs))) (
       refl,
       both_items (kept_items p) _ kept
           (both_items (all_boxes (r ∷ rs)) _ (boxes_served (r ∷ rs)) (both_items (map function_item (all_made p (r ∷ rs))) _ (functions_served (all_made p (r ∷ rs)) made) (main_served _))),

@@ -1,4 +1,4 @@
--- What stands in an accepted program that submits no section and declares no function of the host.
+-- What stands in an accepted program that submits no section.
 use Rattle.std.proofs.Common.{◌≡◌, ◌∙◌, ℕ, zero, suc, Bool, true, false, ◌||◌, if◌then◌else◌, [], ◌∷◌, slice_get, bytes_eq, Option, Some, None, refl, sym}
 use Rattle.cpc_base.specs.Bytes.{Text}
 use Rattle.cpc_base.specs.declared.stop.Dialect.TheVariants as D

@@ -10,6 +10,6 @@ use Rattle.cpc_native_builtins.specs.Served.{is_served_program}
 use Rattle.cpc_convert_event.specs.Converted.{converted}
 use Rattle.cpc_convert_served_laws.specs.Serving.{unserved}
 
--- the event program of an accepted program that asks for nothing else asks only for what the loop answers
+-- the event program of an accepted program that submits no section asks only for what the loop answers
 abbrev pub ConvertedAreServed : Type 0
 ConvertedAreServed = (list : List Placed) (end : Place) (p : LProgram) → IsProgram D.Cpc list end p → breaks D.Cpc p ≡ [] → unserved p ≡ None → is_served_program (converted (bare p)) ≡ true

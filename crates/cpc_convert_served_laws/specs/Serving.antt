@@ -1,16 +1,9 @@
--- Which programs ask only for what the loop answers so far, and where a program first asks for something else: where it submits a section, or
--- declares a function of the host.
-use Rattle.std.specs.Prelude.{Bool, true, false, List, [], ◌∷◌, Option, Some, None}
+-- Which programs ask only for what the loop answers so far, and where a program first asks for something else: where it submits a section.
+use Rattle.std.specs.Prelude.{List, [], ◌∷◌, Option, Some, None}
 use Rattle.cpc_base.specs.declared.stop.Place.{Place}
-use Rattle.cpc_tree.specs.Located.{LStmt, Block, Detach, If, While, DoWhile, For, Label, LStmts, NoLStmt, AndLStmt, MaybeLStmt, NoneLStmt, SomeLStmt, LItem, LPrototype, LFunctionItem, LProgram}
-use Rattle.cpc_native_builtins.specs.Served.{is_extern}
+use Rattle.cpc_tree.specs.Located.{LStmt, Block, Detach, If, While, DoWhile, For, Label, LStmts, NoLStmt, AndLStmt, MaybeLStmt, NoneLStmt, SomeLStmt, LItem, LFunctionItem, LProgram}
 
 -- ---- places
-
--- here, where this holds
-abbrev pub place_if : Bool → Place → Option Place
-place_if true q = Some q
-place_if false q = None
 
 -- the first place, or else the second
 abbrev pub or_then : Option Place → Option Place → Option Place
@@ -39,16 +32,15 @@ abbrev mutual
   unserved_arm NoneLStmt = None
   unserved_arm (SomeLStmt s) = unserved_stmt s
 
--- An item stands at its declared name; behind that of a function comes its body.
+-- A function asks for what its body asks for, and no other item for anything.
 abbrev pub unserved_item : LItem → Option Place
-unserved_item (LPrototype q mode x r ps) = place_if (is_extern mode) x.place
-unserved_item (LFunctionItem f) = or_then (place_if (is_extern f.mode) f.called.place) (unserved_stmt f.body)
+unserved_item (LFunctionItem f) = unserved_stmt f.body
 unserved_item x = None
 
 abbrev pub unserved_items : List LItem → Option Place
 unserved_items [] = None
 unserved_items (x ∷ xs) = or_then (unserved_item x) (unserved_items xs)
 
--- the first function of the host that a program declares, or section that it submits, in the order of the text
+-- the first section that a program submits, in the order of the text
 abbrev pub unserved : LProgram → Option Place
 unserved p = unserved_items p.items

@@ -1,4 +1,4 @@
-//! The event program of an accepted program that asks for nothing else asks only for what the loop answers. Laws alone: nothing of this crate runs.
+//! The event program of an accepted program that submits no section asks only for what the loop answers. Laws alone: nothing of this crate runs.
 #![tactic(auto)]
 
 mod laws;

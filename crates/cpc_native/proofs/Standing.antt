@@ -4,7 +4,7 @@ use Rattle.cpc_base.specs.Bytes.{Text}
 use Rattle.cpc_tree.specs.Syntax.{Stmt, Block, Empty, Declare, Assign, Call, Detach, Spawn, If, While, DoWhile, For, Goto, Label, Break, Continue, Return, Stmts, NoStmt, AndStmt, MaybeStmt, Absent, Present, Function, StructItem, GlobalItem, PrototypeItem, FunctionItem, Program}
 use Rattle.cpc_tree.specs.Typing.{function_named}
 use Rattle.cpc_tree.specs.Points.{Nth, TheTest, TheYes, TheNo, TheStep, TheBody, Path, found, found_in, found_arm}
-use Rattle.cpc_native_builtins.specs.Served.{is_served_stmt, are_served, is_served_arm, is_served_found, is_extern, is_served_item, is_served_program}
+use Rattle.cpc_native_builtins.specs.Served.{is_served_stmt, are_served, is_served_arm, is_served_found, is_served_item, is_served_program}
 use Rattle.cpc_eval.specs.Numbers.{StmtNumbers, StmtsNumbers, ArmNumbers, FoundNumbers, ItemsNumbers, ProgramNumbers}
 
 -- ---- tests
@@ -106,11 +106,11 @@ function_served (FunctionItem g ∷ items) h x f e = go (bytes_eq g.called x) (f
     go : (b : Bool) → (function_named items x ≡ Some f → is_served_stmt f.body ≡ true) → cond b (Some g) (function_named items x) ≡ Some f → is_served_stmt f.body ≡ true
     go true later k =
         let i : g ≡ f = cc in
-        ap (λ y. is_served_stmt y.body) (sym i) ∙ and_right (not (is_extern g.mode)) (is_served_stmt g.body) (and_left (is_served_item (FunctionItem g)) (is_served_program items) h)
+        ap (λ y. is_served_stmt y.body) (sym i) ∙ and_left (is_served_item (FunctionItem g)) (is_served_program items) h
     go false later k = later k
 function_served (StructItem tag fs ∷ items) h x f e = function_served items h x f e
 function_served (GlobalItem g t start ∷ items) h x f e = function_served items h x f e
-function_served (PrototypeItem mode g r ps ∷ items) h x f e = function_served items (and_right (not (is_extern mode)) (is_served_program items) h) x f e
+function_served (PrototypeItem mode g r ps ∷ items) h x f e = function_served items h x f e
 
 -- the body of a function has the numbers of its program
 pub function_numbers : (q p : Program) → ItemsNumbers q p → (x : Text) (f : Function) → function_named p x ≡ Some f → StmtNumbers q f.body

@@ -9,7 +9,7 @@ use Rattle.cpc_store.specs.declared.values.Value as V
 use Rattle.cpc_meaning.specs.Requests as R
 use Rattle.cpc_meaning.specs.Plain as P
 use Rattle.cpc_eval_values.specs.Shown.{value_of, values_of, store_of}
-use Rattle.cpc_native_builtins.specs.Builtins.{primitive_of}
+use Rattle.cpc_native_builtins.specs.Builtins.{asked_of}
 use Rattle.cpc_native_frames.specs.declared.frame.Frame.{Frame}
 use Rattle.cpc_native_frames.specs.Frames.{frame_of}
 use Rattle.cpc_native.specs.declared.machine.Machine.{Machine}
@@ -29,7 +29,7 @@ abbrev pub stack_of : Names → Machine → P.Stack T.Point
 stack_of names m = stack_at names m.calls.frames.items m.arriving
 
 abbrev pub request_of : Names → Request → R.Request
-request_of names r = record { asked = R.Builtin (primitive_of r.call); arguments = values_of names r.args.items }
+request_of names r = record { asked = asked_of names r.call; arguments = values_of names r.args.items }
 
 -- what a step came to that left this machine
 abbrev pub done_of : Names → Machine → Stepped → Result (P.Done T.Point) Fault

@@ -4,12 +4,11 @@ use Rattle.std.specs.List.{All}
 use Rattle.cpc_tree.specs.Erase.{Names}
 use Rattle.cpc_store.specs.Seen.{seen, IsLawful}
 use Rattle.cpc_eval_index.specs.declared.index.Index.{Index}
-use Rattle.cpc_native_builtins.specs.Builtins.{primitive_of}
-use Rattle.cpc_native_builtins.specs.Served.{is_served}
+use Rattle.cpc_native_builtins.specs.Served.{IsServedCall}
 use Rattle.cpc_native_frames.specs.declared.frame.Frame.{Frame}
 use Rattle.cpc_native_frames.specs.Frames.{IsWellFrame}
 use Rattle.cpc_native_acts.specs.Acts.{IsLawfulIf}
-use Rattle.cpc_native_acts.specs.Taken.{IsAskedWith}
+use Rattle.cpc_native_acts.specs.Taken.{IsCalledWith}
 use Rattle.cpc_native_acts.specs.declared.act.Act.{Act}
 use Rattle.cpc_native_acts.specs.declared.act.Act.TheVariants as A
 use Rattle.cpc_native.specs.declared.machine.Machine.{Machine}
@@ -61,14 +60,14 @@ Unchanged (S.Asked r) old new = IsSame old new
 Unchanged (S.Faulted fault x) old new = IsSame old new
 Unchanged _ old new = Unit {0}
 
--- a primitive that is asked for is one that the loop answers
+-- what is asked for is what the loop answers
 abbrev pub AsksServed : Stepped → Type 0
-AsksServed (S.Asked r) = is_served (primitive_of r.call) ≡ true
+AsksServed (S.Asked r) = IsServedCall r.call
 AsksServed _ = Unit {0}
 
 -- its arguments are what it takes
 abbrev pub AsksTaken : Stepped → Type 0
-AsksTaken (S.Asked r) = IsAskedWith (primitive_of r.call) r.args.items
+AsksTaken (S.Asked r) = IsCalledWith r.call r.args.items
 AsksTaken _ = Unit {0}
 
 -- code goes on, or its outermost call was left

@@ -15,8 +15,6 @@ ghost use Rattle.cpc_eval_values.specs.Meets.{Meets};
 ghost use Rattle.cpc_native_acts.specs.Stops.{MeetsOr};
 ghost use Rattle.cpc_eval_values.specs.Shown.{value_of, values_of, store_of};
 ghost use Rattle.cpc_eval_index.specs.Indexed.{items_of};
-ghost use Rattle.cpc_native_builtins.specs.Builtins.{primitive_of};
-ghost use Rattle.cpc_native_builtins.specs.Served.{is_served};
 ghost use Rattle.cpc_native_frames.specs.Frames.{frame_of, IsOwn, IsWellFrame};
 ghost use Rattle.cpc_native_acts.specs.Acts.{act_of, IsLawfulAct, IsLawfulIf, EntersOwn, AsksServed as ActServed, AsksTaken as ActTaken};
 ghost use Rattle.cpc_meaning.specs.Act as M;
@@ -34,7 +32,7 @@ use crate::next::counted;
 use cpc_base::{Name, Names, NoMemory, Stop};
 use cpc_eval_index::Index;
 use cpc_native_acts::{Act, foreseen, step};
-use cpc_native_builtins::Builtin;
+use cpc_native_builtins::Call;
 use cpc_native_frames::{Frame, call_cells, enter};
 use cpc_native_points::after;
 use cpc_num::Fault;
@@ -42,10 +40,11 @@ use cpc_store::{Block, Class, Store, Value};
 use cpc_tree::program::Function;
 use std::alloc::Global;
 
-/// What code asks of the loop: a primitive with its converted arguments, which are what it takes, in a function.
+/// What code asks of the loop: a primitive or a function of the host, with its converted arguments, which are what it takes, in
+/// a function.
 #[derive(Drop)]
 pub struct Request {
-    pub call: Builtin,
+    pub call: Call,
     pub args: Vec<Value>,
     pub function: Name,
 }

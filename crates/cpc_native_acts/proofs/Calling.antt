@@ -13,14 +13,13 @@ use Rattle.cpc_store.specs.Store as S
 use Rattle.cpc_store.specs.Store.{Value}
 use Rattle.cpc_meaning.specs.Answer.{Answer, Gives, Faults, NoAnswer, ◌>>=◌, needed}
 use Rattle.cpc_meaning.specs.Eval as E
-use Rattle.cpc_meaning.specs.Requests.{arguments}
+use Rattle.cpc_meaning.specs.Requests.{Host, arguments, all_long}
 use Rattle.cpc_meaning.specs.Act as M
 use Rattle.cpc_eval.specs.Held.{Held, local_in, capped_held}
 use Rattle.cpc_eval.specs.Around.{meant_or, meant_in}
 use Rattle.cpc_eval.proofs.TypedParts.{named_or}
-use Rattle.cpc_native_builtins.specs.Served.{is_extern, is_served_program}
 use Rattle.cpc_native_acts.specs.Rows.{passed}
-use Rattle.cpc_native_acts.specs.Calls.{is_of_type, code_called, value_called, calls_if}
+use Rattle.cpc_native_acts.specs.Calls.{is_of_type, code_called, value_called, calls_if, calls_known, calls_moded}
 
 -- ---- one part after another
 
@@ -84,35 +83,6 @@ function_calls c f es = chain (E.values c es) (arguments (parameter_types f)) _
 
 -- ---- what a name calls
 
-and_left : (a b : Bool) → (a && b) ≡ true → a ≡ true
-and_left true b e = refl
-and_left false b e = absurd cc
-
-and_right : (a b : Bool) → (a && b) ≡ true → b ≡ true
-and_right true b e = e
-and_right false b e = absurd cc
-
-first_not : (m : Mode) (b : Bool) (q r : Ty) (qs ps : List Ty) (rest : Meant) → not (is_extern m) ≡ true → (if b then AFunction m q qs else rest) ≡ AFunction G.Extern r ps → (rest ≡ AFunction G.Extern r ps → ⊥) → ⊥
-first_not m false q r qs ps rest s e h = h e
-first_not G.Extern true q r qs ps rest s e h = absurd cc
-first_not G.Native true q r qs ps rest s e h = absurd cc
-first_not G.Cps true q r qs ps rest s e h = absurd cc
-first_not G.Detached true q r qs ps rest s e h = absurd cc
-
-global_not : (b : Bool) (n : ℕ) (t r : Ty) (ps : List Ty) (rest : Meant) → (if b then AGlobal n t else rest) ≡ AFunction G.Extern r ps → (rest ≡ AFunction G.Extern r ps → ⊥) → ⊥
-global_not true n t r ps rest e h = absurd cc
-global_not false n t r ps rest e h = h e
-
--- no function of a served program is the host's
-pub not_extern : (n : ℕ) (p : Program) (x : Text) (r : Ty) (ps : List Ty) → is_served_program p ≡ true → item_named n p x ≡ AFunction G.Extern r ps → ⊥
-not_extern n [] x r ps served e = absurd cc
-not_extern n (StructItem tag fs ∷ items) x r ps served e = not_extern n items x r ps served e
-not_extern n (GlobalItem g t start ∷ items) x r ps served e = global_not (bytes_eq g x) n t r ps (item_named (suc n) items x) e (λ h. not_extern (suc n) items x r ps served h)
-not_extern n (PrototypeItem mode f q qs ∷ items) x r ps served e =
-    first_not mode (bytes_eq f x) q r (map T.parameter_type qs) ps (item_named n items x) (and_left _ _ served) e (λ h. not_extern n items x r ps (and_right _ _ served) h)
-not_extern n (FunctionItem f ∷ items) x r ps served e =
-    first_not f.mode (bytes_eq f.called x) f.result r (map T.parameter_type f.parameters) ps (item_named n items x) (and_left _ _ (and_left _ _ served)) e (λ h. not_extern n items x r ps (and_right _ _ served) h)
-
 module _ (c : E.Context) (x : Text) (es : Exprs) where
   -- a call of a name by what it means, the number of a local capped
   abbrev calls_meaning : Meant → Answer M.Act
@@ -134,20 +104,22 @@ module _ (c : E.Context) (x : Text) (es : Exprs) where
   pub global_calls : (n : ℕ) (t : Ty) → AGlobal n t ≡ meant_in c x → M.calls_value c (ENamed x) es ≡ M.calls_expr c (ENamed x) es
   global_calls n t e = sym (meaning_calls (AGlobal n t) e)
 
-  an_item : (o : Held) (m : Meant) (mode : Mode) (r : Ty) (ps : List Ty) → AFunction mode r ps ≡ meant_or (capped_held o) m → m ≡ AFunction mode r ps
-  an_item None m mode r ps e = sym e
-  an_item (Some l) m mode r ps e = absurd cc
+  -- a call of a function in a mode
+  moded_calls : (mode : Mode) (r : Ty) (ps : List Ty) (prim : Option Primitive) (o : Option Function) → function_named c.program x ≡ o → M.calls_named c x es (AFunction mode r ps) prim o ≡ calls_moded c x es mode
+  moded_calls G.Extern r ps prim o e = chain (E.values c es) all_long (M.asks (Host x))
+  moded_calls G.Native r ps prim None e = sym (ap (calls_if c x es) e)
+  moded_calls G.Native r ps prim (Some f) e = sym (ap (calls_if c x es) e)
+  moded_calls G.Cps r ps prim None e = sym (ap (calls_if c x es) e)
+  moded_calls G.Cps r ps prim (Some f) e = sym (ap (calls_if c x es) e)
+  moded_calls G.Detached r ps prim None e = sym (ap (calls_if c x es) e)
+  moded_calls G.Detached r ps prim (Some f) e = sym (ap (calls_if c x es) e)
 
-  known_calls : (mode : Mode) (r : Ty) (ps : List Ty) (prim : Option Primitive) (o : Option Function) → (mode ≡ G.Extern → ⊥) → M.calls_named c x es (AFunction mode r ps) prim o ≡ calls_if c x es o
-  known_calls G.Extern r ps prim o h = absurd (h refl)
-  known_calls G.Native r ps prim None h = refl
-  known_calls G.Native r ps prim (Some f) h = refl
-  known_calls G.Cps r ps prim None h = refl
-  known_calls G.Cps r ps prim (Some f) h = refl
-  known_calls G.Detached r ps prim None h = refl
-  known_calls G.Detached r ps prim (Some f) h = refl
+  -- no function of the host
+  pub moded_known : (mode : Mode) → (mode ≡ G.Extern → ⊥) → calls_known c x es ≡ calls_moded c x es mode
+  moded_known G.Extern h = absurd (h refl)
+  moded_known G.Native h = refl
+  moded_known G.Cps h = refl
+  moded_known G.Detached h = refl
 
-  pub functions_call : (mode : Mode) (r : Ty) (ps : List Ty) → is_served_program c.program ≡ true → AFunction mode r ps ≡ meant_in c x → calls_if c x es (function_named c.program x) ≡ M.calls_expr c (ENamed x) es
-  functions_call mode r ps served e =
-      let item = an_item (local_in c.scope x) (item_named 0 c.program x) mode r ps e in
-      sym (meaning_calls (AFunction mode r ps) e ∙ known_calls mode r ps (primitive_named x) (function_named c.program x) (λ m. not_extern 0 c.program x r ps served (item ∙ ap (λ q. AFunction q r ps) m)))
+  pub functions_call : (mode : Mode) (r : Ty) (ps : List Ty) → AFunction mode r ps ≡ meant_in c x → calls_moded c x es mode ≡ M.calls_expr c (ENamed x) es
+  functions_call mode r ps e = sym (meaning_calls (AFunction mode r ps) e ∙ moded_calls mode r ps (primitive_named x) (function_named c.program x) refl)

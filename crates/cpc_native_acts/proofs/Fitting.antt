@@ -1,6 +1,7 @@
 -- What is taken of arguments is one value for each that is taken, of its kind.
 use Rattle.std.proofs.Common.{◌≡◌, suc, Bool, true, false, ◌&&◌, List, [], ◌∷◌, length, map, Option, Some, None, option_map, Ok, Err, refl, sym, ap, subst, ◌∙◌, arith}
 use Rattle.std.specs.List.{All}
+use Rattle.std.proofs.lemmas.List.Elements.{All-nil, All-cons}
 use Rattle.cpc_base.specs.Bytes.{Text}
 use Rattle.cpc_num.specs.declared.kinds.Fault.{Fault}
 use Rattle.cpc_num.specs.declared.kinds.Kind.{Kind}
@@ -18,13 +19,13 @@ use Rattle.cpc_store.specs.Seen.{seen}
 use Rattle.cpc_meaning.specs.Answer.{Answer, Gives, Faults, NoAnswer, ◌>>=◌}
 use Rattle.cpc_meaning.specs.Eval.{assigned, at_type}
 use Rattle.cpc_meaning.specs.Layout.{scalar_of}
-use Rattle.cpc_meaning.specs.Requests.{set_integer, taken_as, all_taken}
+use Rattle.cpc_meaning.specs.Requests.{set_integer, taken_as, all_taken, all_long}
 use Rattle.cpc_eval_values.specs.Meets.{Meets}
 use Rattle.cpc_eval_values.specs.Shown.{value_of, values_of}
 use Rattle.cpc_eval_values.specs.declared.assignment.Taken.{Taken}
 use Rattle.cpc_eval_values.specs.declared.assignment.Taken.TheVariants as T
 use Rattle.cpc_eval_values.specs.Takes.{taken_of}
-use Rattle.cpc_native_acts.specs.Taken.{is_set, is_integer, is_taken_as, are_taken, IsByte, IsAskedWith}
+use Rattle.cpc_native_acts.specs.Taken.{is_set, is_integer, is_taken_as, are_taken, IsByte, IsLong, IsAskedWith}
 
 both : (a b : Bool) → a ≡ true → b ≡ true → (a && b) ≡ true
 both true b h k = k
@@ -189,6 +190,36 @@ module _ (names : Names) (ts : List P.Taken) (ks : List Taken) (same : map Some 
       go (Gives xs) e m = let is : xs ≡ values_of names ws = cc in let yes = all_fit names ts ks vs ws same (e ∙ ap Gives is) in absurd cc
       go (Faults f) e m = absurd cc
       go NoAnswer e m = tt
+
+-- values of long are all that a function of the host takes
+long_taken : (names : Names) (v : Value) (w : V.Value) → at_type (TyInt K.Long) v ≡ Gives (value_of names w) → IsLong w
+long_taken names (Whole j y) (W.Int kind z) g = let i : K.Long ≡ kind = cc in sym i
+long_taken names v w g = absurd cc
+
+first_long : (names : Names) (v : Value) (vs : List Value) (w : V.Value) (ws : List V.Value) → (all_long vs ≡ Gives (values_of names ws) → All IsLong ws) → (q : Answer Value) → at_type (TyInt K.Long) v ≡ q
+    → (a : Answer (List Value)) → all_long vs ≡ a → (q >>= (λ x. a >>= (λ xs. Gives (x ∷ xs)))) ≡ Gives (values_of names (w ∷ ws)) → All IsLong (w ∷ ws)
+first_long names v vs w ws others (Gives x) i (Gives xs) j g =
+    let head : x ≡ value_of names w = cc in
+    let tail : xs ≡ values_of names ws = cc in
+    All-cons IsLong w ws (long_taken names v w (i ∙ ap Gives head)) (others (j ∙ ap Gives tail))
+first_long names v vs w ws others (Gives x) i (Faults f) j g = absurd cc
+first_long names v vs w ws others (Gives x) i NoAnswer j g = absurd cc
+first_long names v vs w ws others (Faults f) i a j g = absurd cc
+first_long names v vs w ws others NoAnswer i a j g = absurd cc
+
+all_longs : (names : Names) (vs : List Value) (ws : List V.Value) → all_long vs ≡ Gives (values_of names ws) → All IsLong ws
+all_longs names vs [] g = All-nil IsLong
+all_longs names [] (w ∷ ws) g = absurd cc
+all_longs names (v ∷ vs) (w ∷ ws) g = first_long names v vs w ws (λ h. all_longs names vs ws h) (at_type (TyInt K.Long) v) refl (all_long vs) refl g
+
+-- where the values are not of long, no rule fits
+pub none_long : (names : Names) (ws : List V.Value) → (All IsLong ws → ⊥) → (fault : Fault) (vs : List Value) → Meets (Ok (values_of names ws)) (all_long vs) → Meets {A = List Value} (Err fault) (all_long vs)
+none_long names ws not fault vs h = go (all_long vs) refl h
+  where
+    go : (a : Answer (List Value)) → all_long vs ≡ a → Meets (Ok (values_of names ws)) a → Meets {A = List Value} (Err fault) a
+    go (Gives xs) e m = let is : xs ≡ values_of names ws = cc in absurd (not (all_longs names vs ws (e ∙ ap Gives is)))
+    go (Faults f) e m = absurd cc
+    go NoAnswer e m = tt
 
 -- rows of different lengths
 pub lengths_differ : (ks : List Taken) (ws : List V.Value) → (length ks ≡ length ws → ⊥) → are_taken (map Some ks) ws ≡ false

@@ -24,10 +24,9 @@ use Rattle.cpc_eval_index.specs.declared.meant.Meant as W
 use Rattle.cpc_eval_index.specs.declared.meant.Meant.TheVariants as V
 use Rattle.cpc_eval.specs.Around.{meant_in}
 use Rattle.cpc_eval.specs.Numbers.{HasNumbers}
-use Rattle.cpc_native_builtins.specs.Served.{is_served_program}
 use Rattle.cpc_native_frames.specs.Frames.{IsOwn}
 use Rattle.cpc_native_frames.specs.Living.{CanLeave}
-use Rattle.cpc_native_acts.specs.Calls.{calls_if, calls_known, IsNamed}
+use Rattle.cpc_native_acts.specs.Calls.{calls_if, calls_moded, IsNamed}
 use Rattle.cpc_native_acts.specs.Foreseen.{Foresees}
 use Rattle.cpc_native_acts.specs.declared.changes.Change.{Change}
 use Rattle.cpc_native_acts.specs.declared.changes.Change.TheVariants as C
@@ -109,6 +108,6 @@ module _ (P : Answer M.Act → Type 0) (k : E.Context) where
     pub global_called : (n : ℕ) (t : Bor CType) → m ≡ V.Global n t → meant_of names m ≡ meant_in k x → P (M.calls_value k (ENamed x) es) → P (M.calls_expr k (ENamed x) es)
     global_called n t i e h = subst P (global_calls k x es n (type_of names t.now) (ap (meant_of names) (sym i) ∙ e)) h
 
-    pub function_called : (mode : Mode) (t : Bor CType) (ps : Bor (List Parameter)) → m ≡ V.Function mode t ps → meant_of names m ≡ meant_in k x → is_served_program k.program ≡ true → P (calls_known k x es) → P (M.calls_expr k (ENamed x) es)
-    function_called mode t ps i e served h =
-        subst P (functions_call k x es mode (type_of names t.now) (map parameter_type (map (parameter_of names) ps.now)) served (ap (meant_of names) (sym i) ∙ e)) h
+    pub function_called : (mode : Mode) (t : Bor CType) (ps : Bor (List Parameter)) → m ≡ V.Function mode t ps → meant_of names m ≡ meant_in k x → P (calls_moded k x es mode) → P (M.calls_expr k (ENamed x) es)
+    function_called mode t ps i e h =
+        subst P (functions_call k x es mode (type_of names t.now) (map parameter_type (map (parameter_of names) ps.now)) (ap (meant_of names) (sym i) ∙ e)) h

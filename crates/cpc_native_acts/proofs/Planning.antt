@@ -21,10 +21,9 @@ use Rattle.cpc_eval_index.specs.declared.meant.Meant.TheVariants as V
 use Rattle.cpc_eval_index.specs.Meanings.{meant_of}
 use Rattle.cpc_eval.specs.Around.{meant_in}
 use Rattle.cpc_eval.specs.Numbers.{MaybeNumbers, HasNumbers}
-use Rattle.cpc_native_builtins.specs.Served.{is_served_program}
 use Rattle.cpc_native_acts.specs.Stops.{MeetsOr}
 use Rattle.cpc_native_acts.specs.Rows.{passed}
-use Rattle.cpc_native_acts.specs.Calls.{calls_if, calls_known}
+use Rattle.cpc_native_acts.specs.Calls.{calls_if, calls_moded}
 use Rattle.cpc_native_acts.specs.Deeds.{Stands, Plans, aimed, goes_on}
 use Rattle.cpc_native_acts.specs.declared.deeds.Deed.{Deed}
 use Rattle.cpc_native_acts.proofs.Stopping.{stands_same, stands_then, plans_by, plans_through}
@@ -84,11 +83,11 @@ module _ (names : Names) (k : E.Context) (x : Text) (es : Exprs) (r : Result Dee
   pub plans_global : (n : ℕ) (t : Bor CType) → m ≡ V.Global n t → meant_of names m ≡ meant_in k x → Plans names k r (M.calls_value k (ENamed x) es) → Plans names k r (M.calls_expr k (ENamed x) es)
   plans_global n t i e h = plans_by names k r (M.calls_value k (ENamed x) es) (M.calls_expr k (ENamed x) es) (global_calls k x es n (type_of names t.now) (ap (meant_of names) (sym i) ∙ e)) h
 
-  pub plans_function : (mode : Mode) (t : Bor CType) (ps : Bor (List Parameter)) → m ≡ V.Function mode t ps → meant_of names m ≡ meant_in k x → is_served_program k.program ≡ true → Plans names k r (calls_known k x es)
+  pub plans_function : (mode : Mode) (t : Bor CType) (ps : Bor (List Parameter)) → m ≡ V.Function mode t ps → meant_of names m ≡ meant_in k x → Plans names k r (calls_moded k x es mode)
       → Plans names k r (M.calls_expr k (ENamed x) es)
-  plans_function mode t ps i e served h =
-      plans_by names k r (calls_known k x es) (M.calls_expr k (ENamed x) es)
-      (functions_call k x es mode (type_of names t.now) (map parameter_type (map (parameter_of names) ps.now)) served (ap (meant_of names) (sym i) ∙ e)) h
+  plans_function mode t ps i e h =
+      plans_by names k r (calls_moded k x es mode) (M.calls_expr k (ENamed x) es)
+      (functions_call k x es mode (type_of names t.now) (map parameter_type (map (parameter_of names) ps.now)) (ap (meant_of names) (sym i) ∙ e)) h
 
 -- what may have numbers has them where it is there
 pub numbers_there : (p : Program) (o : Option Expr) (e : Expr) → o ≡ Some e → MaybeNumbers p o → HasNumbers p e

@@ -17,7 +17,8 @@ use Rattle.cpc_meaning.specs.Requests as R
 use Rattle.cpc_meaning.specs.Section.{allocated, freed}
 use Rattle.cpc_eval_values.specs.Meets.{Meets}
 use Rattle.cpc_eval.specs.Numbers.{HasNumbers, AllNumbers}
-use Rattle.cpc_native_acts.specs.Rows.{taken}
+use Rattle.cpc_native_acts.specs.Rows.{taken, longs}
+use Rattle.cpc_native_acts.specs.Calls.{calls_host}
 use Rattle.cpc_native_acts.specs.Foreseen.{Foresees, MakesSo, FreesSo, AsksSo, IsAlone, maker, freer}
 use Rattle.cpc_native_acts.specs.declared.changes.Change.{Change}
 use Rattle.cpc_native_acts.specs.declared.changes.Change.TheVariants as C
@@ -148,6 +149,12 @@ other_asked names c stood prim es (Some bytes) e f = nothing_asked c stood prim 
 other_asked names c stood prim es None e f =
     let Q : Answer M.Act → Type 0 = Foresees names c stood C.Stays in
     after_any Q tt (λ d. refl) (E.values c es) _ (λ vs. after_any Q tt (λ d. refl) (R.all_taken (R.takes c.program prim vs) vs) _ (λ ws. nothing_asked c stood prim ws e f))
+
+-- a function of the host neither makes nor frees a block
+pub host_asked : (names : Names) (c : E.Context) (stood : M.Stood) (x : Text) (es : Exprs) → Foresees names c stood C.Stays (calls_host c x es)
+host_asked names c stood x es =
+    let Q : Answer M.Act → Type 0 = Foresees names c stood C.Stays in
+    after_any Q tt (λ d. refl) (longs c es) _ (λ ws. refl)
 
 -- makers and freers have no string
 pub maker_no_text : (prim : R.Primitive) (class : Class) (es : Exprs) → Some class ≡ maker prim → None ≡ M.puts_text prim es

@@ -14,7 +14,6 @@ use Rattle.cpc_store.specs.Store.{StoreOf}
 use Rattle.cpc_store.specs.declared.values.Value as V
 use Rattle.cpc_store.specs.Seen.{seen, IsLawful}
 use Rattle.cpc_meaning.specs.Eval as E
-use Rattle.cpc_meaning.specs.Requests as R
 use Rattle.cpc_meaning.specs.Act as M
 use Rattle.cpc_meaning.specs.Plain.{context}
 use Rattle.cpc_meaning.specs.Trees.{trees, stood_at}
@@ -25,12 +24,12 @@ use Rattle.cpc_eval_index.specs.Indexed.{items_of}
 use Rattle.cpc_eval_variables.specs.Told.{IsTold}
 use Rattle.cpc_eval.specs.declared.around.Slot.{Slot}
 use Rattle.cpc_eval.specs.Numbers.{FoundNumbers}
-use Rattle.cpc_native_builtins.specs.Builtins.{primitive_of}
-use Rattle.cpc_native_builtins.specs.Served.{is_served, is_served_found, is_served_program}
+use Rattle.cpc_native_builtins.specs.Builtins.{asked_of}
+use Rattle.cpc_native_builtins.specs.Served.{IsServedCall, is_served_found, is_served_program}
 use Rattle.cpc_native_frames.specs.declared.frame.Frame.{Frame}
 use Rattle.cpc_native_frames.specs.Frames.{frame_of, IsOwn}
 use Rattle.cpc_native_frames.specs.Made.{slots_of}
-use Rattle.cpc_native_acts.specs.Taken.{IsAskedWith}
+use Rattle.cpc_native_acts.specs.Taken.{IsCalledWith}
 use Rattle.cpc_native_acts.specs.declared.act.Act.{Act}
 use Rattle.cpc_native_acts.specs.declared.act.Act.TheVariants as A
 
@@ -39,7 +38,7 @@ abbrev pub act_of : Names → List Slot → StoreOf Name → Act → M.Act
 act_of names slots s (A.GoesOn h) = M.GoesOn h (store_of names s) (slots_of names slots)
 act_of names slots s (A.Enters f vs) = M.Enters (function_of names f.now) (values_of names vs.items)
 act_of names slots s (A.Leaves v) = M.Leaves (value_of names v) (store_of names s)
-act_of names slots s (A.Asks b vs) = M.AsksFor (record { asked = R.Builtin (primitive_of b); arguments = values_of names vs.items })
+act_of names slots s (A.Asks call vs) = M.AsksFor (record { asked = asked_of names call; arguments = values_of names vs.items })
 
 -- the same, or why there is none
 abbrev pub acted : Names → List Slot → StoreOf Name → Result Act (Stop Fault) → Result M.Act (Stop Fault)
@@ -76,7 +75,7 @@ pub record IsTexts (names : Names) (index : Index) (table : Table) (frame : Fram
   pub spells : Spells table names
   pub numbers : StoodNumbers (items_of names index) (stood_of names frame)
 
--- where what is asked is served, in a program without functions of the host
+-- where what is asked is served
 pub record IsServing (names : Names) (index : Index) (frame : Frame) : Type 0 where
   pub program : is_served_program (items_of names index) ≡ true
   pub stood : is_served_stood (stood_of names frame) ≡ true
@@ -102,12 +101,12 @@ EntersOwn index _ = Unit {0}
 
 -- what it asks for is served
 abbrev pub AsksServed : Act → Type 0
-AsksServed (A.Asks b vs) = is_served (primitive_of b) ≡ true
+AsksServed (A.Asks call vs) = IsServedCall call
 AsksServed _ = Unit {0}
 
 -- what it asks for is asked with what it takes
 abbrev pub AsksTaken : Act → Type 0
-AsksTaken (A.Asks b vs) = IsAskedWith (primitive_of b) vs.items
+AsksTaken (A.Asks call vs) = IsCalledWith call vs.items
 AsksTaken _ = Unit {0}
 
 -- a call and a request change nothing

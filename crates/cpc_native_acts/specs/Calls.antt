@@ -11,13 +11,16 @@ use Rattle.cpc_tree.specs.Syntax.{Ty, Expr, ENamed, Exprs, Function, Program}
 use Rattle.cpc_tree.specs.Typing.{NotMeant, function_named, same_type, function_type, parameter_types, code_parameters}
 use Rattle.cpc_tree.specs.Primitives.{primitive_named}
 use Rattle.cpc_meaning.specs.Act as M
+use Rattle.cpc_meaning.specs.Requests.{Host}
+use Rattle.cpc_tree.specs.declared.program.Mode.{Mode}
+use Rattle.cpc_tree.specs.declared.program.Mode.TheVariants.{Extern}
 use Rattle.cpc_store.specs.Store.{Value, Unset, Null, Code}
 use Rattle.cpc_store.specs.declared.values.Value as V
 use Rattle.cpc_meaning.specs.Answer.{Answer, Gives, Faults, NoAnswer, ◌>>=◌, needed}
 use Rattle.cpc_meaning.specs.Eval as E
 use Rattle.cpc_eval_values.specs.Shown.{values_of}
 use Rattle.cpc_native_acts.specs.Stops.{seen_as}
-use Rattle.cpc_native_acts.specs.Rows.{passed}
+use Rattle.cpc_native_acts.specs.Rows.{passed, longs}
 
 -- whether there is a type, which is this one
 abbrev pub is_same : Option Ty → Ty → Bool
@@ -63,6 +66,17 @@ calls_if c x es None = M.calls_value c (ENamed x) es
 -- a call of a name that stands for a function
 abbrev pub calls_known : E.Context → Text → Exprs → Answer M.Act
 calls_known c x es = calls_if c x es (function_named c.program x)
+
+-- a call of a function of the host
+abbrev pub calls_host : E.Context → Text → Exprs → Answer M.Act
+calls_host c x es = do
+  ws ← longs c es
+  M.asks (Host x) ws
+
+-- a call of a name that stands for a function in this mode
+abbrev pub calls_moded : E.Context → Text → Exprs → Mode → Answer M.Act
+calls_moded c x es Extern = calls_host c x es
+calls_moded c x es mode = calls_known c x es
 
 -- a call of a name that stands for no variable and no function
 abbrev pub calls_unmeant : E.Context → Text → Exprs → Answer M.Act

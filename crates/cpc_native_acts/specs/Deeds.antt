@@ -13,16 +13,15 @@ use Rattle.cpc_store.specs.Seen.{seen, IsLawful}
 use Rattle.cpc_store.specs.declared.values.Value as V
 use Rattle.cpc_meaning.specs.Answer.{Answer, Gives, ◌>>=◌, needed}
 use Rattle.cpc_meaning.specs.Eval as E
-use Rattle.cpc_meaning.specs.Requests as R
 use Rattle.cpc_meaning.specs.Act as M
 use Rattle.cpc_eval_values.specs.Meets.{Meets}
 use Rattle.cpc_eval_values.specs.Shown.{value_of, values_of}
 use Rattle.cpc_eval.specs.declared.places.Spot.{Spot}
 use Rattle.cpc_eval.specs.Spots.{spot_of}
-use Rattle.cpc_native_builtins.specs.Builtins.{primitive_of}
-use Rattle.cpc_native_builtins.specs.Served.{is_served}
+use Rattle.cpc_native_builtins.specs.Builtins.{asked_of}
+use Rattle.cpc_native_builtins.specs.Served.{IsServedCall}
 use Rattle.cpc_native_acts.specs.Stops.{seen_as}
-use Rattle.cpc_native_acts.specs.Taken.{IsAskedWith}
+use Rattle.cpc_native_acts.specs.Taken.{IsCalledWith}
 use Rattle.cpc_native_acts.specs.declared.deeds.Deed.{Deed}
 use Rattle.cpc_native_acts.specs.declared.deeds.Deed.TheVariants as D
 
@@ -40,7 +39,7 @@ did names c (D.Enters x vs) = do
   f ← needed (function_named c.program (names x))
   Gives (M.Enters f (values_of names vs.items))
 did names c (D.Leaves v) = M.leaves c (value_of names v)
-did names c (D.Asks b vs) = M.asks (R.Builtin (primitive_of b)) (values_of names vs.items)
+did names c (D.Asks call vs) = M.asks (asked_of names call) (values_of names vs.items)
 
 -- what meets one answer meets another
 abbrev pub Stands : {A : Type 0} → (by for : Answer A) → Type 0
@@ -62,12 +61,12 @@ IsLawfulDeed (D.Asks b vs) = All (λ v. IsLawful (seen v)) vs.items
 
 -- what a deed asks for is served
 abbrev pub IsServedDeed : Deed → Type 0
-IsServedDeed (D.Asks b vs) = is_served (primitive_of b) ≡ true
+IsServedDeed (D.Asks call vs) = IsServedCall call
 IsServedDeed _ = Unit {0}
 
 -- what a deed asks for is asked with what it takes
 abbrev pub IsTakenDeed : Deed → Type 0
-IsTakenDeed (D.Asks b vs) = IsAskedWith (primitive_of b) vs.items
+IsTakenDeed (D.Asks call vs) = IsCalledWith call vs.items
 IsTakenDeed _ = Unit {0}
 
 -- a place, and what is assigned to it

@@ -9,7 +9,7 @@ use Rattle.cpc_tree.specs.Primitives.{Primitive, Taken, takes_first}
 use Rattle.cpc_store.specs.Store.{Value}
 use Rattle.cpc_meaning.specs.Answer.{Answer, Gives, ◌>>=◌, needed}
 use Rattle.cpc_meaning.specs.Eval as E
-use Rattle.cpc_meaning.specs.Requests.{arguments, all_taken, byte_values}
+use Rattle.cpc_meaning.specs.Requests.{arguments, all_taken, all_long, byte_values}
 use Rattle.cpc_native_acts.specs.declared.rows.Row.{Row}
 use Rattle.cpc_native_acts.specs.declared.rows.Row.TheVariants as W
 
@@ -45,6 +45,12 @@ abbrev pub taken : E.Context → List Taken → Exprs → Answer (List Value)
 taken c ts es = do
   vs ← E.values c es
   all_taken ts vs
+
+-- the values of arguments as the host takes them
+abbrev pub longs : E.Context → Exprs → Answer (List Value)
+longs c es = do
+  vs ← E.values c es
+  all_long vs
 
 -- the bytes of a string
 abbrev pub text_in : Expr → Option Text

@@ -1,7 +1,7 @@
 -- Arguments as primitives take them: one for each that is taken, of its kind, and set where it is to be set.
 use Rattle.std.specs.Prelude.{◌≡◌, Bool, true, false, ◌&&◌, List, [], ◌∷◌, map, Option, Some}
 use Rattle.std.specs.List.{All}
-use Rattle.cpc_num.specs.declared.kinds.Kind.TheVariants.{UChar}
+use Rattle.cpc_num.specs.declared.kinds.Kind.TheVariants.{UChar, Long}
 use Rattle.cpc_tree.specs.Primitives as P
 use Rattle.cpc_store.specs.Store.{ValueOf, Unset, Whole, suits}
 use Rattle.cpc_store.specs.Seen.{seen}
@@ -10,6 +10,9 @@ use Rattle.cpc_store.specs.declared.values.Value.TheVariants as W
 use Rattle.cpc_eval_values.specs.declared.assignment.Taken.{Taken}
 use Rattle.cpc_eval_values.specs.declared.assignment.Taken.TheVariants.{AnyInteger, SetOf, FreeOf}
 use Rattle.cpc_eval_values.specs.Takes.{taken_of}
+use Rattle.cpc_native_builtins.specs.declared.call.Call.{Call}
+use Rattle.cpc_native_builtins.specs.declared.call.Call.TheVariants as C
+use Rattle.cpc_native_builtins.specs.Builtins.{primitive_of}
 
 -- a value that is set
 abbrev pub is_set : {C : Type 0} → ValueOf C → Bool
@@ -41,7 +44,17 @@ abbrev pub IsByte : V.Value → Type 0
 IsByte (W.Int UChar z) = Unit {0}
 IsByte _ = ⊥
 
+-- a value of long
+abbrev pub IsLong : V.Value → Type 0
+IsLong (W.Int kind z) = kind ≡ Long
+IsLong _ = ⊥
+
 -- the arguments with which a primitive is asked for: what it takes; of `cpc_puts` the bytes of its string
 abbrev pub IsAskedWith : P.Primitive → List V.Value → Type 0
 IsAskedWith P.Puts vs = All IsByte vs
 IsAskedWith prim vs = IsTaken (P.takes_first prim) vs
+
+-- those with which a primitive is called, or a function of the host, which takes set values of long
+abbrev pub IsCalledWith : Call → List V.Value → Type 0
+IsCalledWith (C.Builtin b) vs = IsAskedWith (primitive_of b) vs
+IsCalledWith (C.Host x) vs = All IsLong vs

@@ -22,7 +22,7 @@ use crate::places::write;
 use cpc_base::{Name, Names, Stop};
 use cpc_eval::{Around, Slot};
 use cpc_eval_index::Index;
-use cpc_native_builtins::Builtin;
+use cpc_native_builtins::Call;
 use cpc_native_frames::{Frame, leave};
 use cpc_native_points::{Phase, standing};
 use cpc_num::Fault;
@@ -40,7 +40,7 @@ pub enum Act<'p> {
     /// The function is left with this value, its blocks freed.
     Leaves(Value),
     /// The machine is asked.
-    Asks(Builtin, Vec<Value>),
+    Asks(Call, Vec<Value>),
 }
 
 // What is to be done where a frame stands, where this value is arriving.
@@ -132,7 +132,7 @@ fn perform<'p>(
             stopped(leave(slots, store))?;
             Ok(Act::Leaves(value))
         }
-        Deed::Asks(builtin, row) => Ok(Act::Asks(builtin, row)),
+        Deed::Asks(call, row) => Ok(Act::Asks(call, row)),
     }
 }
 

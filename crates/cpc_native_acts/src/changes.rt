@@ -17,7 +17,7 @@ ghost use Rattle.cpc_eval.specs.Spots.{AreLawful};
 ghost use Rattle.cpc_native_builtins.specs.Served.{calls_served, is_served_stmt, is_served_found, is_served_program};
 ghost use Rattle.cpc_native_frames.specs.Frames.{IsOwn, IsWellFrame, RiseFrom};
 ghost use Rattle.cpc_native_acts.specs.Acts.{stood_of, context_in, IsTexts, IsServing};
-ghost use Rattle.cpc_native_acts.specs.Calls.{calls_known, calls_unmeant};
+ghost use Rattle.cpc_native_acts.specs.Calls.{calls_known, calls_moded, calls_unmeant};
 ghost use Rattle.cpc_native_frames.specs.Made.{slots_of};
 ghost use Rattle.cpc_native_acts.specs.Foreseen.{Foresees, EntersOwnly, Tells, told_of, calling};
 
@@ -31,7 +31,7 @@ use cpc_eval_index::{Index, Meant};
 use cpc_native_frames::{Frame, slots_cells};
 use cpc_native_points::{Found, Phase, standing};
 use cpc_store::Store;
-use cpc_tree::program::{CType, Expr, Function, Statement};
+use cpc_tree::program::{CType, Expr, Function, Mode, Statement};
 
 /// What a step of a frame does to the live cells.
 #[derive(Clone, Copy, Debug)]
@@ -96,6 +96,25 @@ fn function_called<'a>(
     }
 }
 
+// A call of a name that stands for a function in this mode. One of the host changes nothing.
+fn item_called<'a>(
+    mode: Mode,
+    name: Name,
+    function: &'a Expr,
+    arguments: &'a [Expr],
+    around: &Around<'a>,
+) -> Change<'a>
+    requires slots { AreLawful around.now.slots.now }
+    ensures value { (names : Texts) (stood : M.Stood) → IsToldIn names around.now → expr_of names function.now ≡ Y.ENamed (names name) → AllNumbers (items_of names around.now.index.now) (exprs_of names arguments.now)
+        → Foresees names (context_of names around.now) stood result (calls_moded (context_of names around.now) (names name) (exprs_of names arguments.now) mode) }
+    ensures own { EntersOwnly around.now.index.now result }
+{
+    match mode {
+        Mode::Extern => Change::Stays,
+        _ => function_called(name, function, arguments, around),
+    }
+}
+
 // A call of a name that stands for nothing else: of a primitive.
 fn primitive_called<'a>(
     name: Name,
@@ -137,7 +156,7 @@ fn name_called<'a>(
     match around.meant(name) {
         Some(Meant::Local { .. }) => value_called(function, arguments, around),
         Some(Meant::Global { .. }) => value_called(function, arguments, around),
-        Some(Meant::Function { .. }) => function_called(name, function, arguments, around),
+        Some(Meant::Function { mode, .. }) => item_called(mode, name, function, arguments, around),
         None => primitive_called(name, target, function, arguments, around, texts),
     }
 }

@@ -13,21 +13,21 @@ ghost use Rattle.cpc_eval.specs.Around.{context_of, IsToldIn};
 ghost use Rattle.cpc_eval.specs.Numbers.{HasNumbers, MaybeNumbers, AllNumbers, StmtNumbers, FoundNumbers};
 ghost use Rattle.cpc_eval.specs.Spots.{AreLawful};
 ghost use Rattle.cpc_native_builtins.specs.Served.{calls_served, is_served_stmt, is_served_found, is_served_program};
-ghost use Rattle.cpc_native_acts.specs.Calls.{calls_known, calls_unmeant};
+ghost use Rattle.cpc_native_acts.specs.Calls.{calls_known, calls_host, calls_moded, calls_unmeant};
 ghost use Rattle.cpc_native_acts.specs.Deeds.{Plans, IsLawfulDeed, IsServedDeed, IsTakenDeed, goes_on};
 
 use crate::below::{stopped, value};
 use crate::calls::{builtin_at, value_called};
 use crate::places::{aimed, aimed_at, returned, right_value, test_held};
-use crate::rows::{Row, asked_with, passed};
+use crate::rows::{Row, asked_with, longs, passed};
 use cpc_base::{Name, Names, Stop};
 use cpc_eval::{Around, Spot};
 use cpc_eval_index::Meant;
-use cpc_native_builtins::Builtin;
+use cpc_native_builtins::Call;
 use cpc_native_points::Found;
 use cpc_num::{Fault, Op};
 use cpc_store::Value;
-use cpc_tree::program::{CType, Expr, Statement, Word};
+use cpc_tree::program::{CType, Expr, Mode, Statement, Word};
 use std::alloc::Global;
 
 /// What is to be done.
@@ -42,7 +42,7 @@ pub(crate) enum Deed {
     /// The function is left.
     Leaves(Value),
     /// The machine is asked.
-    Asks(Builtin, Vec<Value>),
+    Asks(Call, Vec<Value>),
 }
 
 // An assignment.
@@ -129,6 +129,46 @@ fn calls_function<'a>(
     }
 }
 
+// A call of a function of the host.
+fn calls_host<'a>(
+    alloc: Global,
+    name: Name,
+    arguments: &'a [Expr],
+    around: &Around<'a>,
+) -> Result<Deed, Stop<Fault>>
+    requires { AreLawful around.now.slots.now }
+    ensures value { (names : Texts) → IsToldIn names around.now → AllNumbers (items_of names around.now.index.now) (exprs_of names arguments.now)
+        → Plans names (context_of names around.now) result (calls_host (context_of names around.now) (names name) (exprs_of names arguments.now)) }
+    ensures lawful { IfOk result (λ d. IsLawfulDeed d) }
+    ensures served { IfOk result (λ d. IsServedDeed d) }
+    ensures takes { IfOk result (λ d. IsTakenDeed d) }
+{
+    let row = longs(alloc, arguments, around)?;
+    Ok(Deed::Asks(Call::Host(name), row))
+}
+
+// A call of a name that stands for a function in this mode.
+fn calls_item<'a>(
+    alloc: Global,
+    mode: Mode,
+    name: Name,
+    function: &'a Expr,
+    arguments: &'a [Expr],
+    around: &Around<'a>,
+) -> Result<Deed, Stop<Fault>>
+    requires { AreLawful around.now.slots.now }
+    ensures value { (names : Texts) → IsToldIn names around.now → expr_of names function.now ≡ Y.ENamed (names name) → AllNumbers (items_of names around.now.index.now) (exprs_of names arguments.now)
+        → Plans names (context_of names around.now) result (calls_moded (context_of names around.now) (names name) (exprs_of names arguments.now) mode) }
+    ensures lawful { IfOk result (λ d. IsLawfulDeed d) }
+    ensures served { IfOk result (λ d. IsServedDeed d) }
+    ensures takes { IfOk result (λ d. IsTakenDeed d) }
+{
+    match mode {
+        Mode::Extern => calls_host(alloc, name, arguments, around),
+        _ => calls_function(alloc, name, function, arguments, around),
+    }
+}
+
 // A call of a name that stands for nothing else: of a primitive.
 fn calls_primitive<'a>(
     alloc: Global,
@@ -148,7 +188,7 @@ fn calls_primitive<'a>(
     match builtin_at(texts, name) {
         Some(builtin) => {
             let row = asked_with(alloc, builtin, arguments, around)?;
-            Ok(Deed::Asks(builtin, row))
+            Ok(Deed::Asks(Call::Builtin(builtin), row))
         }
         None => calls_value(alloc, function, arguments, around),
     }
@@ -173,7 +213,9 @@ fn calls_named<'a>(
     match around.meant(name) {
         Some(Meant::Local { .. }) => calls_value(alloc, function, arguments, around),
         Some(Meant::Global { .. }) => calls_value(alloc, function, arguments, around),
-        Some(Meant::Function { .. }) => { calls_function(alloc, name, function, arguments, around) }
+        Some(Meant::Function { mode, .. }) => {
+            calls_item(alloc, mode, name, function, arguments, around)
+        }
         None => calls_primitive(alloc, name, function, arguments, around, texts),
     }
 }

@@ -1,10 +1,12 @@
 //! Whether values are those that a primitive takes.
-ghost use Rattle.std.specs.Prelude.{◌≡◌, Some, map};
+ghost use Rattle.std.specs.Prelude.{◌≡◌, ◌↔◌, IsTrue, Some, map};
+ghost use Rattle.std.specs.List.{All};
 ghost use Rattle.cpc_store.specs.Seen.{seen};
 ghost use Rattle.cpc_store.specs.Store as S;
-ghost use Rattle.cpc_native_acts.specs.Taken.{is_set, is_integer, is_taken_as, are_taken};
+ghost use Rattle.cpc_native_acts.specs.Taken.{is_set, is_integer, is_taken_as, are_taken, IsLong};
 
 use cpc_eval_values::Taken;
+use cpc_num::Kind;
 use cpc_store::{Scalar, Value};
 
 // Whether a value is set.
@@ -66,4 +68,21 @@ pub(crate) fn are_taken(takes: &[Taken], values: &[Value]) -> bool
         }
     }
     true
+}
+
+// Whether a value is one of long.
+fn is_long(value: Value) -> bool
+    ensures { IsTrue result ↔ IsLong value }
+{
+    match value {
+        Value::Int(kind, _) => kind == Kind::Long,
+        _ => false,
+    }
+}
+
+/// Whether all values are of long.
+pub(crate) fn are_long(values: &[Value]) -> bool
+    ensures { IsTrue result ↔ All IsLong values.now }
+{
+    values.iter().all(|value| is_long(*value))
 }

@@ -17,14 +17,14 @@ ghost use Rattle.cpc_eval.specs.Numbers.{AllNumbers};
 ghost use Rattle.cpc_eval.specs.Spots.{AreLawful};
 ghost use Rattle.cpc_native_builtins.specs.Builtins.{primitive_of};
 ghost use Rattle.cpc_native_acts.specs.Stops.{MeetsOr, row_shown};
-ghost use Rattle.cpc_native_acts.specs.Taken.{are_taken, IsByte, IsAskedWith};
-ghost use Rattle.cpc_native_acts.specs.Rows.{row_types, parameter_list, by_nth, passed, taken, asked_with, text_in};
+ghost use Rattle.cpc_native_acts.specs.Taken.{are_taken, IsByte, IsLong, IsAskedWith};
+ghost use Rattle.cpc_native_acts.specs.Rows.{row_types, parameter_list, by_nth, passed, taken, longs, asked_with, text_in};
 
 use crate::below::{stopped, value};
-use crate::fits::are_taken;
+use crate::fits::{are_long, are_taken};
 use cpc_base::{NoMemory, Stop};
 use cpc_eval::Around;
-use cpc_eval_values::{Taken, assigned, taken_as};
+use cpc_eval_values::{Taken, all_long, assigned, taken_as};
 use cpc_native_builtins::{Builtin, takes};
 use cpc_num::{Fault, Kind};
 use cpc_store::Value;
@@ -189,6 +189,40 @@ fn taken<'a>(
 {
     let mut row = values(alloc, arguments, around)?;
     stopped(take_row(takes, &mut row))?;
+    Ok(row)
+}
+
+// Makes of arguments what a function of the host takes. `Kind` where they are no such row, of which no rule says anything.
+fn long_row(values: &mut [Value]) -> Result<(), Fault>
+    requires { All (λ v. IsLawful (seen v)) values.old }
+    ensures value { (names : Names) → Meets (result_map_both (λ _. values_of names values.new) (λ fault. fault) result) (R.all_long (values_of names values.old)) }
+    ensures lawful { All (λ v. IsLawful (seen v)) values.new }
+    ensures takes { OnOk result (All IsLong values.new) }
+{
+    all_long(values)?;
+    if are_long(values) {
+        Ok(())
+    } else {
+        Err(Fault::Kind)
+    }
+}
+
+/// The values of arguments of a function of the host.
+///
+/// The faults are those of `cpc_eval`, from left to right, and then `Unset` of the first that is not set.
+pub(crate) fn longs<'a>(
+    alloc: Global,
+    arguments: &'a [Expr],
+    around: &Around<'a>,
+) -> Result<Vec<Value>, Stop<Fault>>
+    requires { AreLawful around.now.slots.now }
+    ensures value { (names : Names) → IsToldIn names around.now → AllNumbers (items_of names around.now.index.now) (exprs_of names arguments.now)
+        → MeetsOr (row_shown names result) (longs (context_of names around.now) (exprs_of names arguments.now)) }
+    ensures lawful { IfOk result (λ vs. All (λ v. IsLawful (seen v)) vs.items) }
+    ensures takes { IfOk result (λ vs. All IsLong vs.items) }
+{
+    let mut row = values(alloc, arguments, around)?;
+    stopped(long_row(&mut row))?;
     Ok(row)
 }
 

@@ -2,10 +2,14 @@
 use Rattle.std.specs.Prelude.{List, [], ◌∷◌, Option, Some, None, codes}
 use Rattle.cpc_base.specs.Bytes.{Text}
 use Rattle.cpc_tree.specs.Primitives as P
-use Rattle.cpc_native_builtins.specs.declared.builtins.Builtin.{Builtin}
+use Rattle.cpc_tree.specs.Erase.{Names}
+use Rattle.cpc_meaning.specs.Requests.{Asked, Builtin, Host}
+use Rattle.cpc_native_builtins.specs.declared.builtins.Builtin as D
 use Rattle.cpc_native_builtins.specs.declared.builtins.Builtin.TheVariants as B
+use Rattle.cpc_native_builtins.specs.declared.call.Call.{Call}
+use Rattle.cpc_native_builtins.specs.declared.call.Call.TheVariants as C
 
-abbrev pub primitive_of : Builtin → P.Primitive
+abbrev pub primitive_of : D.Builtin → P.Primitive
 primitive_of B.Print = P.Print
 primitive_of B.Putc = P.Putc
 primitive_of B.Puts = P.Puts
@@ -30,6 +34,11 @@ primitive_of B.RtWait = P.RtWait
 primitive_of B.RtSleep = P.RtSleep
 primitive_of B.RtIo = P.RtIo
 primitive_of B.RtDetach = P.RtDetach
+
+-- what is asked for: a primitive, or a function of the host
+abbrev pub asked_of : Names → Call → Asked
+asked_of names (C.Builtin b) = Builtin (primitive_of b)
+asked_of names (C.Host x) = Host (names x)
 
 -- the first, or else the second
 abbrev pub or_primitive : Option P.Primitive → Option P.Primitive → Option P.Primitive

@@ -1,10 +1,11 @@
 -- Programs whose code asks only for what the loop answers so far.
-use Rattle.std.specs.Prelude.{Bool, true, false, ◌&&◌, not, [], ◌∷◌, Option, Some, None}
-use Rattle.cpc_tree.specs.Syntax.{Expr, ENamed, Stmt, Block, Call, Detach, Spawn, If, While, DoWhile, For, Label, Stmts, NoStmt, AndStmt, MaybeStmt, Absent, Present, Function, Item, PrototypeItem, FunctionItem, Program}
+use Rattle.std.specs.Prelude.{◌≡◌, Bool, true, false, ◌&&◌, [], ◌∷◌, Option, Some, None}
+use Rattle.cpc_tree.specs.Syntax.{Expr, ENamed, Stmt, Block, Call, Detach, Spawn, If, While, DoWhile, For, Label, Stmts, NoStmt, AndStmt, MaybeStmt, Absent, Present, Function, Item, FunctionItem, Program}
 use Rattle.cpc_tree.specs.Primitives.{Primitive, Print, Putc, Puts, Now, CondNew, CondFree, Signal, SignalAll, Exit, Malloc, Free, RtFrame, RtBox, RtFrameFree, RtUnbox, RtReady, RtWait, RtSleep, RtIo, primitive_named}
 use Rattle.cpc_tree.specs.Points.{Found, Simple}
-use Rattle.cpc_tree.specs.declared.program.Mode.{Mode}
-use Rattle.cpc_tree.specs.declared.program.Mode.TheVariants.{Extern}
+use Rattle.cpc_native_builtins.specs.declared.call.Call as H
+use Rattle.cpc_native_builtins.specs.declared.call.Call.TheVariants as C
+use Rattle.cpc_native_builtins.specs.Builtins.{primitive_of}
 
 -- a primitive that the loop answers
 abbrev pub is_served : Primitive → Bool
@@ -66,17 +67,17 @@ abbrev pub is_served_found : Found → Bool
 is_served_found (Simple s) = is_served_stmt s
 is_served_found f = true
 
--- a function of the host
-abbrev pub is_extern : Mode → Bool
-is_extern Extern = true
-is_extern mode = false
-
+-- an item; a function of the host is served whatever it is called with
 abbrev pub is_served_item : Item → Bool
-is_served_item (PrototypeItem mode f r ps) = not (is_extern mode)
-is_served_item (FunctionItem f) = not (is_extern f.mode) && is_served_stmt f.body
+is_served_item (FunctionItem f) = is_served_stmt f.body
 is_served_item x = true
 
 -- a program that asks only for what the loop answers
 abbrev pub is_served_program : Program → Bool
 is_served_program [] = true
 is_served_program (x ∷ items) = is_served_item x && is_served_program items
+
+-- a primitive that the loop answers, or a function of the host
+abbrev pub IsServedCall : H.Call → Type 0
+IsServedCall (C.Builtin b) = is_served (primitive_of b) ≡ true
+IsServedCall (C.Host x) = Unit {0}

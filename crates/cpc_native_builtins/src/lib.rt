@@ -2,7 +2,9 @@
 #![tactic(auto)]
 
 mod builtins;
+mod call;
 mod taking;
 
 pub use builtins::{Builtin, builtin_named};
+pub use call::Call;
 pub use taking::takes;

@@ -32,7 +32,7 @@ use std::alloc::Global;
 pub enum Refusal {
     /// It is not accepted.
     Text(TextFault),
-    /// It is accepted, and asks here for what is not served yet: a section, or a function of the host.
+    /// It is accepted, and submits a section here, which is not served yet.
     Form(Place),
 }
 

@@ -38,9 +38,9 @@ returns-in-Some-Function-clause-value c = λ names told spells served hf hs m he
     let f = expr_of names c.args.function.now in
     let es = exprs_of names c.args.arguments.now in
     let stood = calling (option_map (expr_of names) c.args.target.now) f es in
-    let P : Answer M.Act → Type 0 = Foresees names k stood c.function_called.result in
-    function_called P k (names c.args.name) es names c.in-Some-Function.field-0 _ _ _ c.in-Some-Function.field-0-is (c.in-Some-Function.ensures.meant names told) served
-    (c.function_called.ensures.value names stood told hf hes)
+    let P : Answer M.Act → Type 0 = Foresees names k stood c.item_called.result in
+    function_called P k (names c.args.name) es names c.in-Some-Function.field-0 _ _ _ c.in-Some-Function.field-0-is (c.in-Some-Function.ensures.meant names told)
+    (c.item_called.ensures.value names stood told hf hes)
 
 pub returns-in-None-clause-value : goal.returns-in-None-clause-value
 returns-in-None-clause-value c = λ names told spells served hf hs m hes.

@@ -31,8 +31,8 @@ returns-in-Some-Global-clause-value c = λ names told spells served hf hs hes.
 
 pub returns-in-Some-Function-clause-value : goal.returns-in-Some-Function-clause-value
 returns-in-Some-Function-clause-value c = λ names told spells served hf hs hes.
-    plans_function names (context_of names c.args.around.now) (names c.args.name) (exprs_of names c.args.arguments.now) c.calls_function.result c.in-Some-Function.field-0 _ _ _
-    c.in-Some-Function.field-0-is (c.in-Some-Function.ensures.meant names told) served (c.calls_function.ensures.value names told hf hes)
+    plans_function names (context_of names c.args.around.now) (names c.args.name) (exprs_of names c.args.arguments.now) c.calls_item.result c.in-Some-Function.field-0 _ _ _
+    c.in-Some-Function.field-0-is (c.in-Some-Function.ensures.meant names told) (c.calls_item.ensures.value names told hf hes)
 
 pub returns-in-None-clause-value : goal.returns-in-None-clause-value
 returns-in-None-clause-value c = λ names told spells served hf hs hes.

@@ -6,6 +6,7 @@ use Rattle.cpc_meaning.specs.Act as M
 use Rattle.cpc_eval_values.specs.Shown.{values_of}
 use Rattle.cpc_eval.specs.Around.{context_of}
 use Rattle.cpc_native_builtins.specs.Builtins.{primitive_of}
+use Rattle.cpc_native_builtins.specs.declared.call.Call.TheVariants as C
 use Rattle.cpc_native_builtins.specs.Served.{is_served, serves}
 use Rattle.cpc_native_acts.specs.Rows.{asked_with}
 use Rattle.cpc_native_acts.specs.Calls.{calls_unmeant}
@@ -36,6 +37,6 @@ returns-in_ok-row-in-Some-clause-value c = λ names told spells hf hs hes.
     let e = c.in-Some.ensures names spells in
     let served : is_served prim ≡ true = ap serves e ∙ hs in
     let o = M.puts_text prim es in
-    let d = D.Asks c.in-Some.builtin c.in_ok-row-in-Some.row in
+    let d = D.Asks (C.Builtin c.in-Some.builtin) c.in_ok-row-in-Some.row in
     plans_by names k (Ok d) (asked_with k prim es o >>= M.asks (R.Builtin prim)) (calls_unmeant k x es) (sym (asks_parts k c.in-Some.builtin es o served) ∙ unmeant_asks k x es prim e)
     (plans_then names k (values_of names c.in_ok-row-in-Some.row.items) (asked_with k prim es o) (M.asks (R.Builtin prim)) d (c.in_ok-row-in-Some.ensures.value names told hes) refl)

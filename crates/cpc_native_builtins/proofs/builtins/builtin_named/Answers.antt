@@ -1,6 +1,5 @@
-use Rattle.std.proofs.Common.{◌≡◌, ◌++◌, Option, sym, ap, ◌∙◌}
-use Rattle.cpc_tree.specs.Primitives.{Primitive, primitive_in}
-use Rattle.cpc_native_builtins.specs.Builtins.{or_primitive, printing, signalling, waiting, framing, scheduling}
+use Rattle.std.proofs.Common.{◌++◌}
+use Rattle.cpc_native_builtins.specs.Builtins.{printing, signalling, waiting, framing, scheduling}
 use Rattle.cpc_native_builtins.proofs.Groups.{both_found}
 use Rattle.cpc_native_builtins.proofs.builtins.builtin_named.Goals as goal
 
