@@ -75,6 +75,14 @@ pub made_so : (class : Class) (kind : Kind) (count : ℤ) (cells : ℕ) (s : Sto
     → allocated class (Whole kind count) s ≡ Gives (alloc class (unset_cells cells) s, At class (next_block class s) 0)
 made_so class kind count cells s e f = simp (e, f) refl
 
+-- an outcome that is told is one of a run that is over
+pub not_going : (names : Names) (o : Outcome) → outcome_of names o ≡ T.Going → ⊥
+not_going names (O.Ended n) e = cc e
+not_going names (O.Exited z) e = cc e
+not_going names (O.Failed fault f) e = cc e
+not_going names O.HistoryEnded e = cc e
+not_going names (O.BadHistory n) e = cc e
+
 -- a loop in the middle, in which a pointer arrived, and the same with the block it leads to
 module _ (names : Names) (l mid : Loop) (printed : Text) (s : States) (class : Class) (cells : ℕ) (v : Value) (dynamic : ¬ (class ≡ Static)) (made : IsMadeCode s.store (stack_in names l.machine)) (going : s.outcome ≡ T.Going) where
   abbrev p : Form Point
@@ -104,15 +112,8 @@ module _ (names : Names) (l mid : Loop) (printed : Text) (s : States) (class : C
   went_on new grows (Faults fault) h = absurd (let g = h.going in cc g)
   went_on new grows NoAnswer h = tt
 
-  not_going : (o : Outcome) → outcome_of names o ≡ T.Going → ⊥
-  not_going (O.Ended n) e = cc e
-  not_going (O.Exited z) e = cc e
-  not_going (O.Failed fault f) e = cc e
-  not_going O.HistoryEnded e = cc e
-  not_going (O.BadHistory n) e = cc e
-
   gone : (o : Outcome) (a : Answer (Done Point)) → Did {E = NoMemory} names (Ok (Some o)) mid printed s (settles names l s (a >>= after_done s)) → Did {E = NoMemory} names (Ok (Some o)) mid printed s (settles names l s (with_it a))
-  gone o (Gives (Went t j)) h = absurd (not_going o (sym (ap (λ (u : States). u.outcome) h) ∙ going))
+  gone o (Gives (Went t j)) h = absurd (not_going names o (sym (ap (λ (u : States). u.outcome) h) ∙ going))
   gone o (Gives (Returned w t)) h = tt
   gone o (Gives (Asks r)) h = tt
   gone o (Faults fault) h = h

@@ -43,7 +43,7 @@ use Rattle.cpc_run.specs.declared.outcome.Limits.{Limits}
 use Rattle.cpc_run.specs.declared.outcome.RunReport.{RunReport}
 use Rattle.cpc_run.specs.Shown.{shown}
 use Rattle.cpc_run.specs.States.{IsCallback, SameLists, Stands}
-use Rattle.cpc_run.specs.Reports.{NeverStuck, Begins, Opened, EndsSo, IsLeft, Tells, Wrote, run_of}
+use Rattle.cpc_run.specs.Reports.{NeverStuck, Begins, Opened, EndsSo, IsBrokenOff, IsLeft, Tells, Wrote, run_of}
 use Rattle.cpc_run.proofs.Making.{first_made}
 use Rattle.cpc_run.proofs.Marks.{nothing_shown}
 use Rattle.cpc_run.proofs.Runs.{AtEnd, ends_told}
@@ -51,14 +51,22 @@ use Rattle.cpc_run.proofs.Weighed.{uncapped}
 
 -- ---- names
 
+-- a name of the table has its text
+pub text_is : (names : Names) (table : Table) (name : Name) (text : Text) → Spells table names → slice_get table name.0 ≡ Some text → names name ≡ text
+text_is names table name text spells e = spells.inside name (slice_get_within table name.0 text e) ∙ get_or_from_slice_get table name.0 text [] e
+
 -- the name of `main` has its text
 pub main_is : (names : Names) (table : Table) (name : Name) → Spells table names → slice_get table name.0 ≡ Some main_name → names name ≡ main_name
-main_is names table name spells e = spells.inside name (slice_get_within table name.0 main_name e) ∙ get_or_from_slice_get table name.0 main_name [] e
+main_is names table name spells e = text_is names table name main_name spells e
 
 -- ---- the beginning
 
 none_taken : (n : ℕ) → n ≡ 0 + n
 none_taken n = omega arith
+
+-- no step was made
+broken_first : (q : Program) (h : History) (limits : Limits) → IsBrokenOff q h limits.steps 0
+broken_first q h limits = record { within = omega arith; going = λ m lt. absurd (omega (arith, lt)) }
 
 -- memory was wanting before the first state
 pub starved_first : (names : Names) (q : Program) (h : History) (limits : Limits) (trace : Bool) (told : Option Text) → Wrote told told (Tells names q h limits trace (record { ended = E.Memory; steps = 0; cells = 0; polls = 0 }))
@@ -66,7 +74,7 @@ starved_first names q h limits trace told = (
   [],
   sym (append_known-nil told),
   record {
-    left = tt;
+    left = broken_first q h limits;
     wrote = record { rest = shown trace (run_of q h 0).trace; whole = refl };
     cells = inr (refl, refl, refl);
     bounded = λ m pos le. absurd (omega arith);
@@ -76,7 +84,7 @@ starved_first names q h limits trace told = (
 
 -- nothing was put out in the first state
 pub at_first : (q : Program) (h : History) (limits : Limits) (trace : Bool) (first : ℕ) (whole : Text) → whole ≡ [] → first ≡ live_cells (run_of q h 0) → AtEnd q h limits trace 0 first 0 whole
-at_first q h limits trace first whole none e = record { wrote = none ∙ sym (nothing_shown trace); cells_are = e; bounded = λ m pos le. absurd (omega arith); polls_are = none_taken (length h.polls) }
+at_first q h limits trace first whole none e = record { wrote = none ∙ sym (nothing_shown trace); cells_are = e; bounded = λ m pos le. absurd (omega arith); polls_are = none_taken (length h.polls); broken_off = broken_first q h limits }
 
 -- the first state has too many cells
 pub full_first : (table : Table) (q : Program) (h : History) (limits : Limits) (trace : Bool) (first : ℕ) (due result : RunReport) (pending : Text) (told now : Option Text) → due ≡ record { ended = E.Full first; steps = 0; cells = first; polls = 0 }

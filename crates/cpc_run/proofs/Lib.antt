@@ -7,6 +7,11 @@ pub mod Steps
 pub mod Coded
 pub mod Weighed
 pub mod Runs
+pub mod Silent
+pub mod Hosting
+pub mod Numbers
+pub mod Hosted
+pub mod Given
 pub mod Pieces
 pub mod Ends
 pub mod Bars

@@ -37,6 +37,7 @@ all_is names true E.Steps ms = traced_is ms _
 all_is names true (E.Full cells) ms = traced_is ms _
 all_is names true E.WriteFault ms = sym (append-nil (lines_of ms))
 all_is names true E.Memory ms = sym (append-nil (lines_of ms))
+all_is names true (E.NoHost x) ms = sym (append-nil (lines_of ms))
 all_is names false e ms = sym (append-nil (output ms))
 
 -- there is no last line where the sink failed

@@ -27,7 +27,7 @@ use Rattle.cpc_run.specs.declared.outcome.RunReport.{RunReport}
 use Rattle.cpc_run.specs.Outcomes.{outcome_of}
 use Rattle.cpc_run.specs.Shown.{shown, all_shown, last_of}
 use Rattle.cpc_run.specs.States.{States, Within, Keeps, program_in}
-use Rattle.cpc_run.specs.Reports.{MadeSo, Reached, NeverStuck, IsInTable, IsLeft, IsPrefix, WentOut, EndsSo, Tells, Wrote, run_of}
+use Rattle.cpc_run.specs.Reports.{MadeSo, Reached, NeverStuck, IsInTable, IsLeft, IsBrokenOff, IsPrefix, WentOut, EndsSo, Tells, Wrote, run_of}
 use Rattle.cpc_run.proofs.Making.{step_made}
 use Rattle.cpc_run.proofs.Marks.{all_is, no_last, none_last}
 
@@ -120,6 +120,7 @@ module _ (names : Names) (table : Table) (spells : Spells table names) (q : Prog
   left_in n (E.Full cells) i left = left
   left_in n E.WriteFault i left = left
   left_in n E.Memory i left = left
+  left_in n (E.NoHost x) i left = left
 
 -- ---- what is told
 
@@ -132,6 +133,7 @@ pub record AtEnd (q : Program) (h : History) (limits : Limits) (trace : Bool) (n
   pub cells_are : cells ≡ live_cells (run_of q h n)
   pub bounded : (m : ℕ) → 0 < n → m ≤ n → live_cells (run_of q h m) ≤ limits.cells
   pub polls_are : length h.polls ≡ polls + length (run_of q h n).history.polls
+  pub broken_off : IsBrokenOff q h limits.steps n
 
 module _ (names : Names) (q : Program) (h : History) (limits : Limits) (trace : Bool) (n cells polls : ℕ) where
   -- all that was put out is what went out, whatever the end
@@ -142,8 +144,9 @@ module _ (names : Names) (q : Program) (h : History) (limits : Limits) (trace : 
       go (E.Over outcome) is left = is
       go E.Steps is left = is
       go (E.Full cells) is left = is
-      go E.WriteFault is left = (E.WriteFault, tt, subst (IsPrefix out) is (whole_prefix out))
+      go E.WriteFault is left = (E.WriteFault, left, subst (IsPrefix out) is (whole_prefix out))
       go E.Memory is left = subst (IsPrefix out) (is ∙ none_last names trace (run_of q h n).trace) (whole_prefix out)
+      go (E.NoHost x) is left = absurd left
 
   pub tells_all : (e : Ended) (out whole : Text) → IsLeft names q h limits n e → AtEnd q h limits trace n cells polls whole → out ≡ whole ++ last_of names trace e
       → Tells names q h limits trace (record { ended = e; steps = n; cells = cells; polls = polls }) out
@@ -159,7 +162,7 @@ module _ (names : Names) (q : Program) (h : History) (limits : Limits) (trace : 
   pub tells_part : (due : Ended) (out whole : Text) → IsLeft names q h limits n due → AtEnd q h limits trace n cells polls whole → IsPrefix out (whole ++ last_of names trace due)
       → Tells names q h limits trace (record { ended = E.WriteFault; steps = n; cells = cells; polls = polls }) out
   tells_part due out whole left at part = record {
-    left = tt;
+    left = at.broken_off;
     wrote = (due, left, subst (IsPrefix out) (ap (λ w. w ++ last_of names trace due) at.wrote ∙ sym (all_is names trace due (run_of q h n).trace)) part);
     cells = inl at.cells_are;
     bounded = at.bounded;
@@ -169,8 +172,8 @@ module _ (names : Names) (q : Program) (h : History) (limits : Limits) (trace : 
   -- the sink failed on the way
   pub tells_cut : (out whole : Text) → AtEnd q h limits trace n cells polls whole → IsPrefix out whole → Tells names q h limits trace (record { ended = E.WriteFault; steps = n; cells = cells; polls = polls }) out
   tells_cut out whole at part = record {
-    left = tt;
-    wrote = (E.WriteFault, tt, subst (IsPrefix out) (at.wrote ∙ sym (no_last names trace (run_of q h n).trace)) part);
+    left = at.broken_off;
+    wrote = (E.WriteFault, at.broken_off, subst (IsPrefix out) (at.wrote ∙ sym (no_last names trace (run_of q h n).trace)) part);
     cells = inl at.cells_are;
     bounded = at.bounded;
     polls = at.polls_are;
@@ -178,7 +181,7 @@ module _ (names : Names) (q : Program) (h : History) (limits : Limits) (trace : 
 
   pub tells_memory : (out whole : Text) → AtEnd q h limits trace n cells polls whole → IsPrefix out whole → Tells names q h limits trace (record { ended = E.Memory; steps = n; cells = cells; polls = polls }) out
   tells_memory out whole at part = record {
-    left = tt;
+    left = at.broken_off;
     wrote = subst (IsPrefix out) at.wrote part;
     cells = inl at.cells_are;
     bounded = at.bounded;
@@ -205,19 +208,20 @@ ends_told table q h limits trace due result whole told now left at same w =
 -- ---- what is known at each end
 
 -- of what was reached
-pub at_end : (names : Names) (q : Program) (h : History) (limits : Limits) (trace : Bool) (l : Loop) (printed : Text) (n cells polls : ℕ) → Reached names q h limits.cells trace l printed n cells → polls + length l.turns.polls.now ≡ l.polls
+pub at_end : (names : Names) (q : Program) (h : History) (limits : Limits) (trace : Bool) (l : Loop) (printed : Text) (n cells polls : ℕ) → Reached names q h limits.cells trace l printed n cells → polls + length l.turns.polls.now ≡ l.polls → n ≤ limits.steps
     → AtEnd q h limits trace n cells polls printed
-at_end names q h limits trace l printed n cells polls r counted = record {
+at_end names q h limits trace l printed n cells polls r counted within = record {
   wrote = sym r.stands.printed_so ∙ ap (λ b. shown b (run_of q h n).trace) r.traces;
   cells_are = r.cells_are;
   bounded = λ m pos le. r.bounded m le;
   polls_are = sym r.polls ∙ sym counted ∙ ap (λ k. polls + k) (sym (ap length r.stands.lists.polls ∙ length-map l.turns.polls.now told_of));
+  broken_off = record { within = within; going = λ m lt. r.going m (omega arith) };
 }
 
 module _ (names : Names) (q : Program) (h : History) (limits : Limits) (trace : Bool) (l : Loop) (printed : Text) (n cells polls : ℕ) (stuck : NeverStuck q h) (r : Reached names q h limits.cells trace l printed n cells)
     (counted : polls + length l.turns.polls.now ≡ l.polls) (below : n < limits.steps) where
   here : AtEnd q h limits trace n cells polls printed
-  here = at_end names q h limits trace l printed n cells polls r counted
+  here = at_end names q h limits trace l printed n cells polls r counted (omega (arith, below))
 
   -- where a step was the last one
   pub left_over : (new : Loop) (text : Text) (outcome : Outcome) → MadeSo names limits.cells (Ok (M.Over outcome)) new printed text (run_of q h n) (try_step (callbacks (program_in names l)) (run_of q h n))
@@ -232,6 +236,7 @@ module _ (names : Names) (q : Program) (h : History) (limits : Limits) (trace : 
           cells_are = r.cells_are ∙ sym (ap live_cells last);
           bounded = λ m pos le. upto (λ m. live_cells (run_of q h m) ≤ limits.cells) n r.bounded (subst (λ s. live_cells s ≤ limits.cells) (sym last) (r.bounded n (omega arith))) m le;
           polls_are = here.polls_are ∙ sym (ap (λ s. polls + length s.history.polls) last);
+          broken_off = record { within = omega arith; going = λ m lt. r.going m (omega arith) };
         },
       )
 

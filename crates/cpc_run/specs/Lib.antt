@@ -1,4 +1,6 @@
+pub mod Answers
 pub mod Code
+pub mod Hosts
 pub mod Outcomes
 pub mod Shown
 pub mod States

@@ -1,7 +1,8 @@
 -- What is told of a run: how it was left, after how many steps and polls, and what went out.
-use Rattle.std.specs.Prelude.{◌≡◌, ◌⊎◌, ℕ, suc, ◌+◌, ◌<◌, ◌≤◌, Bool, List, [], ◌++◌, length, map, Option, Some, None, Result, Ok, Err}
+use Rattle.std.specs.Prelude.{◌≡◌, ◌⊎◌, ℕ, ℤ, suc, ◌+◌, ◌<◌, ◌≤◌, Bool, List, [], ◌++◌, length, map, Option, Some, None, Result, Ok, Err}
 use Rattle.std.specs.Io.KnownBytes.{append_known}
 use Rattle.cpc_base.specs.Bytes.{Text}
+use Rattle.cpc_base.specs.declared.names.Name.{Name}
 use Rattle.cpc_base.specs.declared.stop.NoMemory.{NoMemory}
 use Rattle.cpc_tree.specs.Erase.{Names, Table, in_table, item_of}
 use Rattle.cpc_tree.specs.declared.program.Program as GProgram
@@ -24,6 +25,7 @@ use Rattle.cpc_run.specs.declared.outcome.Outcome.TheVariants as O
 use Rattle.cpc_run.specs.declared.outcome.RunReport.{RunReport}
 use Rattle.cpc_run.specs.declared.made.Made.{Made}
 use Rattle.cpc_run.specs.declared.made.Made.TheVariants as M
+use Rattle.cpc_run.specs.Hosts.{answers_of, HostsMeet, with_answers}
 use Rattle.cpc_run.specs.Outcomes.{outcome_of}
 use Rattle.cpc_run.specs.Shown.{shown, all_shown, last_of}
 use Rattle.cpc_run.specs.States.{States, Stands, Fits, IsSteady, program_in}
@@ -37,7 +39,7 @@ pub record IsPrefix (front all : Text) : Type 0 where
   pub rest : Text
   pub whole : all ≡ front ++ rest
 
--- the history of a run that is told these polls; no host answers
+-- the history of a run that is told these polls, before a host has answered
 abbrev pub history_of : List Told → History
 history_of polls = record { polls = map told_of polls; answers = []; section_bound = 10000000 }
 
@@ -62,12 +64,19 @@ pub record IsStopped (q : Program) (h : History) (bound n : ℕ) : Type 0 where
 abbrev pub IsFull : (q : Program) → (h : History) → (bound cap n cells : ℕ) → Type 0
 IsFull q h bound cap n cells = ((n < bound) × (live_cells (run_of q h n) ≤ cap) × Full q h n cap × (cells ≡ live_cells (run_of q h (suc n)))) ⊎ ((n ≡ 0) × (cap < cells) × (cells ≡ live_cells (run_of q h 0)))
 
+-- it was broken off after n steps, and was not over before
+pub record IsBrokenOff (q : Program) (h : History) (bound n : ℕ) : Type 0 where
+  pub within : n ≤ bound
+  pub going : (m : ℕ) → m < n → (run_of q h m).outcome ≡ T.Going
+
+-- why it was left; no run begins where a function of the host is missing
 abbrev pub IsLeft : Names → (q : Program) → (h : History) → Limits → (n : ℕ) → Ended → Type 0
 IsLeft names q h limits n (E.Over outcome) = IsOver names q h limits.steps n outcome
 IsLeft names q h limits n E.Steps = IsStopped q h limits.steps n
 IsLeft names q h limits n (E.Full cells) = IsFull q h limits.steps limits.cells n cells
-IsLeft names q h limits n E.WriteFault = Unit {0}
-IsLeft names q h limits n E.Memory = Unit {0}
+IsLeft names q h limits n E.WriteFault = IsBrokenOff q h limits.steps n
+IsLeft names q h limits n E.Memory = IsBrokenOff q h limits.steps n
+IsLeft names q h limits n (E.NoHost x) = ⊥
 
 -- what went out: all, with the last line of a trace; or the first part of it, where memory was wanting, or the sink failed, which
 -- may have been at the last line of a run that was left so
@@ -77,6 +86,7 @@ WentOut names q h limits trace n E.Memory out = IsPrefix out (shown trace (run_o
 WentOut names q h limits trace n (E.Over outcome) out = out ≡ all_shown names trace (E.Over outcome) (run_of q h n).trace
 WentOut names q h limits trace n E.Steps out = out ≡ all_shown names trace E.Steps (run_of q h n).trace
 WentOut names q h limits trace n (E.Full cells) out = out ≡ all_shown names trace (E.Full cells) (run_of q h n).trace
+WentOut names q h limits trace n (E.NoHost x) out = ⊥
 
 -- a report of q's run, and what went out; where memory was wanting before the first state, nothing is said of its cells
 pub record Tells (names : Names) (q : Program) (h : History) (limits : Limits) (trace : Bool) (report : RunReport) (out : Text) : Type 0 where
@@ -85,6 +95,20 @@ pub record Tells (names : Names) (q : Program) (h : History) (limits : Limits) (
   pub cells : (report.cells ≡ live_cells (run_of q h report.steps)) ⊎ ((report.ended ≡ E.Memory) × (report.steps ≡ 0) × (report.cells ≡ 0))
   pub bounded : (m : ℕ) → 0 < report.steps → m ≤ report.steps → live_cells (run_of q h m) ≤ limits.cells
   pub polls : length h.polls ≡ report.polls + length (run_of q h report.steps).history.polls
+
+-- a report of q's run over the polls of a history, with what its hosts answered: each answer is one that they may give, and a mark
+-- of the run tells it; and what went out
+pub record Ran (allows : Text → List ℤ → ℤ → Type 0) (names : Names) (q : Program) (h : History) (limits : Limits) (trace : Bool) (report : RunReport) (out : Text) : Type 0 where
+  pub answers : List ℤ
+  pub tells : Tells names q (with_answers h answers) limits trace report out
+  pub answered : answers_of (run_of q (with_answers h answers) report.steps).trace ≡ answers
+  pub meets : HostsMeet allows (run_of q (with_answers h answers) report.steps).trace
+
+-- no run was begun, since this function of the host is missing
+pub record IsMissing (names : Names) (x : Text) (report : RunReport) : Type 0 where
+  pub name : Name
+  pub named : names name ≡ x
+  pub told : report ≡ record { ended = E.NoHost name; steps = 0; cells = 0; polls = 0 }
 
 -- ---- on the way
 

@@ -23,13 +23,14 @@ abbrev pub shown_of : (trace : Bool) → Mark → Text
 shown_of true m = mark_text m ++ 10 ∷ []
 shown_of false m = output_of m
 
--- why a run was left, as a trace tells it; nothing where the sink failed or memory was wanting
+-- why a run was left, as a trace tells it; nothing where the sink failed, memory was wanting, or a function of the host is missing
 abbrev pub stop_of : Names → Ended → Option Stop
 stop_of names (E.Over outcome) = Some (Over (outcome_of names outcome))
 stop_of names E.Steps = Some AtSteps
 stop_of names (E.Full cells) = Some AtCells
 stop_of names E.WriteFault = None
 stop_of names E.Memory = None
+stop_of names (E.NoHost x) = None
 
 -- the lines of these marks with the last line, where there is one
 abbrev pub traced : Option Stop → List Mark → Text

@@ -1,9 +1,10 @@
 //! What the running code asks of the loop, acted on and answered in the step that asks.
-ghost use Rattle.std.specs.Prelude.{◌≡◌, ◌++◌, IfOk, true, map, [], ◌∷◌};
+ghost use Rattle.std.specs.Prelude.{◌≡◌, ◌++◌, List, ℤ, IfOk, true, map, [], ◌∷◌};
 ghost use Rattle.std.specs.List.{All};
 ghost use Rattle.cpc_base.specs.Bytes.{Text};
-ghost use Rattle.cpc_tree.specs.Erase.{Names};
-ghost use Rattle.cpc_tree.specs.Primitives as R;
+ghost use Rattle.cpc_check_rules.specs.Apart.{Spells};
+ghost use Rattle.cpc_tree.specs.Erase.{Names as Spelling};
+ghost use Rattle.cpc_tree.specs.Primitives as Q;
 ghost use Rattle.cpc_native_builtins.specs.Builtins.{primitive_of};
 ghost use Rattle.cpc_store.specs.Seen.{seen, IsLawful};
 ghost use Rattle.cpc_meaning.specs.Events.{callbacks};
@@ -14,19 +15,21 @@ ghost use Rattle.cpc_meaning_pointer_laws.specs.Made.{IsMadeCode};
 ghost use Rattle.cpc_run.specs.Code.{stack_in};
 ghost use Rattle.cpc_native.specs.Stacks.{request_of};
 ghost use Rattle.cpc_run.specs.States.{States, Fits, IsSteady, GoesSteady, Keeps, Did, Acted, settles, program_in};
+ghost use Rattle.cpc_run.specs.Answers.{CameAnswered};
 
 use crate::looped::Loop;
 use crate::outcome::Outcome;
 use crate::shown::put_output;
-use cpc_base::{Name, NoMemory};
+use cpc_base::{Name, Names, NoMemory};
+use cpc_hosts::{HostRule, HostTable, Kept};
 use cpc_native::Request;
-use cpc_native_builtins::Builtin;
+use cpc_native_builtins::{Builtin, Call};
 use cpc_store::{Class, Value};
 use std::alloc::{AllocError, Global};
 
 // A value modulo 256.
 fn byte(value: &Value) -> u8
-    ensures { (names : Names) → result ≡ byte_of (value_of names value.now) }
+    ensures { (names : Spelling) → result ≡ byte_of (value_of names value.now) }
 {
     match value {
         Value::Int(_, number) => number.rem_euclid(256) as u8,
@@ -36,7 +39,7 @@ fn byte(value: &Value) -> u8
 
 // Values modulo 256.
 fn bytes(alloc: Global, values: &[Value]) -> Result<Vec<u8>, AllocError>
-    ensures { IfOk result (λ text. (names : Names) → text.items ≡ map byte_of (values_of names values.now)) }
+    ensures { IfOk result (λ text. (names : Spelling) → text.items ≡ map byte_of (values_of names values.now)) }
 {
     let mut text = Vec::new(alloc);
     for value in values {
@@ -58,7 +61,7 @@ impl<'p> Loop<'p> {
         requires running { self.old.running ≡ true }
         ensures keeps { Keeps self.old self.new }
         ensures steady { GoesSteady result self.new }
-        ensures did { (names : Names) → Fits names self.old → (sent : Text) (s : States) → Acted names self.old function (sent ++ pending.old.items) s s
+        ensures did { (names : Spelling) → Fits names self.old → (sent : Text) (s : States) → Acted names self.old function (sent ++ pending.old.items) s s
             → Did names result self.new (sent ++ pending.new.items) s (settles names self.old s (prints (trees (program_in names self.old)) (stack_in names self.old.machine) text.now s)) }
     {
         put_output(self.trace, alloc, text, pending)?;
@@ -76,8 +79,8 @@ impl<'p> Loop<'p> {
         requires running { self.old.running ≡ true }
         ensures keeps { Keeps self.old self.new }
         ensures steady { GoesSteady result self.new }
-        ensures did { (names : Names) → Fits names self.old → (sent : Text) (s : States) → Acted names self.old request.now.function (sent ++ pending.old.items) s s
-            → Did names result self.new (sent ++ pending.new.items) s (settles names self.old s (primitive (callbacks (program_in names self.old)) R.Puts (values_of names request.now.args.items) (stack_in names self.old.machine) s)) }
+        ensures did { (names : Spelling) → Fits names self.old → (sent : Text) (s : States) → Acted names self.old request.now.function (sent ++ pending.old.items) s s
+            → Did names result self.new (sent ++ pending.new.items) s (settles names self.old s (primitive (callbacks (program_in names self.old)) Q.Puts (values_of names request.now.args.items) (stack_in names self.old.machine) s)) }
     {
         let text = bytes(alloc, request.args.as_slice())?;
         self.prints(alloc, request.function, text.as_slice(), pending)
@@ -94,8 +97,8 @@ impl<'p> Loop<'p> {
         requires running { self.old.running ≡ true }
         ensures keeps { Keeps self.old self.new }
         ensures steady { GoesSteady result self.new }
-        ensures did { (names : Names) → Fits names self.old → (sent : Text) (s : States) → Acted names self.old request.now.function (sent ++ pending.old.items) s s
-            → Did names result self.new (sent ++ pending.new.items) s (settles names self.old s (primitive (callbacks (program_in names self.old)) R.Putc (values_of names request.now.args.items) (stack_in names self.old.machine) s)) }
+        ensures did { (names : Spelling) → Fits names self.old → (sent : Text) (s : States) → Acted names self.old request.now.function (sent ++ pending.old.items) s s
+            → Did names result self.new (sent ++ pending.new.items) s (settles names self.old s (primitive (callbacks (program_in names self.old)) Q.Putc (values_of names request.now.args.items) (stack_in names self.old.machine) s)) }
     {
         match request.args.as_slice() {
             [value] => self.puts_byte(alloc, *value, request.function, pending),
@@ -115,7 +118,7 @@ impl<'p> Loop<'p> {
         requires running { self.old.running ≡ true }
         ensures keeps { Keeps self.old self.new }
         ensures steady { GoesSteady result self.new }
-        ensures did { (names : Names) → Fits names self.old → (sent : Text) (s : States) → Acted names self.old function (sent ++ pending.old.items) s s
+        ensures did { (names : Spelling) → Fits names self.old → (sent : Text) (s : States) → Acted names self.old function (sent ++ pending.old.items) s s
             → Did names result self.new (sent ++ pending.new.items) s (settles names self.old s (prints (trees (program_in names self.old)) (stack_in names self.old.machine) (byte_of (value_of names value) ∷ []) s)) }
     {
         self.prints(alloc, function, &[byte(&value)], pending)
@@ -132,8 +135,8 @@ impl<'p> Loop<'p> {
         requires running { self.old.running ≡ true }
         ensures keeps { Keeps self.old self.new }
         ensures steady { GoesSteady result self.new }
-        ensures did { (names : Names) → Fits names self.old → (sent : Text) (s : States) → Acted names self.old request.now.function (sent ++ pending.old.items) s s
-            → Did names result self.new (sent ++ pending.new.items) s (settles names self.old s (primitive (callbacks (program_in names self.old)) R.Print (values_of names request.now.args.items) (stack_in names self.old.machine) s)) }
+        ensures did { (names : Spelling) → Fits names self.old → (sent : Text) (s : States) → Acted names self.old request.now.function (sent ++ pending.old.items) s s
+            → Did names result self.new (sent ++ pending.new.items) s (settles names self.old s (primitive (callbacks (program_in names self.old)) Q.Print (values_of names request.now.args.items) (stack_in names self.old.machine) s)) }
     {
         match request.args.as_slice() {
             [Value::Int(_, number)] => {
@@ -146,8 +149,8 @@ impl<'p> Loop<'p> {
 
     // The run is left with a number.
     fn exits(&self, request: &Request) -> Result<Option<Outcome>, NoMemory>
-        ensures did { (names : Names) (new : Loop) (printed : Text) (s : States)
-            → Did names result new printed s (settles names self.now s (primitive (callbacks (program_in names self.now)) R.Exit (values_of names request.now.args.items) (stack_in names self.now.machine) s)) }
+        ensures did { (names : Spelling) (new : Loop) (printed : Text) (s : States)
+            → Did names result new printed s (settles names self.now s (primitive (callbacks (program_in names self.now)) Q.Exit (values_of names request.now.args.items) (stack_in names self.now.machine) s)) }
     {
         match request.args.as_slice() {
             [Value::Int(_, number)] => Ok(Some(Outcome::Exited(*number))),
@@ -155,10 +158,11 @@ impl<'p> Loop<'p> {
         }
     }
 
-    /// A request of the running code is acted on and answered; or the run is over. What goes out is put behind `pending`.
-    pub(crate) fn asked(
+    // A primitive is acted on and answered; or the run is over. What goes out is put behind `pending`.
+    fn calls_builtin(
         &mut self,
         alloc: Global,
+        builtin: Builtin,
         request: &Request,
         pending: &mut Vec<u8>,
     ) -> Result<Option<Outcome>, NoMemory>
@@ -167,10 +171,10 @@ impl<'p> Loop<'p> {
         requires lawful { All (λ v. IsLawful (seen v)) request.now.args.items }
         ensures keeps { Keeps self.old self.new }
         ensures steady { GoesSteady result self.new }
-        ensures did { (names : Names) → Fits names self.old → (sent : Text) (s : States) → IsMadeCode s.store (stack_in names self.old.machine) → Acted names self.old request.now.function (sent ++ pending.old.items) s s
-            → Did names result self.new (sent ++ pending.new.items) s (settles names self.old s (asked_by (callbacks (program_in names self.old)) (stack_in names self.old.machine) s (request_of names request.now).asked (request_of names request.now).arguments)) }
+        ensures did { (names : Spelling) → Fits names self.old → (sent : Text) (s : States) → IsMadeCode s.store (stack_in names self.old.machine) → Acted names self.old request.now.function (sent ++ pending.old.items) s s
+            → Did names result self.new (sent ++ pending.new.items) s (settles names self.old s (primitive (callbacks (program_in names self.old)) (primitive_of builtin) (values_of names request.now.args.items) (stack_in names self.old.machine) s)) }
     {
-        match request.call {
+        match builtin {
             Builtin::Print => self.print(alloc, request, pending),
             Builtin::Putc => self.putc(alloc, request, pending),
             Builtin::Puts => self.puts(alloc, request, pending),
@@ -191,6 +195,30 @@ impl<'p> Loop<'p> {
             Builtin::RtSleep => self.sleeps(alloc, request, pending),
             Builtin::RtIo => self.awaits(alloc, request, pending),
             _ => Err(NoMemory),
+        }
+    }
+    /// A request of the running code is acted on and answered; or the run is over. What goes out is put behind `pending`.
+    pub(crate) fn asked<R: HostRule>(
+        &mut self,
+        alloc: Global,
+        table: &Names,
+        hosts: &HostTable<R>,
+        request: &Request,
+        pending: &mut Vec<u8>,
+    ) -> Result<Option<Outcome>, NoMemory>
+        requires steady { IsSteady self.old }
+        requires running { self.old.running ≡ true }
+        requires lawful { All (λ v. IsLawful (seen v)) request.now.args.items }
+        requires rule { ⟦<HostTable<R> as Kept>⟧.keeps hosts.now }
+        ensures keeps { Keeps self.old self.new }
+        ensures steady { GoesSteady result self.new }
+        ensures did { IfOk result (λ r. (said : List ℤ) × ((names : Spelling) → Fits names self.old → Spells table.now names → (sent : Text) (s : States) → IsMadeCode s.store (stack_in names self.old.machine) → Acted names self.old request.now.function (sent ++ pending.old.items) s s
+            → (rest : List ℤ) → s.history.answers ≡ said ++ rest
+            → CameAnswered names R.answers said rest r self.new (sent ++ pending.new.items) s (settles names self.old s (asked_by (callbacks (program_in names self.old)) (stack_in names self.old.machine) s (request_of names request.now).asked (request_of names request.now).arguments)))) }
+    {
+        match request.call {
+            Call::Builtin(builtin) => self.calls_builtin(alloc, builtin, request, pending),
+            Call::Host(name) => self.calls_host(alloc, table, hosts, name, request, pending),
         }
     }
 }

@@ -5,6 +5,7 @@
 mod asked;
 mod code;
 mod conditions;
+mod hosts;
 mod items;
 mod looped;
 mod made;
@@ -16,5 +17,6 @@ mod short;
 mod shown;
 mod waits;
 
+pub use hosts::missing_host;
 pub use outcome::{Ended, Limits, Outcome, RunReport, before_bars};
 pub use run::run_event;

@@ -1,13 +1,15 @@
 //! The loop: what runs, what is ready, and a step of them.
-ghost use Rattle.std.specs.Prelude.{◌≡◌, [], ◌++◌, ◌<◌, ◌≤◌, ◌^◌, None, Some, IfOk, IfErr, OnOk, true, false};
+ghost use Rattle.std.specs.Prelude.{◌≡◌, List, ℤ, [], ◌++◌, ◌<◌, ◌≤◌, ◌^◌, None, Some, IfOk, IfErr, OnOk, true, false};
 ghost use Rattle.cpc_base.specs.Bytes.{Text};
-ghost use Rattle.cpc_tree.specs.Erase.{Names};
+ghost use Rattle.cpc_check_rules.specs.Apart.{Spells};
+ghost use Rattle.cpc_tree.specs.Erase.{Names as Spelling};
 ghost use Rattle.std.specs.List.{All};
 ghost use Rattle.cpc_store.specs.Seen.{seen, IsLawful};
 ghost use Rattle.cpc_meaning.specs.Events.{starts_callback, callbacks};
 ghost use Rattle.cpc_meaning.specs.Machine.{turns, runs, try_step, code_step, reply};
 ghost use Rattle.cpc_meaning.specs.Trees.{trees};
 ghost use Rattle.cpc_eval_values.specs.Shown.{value_of, values_of};
+ghost use Rattle.cpc_run.specs.Answers.{CameAnswered};
 ghost use Rattle.cpc_run.specs.Code.{stack_in};
 ghost use Rattle.cpc_run.specs.Shorts.{Counts, IsBeyond};
 ghost use Rattle.cpc_run.specs.States.{States, Stands, Within, Fits, IsSteady, GoesSteady, Keeps, Came, Did, Acted, settles, program_in, callback_of, lists_in};
@@ -18,7 +20,8 @@ use crate::outcome::Outcome;
 use crate::short::{Short, above};
 use crate::shown::put_poll;
 use cpc_agenda_turns::{Turned, Turns};
-use cpc_base::{Name, NoMemory, Stop};
+use cpc_base::{Name, Names, NoMemory, Stop};
+use cpc_hosts::{HostRule, HostTable, Kept};
 use cpc_native::Stepped;
 use cpc_store::Value;
 use std::alloc::Global;
@@ -54,7 +57,7 @@ impl<'p> Loop<'p> {
         ensures keeps { Keeps self.old self.new }
         ensures steady { GoesSteady result self.new }
         ensures stays { IfOk result (λ o. o ≡ None → (self.new.running ≡ true) × (self.new.turns ≡ self.old.turns)) }
-        ensures did { (names : Names) → Fits names self.old → (printed : Text) (s t : States) → Acted names self.old function printed s t
+        ensures did { (names : Spelling) → Fits names self.old → (printed : Text) (s t : States) → Acted names self.old function printed s t
             → Did names result self.new printed s (settles names self.old s (reply (trees (program_in names self.old)) (stack_in names self.old.machine) (value_of names value) t)) }
     {
         match self.machine.answer(alloc, value) {
@@ -69,11 +72,11 @@ impl<'p> Loop<'p> {
     fn turn(&mut self, alloc: Global, pending: &mut Vec<u8>) -> Result<Option<Outcome>, NoMemory>
         requires steady { IsSteady self.old }
         requires idle { self.old.running ≡ false }
-        requires round { (names : Names) → (lists_in names self.old).round ≡ [] }
+        requires round { (names : Spelling) → (lists_in names self.old).round ≡ [] }
         ensures keeps { Keeps self.old self.new }
         ensures steady { GoesSteady result self.new }
         ensures same { self.new.machine ≡ self.old.machine }
-        ensures did { (names : Names) → Fits names self.old → (sent : Text) (s : States) → Stands names self.old (sent ++ pending.old.items) s
+        ensures did { (names : Spelling) → Fits names self.old → (sent : Text) (s : States) → Stands names self.old (sent ++ pending.old.items) s
             → Did names result self.new (sent ++ pending.new.items) s (settles names self.old s (turns (callbacks (program_in names self.old)) s)) }
     {
         let polls = self.turns.polls;
@@ -103,9 +106,9 @@ impl<'p> Loop<'p> {
         ensures keeps { Keeps self.old self.new }
         ensures steady { GoesSteady result self.new }
         ensures on { IfOk result (λ o. o ≡ None) }
-        ensures short { IfErr result (λ short. (names : Names) → Fits names self.old → (sent : Text) (s : States) → Stands names self.old sent s → Counts (IsBeyond cap short) (settles names self.old s (starts_callback (trees (program_in names self.old)) (callback_of names item) (value_of names waited) s))) }
-        ensures capped { OnOk result ((names : Names) → Fits names self.old → (sent : Text) (s : States) → Stands names self.old sent s → Counts (λ cells. cells ≤ cap) (settles names self.old s (starts_callback (trees (program_in names self.old)) (callback_of names item) (value_of names waited) s))) }
-        ensures did { (names : Names) → Fits names self.old → (printed : Text) (s : States) → Stands names self.old printed s
+        ensures short { IfErr result (λ short. (names : Spelling) → Fits names self.old → (sent : Text) (s : States) → Stands names self.old sent s → Counts (IsBeyond cap short) (settles names self.old s (starts_callback (trees (program_in names self.old)) (callback_of names item) (value_of names waited) s))) }
+        ensures capped { OnOk result ((names : Spelling) → Fits names self.old → (sent : Text) (s : States) → Stands names self.old sent s → Counts (λ cells. cells ≤ cap) (settles names self.old s (starts_callback (trees (program_in names self.old)) (callback_of names item) (value_of names waited) s))) }
+        ensures did { (names : Spelling) → Fits names self.old → (printed : Text) (s : States) → Stands names self.old printed s
             → Did names result self.new printed s (settles names self.old s (starts_callback (trees (program_in names self.old)) (callback_of names item) (value_of names waited) s)) }
     {
         match item {
@@ -138,9 +141,9 @@ impl<'p> Loop<'p> {
         ensures on { IfOk result (λ o. o ≡ None) }
         ensures keeps { Keeps self.old self.new }
         ensures steady { GoesSteady result self.new }
-        ensures short { IfErr result (λ short. (names : Names) → Fits names self.old → (sent : Text) (s : States) → Stands names self.old sent s → Counts (IsBeyond cap short) (settles names self.old s (runs (trees (program_in names self.old)) (names function) (values_of names arguments.now) s))) }
-        ensures capped { OnOk result ((names : Names) → Fits names self.old → (sent : Text) (s : States) → Stands names self.old sent s → Counts (λ cells. cells ≤ cap) (settles names self.old s (runs (trees (program_in names self.old)) (names function) (values_of names arguments.now) s))) }
-        ensures did { (names : Names) → Fits names self.old → (printed : Text) (s : States) → Stands names self.old printed s
+        ensures short { IfErr result (λ short. (names : Spelling) → Fits names self.old → (sent : Text) (s : States) → Stands names self.old sent s → Counts (IsBeyond cap short) (settles names self.old s (runs (trees (program_in names self.old)) (names function) (values_of names arguments.now) s))) }
+        ensures capped { OnOk result ((names : Spelling) → Fits names self.old → (sent : Text) (s : States) → Stands names self.old sent s → Counts (λ cells. cells ≤ cap) (settles names self.old s (runs (trees (program_in names self.old)) (names function) (values_of names arguments.now) s))) }
+        ensures did { (names : Spelling) → Fits names self.old → (printed : Text) (s : States) → Stands names self.old printed s
             → Did names result self.new printed s (settles names self.old s (runs (trees (program_in names self.old)) (names function) (values_of names arguments.now) s)) }
     {
         if let Some(short) = above(self.machine.cells_with(function), cap) {
@@ -153,21 +156,25 @@ impl<'p> Loop<'p> {
 
     // A step of the running code, with what it asks for, unless it would leave more live cells than the cap. What goes out is
     // put behind `pending`.
-    fn goes_on(
+    fn goes_on<R: HostRule>(
         &mut self,
         alloc: Global,
+        table: &Names,
+        hosts: &HostTable<R>,
         pending: &mut Vec<u8>,
         cap: u64,
     ) -> Result<Option<Outcome>, Short>
         requires steady { IsSteady self.old }
         requires running { self.old.running ≡ true }
+        requires rule { ⟦<HostTable<R> as Kept>⟧.keeps hosts.now }
         requires cap { cap < 2 ^ 62 }
         ensures keeps { Keeps self.old self.new }
         ensures steady { GoesSteady result self.new }
-        ensures short { IfErr result (λ short. (names : Names) → Fits names self.old → (sent : Text) (s : States) → Within cap s → Stands names self.old sent s → Counts (IsBeyond cap short) (settles names self.old s (code_step (callbacks (program_in names self.old)) s (stack_in names self.old.machine)))) }
-        ensures capped { OnOk result ((names : Names) → Fits names self.old → (sent : Text) (s : States) → Within cap s → Stands names self.old sent s → Counts (λ cells. cells ≤ cap) (settles names self.old s (code_step (callbacks (program_in names self.old)) s (stack_in names self.old.machine)))) }
-        ensures did { (names : Names) → Fits names self.old → (sent : Text) (s : States) → Within cap s → Stands names self.old (sent ++ pending.old.items) s
-            → Did names result self.new (sent ++ pending.new.items) s (settles names self.old s (code_step (callbacks (program_in names self.old)) s (stack_in names self.old.machine))) }
+        ensures short { IfErr result (λ short. (names : Spelling) → Fits names self.old → (sent : Text) (s : States) → Within cap s → Stands names self.old sent s → Counts (IsBeyond cap short) (settles names self.old s (code_step (callbacks (program_in names self.old)) s (stack_in names self.old.machine)))) }
+        ensures capped { OnOk result ((names : Spelling) → Fits names self.old → (sent : Text) (s : States) → Within cap s → Stands names self.old sent s → Counts (λ cells. cells ≤ cap) (settles names self.old s (code_step (callbacks (program_in names self.old)) s (stack_in names self.old.machine)))) }
+        ensures did { IfOk result (λ r. (said : List ℤ) × ((names : Spelling) → Fits names self.old → Spells table.now names → (sent : Text) (s : States) → Within cap s → Stands names self.old (sent ++ pending.old.items) s
+            → (rest : List ℤ) → s.history.answers ≡ said ++ rest
+            → CameAnswered names R.answers said rest r self.new (sent ++ pending.new.items) s (settles names self.old s (code_step (callbacks (program_in names self.old)) s (stack_in names self.old.machine))))) }
     {
         if let Some(short) = above(self.machine.next_cells(), cap) {
             return Err(short);
@@ -178,34 +185,59 @@ impl<'p> Loop<'p> {
                 self.running = false;
                 Ok(None)
             }
-            Stepped::Asked(request) => Ok(self.asked(alloc, &request, pending)?),
+            Stepped::Asked(request) => Ok(self.asked(alloc, table, hosts, &request, pending)?),
             Stepped::Faulted(fault, function) => Ok(Some(Outcome::Failed(fault, function))),
         }
     }
 
-    /// A step of the run, as the event machine makes it: the run goes on, or is over. What goes out is put behind `pending`.
-    /// A step that would leave more live cells than the cap is not made, and told as short.
-    pub(crate) fn step(
+    // Nothing runs: the next of the round is taken, or the loop turns. What goes out is put behind `pending`.
+    fn schedules(
         &mut self,
         alloc: Global,
         pending: &mut Vec<u8>,
         cap: u64,
     ) -> Result<Option<Outcome>, Short>
         requires steady { IsSteady self.old }
+        requires idle { self.old.running ≡ false }
         requires cap { cap < 2 ^ 62 }
         ensures keeps { Keeps self.old self.new }
         ensures steady { GoesSteady result self.new }
-        ensures short { IfErr result (λ short. (names : Names) → Fits names self.old → (sent : Text) (s : States) → Within cap s → Stands names self.old sent s → Counts (IsBeyond cap short) (try_step (callbacks (program_in names self.old)) s)) }
-        ensures capped { OnOk result ((names : Names) → Fits names self.old → (sent : Text) (s : States) → Within cap s → Stands names self.old sent s → Counts (λ cells. cells ≤ cap) (try_step (callbacks (program_in names self.old)) s)) }
-        ensures did { (names : Names) → Fits names self.old → (sent : Text) (s : States) → Within cap s → Stands names self.old (sent ++ pending.old.items) s
+        ensures short { IfErr result (λ short. (names : Spelling) → Fits names self.old → (sent : Text) (s : States) → Within cap s → Stands names self.old sent s → Counts (IsBeyond cap short) (try_step (callbacks (program_in names self.old)) s)) }
+        ensures capped { OnOk result ((names : Spelling) → Fits names self.old → (sent : Text) (s : States) → Within cap s → Stands names self.old sent s → Counts (λ cells. cells ≤ cap) (try_step (callbacks (program_in names self.old)) s)) }
+        ensures did { (names : Spelling) → Fits names self.old → (sent : Text) (s : States) → Within cap s → Stands names self.old (sent ++ pending.old.items) s
             → Did names result self.new (sent ++ pending.new.items) s (try_step (callbacks (program_in names self.old)) s) }
     {
-        if self.running {
-            return self.goes_on(alloc, pending, cap);
-        }
         match self.turns.agenda.next() {
             Some((item, waited)) => self.take(alloc, item, waited, cap),
             None => Ok(self.turn(alloc, pending)?),
         }
+    }
+
+    /// A step of the run, as the event machine makes it: the run goes on, or is over. What goes out is put behind `pending`.
+    /// A step that would leave more live cells than the cap is not made, and told as short. The answers that hosts give in it are
+    /// those of its marks: one that cannot arrive leaves none.
+    pub(crate) fn step<R: HostRule>(
+        &mut self,
+        alloc: Global,
+        table: &Names,
+        hosts: &HostTable<R>,
+        pending: &mut Vec<u8>,
+        cap: u64,
+    ) -> Result<Option<Outcome>, Short>
+        requires steady { IsSteady self.old }
+        requires rule { ⟦<HostTable<R> as Kept>⟧.keeps hosts.now }
+        requires cap { cap < 2 ^ 62 }
+        ensures keeps { Keeps self.old self.new }
+        ensures steady { GoesSteady result self.new }
+        ensures short { IfErr result (λ short. (names : Spelling) → Fits names self.old → (sent : Text) (s : States) → Within cap s → Stands names self.old sent s → Counts (IsBeyond cap short) (try_step (callbacks (program_in names self.old)) s)) }
+        ensures capped { OnOk result ((names : Spelling) → Fits names self.old → (sent : Text) (s : States) → Within cap s → Stands names self.old sent s → Counts (λ cells. cells ≤ cap) (try_step (callbacks (program_in names self.old)) s)) }
+        ensures did { IfOk result (λ r. (said : List ℤ) × ((names : Spelling) → Fits names self.old → Spells table.now names → (sent : Text) (s : States) → Within cap s → Stands names self.old (sent ++ pending.old.items) s
+            → (rest : List ℤ) → s.history.answers ≡ said ++ rest
+            → CameAnswered names R.answers said rest r self.new (sent ++ pending.new.items) s (try_step (callbacks (program_in names self.old)) s))) }
+    {
+        if self.running {
+            return self.goes_on(alloc, table, hosts, pending, cap);
+        }
+        self.schedules(alloc, pending, cap)
     }
 }

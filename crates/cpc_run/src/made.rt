@@ -1,17 +1,20 @@
 //! One step of a run, within the cap on live cells.
-ghost use Rattle.std.specs.Prelude.{◌≡◌, ◌++◌, ◌-◌, ◌+◌, ◌<◌, ◌^◌, length, min};
+ghost use Rattle.std.specs.Prelude.{◌≡◌, List, ℤ, Ok, IfOk, ◌++◌, ◌-◌, ◌+◌, ◌<◌, ◌^◌, length, min};
 ghost use Rattle.cpc_base.specs.Bytes.{Text};
-ghost use Rattle.cpc_tree.specs.Erase.{Names};
+ghost use Rattle.cpc_check_rules.specs.Apart.{Spells};
+ghost use Rattle.cpc_tree.specs.Erase.{Names as Spelling};
 ghost use Rattle.cpc_meaning.specs.Events.{callbacks};
 ghost use Rattle.cpc_meaning.specs.Machine.{try_step};
 ghost use Rattle.cpc_meaning.specs.Runs.{live_cells};
+ghost use Rattle.cpc_run.specs.Answers.{MadeAnswered};
 ghost use Rattle.cpc_run.specs.States.{States, Stands, Within, Fits, IsSteady, Keeps, program_in};
 ghost use Rattle.cpc_run.specs.Reports.{MadeSo, MadeSteady};
 
 use crate::looped::Loop;
 use crate::outcome::Outcome;
 use crate::short::Short;
-use cpc_base::NoMemory;
+use cpc_base::{Names, NoMemory};
+use cpc_hosts::{HostRule, HostTable, Kept};
 use std::alloc::Global;
 
 // How many bytes wait before they are written, where no poll is taken.
@@ -32,7 +35,7 @@ impl<'p> Loop<'p> {
     /// The live cells. `u64::MAX` stands for every greater number.
     pub(crate) fn cells(&self) -> u64
         requires steady { IsSteady self.now }
-        ensures { (names : Names) (printed : Text) (s : States) → Stands names self.now printed s → result ≡ min (live_cells s) (2 ^ 64 - 1) }
+        ensures { (names : Spelling) (printed : Text) (s : States) → Stands names self.now printed s → result ≡ min (live_cells s) (2 ^ 64 - 1) }
     {
         self.machine.live_cells()
     }
@@ -54,21 +57,25 @@ impl<'p> Loop<'p> {
     }
 
     /// A step of the run, unless it would leave too many cells. What it puts out is put behind `pending`.
-    pub(crate) fn make(
+    pub(crate) fn make<R: HostRule>(
         &mut self,
         alloc: Global,
+        table: &Names,
+        hosts: &HostTable<R>,
         pending: &mut Vec<u8>,
         cap: u64,
     ) -> Result<Made, NoMemory>
         requires steady { IsSteady self.old }
+        requires rule { ⟦<HostTable<R> as Kept>⟧.keeps hosts.now }
         requires cap { cap < 2 ^ 62 }
         ensures keeps { Keeps self.old self.new }
         ensures steady { MadeSteady result self.new }
-        ensures made { (names : Names) → Fits names self.old → (sent : Text) (s : States) → Within cap s → Stands names self.old (sent ++ pending.old.items) s
-            → MadeSo names cap result self.new (sent ++ pending.old.items) (sent ++ pending.new.items) s (try_step (callbacks (program_in names self.old)) s) }
+        ensures made { IfOk result (λ m. (said : List ℤ) × ((names : Spelling) → Fits names self.old → Spells table.now names → (sent : Text) (s : States) → Within cap s → Stands names self.old (sent ++ pending.old.items) s
+            → (rest : List ℤ) → s.history.answers ≡ said ++ rest
+            → MadeSo names cap (Ok m) self.new (sent ++ pending.old.items) (sent ++ pending.new.items) s (try_step (callbacks (program_in names self.old)) s) × MadeAnswered R.answers said rest m s (try_step (callbacks (program_in names self.old)) s))) }
     {
         let mut text = Vec::new(alloc);
-        match self.step(alloc, &mut text, cap) {
+        match self.step(alloc, table, hosts, &mut text, cap) {
             Ok(Some(outcome)) => Ok(Made::Over(outcome)),
             Ok(None) => {
                 pending.extend_from_slice(text.as_slice())?;

@@ -42,6 +42,8 @@ pub enum Ended {
     WriteFault,
     /// Memory was wanting.
     Memory,
+    /// No run was begun: this function of the host is declared, and the table has none of its name and arity.
+    NoHost(Name),
 }
 
 /// How a run ended, the steps that it made, and the live cells and the polls that were taken after them.

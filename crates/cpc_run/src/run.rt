@@ -1,5 +1,5 @@
 //! A run from its first state to its end, or to one of its bounds.
-ghost use Rattle.std.specs.Prelude.{◌≡◌, ◌++◌, ◌-◌, ◌<◌, ◌≤◌, ◌^◌, [], IfOk, OnOk, OnErr, Option, length, map, true};
+ghost use Rattle.std.specs.Prelude.{◌≡◌, ◌++◌, ◌-◌, ◌<◌, ◌≤◌, ◌^◌, List, ℤ, [], IfOk, OnOk, OnErr, Option, Some, None, length, map, true};
 ghost use Rattle.std.specs.Io.KnownBytes.{append_known};
 ghost use Rattle.cpc_base.specs.Bytes.{Text};
 ghost use Rattle.cpc_base.specs.Outside.{Rose};
@@ -11,12 +11,14 @@ ghost use Rattle.cpc_meaning.specs.History.{History, polls_fit};
 ghost use Rattle.cpc_history_marks.specs.Views.{told_of};
 ghost use Rattle.cpc_meaning.specs.Runs.{live_cells};
 ghost use Rattle.cpc_tree.specs.Syntax.{Program as Bare};
+ghost use Rattle.cpc_run.specs.Hosts.{missing_of, with_answers};
 ghost use Rattle.cpc_run.specs.States.{IsSteady};
-ghost use Rattle.cpc_run.specs.Reports.{Wrote, IsPrefix, Tells, Drained, EndsSo, Begins, NeverStuck, history_of, run_of};
+ghost use Rattle.cpc_run.specs.Reports.{Wrote, IsPrefix, Tells, Ran, IsMissing, Drained, EndsSo, Begins, NeverStuck, history_of, run_of};
 ghost use Rattle.cpc_run.specs.Code.{Given};
 ghost use Rattle.cpc_run.specs.declared.outcome.Ended.TheVariants.{WriteFault as IsWriteFault};
 ghost use Rattle.cpc_run.specs.declared.outcome.Limits.{Limits as Bounds};
 
+use crate::hosts::missing_host;
 use crate::looped::Loop;
 use crate::made::Made;
 use crate::outcome::{Ended, Limits, RunReport};
@@ -25,6 +27,7 @@ use cpc_base::{Failed, Names, NoMemory, Sink, write_all};
 use cpc_check::Checked;
 use cpc_check_sound_laws::accepted_callbacks_never_stuck;
 use cpc_history_marks::Told;
+use cpc_hosts::{HostRule, HostTable, Kept};
 use cpc_native_laws::{checked_has_numbers, is_spelled};
 use cpc_run_globals::global_cells;
 use cpc_tree::program::Program;
@@ -105,19 +108,22 @@ fn told<O: Sink>(
 
 // Steps of a run, from its first state, which has so many live cells. All that was put out is written before a step that may
 // take a poll.
-fn run_on<O: Sink>(
+fn run_on<O: Sink, R: HostRule>(
     alloc: Global,
     run: &mut Loop<'_>,
     table: &Names,
+    hosts: &HostTable<R>,
     limits: Limits,
     first: u64,
     out: &mut O,
 ) -> RunReport
     requires steady { IsSteady run.old }
+    requires rule { ⟦<HostTable<R> as Kept>⟧.keeps hosts.now }
     requires cap { limits.cells < 2 ^ 62 }
     requires within { first ≤ limits.cells }
-    ensures told { (names : Spelling) (q : Bare) (h : History) → Spells table.now names → Begins names q h run.old first → Wrote (O.taken out.old) (O.taken out.new) (Tells (in_table table.now) q h limits run.old.trace result) }
+    ensures told { (names : Spelling) (q : Bare) (h : History) → Spells table.now names → ((answers : List ℤ) → Begins names q (with_answers h answers) run.old first) → Wrote (O.taken out.old) (O.taken out.new) (Ran R.answers (in_table table.now) q h limits run.old.trace result) }
     ensures cause { result.ended ≡ IsWriteFault → Rose (O.faults out.old) (O.faults out.new) }
+    ensures later { O.faults out.old ≤ O.faults out.new }
 {
     let trace = run.trace;
     let mut pending = Vec::new(alloc);
@@ -125,7 +131,7 @@ fn run_on<O: Sink>(
     let mut cells = first;
     let mut polls = run.taken();
     'steps: while steps < limits.steps {
-        let left = match run.make(alloc, &mut pending, limits.cells) {
+        let left = match run.make(alloc, table, hosts, &mut pending, limits.cells) {
             Ok(Made::On(left)) => left,
             Ok(Made::Over(outcome)) => {
                 let due = report(Ended::Over(outcome), steps + 1, cells, polls);
@@ -161,29 +167,32 @@ fn first_cells(alloc: Global, program: &Program) -> Result<u64, NoMemory>
 }
 
 // Runs a program that is never stuck from its first state, which has so many live cells, by whatever texts tell its names.
-fn run_from<O: Sink>(
+fn run_from<O: Sink, R: HostRule>(
     alloc: Global,
     program: &Program,
     limits: Limits,
     first: u64,
     polls: &[Told],
+    hosts: &HostTable<R>,
     trace: bool,
     out: &mut O,
 ) -> RunReport
     requires given { (names : Spelling) × Given names program.now }
-    requires never_stuck { NeverStuck (program_of program.now) (history_of polls.now) }
+    requires never_stuck { (h : History) → NeverStuck (program_of program.now) h }
+    requires rule { ⟦<HostTable<R> as Kept>⟧.keeps hosts.now }
     requires cap { limits.cells < 2 ^ 62 }
     requires first { first ≡ live_cells (run_of (program_of program.now) (history_of polls.now) 0) }
     requires within { first ≤ limits.cells }
     requires polls { polls_fit (map told_of polls.now) ≡ true }
-    ensures told { Wrote (O.taken out.old) (O.taken out.new) (Tells (in_table program.now.names) (program_of program.now) (history_of polls.now) limits trace result) }
+    ensures told { Wrote (O.taken out.old) (O.taken out.new) (Ran R.answers (in_table program.now.names) (program_of program.now) (history_of polls.now) limits trace result) }
     ensures cause { result.ended ≡ IsWriteFault → Rose (O.faults out.old) (O.faults out.new) }
+    ensures later { O.faults out.old ≤ O.faults out.new }
 {
     let mut run = match Loop::open(alloc, program, polls, trace) {
         Ok(run) => run,
         Err(NoMemory) => return STARVED,
     };
-    run_on(alloc, &mut run, &program.names, limits, first, out)
+    run_on(alloc, &mut run, &program.names, hosts, limits, first, out)
 }
 
 // The report of a run whose first state has too many live cells: it is left there.
@@ -195,7 +204,9 @@ fn left_at_first<O: Sink>(
     out: &mut O,
 ) -> RunReport
     ensures told { (h : History) (limits : Bounds) → first ≡ live_cells (run_of (program_of program.now) h 0) → limits.cells < first → Wrote (O.taken out.old) (O.taken out.new) (Tells (in_table program.now.names) (program_of program.now) h limits trace result) }
+    ensures steps { result.steps ≡ 0 }
     ensures cause { result.ended ≡ IsWriteFault → Rose (O.faults out.old) (O.faults out.new) }
+    ensures later { O.faults out.old ≤ O.faults out.new }
 {
     let mut pending = Vec::new(alloc);
     let due = report(Ended::Full(first), 0, first, 0);
@@ -203,20 +214,23 @@ fn left_at_first<O: Sink>(
 }
 
 // Runs a program that is never stuck, by whatever texts tell its names.
-fn run_program<O: Sink>(
+fn run_program<O: Sink, R: HostRule>(
     alloc: Global,
     program: &Program,
     limits: Limits,
     polls: &[Told],
+    hosts: &HostTable<R>,
     trace: bool,
     out: &mut O,
 ) -> RunReport
     requires given { (names : Spelling) × Given names program.now }
-    requires never_stuck { NeverStuck (program_of program.now) (history_of polls.now) }
+    requires never_stuck { (h : History) → NeverStuck (program_of program.now) h }
+    requires rule { ⟦<HostTable<R> as Kept>⟧.keeps hosts.now }
     requires cap { limits.cells < 2 ^ 62 }
     requires polls { polls_fit (map told_of polls.now) ≡ true }
-    ensures told { Wrote (O.taken out.old) (O.taken out.new) (Tells (in_table program.now.names) (program_of program.now) (history_of polls.now) limits trace result) }
+    ensures told { Wrote (O.taken out.old) (O.taken out.new) (Ran R.answers (in_table program.now.names) (program_of program.now) (history_of polls.now) limits trace result) }
     ensures cause { result.ended ≡ IsWriteFault → Rose (O.faults out.old) (O.faults out.new) }
+    ensures later { O.faults out.old ≤ O.faults out.new }
 {
     let first = match first_cells(alloc, program) {
         Ok(first) => first,
@@ -225,22 +239,28 @@ fn run_program<O: Sink>(
     if first > limits.cells {
         return left_at_first(alloc, program, first, trace, out);
     }
-    run_from(alloc, program, limits, first, polls, trace, out)
+    run_from(alloc, program, limits, first, polls, hosts, trace, out)
 }
 
-/// Runs an event program that asks only for what the loop answers, over a history of polls within the limits of a history,
-/// and writes what it puts out; with a trace it writes the lines of the trace in place of that, and the last line. No host
-/// answers. The bound on steps is looked at before each step, and so is the cap, at what the step would leave: one that would
-/// leave more live cells is not made, and nothing of it goes out. The cells of the first state are counted before it is made.
+/// Runs an event program that asks only for what the loop answers, over a history of polls within the limits of a history, with
+/// the functions of a table of hosts, and writes what it puts out; with a trace it writes the lines of the trace in place of
+/// that, and the last line. The bound on steps is looked at before each step, and so is the cap, at what the step would leave:
+/// one that would leave more live cells is not made, and nothing of it goes out. The cells of the first state are counted
+/// before it is made.
+///
+/// The answers that the run takes in are those that the table's functions gave, in order, and each is allowed by the rule of
+/// the table. Where a function of the host is declared that the table has not, with its arity, no run is begun: the report is
+/// `Ended::NoHost` with the first of these by declaration, and zeros, and nothing is written.
 ///
 /// `Ended::WriteFault` is a failure of the sink, `Ended::Memory` want of memory; then what went out is the first part of
 /// what the run put out. A step that would leave more cells than the cap is told before it is made, so that it takes no
 /// memory, whatever the size of a block or of a call. A poll that is refused is not taken.
-pub fn run_event<O: Sink>(
+pub fn run_event<O: Sink, R: HostRule>(
     alloc: Global,
     program: &Checked,
-    limits: Limits,
     polls: &[Told],
+    hosts: &HostTable<R>,
+    limits: Limits,
     trace: bool,
     out: &mut O,
 ) -> RunReport
@@ -248,11 +268,17 @@ pub fn run_event<O: Sink>(
     requires served { is_served_program (program_of program.now.program) ≡ true }
     requires cap { limits.cells < 2 ^ 62 }
     requires polls { polls_fit (map told_of polls.now) ≡ true }
-    ensures told { Wrote (O.taken out.old) (O.taken out.new) (Tells (in_table program.now.program.names) (program_of program.now.program) (history_of polls.now) limits trace result) }
+    requires rule { ⟦<HostTable<R> as Kept>⟧.keeps hosts.now }
+    ensures missing { (x : Text) → missing_of (⟦<HostTable<R> as Kept>⟧.names hosts.now) (program_of program.now.program) ≡ Some x → IsMissing (in_table program.now.program.names) x result × (O.taken out.new ≡ O.taken out.old) }
+    ensures told { missing_of (⟦<HostTable<R> as Kept>⟧.names hosts.now) (program_of program.now.program) ≡ None → Wrote (O.taken out.old) (O.taken out.new) (Ran R.answers (in_table program.now.program.names) (program_of program.now.program) (history_of polls.now) limits trace result) }
     ensures cause { result.ended ≡ IsWriteFault → Rose (O.faults out.old) (O.faults out.new) }
+    ensures later { O.faults out.old ≤ O.faults out.new }
 {
+    if let Some(name) = missing_host(&program.program, hosts) {
+        return report(Ended::NoHost(name), 0, 0, 0);
+    }
     is_spelled(program);
     checked_has_numbers(program);
     accepted_callbacks_never_stuck();
-    run_program(alloc, &program.program, limits, polls, trace, out)
+    run_program(alloc, &program.program, limits, polls, hosts, trace, out)
 }

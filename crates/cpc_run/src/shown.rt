@@ -60,6 +60,25 @@ pub(crate) fn put_wait(
     put_line(alloc, mark, pending)
 }
 
+/// What goes out for a call of a function of the host, by its name, its arguments and its answer: its line, where a trace is
+/// wanted.
+pub(crate) fn put_host(
+    trace: bool,
+    alloc: Global,
+    name: &[u8],
+    arguments: Vec<i64>,
+    answer: i64,
+    pending: &mut Vec<u8>,
+) -> Result<(), NoMemory>
+    ensures { OnOk result (pending.new.items ≡ pending.old.items ++ shown_of trace (T.HostCall name.now arguments.items answer)) }
+{
+    if !trace {
+        return Ok(());
+    }
+    let name = name.to_vec(alloc)?;
+    put_line(alloc, &Mark::Host(name, arguments, answer), pending)
+}
+
 /// What goes out for the first of these polls, which is taken: its line, where a trace is wanted.
 pub(crate) fn put_poll(
     trace: bool,
@@ -146,7 +165,7 @@ fn put_stop(
         }
         Ended::Steps => put_end(b"steps", pending),
         Ended::Full(_) => put_end(b"full", pending),
-        Ended::WriteFault | Ended::Memory => Ok(()),
+        Ended::WriteFault | Ended::Memory | Ended::NoHost(_) => Ok(()),
     }
 }
 

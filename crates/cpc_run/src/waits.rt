@@ -26,8 +26,8 @@ use cpc_native::Request;
 use cpc_store::Value;
 use std::alloc::Global;
 
-// The number of an integer that is one of `i64`, as each lawful one of a signed kind is.
-fn long(value: Value) -> Option<i64>
+/// The number of an integer that is one of `i64`, as each lawful one of a signed kind is.
+pub(crate) fn long(value: Value) -> Option<i64>
     ensures { IfSome result (λ z. (names : Names) → M.int_of (value_of names value) ≡ Gives z) }
 {
     let Value::Int(_, number) = value else {

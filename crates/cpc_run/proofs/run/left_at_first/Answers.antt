@@ -1,4 +1,4 @@
-use Rattle.std.proofs.Common.{[], sym}
+use Rattle.std.proofs.Common.{[], sym, ap, ◌∙◌}
 use Rattle.cpc_base.proofs.Pieces.{append_known-nil}
 use Rattle.cpc_tree.specs.Erase.{program_of}
 use Rattle.cpc_run.proofs.Ends.{full_first}
@@ -10,3 +10,6 @@ returns-clause-told g c = λ h limits e lt.
     let now = g.O.Sink.taken c.args.out.now in
     full_first p.names (program_of p) h limits c.args.trace c.args.first c.report-due.result c.told.result c.new-pending.result.items now (g.O.Sink.taken c.told.new.out) c.report-due.ensures e lt c.new-pending.ensures.items c.told.ensures.same
     (c.told.ensures.told now [] (sym (append_known-nil now)))
+
+pub returns-clause-steps : goal.returns-clause-steps
+returns-clause-steps g c = ap (λ r. r.steps) c.told.ensures.same ∙ ap (λ r. r.steps) c.report-due.ensures

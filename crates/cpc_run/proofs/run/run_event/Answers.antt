@@ -1,8 +1,19 @@
-use Rattle.cpc_run.specs.Reports.{history_of}
+use Rattle.std.proofs.Common.{refl, sym, ap, ◌∙◌}
+use Rattle.std.specs.Prelude.{option_map}
+use Rattle.cpc_tree.specs.Erase.{in_table}
 use Rattle.cpc_run.proofs.Ends.{checked_never_stuck}
 use Rattle.cpc_run.proofs.run.run_event.Goals as goal
 
 pub run_program-requires-clause-never_stuck : goal.run_program-requires-clause-never_stuck
-run_program-requires-clause-never_stuck g c =
+run_program-requires-clause-never_stuck g c = λ h.
     let p = c.args.program.now in
-    checked_never_stuck c.accepted_callbacks_never_stuck.ensures p.program p.dialect (history_of c.args.polls.now) c.requires.dialect p.read p.unbroken
+    checked_never_stuck c.accepted_callbacks_never_stuck.ensures p.program p.dialect h c.requires.dialect p.read p.unbroken
+
+pub returns-in-Some-clause-missing : goal.returns-in-Some-clause-missing
+returns-in-Some-clause-missing g c = λ x e. (record { name = c.in-Some.name; named = let i = c.in-Some.ensures ∙ e in cc i; told = c.report.ensures }, refl)
+
+pub returns-in-Some-clause-told : goal.returns-in-Some-clause-told
+returns-in-Some-clause-told g c = λ e. absurd (let i = c.in-Some.ensures ∙ e in cc i)
+
+pub returns-clause-missing : goal.returns-clause-missing
+returns-clause-missing g c = λ x e. absurd (let i = sym (ap (λ o. option_map (in_table c.args.program.now.program.names) o) c.in_default.is) ∙ c.missing_host.ensures ∙ e in cc i)

@@ -1,62 +1,128 @@
-use Rattle.std.proofs.Common.{◌++◌, ◌+◌, Ok, sym, subst, arith}
+use Rattle.std.proofs.Common.{[], ◌++◌, ◌+◌, Ok, refl, ap, sym, subst, ◌∙◌, append_assoc, arith}
+use Rattle.std.proofs.lemmas.List.{append-nil}
+use Rattle.cpc_base.proofs.Pieces.{append_known-nil}
 use Rattle.cpc_meaning.specs.Events.{callbacks}
 use Rattle.cpc_meaning.specs.Machine.{try_step}
 use Rattle.cpc_tree.specs.Erase.{in_table}
+use Rattle.cpc_run.specs.Answers.{HasSaid, MadeAnswered}
+use Rattle.cpc_run.specs.Hosts.{with_answers}
 use Rattle.cpc_run.specs.States.{program_in}
 use Rattle.cpc_run.specs.Reports.{MadeSo, MadeSteady, Reached, IsLeft, Tells, run_of}
-use Rattle.cpc_run.proofs.Runs.{AtEnd, within_cap, ends_told, left_in, left_over, left_full, reached_more, at_end, tells_cut}
+use Rattle.cpc_run.proofs.Given.{has_next, has_same, none_given, ran_with, reached_first}
+use Rattle.cpc_run.proofs.Runs.{AtEnd, within_cap, ends_told, left_in, left_over, left_full, reached_more, at_end, tells_cut, tells_memory}
 use Rattle.cpc_run.proofs.run.run_on.Goals as goal
 
 pub returns-in-Ok-Over-clause-told : goal.returns-in-Ok-Over-clause-told
-returns-in-Ok-Over-clause-told g c = λ names q h spells begins.
+returns-in-Ok-Over-clause-told g c = λ names q hist spells begins.
+    let allows = g.R.HostRule.answers in
     let l = c.steps.run in
     let n = c.steps.steps in
     let table = c.args.table.now in
     let trace = c.args.run.now.trace in
     let limits = c.args.limits in
-    let (sent, taken, reached) = c.steps.invariant.so_far names q h begins in
+    let (sent, taken, given, far) = c.steps.invariant.so_far names q hist spells begins in
+    let (said, make) = c.in-Ok-Over.ensures.made in
+    let answers = given ++ said in
+    let h = with_answers hist answers in
+    let stuck = (begins answers).never_stuck in
+    let (reached, has) = far said in
     let old = sent ++ c.steps.pending.items in
     let new = sent ++ c.make.new.pending.items in
-    let made = subst (λ m. MadeSo names limits.cells (Ok m) c.make.new.self old new (run_of q h n) (try_step (callbacks (program_in names l)) (run_of q h n))) c.in-Ok-Over.field-0-is
-    (c.in-Ok-Over.ensures.made names reached.fits sent (run_of q h n) (within_cap names q h limits.cells trace l old n c.steps.cells reached) reached.stands) in
+    let s = run_of q h n in
+    let o = try_step (callbacks (program_in names l)) s in
+    let both = subst (λ m. MadeSo names limits.cells (Ok m) c.make.new.self old new s o × MadeAnswered allows said [] m s o) c.in-Ok-Over.field-0-is
+    (make names reached.fits spells sent s (within_cap names q h limits.cells trace l old n c.steps.cells reached) reached.stands [] (has.left ∙ sym (append-nil said))) in
+    let said_so = has_next allows given said [] names q h l n stuck (reached.going n (omega arith)) reached.program both.1 (subst (λ r. HasSaid allows given r s) (sym (append-nil said)) has) in
     let (left, at) = subst (λ d. IsLeft names q h limits d.steps d.ended × AtEnd q h limits trace d.steps d.cells d.polls new) (sym c.report-due.ensures)
-    (left_over names q h limits trace l old n c.steps.cells c.steps.polls begins.never_stuck reached c.steps.invariant.counted c.steps-test.true c.make.new.self new c.in-Ok-Over.outcome made) in
-    ends_told table q h limits trace c.report-due.result c.told.result new (g.O.Sink.taken c.args.out.now) (g.O.Sink.taken c.told.new.out)
-    (λ i. left_in names table spells q h limits c.report-due.result.steps c.report-due.result.ended i left) at c.told.ensures.same (c.told.ensures.told (g.O.Sink.taken c.args.out.now) sent taken)
+    (left_over names q h limits trace l old n c.steps.cells c.steps.polls stuck reached c.steps.invariant.counted c.steps-test.true c.make.new.self new c.in-Ok-Over.outcome both.0) in
+    ran_with allows (in_table table) q hist limits trace c.told.result answers (n + 1) (g.O.Sink.taken c.args.out.now) (g.O.Sink.taken c.told.new.out) (ap (λ r. r.steps) c.told.ensures.same ∙ ap (λ r. r.steps) c.report-due.ensures) said_so
+    (ends_told table q h limits trace c.report-due.result c.told.result new (g.O.Sink.taken c.args.out.now) (g.O.Sink.taken c.told.new.out)
+    (λ i. left_in names table spells q h limits c.report-due.result.steps c.report-due.result.ended i left) at c.told.ensures.same (c.told.ensures.told (g.O.Sink.taken c.args.out.now) sent taken))
 
 pub returns-in-Ok-Full-clause-told : goal.returns-in-Ok-Full-clause-told
-returns-in-Ok-Full-clause-told g c = λ names q h spells begins.
+returns-in-Ok-Full-clause-told g c = λ names q hist spells begins.
+    let allows = g.R.HostRule.answers in
     let l = c.steps.run in
     let n = c.steps.steps in
     let table = c.args.table.now in
     let trace = c.args.run.now.trace in
     let limits = c.args.limits in
-    let (sent, taken, reached) = c.steps.invariant.so_far names q h begins in
+    let (sent, taken, given, far) = c.steps.invariant.so_far names q hist spells begins in
+    let (said, make) = c.in-Ok-Full.ensures.made in
+    let answers = given ++ said in
+    let h = with_answers hist answers in
+    let stuck = (begins answers).never_stuck in
+    let (reached, has) = far said in
     let old = sent ++ c.steps.pending.items in
     let new = sent ++ c.make.new.pending.items in
-    let made = subst (λ m. MadeSo names limits.cells (Ok m) c.make.new.self old new (run_of q h n) (try_step (callbacks (program_in names l)) (run_of q h n))) c.in-Ok-Full.field-0-is
-    (c.in-Ok-Full.ensures.made names reached.fits sent (run_of q h n) (within_cap names q h limits.cells trace l old n c.steps.cells reached) reached.stands) in
+    let s = run_of q h n in
+    let o = try_step (callbacks (program_in names l)) s in
+    let both = subst (λ m. MadeSo names limits.cells (Ok m) c.make.new.self old new s o × MadeAnswered allows said [] m s o) c.in-Ok-Full.field-0-is
+    (make names reached.fits spells sent s (within_cap names q h limits.cells trace l old n c.steps.cells reached) reached.stands [] (has.left ∙ sym (append-nil said))) in
+    let said_so = has_same allows given said [] s both.1 (subst (λ r. HasSaid allows given r s) (sym (append-nil said)) has) in
     let (left, at) = subst (λ d. IsLeft names q h limits d.steps d.ended × AtEnd q h limits trace d.steps d.cells d.polls new) (sym c.report-due-in-Ok-Full.ensures)
-    (left_full names q h limits trace l old n c.steps.cells c.steps.polls begins.never_stuck reached c.steps.invariant.counted c.steps-test.true c.make.new.self new c.in-Ok-Full.left made) in
-    ends_told table q h limits trace c.report-due-in-Ok-Full.result c.told-in-Ok-Full.result new (g.O.Sink.taken c.args.out.now) (g.O.Sink.taken c.told-in-Ok-Full.new.out)
-    (λ i. left_in names table spells q h limits c.report-due-in-Ok-Full.result.steps c.report-due-in-Ok-Full.result.ended i left) at c.told-in-Ok-Full.ensures.same (c.told-in-Ok-Full.ensures.told (g.O.Sink.taken c.args.out.now) sent taken)
+    (left_full names q h limits trace l old n c.steps.cells c.steps.polls stuck reached c.steps.invariant.counted c.steps-test.true c.make.new.self new c.in-Ok-Full.left both.0) in
+    ran_with allows (in_table table) q hist limits trace c.told-in-Ok-Full.result answers n (g.O.Sink.taken c.args.out.now) (g.O.Sink.taken c.told-in-Ok-Full.new.out) (ap (λ r. r.steps) c.told-in-Ok-Full.ensures.same ∙ ap (λ r. r.steps) c.report-due-in-Ok-Full.ensures) said_so
+    (ends_told table q h limits trace c.report-due-in-Ok-Full.result c.told-in-Ok-Full.result new (g.O.Sink.taken c.args.out.now) (g.O.Sink.taken c.told-in-Ok-Full.new.out)
+    (λ i. left_in names table spells q h limits c.report-due-in-Ok-Full.result.steps c.report-due-in-Ok-Full.result.ended i left) at c.told-in-Ok-Full.ensures.same (c.told-in-Ok-Full.ensures.told (g.O.Sink.taken c.args.out.now) sent taken))
+
+pub returns-in-Err-clause-told : goal.returns-in-Err-clause-told
+returns-in-Err-clause-told g c = λ names q hist spells begins.
+    let allows = g.R.HostRule.answers in
+    let l = c.steps.run in
+    let n = c.steps.steps in
+    let trace = c.args.run.now.trace in
+    let limits = c.args.limits in
+    let (sent, taken, given, far) = c.steps.invariant.so_far names q hist spells begins in
+    let answers = given ++ [] in
+    let h = with_answers hist answers in
+    let (reached, has) = far [] in
+    let whole = sent ++ c.steps.pending.items in
+    let at = at_end names q h limits trace l whole n c.steps.cells c.steps.polls reached c.steps.invariant.counted c.steps.invariant.within in
+    let tells = tells_memory (in_table c.args.table.now) q h limits trace n c.steps.cells c.steps.polls sent whole at (record { rest = c.steps.pending.items; whole = refl }) in
+    ran_with allows (in_table c.args.table.now) q hist limits trace c.report.result answers n (g.O.Sink.taken c.args.out.now) (g.O.Sink.taken c.steps.out) (ap (λ r. r.steps) c.report.ensures)
+    (has_same allows given [] [] (run_of q h n) refl has) (sent, taken, subst (λ r. Tells (in_table c.args.table.now) q h limits trace r sent) (sym c.report.ensures) tells)
 
 pub returns-in-Err-drain-clause-told : goal.returns-in-Err-drain-clause-told
-returns-in-Err-drain-clause-told g c = λ names q h spells begins.
+returns-in-Err-drain-clause-told g c = λ names q hist spells begins.
+    let allows = g.R.HostRule.answers in
     let l = c.steps.run in
     let n = c.steps.steps in
-    let table = c.args.table.now in
     let trace = c.args.run.now.trace in
     let limits = c.args.limits in
-    let (sent, taken, reached) = c.steps.invariant.so_far names q h begins in
+    let (sent, taken, given, far) = c.steps.invariant.so_far names q hist spells begins in
+    let (said, make) = c.in-Ok-On.ensures.made in
+    let answers = given ++ said in
+    let h = with_answers hist answers in
+    let stuck = (begins answers).never_stuck in
+    let (reached, has) = far said in
     let old = sent ++ c.steps.pending.items in
     let new = sent ++ c.make.new.pending.items in
-    let made = subst (λ m. MadeSo names limits.cells (Ok m) c.make.new.self old new (run_of q h n) (try_step (callbacks (program_in names l)) (run_of q h n))) c.in-Ok-On.field-0-is
-    (c.in-Ok-On.ensures.made names reached.fits sent (run_of q h n) (within_cap names q h limits.cells trace l old n c.steps.cells reached) reached.stands) in
-    let next = reached_more names q h limits.cells trace l old n c.steps.cells begins.never_stuck reached c.make.new.self new c.in-Ok-On.left c.in-Ok-On.ensures.keeps made in
+    let s = run_of q h n in
+    let o = try_step (callbacks (program_in names l)) s in
+    let both = subst (λ m. MadeSo names limits.cells (Ok m) c.make.new.self old new s o × MadeAnswered allows said [] m s o) c.in-Ok-On.field-0-is
+    (make names reached.fits spells sent s (within_cap names q h limits.cells trace l old n c.steps.cells reached) reached.stands [] (has.left ∙ sym (append-nil said))) in
+    let said_so = has_next allows given said [] names q h l n stuck (reached.going n (omega arith)) reached.program both.1 (subst (λ r. HasSaid allows given r s) (sym (append-nil said)) has) in
+    let next = reached_more names q h limits.cells trace l old n c.steps.cells stuck reached c.make.new.self new c.in-Ok-On.left c.in-Ok-On.ensures.keeps both.0 in
     let part = c.in-Err-drain.ensures.part (g.O.Sink.taken c.args.out.now) sent taken in
-    let tells = tells_cut (in_table table) q h limits trace (n + 1) c.in-Ok-On.left c.taken-polls-in-steps.result part.0 new (at_end names q h limits trace c.make.new.self new (n + 1) c.in-Ok-On.left c.taken-polls-in-steps.result next c.taken-polls-in-steps.ensures) part.2 in
-    (part.0, part.1, subst (λ r. Tells (in_table table) q h limits trace r part.0) (sym c.report-in-Err-drain.ensures) tells)
+    let tells = tells_cut (in_table c.args.table.now) q h limits trace (n + 1) c.in-Ok-On.left c.taken-polls-in-steps.result part.0 new
+    (at_end names q h limits trace c.make.new.self new (n + 1) c.in-Ok-On.left c.taken-polls-in-steps.result next c.taken-polls-in-steps.ensures (omega (arith, c.steps-test.true))) part.2 in
+    ran_with allows (in_table c.args.table.now) q hist limits trace c.report-in-Err-drain.result answers (n + 1) (g.O.Sink.taken c.args.out.now) (g.O.Sink.taken c.drain.new.out) (ap (λ r. r.steps) c.report-in-Err-drain.ensures) said_so
+    (part.0, part.1, subst (λ r. Tells (in_table c.args.table.now) q h limits trace r part.0) (sym c.report-in-Err-drain.ensures) tells)
+
+pub steps-init : goal.steps-init
+steps-init g c = record {
+  steady = c.requires.steady;
+  within = omega arith;
+  later = omega arith;
+  counted = c.taken-polls.ensures;
+  so_far = λ names q hist spells begins. (
+    [],
+    sym (append_known-nil (g.O.Sink.taken c.args.out.now)),
+    [],
+    λ rest. (reached_first names q (with_answers hist rest) c.args.limits.cells c.args.run.now c.args.first c.new-pending.result.items (begins rest) c.requires.within c.new-pending.ensures.items, none_given g.R.HostRule.answers q hist rest),
+  );
+}
 
 pub steps-preserved : goal.steps-preserved
 steps-preserved g c = record {
@@ -64,32 +130,54 @@ steps-preserved g c = record {
   within = omega (arith, c.steps-test.true);
   later = omega (arith, c.steps.invariant.later, c.drain.ensures.later);
   counted = c.taken-polls-in-steps.ensures;
-  so_far = λ names q h begins.
+  so_far = λ names q hist spells begins.
+      let allows = g.R.HostRule.answers in
       let l = c.steps.run in
       let n = c.steps.steps in
       let trace = c.args.run.now.trace in
       let limits = c.args.limits in
-      let (sent, taken, reached) = c.steps.invariant.so_far names q h begins in
+      let (sent, taken, given, far) = c.steps.invariant.so_far names q hist spells begins in
+      let (said, make) = c.in-Ok-On.ensures.made in
       let old = sent ++ c.steps.pending.items in
       let new = sent ++ c.make.new.pending.items in
-      let made = subst (λ m. MadeSo names limits.cells (Ok m) c.make.new.self old new (run_of q h n) (try_step (callbacks (program_in names l)) (run_of q h n))) c.in-Ok-On.field-0-is
-      (c.in-Ok-On.ensures.made names reached.fits sent (run_of q h n) (within_cap names q h limits.cells trace l old n c.steps.cells reached) reached.stands) in
-      let next = reached_more names q h limits.cells trace l old n c.steps.cells begins.never_stuck reached c.make.new.self new c.in-Ok-On.left c.in-Ok-On.ensures.keeps made in
-      let left = c.in-Ok.ensures.all (g.O.Sink.taken c.args.out.now) sent taken in
-      (left.0, left.1, subst (λ p. Reached names q h limits.cells trace c.make.new.self p (n + 1) c.in-Ok-On.left) (sym left.2) next);
+      let left = c.in-Ok.ensures.all (g.O.Sink.taken c.args.out.now) sent taken in (
+        left.0,
+        left.1,
+        given ++ said,
+        λ rest.
+            let answers = given ++ (said ++ rest) in
+            let h = with_answers hist answers in
+            let stuck = (begins answers).never_stuck in
+            let (reached, has) = far (said ++ rest) in
+            let s = run_of q h n in
+            let o = try_step (callbacks (program_in names l)) s in
+            let both = subst (λ m. MadeSo names limits.cells (Ok m) c.make.new.self old new s o × MadeAnswered allows said rest m s o) c.in-Ok-On.field-0-is
+            (make names reached.fits spells sent s (within_cap names q h limits.cells trace l old n c.steps.cells reached) reached.stands rest has.left) in
+            let said_so = has_next allows given said rest names q h l n stuck (reached.going n (omega arith)) reached.program both.1 has in
+            let next = reached_more names q h limits.cells trace l old n c.steps.cells stuck reached c.make.new.self new c.in-Ok-On.left c.in-Ok-On.ensures.keeps both.0 in
+            subst (λ zs. Reached names q (with_answers hist zs) limits.cells trace c.make.new.self (left.0 ++ c.drain.new.pending.items) (n + 1) c.in-Ok-On.left × HasSaid allows (given ++ said) rest (run_of q (with_answers hist zs) (n + 1)))
+            (sym (append_assoc given said rest))
+            (subst (λ p. Reached names q h limits.cells trace c.make.new.self p (n + 1) c.in-Ok-On.left) (sym left.2) next, said_so),
+      );
 }
 
 pub returns-clause-told : goal.returns-clause-told
-returns-clause-told g c = λ names q h spells begins.
+returns-clause-told g c = λ names q hist spells begins.
+    let allows = g.R.HostRule.answers in
     let l = c.steps.run in
     let n = c.steps.steps in
     let table = c.args.table.now in
     let trace = c.args.run.now.trace in
     let limits = c.args.limits in
-    let (sent, taken, reached) = c.steps.invariant.so_far names q h begins in
+    let (sent, taken, given, far) = c.steps.invariant.so_far names q hist spells begins in
+    let answers = given ++ [] in
+    let h = with_answers hist answers in
+    let (reached, has) = far [] in
     let whole = sent ++ c.steps.pending.items in
-    let here = at_end names q h limits trace l whole n c.steps.cells c.steps.polls reached c.steps.invariant.counted in
+    let here = at_end names q h limits trace l whole n c.steps.cells c.steps.polls reached c.steps.invariant.counted c.steps.invariant.within in
     let (left, at) = subst (λ d. IsLeft names q h limits d.steps d.ended × AtEnd q h limits trace d.steps d.cells d.polls whole) (sym c.report-due-2.ensures)
     (record { at_bound = omega (arith, c.steps-test.false, c.steps.invariant.within); going = reached.going n (omega arith) }, here) in
-    ends_told table q h limits trace c.report-due-2.result c.told-2.result whole (g.O.Sink.taken c.args.out.now) (g.O.Sink.taken c.told-2.new.out)
-    (λ i. left_in names table spells q h limits c.report-due-2.result.steps c.report-due-2.result.ended i left) at c.told-2.ensures.same (c.told-2.ensures.told (g.O.Sink.taken c.args.out.now) sent taken)
+    ran_with allows (in_table table) q hist limits trace c.told-2.result answers n (g.O.Sink.taken c.args.out.now) (g.O.Sink.taken c.told-2.new.out) (ap (λ r. r.steps) c.told-2.ensures.same ∙ ap (λ r. r.steps) c.report-due-2.ensures)
+    (has_same allows given [] [] (run_of q h n) refl has)
+    (ends_told table q h limits trace c.report-due-2.result c.told-2.result whole (g.O.Sink.taken c.args.out.now) (g.O.Sink.taken c.told-2.new.out)
+    (λ i. left_in names table spells q h limits c.report-due-2.result.steps c.report-due-2.result.ended i left) at c.told-2.ensures.same (c.told-2.ensures.told (g.O.Sink.taken c.args.out.now) sent taken))

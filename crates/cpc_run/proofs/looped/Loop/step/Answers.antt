@@ -1,39 +1,43 @@
-use Rattle.std.proofs.Common.{◌++◌, ◌≤◌, refl, ap, subst, ◌∙◌}
+use Rattle.std.proofs.Common.{◌++◌, ◌≤◌, [], ap, subst, ◌∙◌}
+use Rattle.cpc_meaning.specs.Events.{callbacks}
+use Rattle.cpc_meaning.specs.Machine.{try_step}
+use Rattle.cpc_run.specs.Answers.{Answered, CameAnswered}
 use Rattle.cpc_run.specs.Code.{stack_in}
-use Rattle.cpc_run.specs.States.{where_running}
+use Rattle.cpc_run.specs.States.{Did, where_running, program_in}
 use Rattle.cpc_run.specs.Shorts.{Counts, IsBeyond}
-use Rattle.cpc_run.proofs.Shorts.{err_more, ok_more, turn_counts}
-use Rattle.cpc_run.proofs.Turns.{turn_step}
-use Rattle.cpc_run.proofs.Steps.{taken, taken_counts, code_step_is}
+use Rattle.cpc_run.proofs.Hosted.{ok_is, ok_answers}
+use Rattle.cpc_run.proofs.Silent.{idle_silent}
+use Rattle.cpc_run.proofs.Shorts.{err_more, ok_more}
+use Rattle.cpc_run.proofs.Steps.{code_step_is}
 use Rattle.cpc_run.proofs.looped.Loop.step.Goals as goal
 
-pub returns-in-Some-clause-did : goal.returns-in-Some-clause-did
-returns-in-Some-clause-did c = λ names fits sent s within stands.
-    taken names c.args.self.now _ (sent ++ c.args.pending.now.items) s c.in-Some.item c.in-Some.waited
-    c.take.result c.take.new.self (sent ++ c.args.pending.now.items) stands c.if-self.false refl c.if-self.false refl refl (c.in-Some.ensures.next names) c.take.ensures.on
-    (λ t h. c.take.ensures.did names (record { runs = fits.runs; main = fits.main }) (sent ++ c.args.pending.now.items) t h)
-
 pub returns-then-self-clause-short : goal.returns-then-self-clause-short
-returns-then-self-clause-short c = err_more _ _ c.goes_on.result (λ short h names fits sent s within stands.
+returns-then-self-clause-short g c = err_more _ _ c.goes_on.result (λ short h names fits sent s within stands.
     let l = c.args.self.now in
     subst (Counts (IsBeyond c.args.cap short)) (code_step_is names l s (stands.running ∙ ap (λ b. where_running b (stack_in names l.machine)) c.if-self.true)) (h names fits sent s within stands)) c.goes_on.ensures.short
 
 pub returns-then-self-clause-capped : goal.returns-then-self-clause-capped
-returns-then-self-clause-capped c = ok_more _ _ c.goes_on.result (λ h names fits sent s within stands.
+returns-then-self-clause-capped g c = ok_more _ _ c.goes_on.result (λ h names fits sent s within stands.
     let l = c.args.self.now in
     subst (Counts (λ n. n ≤ c.args.cap)) (code_step_is names l s (stands.running ∙ ap (λ b. where_running b (stack_in names l.machine)) c.if-self.true)) (h names fits sent s within stands)) c.goes_on.ensures.capped
 
-pub returns-in-Some-clause-short : goal.returns-in-Some-clause-short
-returns-in-Some-clause-short c = err_more _ _ c.take.result (λ short h names fits sent s within stands.
-    taken_counts names c.args.self.now _ sent s c.in-Some.item c.in-Some.waited (IsBeyond c.args.cap short) stands c.if-self.false refl c.if-self.false refl refl (c.in-Some.ensures.next names)
-    (λ t on live. h names (record { runs = fits.runs; main = fits.main }) sent t on)) c.take.ensures.short
+pub returns-then-self-clause-did : goal.returns-then-self-clause-did
+returns-then-self-clause-did g c = ok_answers _ _ c.goes_on.result (λ r h. (
+  h.0,
+  λ names fits spells sent s within stands rest left.
+      let l = c.args.self.now in
+      subst (CameAnswered names g.R.HostRule.answers h.0 rest r c.goes_on.new.self (sent ++ c.goes_on.new.pending.items) s) (code_step_is names l s (stands.running ∙ ap (λ b. where_running b (stack_in names l.machine)) c.if-self.true))
+      (h.1 names fits spells sent s within stands rest left),
+)) c.goes_on.ensures.did
 
-pub returns-in-Some-clause-capped : goal.returns-in-Some-clause-capped
-returns-in-Some-clause-capped c = ok_more _ _ c.take.result (λ h names fits sent s within stands.
-    taken_counts names c.args.self.now _ sent s c.in-Some.item c.in-Some.waited (λ n. n ≤ c.args.cap) stands c.if-self.false refl c.if-self.false refl refl (c.in-Some.ensures.next names)
-    (λ t on live. h names (record { runs = fits.runs; main = fits.main }) sent t on)) c.take.ensures.capped
-
-pub returns-in_ok-turn-in-None-clause-capped : goal.returns-in_ok-turn-in-None-clause-capped
-returns-in_ok-turn-in-None-clause-capped c = λ names fits sent s within stands.
-    let l = c.args.self.now in
-    subst (Counts (λ n. n ≤ c.args.cap)) (turn_step names l sent s stands c.if-self.false (c.in-None.ensures.none names).0) (turn_counts names l s stands.lists.none_out c.args.cap within.live)
+pub returns-clause-did : goal.returns-clause-did
+returns-clause-did g c = ok_is _ c.schedules.result (λ r e. (
+  [],
+  λ names fits spells sent s within stands rest left.
+      let l = c.args.self.now in
+      let o = try_step (callbacks (program_in names l)) s in
+      let after = sent ++ c.schedules.new.pending.items in (
+        subst (λ x. Did names x c.schedules.new.self after s o) e (c.schedules.ensures.did names fits sent s within stands),
+        subst (λ ys. Answered g.R.HostRule.answers [] ys s o) left (idle_silent g.R.HostRule.answers (program_in names l) s (stands.running ∙ ap (λ b. where_running b (stack_in names l.machine)) c.if-self.false)),
+      ),
+))

@@ -1,0 +1,46 @@
+-- Functions of the host in a run: those that a program needs, and what they answered.
+use Rattle.std.specs.Prelude.{ℕ, ℤ, List, [], ◌∷◌, ◌++◌, length, Option, Some, None, if◌then◌else◌}
+use Rattle.cpc_base.specs.Bytes.{Text}
+use Rattle.cpc_hosts.specs.Tables.{is_there}
+use Rattle.cpc_tree.specs.Syntax.{Item, PrototypeItem, Program}
+use Rattle.cpc_tree.specs.Trace.{Mark, HostCall}
+use Rattle.cpc_tree.specs.declared.program.Mode.TheVariants.{Extern}
+use Rattle.cpc_meaning.specs.History.{History}
+
+-- a function of the host that is declared and not among these, with its arity
+abbrev pub missing_item : List (Text × ℕ) → Item → Option Text
+missing_item there (PrototypeItem Extern x r ps) = if is_there x (length ps) there then None else Some x
+missing_item there item = None
+
+-- the first, if it is there, and else the second
+abbrev pub or_else : Option Text → Option Text → Option Text
+or_else None o = o
+or_else (Some x) o = Some x
+
+-- the first function of the host, by declaration, that is not among these, with its arity
+abbrev pub missing_of : List (Text × ℕ) → Program → Option Text
+missing_of there [] = None
+missing_of there (x ∷ items) = or_else (missing_item there x) (missing_of there items)
+
+-- the answers that marks tell, in order
+abbrev pub answer_of : Mark → List ℤ
+answer_of (HostCall x zs z) = z ∷ []
+answer_of m = []
+
+abbrev pub answers_of : List Mark → List ℤ
+answers_of [] = []
+answers_of (m ∷ ms) = answer_of m ++ answers_of ms
+
+-- what a mark tells of a function of the host, if it does, is an answer that this one may give
+abbrev pub IsAllowed : (Text → List ℤ → ℤ → Type 0) → Mark → Type 0
+IsAllowed allows (HostCall x zs z) = allows x zs z
+IsAllowed allows m = Unit {0}
+
+-- each answer that marks tell may be given
+abbrev pub HostsMeet : (Text → List ℤ → ℤ → Type 0) → List Mark → Type 0
+HostsMeet allows [] = Unit {0}
+HostsMeet allows (m ∷ ms) = IsAllowed allows m × HostsMeet allows ms
+
+-- the history with these answers
+abbrev pub with_answers : History → List ℤ → History
+with_answers h answers = record h { answers = answers }

@@ -1,0 +1,122 @@
+//! Functions of the host: the first that a table has not, and calls of them.
+ghost use Rattle.std.specs.Prelude.{◌≡◌, ◌++◌, List, ℤ, IfOk, true, option_map};
+ghost use Rattle.cpc_base.specs.Bytes.{Text};
+ghost use Rattle.cpc_check_rules.specs.Apart.{Spells};
+ghost use Rattle.cpc_tree.specs.Erase.{Names as Spelling, in_table, item_of, program_of};
+ghost use Rattle.cpc_meaning.specs.Answer.{Gives};
+ghost use Rattle.cpc_meaning.specs.Machine as M;
+ghost use Rattle.cpc_meaning.specs.Trees.{trees};
+ghost use Rattle.cpc_eval_values.specs.Shown.{values_of};
+ghost use Rattle.cpc_run.specs.Code.{stack_in};
+ghost use Rattle.cpc_run.specs.Hosts as H;
+ghost use Rattle.cpc_run.specs.States.{States, Fits, IsSteady, GoesSteady, Keeps, Acted, settles, program_in};
+ghost use Rattle.cpc_run.specs.Answers.{CameAnswered};
+
+use crate::looped::Loop;
+use crate::outcome::Outcome;
+use crate::shown::put_host;
+use crate::waits::long;
+use cpc_base::{Name, Names, NoMemory};
+use cpc_hosts::{HostRule, HostTable, Kept};
+use cpc_native::Request;
+use cpc_num::Kind;
+use cpc_store::Value;
+use cpc_tree::program::{Item, Mode, Program};
+use std::alloc::Global;
+
+// The text of a name; one that is not in the table has none.
+fn text_of(names: &Names, name: Name) -> &[u8]
+    ensures { result.now ≡ in_table names.now name }
+{
+    match names.text(name) {
+        Some(text) => text,
+        None => b"",
+    }
+}
+
+// The name of an item that declares a function of the host which a table has not, with its arity.
+fn missing_item<R: HostRule>(names: &Names, item: &Item, hosts: &HostTable<R>) -> Option<Name>
+    ensures { option_map (in_table names.now) result ≡ H.missing_item (⟦<HostTable<R> as Kept>⟧.names hosts.now) (item_of (in_table names.now) item.now) }
+{
+    let Item::Prototype {
+        mode,
+        word,
+        parameters,
+        ..
+    } = item
+    else {
+        return None;
+    };
+    if *mode != Mode::Extern || hosts.has(text_of(names, word.name), parameters.len()) {
+        return None;
+    }
+    Some(word.name)
+}
+
+/// The first function of the host, by declaration, that a program declares and a table has not, with its arity. It takes no
+/// memory.
+pub fn missing_host<R: HostRule>(program: &Program, hosts: &HostTable<R>) -> Option<Name>
+    ensures { option_map (in_table program.now.names) result ≡ H.missing_of (⟦<HostTable<R> as Kept>⟧.names hosts.now) (program_of program.now) }
+{
+    let mut rest = program.items.as_slice();
+    while let Some((item, tail)) = rest.split_first() {
+        let missing = missing_item(&program.names, item, hosts);
+        if missing.is_some() {
+            return missing;
+        }
+        rest = tail;
+    }
+    None
+}
+
+// The numbers of values of long.
+fn longs(alloc: Global, values: &[Value]) -> Result<Vec<i64>, NoMemory>
+    ensures { IfOk result (λ numbers. (names : Spelling) → M.ints_of (values_of names values.now) ≡ Gives numbers.items) }
+{
+    let mut numbers = Vec::new(alloc);
+    for value in values {
+        let Some(number) = long(*value) else {
+            return Err(NoMemory);
+        };
+        numbers.push(number)?;
+    }
+    Ok(numbers)
+}
+
+impl<'p> Loop<'p> {
+    /// A function of the host is called, and its answer arrives where the code asked.
+    pub(crate) fn calls_host<R: HostRule>(
+        &mut self,
+        alloc: Global,
+        table: &Names,
+        hosts: &HostTable<R>,
+        name: Name,
+        request: &Request,
+        pending: &mut Vec<u8>,
+    ) -> Result<Option<Outcome>, NoMemory>
+        requires steady { IsSteady self.old }
+        requires running { self.old.running ≡ true }
+        requires rule { ⟦<HostTable<R> as Kept>⟧.keeps hosts.now }
+        ensures keeps { Keeps self.old self.new }
+        ensures steady { GoesSteady result self.new }
+        ensures did { IfOk result (λ r. (said : List ℤ) × ((names : Spelling) → Fits names self.old → Spells table.now names → (sent : Text) (s : States) → Acted names self.old request.now.function (sent ++ pending.old.items) s s
+            → (rest : List ℤ) → s.history.answers ≡ said ++ rest
+            → CameAnswered names R.answers said rest r self.new (sent ++ pending.new.items) s (settles names self.old s (M.host_call (trees (program_in names self.old)) (names name) (values_of names request.now.args.items) (stack_in names self.old.machine) s)))) }
+    {
+        let numbers = longs(alloc, request.args.as_slice())?;
+        let Some(text) = table.text(name) else {
+            return Err(NoMemory);
+        };
+        // A program that breaks no rule calls a function of the host with as many numbers as it declares, and no run begins where
+        // one is missing: so there is an answer. No clause of the code says that of the call; without an answer nothing is said.
+        let Some(answer) = hosts.call(text, numbers.as_slice()) else {
+            return Err(NoMemory);
+        };
+        put_host(self.trace, alloc, text, numbers, answer, pending)?;
+        self.reply(
+            alloc,
+            request.function,
+            Value::Int(Kind::Long, answer as i128),
+        )
+    }
+}
