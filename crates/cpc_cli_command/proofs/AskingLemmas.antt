@@ -1,9 +1,9 @@
--- What clap makes of the words that ask for `check`, `translate` and `run`.
+-- What clap makes of the words that ask for `check`, `translate`, `run` and `sample`.
 use Rattle.std.proofs.Common.{true, false, [], ◌∷◌, ◌++◌, Some, refl, codes}
 use Rattle.clap.proofs.OnLiterals.{clap_on_literals}
 use Rattle.cpc_base.specs.Bytes.{Text}
 use Rattle.cpc_cli_command.specs.Commands.{Check, Run, Translate, cpc_app}
-use Rattle.cpc_cli_command.specs.Usage.{Means, cells_by, defaults, run_by, steps_by, told_by, traced}
+use Rattle.cpc_cli_command.specs.Usage.{Means, cells_by, defaults, run_by, sample_by, steps_by, told_by, traced}
 use Rattle.cpc_cli_command.proofs.UsageLemmas.{IsValue}
 
 pub check_is : (file : Text) → IsValue file → Means (codes "check" ∷ file ∷ []) (Some (Check file))
@@ -25,6 +25,10 @@ text_is file f = rw (f.no_long, f.no_short, f.no_end) (refl {a = Some (Run file 
 pub trace_is : (file : Text) → IsValue file → Means (codes "run" ∷ file ∷ codes "--trace" ∷ []) (Some (Run file traced false))
 unfolding cpc_app clap_on_literals
 trace_is file f = rw (f.no_long, f.no_short, f.no_end) (refl {a = Some (Run file traced false)})
+
+pub sample_is : (number : Text) → IsValue number → Means (codes "sample" ∷ number ∷ []) (sample_by number)
+unfolding cpc_app clap_on_literals
+sample_is number n = rw (n.no_long, n.no_short, n.no_end) (refl {a = sample_by number})
 
 pub any_file_is : (file : Text) → Means (codes "check" ∷ codes "--" ∷ file ∷ []) (Some (Check file))
 unfolding cpc_app clap_on_literals

@@ -9,8 +9,8 @@ use Rattle.clap.specs.Walk.{Row, first_of}
 use Rattle.clap.specs.Simple.{subcommand_of}
 use Rattle.clap.specs.Faults.{fault_of}
 use Rattle.cpc_base.specs.Bytes.{Text}
-use Rattle.cpc_cli_command.specs.Commands.{Command, Check, Exec, Options, Translate, Run, cells_in, command_in, command_named, command_of, cpc_app, exec_in, if_taken, is_given, options_in, options_with, run_in, steps_in}
-use Rattle.cpc_cli_command.specs.Number.{default_cells, default_steps, is_numeral, most_cells, most_steps, number_of}
+use Rattle.cpc_cli_command.specs.Commands.{Command, Check, Exec, Options, Sample, Translate, Run, cells_in, command_in, command_named, command_of, cpc_app, exec_in, file_command_in, if_taken, is_given, options_in, options_with, run_in, sample_in, steps_in, threads_in}
+use Rattle.cpc_cli_command.specs.Number.{default_cells, default_steps, is_numeral, most_cells, most_steps, most_threads, number_of, threads_of}
 use Rattle.cpc_cli_command.specs.Usage.{AreBounded, IsBounded}
 
 -- P of what is there
@@ -18,14 +18,14 @@ abbrev pub IfThere : {A : Type 0} → (A → Type 0) → Option A → Type 0
 IfThere P None = Unit {0}
 IfThere P (Some a) = P a
 
-abbrev Within : (most n : ℕ) → Type 0
+abbrev pub Within : (most n : ℕ) → Type 0
 Within most n = (1 ≤ n) × (n ≤ most)
 
 both_true : (a b : Bool) → (a && b) ≡ true → (a ≡ true) × (b ≡ true)
 both_true true b e = (refl, e)
 both_true false b e = absurd (true≢false (sym e))
 
-number_within : (most : ℕ) (text : Text) → IfThere (Within most) (number_of most text)
+pub number_within : (most : ℕ) (text : Text) → IfThere (Within most) (number_of most text)
 number_within most text = go (is_numeral text) (nat_le 1 n) (nat_le n most) refl refl
   where
     n : ℕ
@@ -71,13 +71,28 @@ named_bounded name file rows = go (bytes_eq name (codes "check")) (bytes_eq name
     go false false false true = exec_bounded file (options_in rows) given
     go false false false false = tt
 
+sample_bounded : (rows : List Row) → IfThere IsBounded (sample_in rows)
+sample_bounded rows = within (threads_in rows) (given (first_of (codes "N") rows))
+  where
+    given : (text : Option Text) → IfThere (Within most_threads) (option_and_then threads_of text)
+    given None = tt
+    given (Some text) = number_within most_threads text
+
+    within : (number : Option ℕ) → IfThere (Within most_threads) number → IfThere IsBounded (option_map Sample number)
+    within None h = tt
+    within (Some n) h = h
+
 in_bounded : (met : Option (Text × List Row)) → IfThere IsBounded (option_and_then command_in met)
 in_bounded None = tt
-in_bounded (Some (name, rows)) = go (first_of (codes "FILE") rows)
+in_bounded (Some (name, rows)) = one (bytes_eq name (codes "sample"))
   where
     go : (file : Option Text) → IfThere IsBounded (option_and_then (λ f. command_named name f rows) file)
     go None = tt
     go (Some file) = named_bounded name file rows
+
+    one : (s : Bool) → IfThere IsBounded (if s then sample_in rows else file_command_in (name, rows))
+    one true = sample_bounded rows
+    one false = go (first_of (codes "FILE") rows)
 
 taken_bounded : (kinds : Kinds) (command : Option Command) → IfThere IsBounded command → IfThere IsBounded (if_taken kinds command)
 taken_bounded [] command h = h

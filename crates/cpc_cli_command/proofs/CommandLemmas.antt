@@ -1,6 +1,6 @@
 -- How the code's answers meet the command of the words.
-use Rattle.std.proofs.Common.{◌≡◌, ◌∙◌, true, ◌≢◌, inl, inr, subst, List, [], ◌∷◌, Option, Some, None, Result, Err, IfOk, refl, sym, ap, codes, option_map}
-use Rattle.std.specs.Prelude.{◌⊎◌, option_and_then}
+use Rattle.std.proofs.Common.{◌≡◌, ◌∙◌, Bool, true, ◌≢◌, inl, inr, subst, List, [], ◌∷◌, Option, Some, None, Result, Err, IfOk, refl, sym, ap, codes, option_map}
+use Rattle.std.specs.Prelude.{◌⊎◌, bytes_eq, if◌then◌else◌, option_and_then}
 use Rattle.std.specs.Option.{ok_or}
 use Rattle.std.specs.Box.{box_value}
 use Rattle.clap.specs.Matches.{first_value, found_of, subcommand_name_of}
@@ -17,7 +17,7 @@ use Rattle.clap.specs.declared.parser.matches.ArgMatches.TheViews.{out-ArgMatche
 use Rattle.clap.proofs.WalkLemmas.{first_value-rows}
 use Rattle.cpc_base.specs.declared.stop.Stop.{Stop}
 use Rattle.cpc_base.specs.declared.stop.Stop.TheVariants.{Fault}
-use Rattle.cpc_cli_command.specs.Commands.{Command, asked, command_in, command_named, command_of, cpc_app, if_taken}
+use Rattle.cpc_cli_command.specs.Commands.{Command, asked, command_in, command_of, cpc_app, file_command_in, if_taken, sample_in}
 use Rattle.cpc_cli_command.specs.declared.words.Command.{Command as Parsed}
 use Rattle.cpc_cli_command.specs.declared.words.Usage.{Usage}
 
@@ -42,9 +42,13 @@ entered_is m name rows e f = parts (out-ArgMatches m).subcommand (λ b. (out-Sub
     (λ b. rows_of (found_of (out-SubCommand (box_value b)).matches)) name rows e f
 
 -- the command that was entered
-pub command_is : (met : Option (Text × List Row)) (name : Text) (rows : List Row) (file : Option Text) → met ≡ Some (name, rows) → first_of (codes "FILE") rows ≡ file
-    → option_and_then command_in met ≡ option_and_then (λ f. command_named name f rows) file
-command_is met name rows file e f = ap (option_and_then command_in) e ∙ ap (option_and_then (λ t. command_named name t rows)) f
+pub entered_command : (met : Option (Text × List Row)) (name : Text) (rows : List Row) → met ≡ Some (name, rows) → option_and_then command_in met ≡ command_in (name, rows)
+entered_command met name rows e = ap (option_and_then command_in) e
+
+-- it is that of its name, which is the one that takes a number, or one of those that take a file
+pub command_by : (name : Text) (rows : List Row) (s : Bool) (found want : Option Command) → bytes_eq name (codes "sample") ≡ s
+    → found ≡ want → want ≡ (if s then sample_in rows else file_command_in (name, rows)) → found ≡ command_in (name, rows)
+command_by name rows s found want is e f = e ∙ (f ∙ ap (λ b. if b then sample_in rows else file_command_in (name, rows)) (sym is))
 
 simple : is_simple cpc_app ≡ true
 unfolding cpc_app clap_on_literals

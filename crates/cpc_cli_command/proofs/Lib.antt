@@ -5,5 +5,5 @@ pub mod AskingLemmas
 pub mod ExecLemmas
 pub mod OtherLemmas
 pub mod FullRows
-pub mod FileGiven
+pub mod OperandGiven
 pub mod BoundLemmas

@@ -27,10 +27,22 @@ pub no_exec_is : Means (codes "exec" ∷ []) None
 unfolding cpc_app clap_on_literals
 no_exec_is = refl
 
-pub verb_is : (verb : Text) (rest : List Text) → IsValue verb → bytes_eq (codes "check") verb ≡ false → bytes_eq (codes "translate") verb ≡ false
-    → bytes_eq (codes "run") verb ≡ false → bytes_eq (codes "exec") verb ≡ false → Means (verb ∷ rest) None
+pub no_number_is : Means (codes "sample" ∷ []) None
 unfolding cpc_app clap_on_literals
-verb_is verb rest v c t r x = rw (c, t, r, x, v.no_long, v.no_short, v.no_end) refl
+no_number_is = refl
+
+pub two_numbers_is : (one two : Text) → IsValue one → IsValue two → Means (codes "sample" ∷ one ∷ two ∷ []) None
+unfolding cpc_app clap_on_literals
+two_numbers_is one two a b = rw (a.no_long, a.no_short, a.no_end, b.no_long, b.no_short, b.no_end) refl
+
+pub no_options_is : (number steps : Text) → IsValue number → Means (codes "sample" ∷ number ∷ (codes "--steps=" ++ steps) ∷ []) None
+unfolding cpc_app clap_on_literals
+no_options_is number steps n = rw (n.no_long, n.no_short, n.no_end) refl
+
+pub verb_is : (verb : Text) (rest : List Text) → IsValue verb → bytes_eq (codes "check") verb ≡ false → bytes_eq (codes "translate") verb ≡ false
+    → bytes_eq (codes "run") verb ≡ false → bytes_eq (codes "exec") verb ≡ false → bytes_eq (codes "sample") verb ≡ false → Means (verb ∷ rest) None
+unfolding cpc_app clap_on_literals
+verb_is verb rest v c t r x s = rw (c, t, r, x, s, v.no_long, v.no_short, v.no_end) refl
 
 pub two_files_is : (one two : Text) → IsValue one → IsValue two → Means (codes "check" ∷ one ∷ two ∷ []) None
 unfolding cpc_app clap_on_literals

@@ -21,14 +21,15 @@ value_of (x ∷ xs) e =
     let other : (x == 45) ≡ false = is_false (x == 45) e in
     record { no_long = rw other refl; no_short = rw other refl; no_end = rw other refl }
 
--- the word is none of the four names
+-- the word is none of the five names
 pub unnamed : (verb : Text) → is_verb verb ≡ false
-    → (bytes_eq (codes "check") verb ≡ false) × (bytes_eq (codes "translate") verb ≡ false) × (bytes_eq (codes "run") verb ≡ false) × (bytes_eq (codes "exec") verb ≡ false)
-unnamed verb e = go (bytes_eq (codes "check") verb) (bytes_eq (codes "translate") verb) (bytes_eq (codes "run") verb) (bytes_eq (codes "exec") verb) e
+    → (bytes_eq (codes "check") verb ≡ false) × (bytes_eq (codes "translate") verb ≡ false) × (bytes_eq (codes "run") verb ≡ false) × (bytes_eq (codes "exec") verb ≡ false) × (bytes_eq (codes "sample") verb ≡ false)
+unnamed verb e = go (bytes_eq (codes "check") verb) (bytes_eq (codes "translate") verb) (bytes_eq (codes "run") verb) (bytes_eq (codes "exec") verb) (bytes_eq (codes "sample") verb) e
   where
-    go : (c t r x : Bool) → (c || (t || (r || (x || false)))) ≡ false → (c ≡ false) × (t ≡ false) × (r ≡ false) × (x ≡ false)
-    go true t r x e = absurd (true≢false e)
-    go false true r x e = absurd (true≢false e)
-    go false false true x e = absurd (true≢false e)
-    go false false false true e = absurd (true≢false e)
-    go false false false false e = (refl, refl, refl, refl)
+    go : (c t r x s : Bool) → (c || (t || (r || (x || (s || false))))) ≡ false → (c ≡ false) × (t ≡ false) × (r ≡ false) × (x ≡ false) × (s ≡ false)
+    go true t r x s e = absurd (true≢false e)
+    go false true r x s e = absurd (true≢false e)
+    go false false true x s e = absurd (true≢false e)
+    go false false false true s e = absurd (true≢false e)
+    go false false false false true e = absurd (true≢false e)
+    go false false false false false e = (refl, refl, refl, refl, refl)

@@ -10,7 +10,7 @@ use Rattle.clap.specs.declared.builder.command.Command.TheViews.{out-Command}
 use Rattle.clap.specs.declared.builder.command.Command.{Command as Built}
 use Rattle.clap.specs.declared.builder.action.ArgAction.TheVariants.{Set, SetTrue}
 use Rattle.cpc_base.specs.Bytes.{Text}
-use Rattle.cpc_cli_command.specs.Number.{cells_of, default_cells, default_steps, steps_of}
+use Rattle.cpc_cli_command.specs.Number.{cells_of, default_cells, default_steps, steps_of, threads_of}
 use Rattle.cpc_cli_command.specs.declared.words.Options.{Options as ParsedOptions}
 use Rattle.cpc_cli_command.specs.declared.words.Command.{Command as Parsed}
 use Rattle.cpc_cli_command.specs.declared.words.Command.TheVariants as P
@@ -20,6 +20,10 @@ use Rattle.cpc_cli_command.specs.declared.words.Command.TheVariants as P
 -- FILE
 abbrev pub file_rule : Rule
 file_rule = record (new_rule (codes "FILE")) { required = true }
+
+-- N
+abbrev pub count_rule : Rule
+count_rule = record (new_rule (codes "N")) { required = true }
 
 -- `--NAME VALUE`
 abbrev pub option_rule : Text → Rule
@@ -43,6 +47,10 @@ run_app = with_rule (with_options (on_file (codes "run"))) (flag_rule (codes "te
 abbrev pub exec_app : App
 exec_app = with_options (on_file (codes "exec"))
 
+-- `sample N`
+abbrev pub sample_app : App
+sample_app = with_rule (new_app (codes "sample")) count_rule
+
 -- no help, no version, and no name of the program among the words
 abbrev pub bare_app : App
 bare_app = on_top (λ s. record s {
@@ -55,7 +63,7 @@ bare_app = on_top (λ s. record s {
 
 -- the subcommands, in order
 abbrev pub subcommands : List App
-subcommands = on_file (codes "check") ∷ on_file (codes "translate") ∷ run_app ∷ exec_app ∷ []
+subcommands = on_file (codes "check") ∷ on_file (codes "translate") ∷ run_app ∷ exec_app ∷ sample_app ∷ []
 
 unfoldable pub cpc_app : App
 cpc_app = fold (λ a s. with_subcommand a s.top) bare_app subcommands
@@ -81,6 +89,7 @@ pub data Command : Type 0 where
   Translate : (file : Text) → Command
   Run : (file : Text) (options : Options) (text : Bool) → Command
   Exec : (file : Text) (options : Options) → Command
+  Sample : (number : ℕ) → Command
 
 -- clap's value of a flag is "true" where it was given, and else "false"
 abbrev pub is_given : (name : Text) → List Row → Bool
@@ -119,9 +128,20 @@ command_named name file rows = if bytes_eq name (codes "check") then Some (Check
     else (if bytes_eq name (codes "run") then run_in file rows
     else (if bytes_eq name (codes "exec") then exec_in file rows else None)))
 
+-- the command of a subcommand's name and its matches, of those that take a file
+abbrev pub file_command_in : Text × List Row → Option Command
+file_command_in met = option_and_then (λ file. command_named met.0 file met.1) (first_of (codes "FILE") met.1)
+
+-- the number of threads of the sample, where it is no wrong one
+abbrev pub threads_in : List Row → Option ℕ
+threads_in rows = option_and_then threads_of (first_of (codes "N") rows)
+
+abbrev pub sample_in : List Row → Option Command
+sample_in rows = option_map Sample (threads_in rows)
+
 -- the command of a subcommand's name and its matches
 abbrev pub command_in : Text × List Row → Option Command
-command_in met = option_and_then (λ file. command_named met.0 file met.1) (first_of (codes "FILE") met.1)
+command_in met = if bytes_eq met.0 (codes "sample") then sample_in met.1 else file_command_in met
 
 -- the command, where clap refuses nothing
 abbrev pub if_taken : Kinds → Option Command → Option Command
@@ -142,3 +162,4 @@ asked (P.Check file) = Check file.now
 asked (P.Translate file) = Translate file.now
 asked (P.Run file options text) = Run file.now (asked_options options) text
 asked (P.Exec file options) = Exec file.now (asked_options options)
+asked (P.Sample number) = Sample number

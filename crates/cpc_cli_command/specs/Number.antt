@@ -19,6 +19,10 @@ default_cells = 4000000
 abbrev pub most_cells : ℕ
 most_cells = 50000000
 
+-- the most threads of a sample
+abbrev pub most_threads : ℕ
+most_threads = 1000
+
 -- 1 to 18 decimal digits
 abbrev pub is_numeral : Text → Bool
 is_numeral text = nat_le 1 (length text) && (nat_le (length text) 18 && list_all is_ascii_digit text)
@@ -38,3 +42,7 @@ steps_of text = number_of most_steps text
 -- the number of cells that a text writes
 abbrev pub cells_of : Text → Option ℕ
 cells_of text = number_of most_cells text
+
+-- the number of threads that a text writes
+abbrev pub threads_of : Text → Option ℕ
+threads_of text = number_of most_threads text

@@ -1,11 +1,11 @@
 -- What the words mean, in words that do not speak of clap.
-use Rattle.std.specs.Prelude.{◌≡◌, ◌≤◌, ◌==◌, ◌⊎◌, Bool, true, false, not, List, [], ◌∷◌, Option, Some, None, codes, bytes_eq, option_map}
+use Rattle.std.specs.Prelude.{◌≡◌, if◌then◌else◌, ◌≤◌, ◌==◌, ◌⊎◌, Bool, true, false, not, List, [], ◌∷◌, Option, Some, None, codes, bytes_eq, option_map}
 use Rattle.std.specs.List.{list_any}
 use Rattle.clap.specs.Walk.{Row, first_of}
 use Rattle.clap.specs.Simple.{subcommand_of}
 use Rattle.cpc_base.specs.Bytes.{Text}
-use Rattle.cpc_cli_command.specs.Commands.{Command, Check, Translate, Exec, Options, Run, cells_in, command_of, cpc_app, steps_in}
-use Rattle.cpc_cli_command.specs.Number.{cells_of, default_cells, default_steps, most_cells, most_steps, steps_of}
+use Rattle.cpc_cli_command.specs.Commands.{Command, Check, Translate, Exec, Options, Run, Sample, cells_in, command_of, cpc_app, steps_in, threads_in}
+use Rattle.cpc_cli_command.specs.Number.{cells_of, default_cells, default_steps, most_cells, most_steps, most_threads, steps_of, threads_of}
 
 -- the word does not begin with `-`
 abbrev pub is_plain : Text → Bool
@@ -17,7 +17,7 @@ IsPlain word = is_plain word ≡ true
 
 -- the word is the name of a subcommand
 abbrev pub is_verb : Text → Bool
-is_verb word = list_any (λ verb. bytes_eq verb word) (codes "check" ∷ codes "translate" ∷ codes "run" ∷ codes "exec" ∷ [])
+is_verb word = list_any (λ verb. bytes_eq verb word) (codes "check" ∷ codes "translate" ∷ codes "run" ∷ codes "exec" ∷ codes "sample" ∷ [])
 
 -- the words ask for the command
 abbrev pub Means : (words : List Text) → Option Command → Type 0
@@ -50,6 +50,10 @@ run_by file options = option_map (λ o. Run file o false) options
 abbrev pub exec_by : (file : Text) → Option Options → Option Command
 exec_by file options = option_map (Exec file) options
 
+-- the sample of the number that a text writes
+abbrev pub sample_by : Text → Option Command
+sample_by number = option_map Sample (threads_of number)
+
 -- the numbers of the options are within their bounds
 abbrev pub AreBounded : Options → Type 0
 AreBounded options = (1 ≤ options.steps) × (options.steps ≤ most_steps) × (1 ≤ options.cells) × (options.cells ≤ most_cells)
@@ -60,15 +64,21 @@ IsBounded (Check file) = Unit {0}
 IsBounded (Translate file) = Unit {0}
 IsBounded (Run file options text) = AreBounded options
 IsBounded (Exec file options) = AreBounded options
+IsBounded (Sample number) = (1 ≤ number) × (number ≤ most_threads)
 
--- a subcommand's name and its matches, with a value for FILE
-abbrev pub HasFile : Text × List Row → Type 0
-HasFile met = (is_verb met.0 ≡ true) × (file : Text) × (first_of (codes "FILE") met.1 ≡ Some file)
+-- the one word that a subcommand takes which is no option: `sample` a number, the others a file
+abbrev pub operand_of : (name : Text) → Text
+operand_of name = if bytes_eq name (codes "sample") then codes "N" else codes "FILE"
 
--- the words enter a subcommand that has its file
-abbrev pub EntersFile : (words : List Text) → Type 0
-EntersFile words = (met : Text × List Row) × (subcommand_of cpc_app words ≡ Some met) × HasFile met
+-- a subcommand's name and its matches, with a value for its operand
+abbrev pub HasOperand : Text × List Row → Type 0
+HasOperand met = (is_verb met.0 ≡ true) × (value : Text) × (first_of (operand_of met.0) met.1 ≡ Some value)
 
--- the words enter a subcommand whose `--steps` is no number of steps, or whose `--cells` is no number of cells
+-- the words enter a subcommand that has its operand
+abbrev pub EntersOperand : (words : List Text) → Type 0
+EntersOperand words = (met : Text × List Row) × (subcommand_of cpc_app words ≡ Some met) × HasOperand met
+
+-- the words enter a subcommand whose `--steps` is no number of steps, or whose `--cells` is no number of cells, or `sample` with no number of threads
 abbrev pub BreaksNumber : (words : List Text) → Type 0
-BreaksNumber words = (met : Text × List Row) × (subcommand_of cpc_app words ≡ Some met) × (steps_in met.1 ≡ None ⊎ cells_in met.1 ≡ None)
+BreaksNumber words = (met : Text × List Row) × (subcommand_of cpc_app words ≡ Some met)
+    × (steps_in met.1 ≡ None ⊎ (cells_in met.1 ≡ None ⊎ ((met.0 ≡ codes "sample") × (threads_in met.1 ≡ None))))

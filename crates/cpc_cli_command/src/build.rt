@@ -1,8 +1,8 @@
 //! The command line of `cpc`, as it is told to clap. What each function builds is a definition of `specs/Commands.antt`.
 ghost use Rattle.std.specs.Prelude.{◌≡◌, IfOk, codes, false};
 ghost use Rattle.clap.specs.Words.{app_of, rule_of};
-ghost use Rattle.cpc_cli_command.specs.Commands.{IsLocal, bare_app, cpc_app, exec_app, file_rule, flag_rule};
-ghost use Rattle.cpc_cli_command.specs.Commands.{on_file as on_file_app, option_rule, run_app, with_options};
+ghost use Rattle.cpc_cli_command.specs.Commands.{IsLocal, bare_app, count_rule, cpc_app, exec_app, file_rule, flag_rule};
+ghost use Rattle.cpc_cli_command.specs.Commands.{on_file as on_file_app, option_rule, run_app, sample_app, with_options};
 
 use clap::{Arg, ArgAction, Command};
 use std::alloc::{AllocError, Global};
@@ -13,6 +13,14 @@ fn file_argument<'a>(alloc: Global) -> Arg<'a>
     ensures local { result.global ≡ false }
 {
     Arg::new(alloc, "FILE").required(true)
+}
+
+/// N, the one word of `sample`. It must be there.
+fn count_argument<'a>(alloc: Global) -> Arg<'a>
+    ensures rule { rule_of result ≡ count_rule }
+    ensures local { result.global ≡ false }
+{
+    Arg::new(alloc, "N").required(true)
 }
 
 /// `--NAME VALUE` or `--NAME=VALUE`.
@@ -67,6 +75,14 @@ fn exec<'a>(alloc: Global) -> Result<Command<'a>, AllocError>
     of_runs(alloc, "exec")
 }
 
+/// `sample N`.
+fn sample<'a>(alloc: Global) -> Result<Command<'a>, AllocError>
+    ensures app { IfOk result (λ c. app_of c ≡ sample_app) }
+    ensures local { IfOk result IsLocal }
+{
+    Command::new(alloc, "sample").arg(count_argument(alloc))
+}
+
 /// `cpc` with no subcommand yet. There is no help and no version, and the words do not begin with the program's name.
 fn bare<'a>(alloc: Global) -> Command<'a>
     ensures { app_of result ≡ bare_app }
@@ -87,5 +103,6 @@ pub(crate) fn cpc<'a>(alloc: Global) -> Result<Command<'a>, AllocError>
         .subcommand(on_file(alloc, "check")?)?
         .subcommand(on_file(alloc, "translate")?)?
         .subcommand(run(alloc)?)?
-        .subcommand(exec(alloc)?)
+        .subcommand(exec(alloc)?)?
+        .subcommand(sample(alloc)?)
 }

@@ -3,8 +3,8 @@ ghost use Rattle.clap.specs.Words.{fault_of};
 ghost use Rattle.std.specs.Prelude.{◌≡◌, false, true, List, Some, None, [], ◌∷◌, ◌++◌, codes};
 ghost use Rattle.cpc_base.specs.Bytes.{Text};
 ghost use Rattle.cpc_cli_command.specs.Commands.{Check, Command, Exec, Run, Translate, command_of, cpc_app};
-ghost use Rattle.cpc_cli_command.specs.Usage.{BreaksNumber, EntersFile, IsBounded, IsPlain, Means, is_verb};
-ghost use Rattle.cpc_cli_command.specs.Usage.{cells_by, defaults, exec_by, run_by, steps_by, told_by, traced};
+ghost use Rattle.cpc_cli_command.specs.Usage.{BreaksNumber, EntersOperand, IsBounded, IsPlain, Means, is_verb};
+ghost use Rattle.cpc_cli_command.specs.Usage.{cells_by, defaults, exec_by, run_by, sample_by, steps_by, told_by, traced};
 
 /// The words that ask for a command, where no file or number begins with `-`.
 pub fn asking_words()
@@ -29,6 +29,7 @@ pub fn asking_words()
     ensures history_joined { (file history : Text) → IsPlain file
         → Means (codes "run" ∷ file ∷ (codes "--history=" ++ history) ∷ []) (Some (Run file (told_by history) false)) }
     ensures trace { (file : Text) → IsPlain file → Means (codes "run" ∷ file ∷ codes "--trace" ∷ []) (Some (Run file traced false)) }
+    ensures sample { (number : Text) → IsPlain number → Means (codes "sample" ∷ number ∷ []) (sample_by number) }
     // Behind `--` a file may begin with `-`.
     ensures any_file { (file : Text) → Means (codes "check" ∷ codes "--" ∷ file ∷ []) (Some (Check file)) }
 {}
@@ -54,6 +55,9 @@ pub fn other_words()
     ensures verb { (verb : Text) (rest : List Text) → IsPlain verb → is_verb verb ≡ false → Means (verb ∷ rest) None }
     ensures no_file { Means (codes "check" ∷ []) None × Means (codes "translate" ∷ []) None × Means (codes "run" ∷ []) None
         × Means (codes "exec" ∷ []) None }
+    ensures no_number { Means (codes "sample" ∷ []) None }
+    ensures two_numbers { (one two : Text) → IsPlain one → IsPlain two → Means (codes "sample" ∷ one ∷ two ∷ []) None }
+    ensures no_options { (number steps : Text) → IsPlain number → Means (codes "sample" ∷ number ∷ (codes "--steps=" ++ steps) ∷ []) None }
     ensures two_files { (one two : Text) → IsPlain one → IsPlain two → Means (codes "check" ∷ one ∷ two ∷ []) None }
     ensures twice { (one two file : Text)
         → Means (codes "run" ∷ (codes "--steps=" ++ one) ∷ (codes "--steps=" ++ two) ∷ file ∷ []) None }
@@ -64,10 +68,10 @@ pub fn other_words()
     ensures trace_twice { (file : Text) → Means (codes "run" ∷ codes "--trace" ∷ codes "--trace" ∷ file ∷ []) None }
 {}
 
-/// What words ask for that clap takes: it has entered a subcommand, and FILE has a value, so they ask for a command
-/// unless a number breaks its rule.
+/// What words ask for that clap takes: it has entered a subcommand, and its FILE or N has a value, so they ask for a
+/// command unless a number breaks its rule.
 pub fn taken_words()
-    ensures file { (words : List Text) → fault_of cpc_app words ≡ [] → EntersFile words }
+    ensures operand { (words : List Text) → fault_of cpc_app words ≡ [] → EntersOperand words }
     ensures number { (words : List Text) → fault_of cpc_app words ≡ [] → command_of words ≡ None → BreaksNumber words }
 {}
 

@@ -7,5 +7,5 @@ mod number;
 mod words;
 
 pub use laws::{asking_words, bounded_words, other_words, taken_words};
-pub use number::{DEFAULT_CELLS, DEFAULT_STEPS, MOST_CELLS, MOST_STEPS};
+pub use number::{DEFAULT_CELLS, DEFAULT_STEPS, MOST_CELLS, MOST_STEPS, MOST_THREADS};
 pub use words::{Command, Options, Usage, read_words};

@@ -16,6 +16,9 @@ pub const DEFAULT_CELLS: u64 = 4_000_000;
 /// The most live cells that the words may ask for.
 pub const MOST_CELLS: u64 = 50_000_000;
 
+/// The most threads of a sample.
+pub const MOST_THREADS: u32 = 1_000;
+
 /// The most digits of a number, with any zeros before it.
 const MOST_DIGITS: usize = 18;
 

@@ -4,12 +4,14 @@ ghost use Rattle.clap.specs.Walk.{first_of};
 ghost use Rattle.clap.specs.Words.{found_of, kind_of, rows_of, subcommand_rows_of};
 ghost use Rattle.cpc_cli_command.specs.Commands.{asked, asked_options, command_in, command_named as named_command, command_of};
 ghost use Rattle.cpc_cli_command.specs.Commands.{cells_in as cells_given, is_given as was_given};
-ghost use Rattle.cpc_cli_command.specs.Commands.{exec_in as exec_given, options_in as options_given};
-ghost use Rattle.cpc_cli_command.specs.Commands.{run_in as run_given, steps_in as steps_given};
+ghost use Rattle.cpc_cli_command.specs.Commands.{exec_in as exec_given, file_command_in, options_in as options_given};
+ghost use Rattle.cpc_cli_command.specs.Commands.{run_in as run_given, sample_in as sample_given, steps_in as steps_given};
 ghost use Rattle.cpc_base.specs.declared.stop.Stop.TheVariants.{Fault};
 
 use crate::build;
-use crate::number::{DEFAULT_CELLS, DEFAULT_STEPS, MOST_CELLS, MOST_STEPS, read_number};
+use crate::number::{
+    DEFAULT_CELLS, DEFAULT_STEPS, MOST_CELLS, MOST_STEPS, MOST_THREADS, read_number,
+};
 use clap::ArgMatches;
 use clap::error::{Error, ErrorKind};
 use cpc_base::Stop;
@@ -57,6 +59,11 @@ pub enum Command<'a> {
         /// How it is to run.
         options: Options<'a>,
     },
+    /// Makes the sample text of a number, translates it, and runs what was made.
+    Sample {
+        /// The number of threads of the sample, within 1 to `MOST_THREADS`.
+        number: u32,
+    },
 }
 
 /// The words are no command of `cpc`.
@@ -92,6 +99,27 @@ fn subcommand_in<'a>(matches: &ArgMatches<'a>) -> Option<Command<'a>>
     ensures { option_map asked result ≡ option_and_then command_in (subcommand_rows_of matches.now) }
 {
     let (name, values) = matches.subcommand()?;
+    if name == "sample" {
+        return sample_in(values);
+    }
+    on_file_in(name, values)
+}
+
+/// What `sample` asks for.
+fn sample_in<'a>(values: &ArgMatches<'a>) -> Option<Command<'a>>
+    ensures { option_map asked result ≡ sample_given (rows_of (found_of values.now)) }
+{
+    let text = values.get_str("N")?;
+    let number = read_number(text, MOST_THREADS as u64)?;
+    Some(Command::Sample {
+        number: number as u32,
+    })
+}
+
+/// The command of a subcommand that takes a file.
+fn on_file_in<'a>(name: &str, values: &ArgMatches<'a>) -> Option<Command<'a>>
+    ensures { option_map asked result ≡ file_command_in (name.now, rows_of (found_of values.now)) }
+{
     let file = values.get_str("FILE")?;
     command_named(name, file, values)
 }

@@ -1,4 +1,4 @@
-use Rattle.cpc_cli_command.proofs.AskingLemmas.{any_file_is, before_is, cells_is, cells_joined_is, check_is, history_is, history_joined_is, joined_is, run_is, steps_is, text_is, trace_is, translate_is}
+use Rattle.cpc_cli_command.proofs.AskingLemmas.{any_file_is, before_is, cells_is, cells_joined_is, check_is, history_is, history_joined_is, joined_is, run_is, sample_is, steps_is, text_is, trace_is, translate_is}
 use Rattle.cpc_cli_command.proofs.UsageLemmas.{value_of}
 use Rattle.cpc_cli_command.proofs.laws.asking_words.Goals as goal
 
@@ -16,5 +16,6 @@ returns c = record {
   history = λ file history f h. history_is file history (value_of file f) (value_of history h);
   history_joined = λ file history f. history_joined_is file history (value_of file f);
   trace = λ file f. trace_is file (value_of file f);
+  sample = λ number n. sample_is number (value_of number n);
   any_file = any_file_is;
 }
