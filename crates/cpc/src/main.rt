@@ -3,8 +3,12 @@
 
 mod real;
 
-use cpc_base::{NoMemory, write_all};
+ghost use Rattle.std.specs.Prelude.{◌≡◌, length, Some, codes};
+ghost use Rattle.cpc_hosts.specs.Standard.{standard_answer};
+
+use cpc_base::{NoMemory, Sink, write_all};
 use cpc_cli::cpc_main;
+use cpc_hosts::{Answer, abs_diff, clamp, greatest, least, sign, standard_hosts};
 use real::{RealShelf, RealSink};
 use std::env;
 use std::io::ErrorKind;
@@ -21,17 +25,63 @@ fn words(rt: &HostRuntime) -> Result<Vec<String>, NoMemory> {
     }
 }
 
+// Makes the call of these words, with the functions of the host that every run has, and gives its status.
+fn called<E: Sink>(rt: &HostRuntime, words: &[String], err: &mut E) -> Result<u8, NoMemory> {
+    let alloc = rt.alloc();
+    let abs_diff_by: Answer = Box::new(
+        alloc,
+        |args: &[i64]| -> i64
+            requires { length args.now ≡ 2 }
+            ensures { standard_answer (codes "abs_diff") args.now ≡ Some result }
+        { abs_diff(args) },
+    )?;
+    let least_by: Answer = Box::new(
+        alloc,
+        |args: &[i64]| -> i64
+            requires { length args.now ≡ 2 }
+            ensures { standard_answer (codes "least") args.now ≡ Some result }
+        { least(args) },
+    )?;
+    let greatest_by: Answer = Box::new(
+        alloc,
+        |args: &[i64]| -> i64
+            requires { length args.now ≡ 2 }
+            ensures { standard_answer (codes "greatest") args.now ≡ Some result }
+        { greatest(args) },
+    )?;
+    let clamp_by: Answer = Box::new(
+        alloc,
+        |args: &[i64]| -> i64
+            requires { length args.now ≡ 3 }
+            ensures { standard_answer (codes "clamp") args.now ≡ Some result }
+        { clamp(args) },
+    )?;
+    let sign_by: Answer = Box::new(
+        alloc,
+        |args: &[i64]| -> i64
+            requires { length args.now ≡ 1 }
+            ensures { standard_answer (codes "sign") args.now ≡ Some result }
+        { sign(args) },
+    )?;
+    let hosts = standard_hosts(alloc, abs_diff_by, least_by, greatest_by, clamp_by, sign_by)?;
+    let mut shelf = RealShelf::new(rt);
+    let mut out = RealSink::new(rt.stdout());
+    let report = cpc_main(alloc, words, &mut shelf, &mut out, err, &hosts);
+    Ok(report.status)
+}
+
 fn main(rt: HostRuntime) -> ExitCode {
     let mut err = RealSink::new(rt.stderr());
-    let Ok(words) = words(&rt) else {
-        let status = match write_all(&mut err, b"no memory\n") {
+    let called = match words(&rt) {
+        Ok(words) => called(&rt, words.as_slice(), &mut err),
+        Err(NoMemory) => Err(NoMemory),
+    };
+    let status = match called {
+        Ok(status) => status,
+        Err(NoMemory) => match write_all(&mut err, b"no memory\n") {
             Ok(()) => 11,
             Err(_) => 9,
-        };
-        return ExitCode::from(status);
+        },
     };
-    let mut shelf = RealShelf::new(&rt);
-    let mut out = RealSink::new(rt.stdout());
-    let report = cpc_main(rt.alloc(), words.as_slice(), &mut shelf, &mut out, &mut err);
-    ExitCode::from(report.status)
+    ExitCode::from(status)
 }

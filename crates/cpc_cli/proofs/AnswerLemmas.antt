@@ -1,5 +1,5 @@
 -- An answer stays one when only the status is filled in, and each end may give way to want of memory.
-use Rattle.std.proofs.Common.{◌≡◌, ◌≢◌, ◌==◌, ◌<◌, ℕ, Bool, true, false, List, [], ap, sym, subst, ◌∙◌, inl, inr, ◌⊎◌, Option, Some, arith, refl}
+use Rattle.std.proofs.Common.{◌≡◌, ◌≢◌, ◌==◌, ◌<◌, ◌++◌, ℕ, Bool, true, false, List, [], ap, sym, subst, ◌∙◌, inl, inr, ◌⊎◌, Option, Some, arith, refl}
 use Rattle.std.specs.Prelude.{if◌then◌else◌}
 use Rattle.std.proofs.lemmas.List.{append-nil}
 use Rattle.cpc_base.specs.Bytes.{Text}
@@ -11,11 +11,11 @@ use Rattle.cpc_tree.specs.Texts.{Stop}
 use Rattle.cpc_meaning.specs.Events.{event}
 use Rattle.cpc_meaning.specs.History.{History}
 use Rattle.cpc_meaning.specs.Runs.{live_cells}
-use Rattle.cpc_cli_command.specs.Commands.{Command, Check, Exec, Options, Translate, Run, command_of}
+use Rattle.cpc_cli_command.specs.Commands.{Command, Check, Exec, Options, Sample, Translate, Run, command_of}
 use Rattle.cpc_check.specs.Accepted.{Accepts}
-use Rattle.cpc_cli.specs.Command.{Asks, history_named, named, source_of}
-use Rattle.cpc_cli.specs.Ran.{HasCells, MayHaveCells, NoSteps, NotTold, RanInPart, RanWhole, StandsSo, StaysWithin, IsFull, IsLeftBy, StartsFull, shown, stop_in}
-use Rattle.cpc_cli.specs.Answer.{Answer, Rises, status_of, Does, DoesInPart, NotAccepted, EndedIn, did, not_begun, not_told, unwritten_in, starved_in, IsEnd, misused, starved, performed, NoRun, Nothing, Printed, Runs, RunsInPart, Takes}
+use Rattle.cpc_cli.specs.Command.{Asks, Host, bytes_line, history_named, named, sample_options, source_of}
+use Rattle.cpc_cli.specs.Ran.{HasCells, IsAnswered, LacksHost, MayHaveCells, NoSteps, NotTold, RanInPart, RanWhole, StandsSo, StaysWithin, IsFull, IsLeftBy, StartsFull, shown, stop_in}
+use Rattle.cpc_cli.specs.Answer.{Answer, Rises, status_of, Does, DoesInPart, NotAccepted, EndedIn, did, not_begun, lacks_host, not_told, unwritten_in, starved_in, IsEnd, misused, starved, performed, NoRun, Nothing, Printed, Runs, RunsInPart, Takes}
 use Rattle.cpc_run.specs.Reports.{IsPrefix}
 use Rattle.cpc_cli.specs.declared.answer.Role.{Role}
 use Rattle.cpc_cli.specs.declared.answer.Role.TheVariants as R
@@ -23,7 +23,7 @@ use Rattle.cpc_cli.specs.declared.answer.Report.{Report}
 use Rattle.cpc_cli.specs.declared.answer.Outcome.{Outcome}
 use Rattle.cpc_cli.specs.declared.answer.Outcome.TheVariants.{Ended, Exited, Failed, HistoryEnded, BadHistory, Stopped, Full, Accepted, Translated}
 use Rattle.cpc_cli.specs.declared.answer.End.{End}
-use Rattle.cpc_cli.specs.declared.answer.End.TheVariants.{Done, Usage, Refused, Unbuilt, Unread, Unwritten, Memory, TooLong, BadLine}
+use Rattle.cpc_cli.specs.declared.answer.End.TheVariants.{Done, Usage, Refused, Unbuilt, Unread, Unwritten, Memory, TooLong, BadLine, NoHost}
 
 -- the two reports differ at most in the status
 pub record SameRun (old new : Report) : Type 0 where
@@ -73,7 +73,7 @@ whole_in_part q h options text report out outcome r = record {
   part = subst (IsPrefix out) r.whole (whole_prefix out);
 }
 
-module _ (told : Option Files) (unread : Text → Type 0) (unwritten : Type 0) (old new : Report) (out : Text) (same : SameRun old new) where
+module _ (host : Host) (told : Option Files) (unread : Text → Type 0) (unwritten : Type 0) (old new : Report) (out : Text) (same : SameRun old new) where
   no_run : NoRun old → NoRun new
   no_run h = record { printed = same.printed ∙ h.printed; steps = same.steps ∙ h.steps; cells = same.cells ∙ h.cells }
 
@@ -99,14 +99,15 @@ module _ (told : Option Files) (unread : Text → Type 0) (unwritten : Type 0) (
   takes : (command : Command) (q : LProgram) → Takes told command old q → Takes told command new q
   takes (Run file options text) q h = (accepts q h.0, h.1)
   takes (Exec file options) q h = (same.printed ∙ h.0, h.1, h.2)
+  takes (Sample number) q h = (accepts q h.0, h.1)
   takes (Translate file) q h = h
   takes (Check file) q h = h
 
   same_shown : (trace text : Bool) (q : Program) (h : History) (last : Option Stop) → shown trace text old.printed.items q h old.steps last ≡ shown trace text new.printed.items q h new.steps last
   same_shown trace text q h last = ap (λ t. shown trace text t q h old.steps last) (sym same.printed) ∙ ap (λ n. shown trace text new.printed.items q h n last) (sym same.steps)
 
-  ran_whole : (q : Program) (h : History) (options : Options) (text : Bool) (outcome : Outcome) → RanWhole q h options text old out outcome → RanWhole q h options text new out outcome
-  ran_whole q h options text outcome r = record {
+  ran_whole : (out : Text) (q : Program) (h : History) (options : Options) (text : Bool) (outcome : Outcome) → RanWhole q h options text old out outcome → RanWhole q h options text new out outcome
+  ran_whole out q h options text outcome r = record {
     cells = has_cells q h r.cells;
     stands = subst (λ n. StandsSo q h options.steps options.cells n outcome) (sym same.steps) r.stands;
     whole = r.whole ∙ same_shown options.trace text q h (stop_in outcome);
@@ -121,36 +122,49 @@ module _ (told : Option Files) (unread : Text → Type 0) (unwritten : Type 0) (
     part = subst (IsPrefix out) (same_shown options.trace text q h r.last) r.part;
   }
 
-  runs : (command : Command) (options : Options) (text : Bool) (outcome : Outcome) → Runs told command options text old out outcome → Runs told command options text new out outcome
-  runs command options text outcome r = record {
+  answered : (q : Program) (h : History) → IsAnswered host q h old.steps → IsAnswered host q h new.steps
+  answered q h a = subst (IsAnswered host q h) (sym same.steps) a
+
+  runs : (out : Text) (command : Command) (options : Options) (text : Bool) (outcome : Outcome) → Runs host told command options text old out outcome → Runs host told command options text new out outcome
+  runs out command options text outcome r = record {
     program = r.program;
     takes = takes command r.program r.takes;
+    hosts = r.hosts;
     polls = r.polls;
     tells = r.tells;
-    ran = ran_whole (bare r.program) _ options text outcome r.ran;
+    answers = r.answers;
+    answered = answered (bare r.program) _ r.answered;
+    ran = ran_whole out (bare r.program) _ options text outcome r.ran;
   }
 
-  runs_in_part : (command : Command) (options : Options) (text : Bool) → RunsInPart told command options text old out → RunsInPart told command options text new out
+  runs_in_part : (command : Command) (options : Options) (text : Bool) → RunsInPart host told command options text old out → RunsInPart host told command options text new out
   runs_in_part command options text r = record {
     program = r.program;
     takes = takes command r.program r.takes;
+    hosts = r.hosts;
     polls = r.polls;
     tells = r.tells;
+    answers = r.answers;
+    answered = answered (bare r.program) _ r.answered;
     ran = ran_in_part (bare r.program) _ options text r.ran;
   }
 
-  part_of_runs : (command : Command) (options : Options) (text : Bool) (outcome : Outcome) → Runs told command options text old out outcome → RunsInPart told command options text new out
+  part_of_runs : (command : Command) (options : Options) (text : Bool) (outcome : Outcome) → Runs host told command options text old out outcome → RunsInPart host told command options text new out
   part_of_runs command options text outcome r = record {
     program = r.program;
     takes = takes command r.program r.takes;
+    hosts = r.hosts;
     polls = r.polls;
     tells = r.tells;
+    answers = r.answers;
+    answered = answered (bare r.program) _ r.answered;
     ran = ran_in_part (bare r.program) _ options text (whole_in_part (bare r.program) _ options text old out outcome r.ran);
   }
 
-  does : (command : Command) (outcome : Outcome) → Does told command old out outcome → Does told command new out outcome
-  does (Run file options text) outcome h = runs (Run file options text) options text outcome h
-  does (Exec file options) outcome h = runs (Exec file options) options false outcome h
+  does : (command : Command) (outcome : Outcome) → Does host told command old out outcome → Does host told command new out outcome
+  does (Run file options text) outcome h = runs out (Run file options text) options text outcome h
+  does (Exec file options) outcome h = runs out (Exec file options) options false outcome h
+  does (Sample number) outcome h = (h.0, runs h.0 (Sample number) sample_options false outcome h.1, h.2)
   does (Translate file) Translated h = (h.0, printed h.0 h.1, h.2 ∙ sym same.printed, h.3)
   does (Translate file) Accepted h = absurd h
   does (Translate file) (Ended n) h = absurd h
@@ -170,15 +184,19 @@ module _ (told : Option Files) (unread : Text → Type 0) (unwritten : Type 0) (
   does (Check file) (Stopped n) h = absurd h
   does (Check file) (Full c m) h = absurd h
 
-  in_part : (command : Command) → DoesInPart told command old out → DoesInPart told command new out
+  in_part : (command : Command) → DoesInPart host told command old out → DoesInPart host told command new out
   in_part (Run file options text) h = runs_in_part (Run file options text) options text h
   in_part (Exec file options) h = runs_in_part (Exec file options) options false h
+  in_part (Sample number) (inl h) = inl (runs_in_part (Sample number) sample_options false h)
+  in_part (Sample number) (inr (outcome, front, h, p)) = inr (outcome, front, runs front (Sample number) sample_options false outcome h, p)
   in_part (Translate file) h = (h.0, printed h.0 h.1, subst (IsPrefix out) (sym same.printed) h.2, h.3)
   in_part (Check file) h = (no_run h.0, h.1, h.2)
 
-  in_part_from_whole : (command : Command) (outcome : Outcome) → Does told command old out outcome → DoesInPart told command new out
+  in_part_from_whole : (command : Command) (outcome : Outcome) → Does host told command old out outcome → DoesInPart host told command new out
   in_part_from_whole (Run file options text) outcome h = part_of_runs (Run file options text) options text outcome h
   in_part_from_whole (Exec file options) outcome h = part_of_runs (Exec file options) options false outcome h
+  in_part_from_whole (Sample number) outcome h =
+      inr (outcome, h.0, runs h.0 (Sample number) sample_options false outcome h.1, subst (IsPrefix out) h.2 (whole_prefix out))
   in_part_from_whole (Translate file) Translated h = (h.0, printed h.0 h.1, subst (IsPrefix out) (h.2 ∙ sym same.printed) (whole_prefix out), h.3)
   in_part_from_whole (Translate file) Accepted h = absurd h
   in_part_from_whole (Translate file) (Ended n) h = absurd h
@@ -198,31 +216,33 @@ module _ (told : Option Files) (unread : Text → Type 0) (unwritten : Type 0) (
   in_part_from_whole (Check file) (Stopped n) h = absurd h
   in_part_from_whole (Check file) (Full c m) h = absurd h
 
-  ended_as : (command : Command) (end : End) → EndedIn told command unread unwritten old out end → EndedIn told command unread unwritten new out end
+  ended_as : (command : Command) (end : End) → EndedIn host told command unread unwritten old out end → EndedIn host told command unread unwritten new out end
   ended_as command _ (did outcome h) = did outcome (does command outcome h)
   ended_as command _ (not_begun end h none) = not_begun end h (nothing none)
-  ended_as command _ (not_told end q t h none silent) = not_told end q (takes command q t) h (no_steps none) silent
+  ended_as command _ (lacks_host end q t h none silent) = lacks_host end q (takes command q t) h (no_steps none) silent
+  ended_as command _ (not_told end q t has h none silent) = not_told end q (takes command q t) has h (no_steps none) silent
   ended_as command _ (unwritten_in u h) = unwritten_in u (in_part command h)
   ended_as command _ (starved_in h) = starved_in (in_part command h)
 
   -- nothing is claimed of the cause of want of memory
-  ended_by_memory : (command : Command) (end : End) → EndedIn told command unread unwritten old out end → EndedIn told command unread unwritten new out Memory
+  ended_by_memory : (command : Command) (end : End) → EndedIn host told command unread unwritten old out end → EndedIn host told command unread unwritten new out Memory
   ended_by_memory command _ (did outcome h) = starved_in (in_part_from_whole command outcome h)
   ended_by_memory command _ (not_begun end h none) = not_begun Memory tt (nothing none)
-  ended_by_memory command _ (not_told end q t h none silent) = not_told Memory q (takes command q t) tt (no_steps none) silent
+  ended_by_memory command _ (lacks_host end q t h none silent) = lacks_host Memory q (takes command q t) tt (no_steps none) silent
+  ended_by_memory command _ (not_told end q t has h none silent) = not_told Memory q (takes command q t) has tt (no_steps none) silent
   ended_by_memory command _ (unwritten_in u h) = starved_in (in_part command h)
   ended_by_memory command _ (starved_in h) = starved_in (in_part command h)
 
-  is_end_as : {words : List Text} {end : End} → IsEnd words told unread unwritten old out end → IsEnd words told unread unwritten new out end
+  is_end_as : {words : List Text} {end : End} → IsEnd words host told unread unwritten old out end → IsEnd words host told unread unwritten new out end
   is_end_as (misused none h) = misused none (nothing h)
   is_end_as (starved h) = starved (nothing h)
   is_end_as (performed command {end} asks h) = performed command asks (ended_as command end h)
 
-  is_end_by_memory : {words : List Text} {end : End} → IsEnd words told unread unwritten old out end → IsEnd words told unread unwritten new out Memory
+  is_end_by_memory : {words : List Text} {end : End} → IsEnd words host told unread unwritten old out end → IsEnd words host told unread unwritten new out Memory
   is_end_by_memory (misused none h) = starved (nothing h)
   is_end_by_memory (starved h) = starved (nothing h)
   is_end_by_memory (performed command {end} asks h) = performed command asks (ended_by_memory command end h)
 
-  pub is_end_last : {words : List Text} {end last : End} → last ≡ end ⊎ last ≡ Memory → IsEnd words told unread unwritten old out end → IsEnd words told unread unwritten new out last
-  is_end_last {words} (inl e) h = subst (IsEnd words told unread unwritten new out) (sym e) (is_end_as h)
-  is_end_last {words} (inr e) h = subst (IsEnd words told unread unwritten new out) (sym e) (is_end_by_memory h)
+  pub is_end_last : {words : List Text} {end last : End} → last ≡ end ⊎ last ≡ Memory → IsEnd words host told unread unwritten old out end → IsEnd words host told unread unwritten new out last
+  is_end_last {words} (inl e) h = subst (IsEnd words host told unread unwritten new out) (sym e) (is_end_as h)
+  is_end_last {words} (inr e) h = subst (IsEnd words host told unread unwritten new out) (sym e) (is_end_by_memory h)

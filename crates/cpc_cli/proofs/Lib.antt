@@ -1,5 +1,7 @@
 pub mod AnswerLemmas
 pub mod CauseLemmas
 pub mod ExactLemmas
+pub mod HostLemmas
 pub mod RunLemmas
 pub mod TopLemmas
+pub mod SampleLemmas

@@ -9,7 +9,7 @@ use Rattle.cpc_meaning.specs.Events.{event}
 use Rattle.cpc_meaning.specs.History.{History}
 use Rattle.cpc_meaning.specs.Runs.{live_cells}
 use Rattle.cpc_run.specs.Outcomes.{outcome_of}
-use Rattle.cpc_run.specs.Reports.{IsPrefix, Tells, IsLeft, WentOut, IsFull as RunIsFull}
+use Rattle.cpc_run.specs.Reports.{IsPrefix, Tells, IsLeft, WentOut, IsBrokenOff as RunIsBrokenOff, IsFull as RunIsFull}
 use Rattle.cpc_run.specs.Shown.{all_shown, shown as run_shown, stop_of}
 use Rattle.cpc_run.specs.declared.outcome.Limits.{Limits}
 use Rattle.cpc_run.specs.declared.outcome.Ended.{Ended as RunEnded}
@@ -19,7 +19,7 @@ use Rattle.cpc_run.specs.declared.outcome.Outcome.TheVariants as O
 use Rattle.cpc_run.specs.declared.outcome.RunReport.{RunReport}
 use Rattle.cpc_cli_command.specs.Commands.{Options}
 use Rattle.cpc_cli.specs.Counted.{IsCounted}
-use Rattle.cpc_cli.specs.Ran.{IsFull, IsLeftBy, IsOver, IsStopped, MayHaveCells, RanInPart, RanWhole, StandsSo, StartsFull, StaysWithin, TookPolls, outcome_in, run_text, stop_in}
+use Rattle.cpc_cli.specs.Ran.{IsBrokenOff, IsFull, IsLeftBy, IsOver, IsStopped, MayHaveCells, RanInPart, RanWhole, StandsSo, StartsFull, StaysWithin, TookPolls, outcome_in, run_text, stop_in}
 use Rattle.cpc_cli.specs.declared.answer.Report.{Report}
 use Rattle.cpc_cli.specs.declared.answer.Outcome.{Outcome}
 use Rattle.cpc_cli.specs.declared.answer.Outcome.TheVariants.{Ended, Exited, Failed, HistoryEnded, BadHistory, Stopped, Full, Accepted, Translated}
@@ -127,12 +127,16 @@ module _ (names : Names) (q : Program) (h : History) (options : Options) (limits
   })
   full_left asked (inr (start, above, is)) = inr (record { at_start = start; above = subst (λ c. c < asked) cap_is above; asked = is })
 
+  broken_left : RunIsBrokenOff q h limits.steps r.steps → IsBrokenOff q h options.steps r.steps
+  broken_left s = record { within = subst (λ b. r.steps ≤ b) bound_is s.within; going = s.going }
+
   left_by : (ended : RunEnded) → IsLeft names q h limits r.steps ended → IsLeftBy q h options.steps options.cells r.steps (stop_of names ended)
   left_by (E.Over outcome) s = over_left outcome s
   left_by E.Steps s = steps_left s
   left_by (E.Full asked) s = (asked, full_left asked s)
-  left_by E.WriteFault s = tt
-  left_by E.Memory s = tt
+  left_by E.WriteFault s = broken_left s
+  left_by E.Memory s = broken_left s
+  left_by (E.NoHost x) s = absurd s
 
   -- ---- what the call tells
 
@@ -182,9 +186,13 @@ module _ (names : Names) (q : Program) (h : History) (options : Options) (limits
     cells = may_cells;
     fits = fits;
     last = None;
-    left = tt;
+    left = broken_left (left_as E.Memory e);
     part = subst (IsPrefix out) (shown_is options.trace marks) (went E.Memory e);
   }
+
+  -- no function of the host is missing
+  pub ended_hosted : (x : _) → r.ended ≡ E.NoHost x → ⊥
+  ended_hosted x e = left_as (E.NoHost x) e
 
   -- the run is over, and memory was wanting for the name of its function
   pub over_starved : (outcome : RunOutcome) → r.ended ≡ E.Over outcome → RanInPart q h options false report out

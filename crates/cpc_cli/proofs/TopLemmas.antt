@@ -1,5 +1,5 @@
 -- How a command ended.
-use Rattle.std.proofs.Common.{◌≡◌, ◌<◌, ◌≤◌, ◌++◌, ℕ, Bool, true, false, arith, List, [], length, take, drop, Option, Some, None, refl, ap, sym, ◌∙◌, subst, append_assoc, inl, inr, ◌⊎◌}
+use Rattle.std.proofs.Common.{◌≡◌, ◌<◌, ◌≤◌, ◌++◌, ℕ, Bool, true, false, arith, List, [], length, map, take, drop, Option, Some, None, refl, ap, sym, ◌∙◌, subst, append_assoc, inl, inr, ◌⊎◌}
 use Rattle.std.proofs.lemmas.List.{take-append-drop}
 use Rattle.cpc_base.specs.Bytes.{Text}
 use Rattle.cpc_base.specs.Outside.{Files, Rose}
@@ -9,6 +9,8 @@ use Rattle.cpc_base.specs.declared.stop.Place.{Place}
 use Rattle.std.specs.Option.{option_map_or}
 use Rattle.std.specs.Prelude.{codes}
 use Rattle.cpc_tree.specs.Syntax.{Program}
+use Rattle.cpc_history_marks.specs.Views.{told_of}
+use Rattle.cpc_history_marks.specs.declared.marks.Told.{Told}
 use Rattle.cpc_tree.specs.Located.{LProgram, bare}
 use Rattle.cpc_tree.specs.Texts.{Stop}
 use Rattle.cpc_tree.specs.Trace as T
@@ -19,26 +21,28 @@ use Rattle.cpc_tree.proofs.Places.{bare_program}
 use Rattle.cpc_meaning.specs.Events.{event}
 use Rattle.cpc_meaning.specs.History.{History}
 use Rattle.cpc_meaning.specs.Runs.{SameRuns, Within}
-use Rattle.cpc_cli_command.specs.Commands.{Command, Check, Exec, Options, Run, Translate, command_of}
+use Rattle.cpc_cli_command.specs.Commands.{Command, Check, Exec, Options, Run, Sample, Translate, command_of}
 use Rattle.cpc_check.specs.Accepted.{Accepts}
 use Rattle.cpc_convert_shape_laws.specs.Shape.{Shape}
 use Rattle.cpc_convert_leak_laws.specs.Laws.{NoLeak}
 use Rattle.cpc_convert_event.specs.Converted.{converted}
 use Rattle.cpc_convert_served_laws.specs.Serving.{unserved}
 use Rattle.cpc_answered.specs.Unanswered.{unanswered}
-use Rattle.cpc_cli.specs.Command.{IsRun, Labels, Source, any_source, by_exec, by_run, events_source, history_named, labels_in, labels_of, no_labels, source_of, threads_source}
-use Rattle.cpc_cli.specs.Ran.{NoSteps, NotTold, RanInPart, RanTo, RanTold, RanWhole, TellsPolls, heading, history_with, run_text, shown, stop_in}
-use Rattle.cpc_cli.specs.Answer.{AcceptedAs, TextHas, IsTranslated, NotAccepted, Does, DoesInPart, EndedIn, did, not_begun, not_told, unwritten_in, starved_in, Nothing, NoRun, Printed, Runs, RunsInPart, Takes, line_of}
+use Rattle.cpc_translate.specs.Refusals.{IsTextFault}
+use Rattle.cpc_sample.specs.Sample.{sample_text}
+use Rattle.cpc_cli.specs.Command.{Host, InFile, IsRun, Labels, Source, any_source, by_exec, by_run, events_source, history_named, labels_in, labels_of, made_source, no_labels, source_of, threads_source}
+use Rattle.cpc_cli.specs.Ran.{HasHosts, IsAnswered, LacksHost, NoSteps, NotTold, RanAnswered, RanInPart, RanTo, RanTold, RanWhole, TellsPolls, heading, history_with, run_text, shown, stop_in}
+use Rattle.cpc_cli.specs.Answer.{AcceptedAs, TextHas, IsTranslated, NotAccepted, Does, DoesInPart, EndedIn, did, not_begun, lacks_host, not_told, unwritten_in, starved_in, Nothing, NoRun, Printed, RefusesText, Runs, RunsInPart, Takes, line_of}
 use Rattle.cpc_run.specs.Reports.{IsPrefix}
 use Rattle.cpc_cli.specs.declared.answer.Role.TheVariants as R
 use Rattle.cpc_cli.specs.declared.answer.Report.{Report}
 use Rattle.cpc_cli.specs.declared.answer.Outcome.{Outcome}
 use Rattle.cpc_cli.specs.declared.answer.End.{End}
-use Rattle.cpc_cli.specs.declared.answer.End.TheVariants.{Done, Usage, Refused, Unbuilt, Unread, Unwritten, Memory, TooLong, BadLine}
+use Rattle.cpc_cli.specs.declared.answer.End.TheVariants.{Done, Usage, Refused, Unbuilt, Unread, Unwritten, Memory, TooLong, BadLine, NoHost}
 
 -- what is not accepted for a command that takes any program is not accepted for one that asks for more
 pub not_for_any : (told : Option Files) (dialect : Dialect) (file : Text) (unbuilt : LProgram → Option Place) (unread : Text → Type 0) (end : End)
-    → NotAccepted told (any_source dialect file) unread end → NotAccepted told (record { file = file; dialect = dialect; unbuilt = unbuilt }) unread end
+    → NotAccepted told (any_source dialect file) unread end → NotAccepted told (record { origin = InFile file; dialect = dialect; unbuilt = unbuilt }) unread end
 not_for_any told dialect file unbuilt unread (Refused fault) h = h
 not_for_any told dialect file unbuilt unread (Unbuilt at) h = λ files is. let t = h files is in let none = t.2.1.2 in cc
 not_for_any told dialect file unbuilt unread (Unread R.Text) h = h
@@ -50,6 +54,35 @@ not_for_any told dialect file unbuilt unread Memory h = h
 not_for_any told dialect file unbuilt unread (Done outcome) h = h
 not_for_any told dialect file unbuilt unread Usage h = h
 not_for_any told dialect file unbuilt unread Unwritten h = h
+not_for_any told dialect file unbuilt unread (NoHost name) h = h
+
+-- a text of a file that is refused
+pub text_refused : (told : Option Files) (file text : Text) (unread : Text → Type 0) (end : End) → TextHas told (any_source Cpc file) (λ bytes. text ≡ bytes)
+    → RefusesText text end → NotAccepted told (threads_source file) unread end
+text_refused told file text unread (Refused fault) h x = λ files is. let t = h files is in (t.0, t.1, (t.2.0, subst (λ b. IsTextFault Cpc b fault) t.2.1 x))
+text_refused told file text unread (Unbuilt at) h x = λ files is. let t = h files is in (t.0, t.1, (t.2.0, (x.0, subst (λ b. Accepts Cpc b x.0) t.2.1 x.1, x.2)))
+text_refused told file text unread Memory h x = tt
+text_refused told file text unread (Unread role) h x = absurd x
+text_refused told file text unread (TooLong role) h x = absurd x
+text_refused told file text unread (BadLine fault) h x = absurd x
+text_refused told file text unread (Done outcome) h x = absurd x
+text_refused told file text unread Usage h x = absurd x
+text_refused told file text unread Unwritten h x = absurd x
+text_refused told file text unread (NoHost name) h x = absurd x
+
+-- a sample's text that is refused
+pub sample_refused : (told : Option Files) (number : ℕ) (text : Text) (unread : Text → Type 0) (end : End) → text ≡ sample_text number → RefusesText text end
+    → NotAccepted told (made_source (sample_text number)) unread end
+sample_refused told number text unread (Refused fault) is x = subst (λ b. IsTextFault Cpc b fault) is x
+sample_refused told number text unread (Unbuilt at) is x = (x.0, subst (λ b. Accepts Cpc b x.0) is x.1, x.2)
+sample_refused told number text unread Memory is x = tt
+sample_refused told number text unread (Unread role) is x = absurd x
+sample_refused told number text unread (TooLong role) is x = absurd x
+sample_refused told number text unread (BadLine fault) is x = absurd x
+sample_refused told number text unread (Done outcome) is x = absurd x
+sample_refused told number text unread Usage is x = absurd x
+sample_refused told number text unread Unwritten is x = absurd x
+sample_refused told number text unread (NoHost name) is x = absurd x
 
 -- a program that is read is accepted
 pub accepted_as : (told : Option Files) (dialect : Dialect) (file : Text) (q : LProgram) → TextHas told (any_source dialect file) (λ text. Accepts dialect text q)
@@ -93,22 +126,35 @@ untold_earlier told history late early moves Memory h = h
 untold_earlier told history late early moves (Done outcome) h = h
 untold_earlier told history late early moves Usage h = h
 untold_earlier told history late early moves Unwritten h = h
+untold_earlier told history late early moves (NoHost name) h = h
 
-pub told_earlier : (told : Option Files) (q : Program) (options : Options) (text : Bool) (report : Report) (late early : Text → Type 0) (unwritten : Type 0) (out : Text)
-    → ((name : Text) → late name → early name) → (end : End) → RanTold told q options text report late unwritten out end → RanTold told q options text report early unwritten out end
-told_earlier told q options text report late early unwritten out moves end (inl (h, none, silent)) =
-    inl (untold_earlier told options.history late early moves end h, none, silent)
-told_earlier told q options text report late early unwritten out moves end (inr ran) = inr ran
+pub told_earlier : (host : Host) (told : Option Files) (q : Program) (options : Options) (text : Bool) (report : Report) (late early : Text → Type 0) (unwritten : Type 0) (out : Text)
+    → ((name : Text) → late name → early name) → (end : End) → RanTold host told q options text report late unwritten out end → RanTold host told q options text report early unwritten out end
+told_earlier host told q options text report late early unwritten out moves end (inl lacks) = inl lacks
+told_earlier host told q options text report late early unwritten out moves end (inr (has, inl (h, none, silent))) =
+    inr (has, inl (untold_earlier told options.history late early moves end h, none, silent))
+told_earlier host told q options text report late early unwritten out moves end (inr (has, inr ran)) = inr (has, inr ran)
 
-does_so : (told : Option Files) (report : Report) (out : Text) (outcome : Outcome) {command : Command} {options : Options} {text : Bool} → IsRun command options text
-    → Runs told command options text report out outcome → Does told command report out outcome
-does_so told report out outcome (by_run file options text) r = r
-does_so told report out outcome (by_exec file options) r = r
+-- a run is told of the same files, by the same program
+pub told_as : (host : Host) (told files : Option Files) (p q : Program) (options : Options) (text : Bool) (report : Report) (unread : Text → Type 0) (unwritten : Type 0) (out : Text) (end : End)
+    → files ≡ told → p ≡ q → RanTold host files p options text report unread unwritten out end → RanTold host told q options text report unread unwritten out end
+told_as host told files p q options text report unread unwritten out end e f ran =
+    subst (λ t. RanTold host t q options text report unread unwritten out end) e (subst (λ x. RanTold host files x options text report unread unwritten out end) f ran)
 
-part_so : (told : Option Files) (report : Report) (out : Text) {command : Command} {options : Options} {text : Bool} → IsRun command options text
-    → RunsInPart told command options text report out → DoesInPart told command report out
-part_so told report out (by_run file options text) r = r
-part_so told report out (by_exec file options) r = r
+-- and by the same polls
+pub told_polls : (host : Host) (q : Program) (options : Options) (text : Bool) (report : Report) (unwritten : Type 0) (out : Text) (end : End) (xs ys : List Told) → xs ≡ ys
+    → RanAnswered host q (map told_of xs) options text report unwritten out end → RanAnswered host q (map told_of ys) options text report unwritten out end
+told_polls host q options text report unwritten out end xs ys e ran = subst (λ polls. RanAnswered host q (map told_of polls) options text report unwritten out end) e ran
+
+does_so : (host : Host) (told : Option Files) (report : Report) (out : Text) (outcome : Outcome) {command : Command} {options : Options} {text : Bool} → IsRun command options text
+    → Runs host told command options text report out outcome → Does host told command report out outcome
+does_so host told report out outcome (by_run file options text) r = r
+does_so host told report out outcome (by_exec file options) r = r
+
+part_so : (host : Host) (told : Option Files) (report : Report) (out : Text) {command : Command} {options : Options} {text : Bool} → IsRun command options text
+    → RunsInPart host told command options text report out → DoesInPart host told command report out
+part_so host told report out (by_run file options text) r = r
+part_so host told report out (by_exec file options) r = r
 
 untold_so : (told : Option Files) (unread : Text → Type 0) (end : End) {command : Command} {options : Options} {text : Bool} → IsRun command options text
     → NotTold told options.history unread end → NotTold told (history_named command) unread end
@@ -116,16 +162,19 @@ untold_so told unread end (by_run file options text) h = h
 untold_so told unread end (by_exec file options) h = h
 
 -- a run that ended so did what the command does, or a part of it, or was not begun
-pub run_ended : (told : Option Files) (command : Command) (options : Options) (text : Bool) → IsRun command options text → (q : LProgram) (unread : Text → Type 0) (unwritten : Type 0) (report : Report) (out : Text)
-    → Takes told command report q → (end : End) → RanTold told (bare q) options text report unread unwritten out end → EndedIn told command unread unwritten report out end
-run_ended told command options text is q unread unwritten report out takes end (inl (h, none, silent)) = not_told end q takes (untold_so told unread end is h) none silent
-run_ended told command options text is q unread unwritten report out takes end (inr (polls, tells, ran)) = go end ran
+pub run_ended : (host : Host) (told : Option Files) (command : Command) (options : Options) (text : Bool) → IsRun command options text → (q : LProgram) (unread : Text → Type 0) (unwritten : Type 0) (report : Report) (out : Text)
+    → Takes told command report q → (end : End) → RanTold host told (bare q) options text report unread unwritten out end → EndedIn host told command unread unwritten report out end
+run_ended host told command options text is q unread unwritten report out takes end (inl (lacks, none, silent)) = lacks_host end q takes lacks none silent
+run_ended host told command options text is q unread unwritten report out takes end (inr (has, inl (h, none, silent))) =
+    not_told end q takes has (untold_so told unread end is h) none silent
+run_ended host told command options text is q unread unwritten report out takes end (inr (has, inr (polls, tells, by))) = go end by.ran
   where
-    in_part : RanInPart (bare q) (history_with polls) options text report out → DoesInPart told command report out
-    in_part r = part_so told report out is (record { program = q; takes = takes; polls = polls; tells = tells; ran = r })
+    in_part : RanInPart (bare q) (history_with polls by.answers) options text report out → DoesInPart host told command report out
+    in_part r = part_so host told report out is (record { program = q; takes = takes; hosts = has; polls = polls; tells = tells; answers = by.answers; answered = by.answered; ran = r })
 
-    go : (end : End) → RanTo (bare q) (history_with polls) options text report unwritten out end → EndedIn told command unread unwritten report out end
-    go (Done outcome) r = did outcome (does_so told report out outcome is (record { program = q; takes = takes; polls = polls; tells = tells; ran = r }))
+    go : (end : End) → RanTo (bare q) (history_with polls by.answers) options text report unwritten out end → EndedIn host told command unread unwritten report out end
+    go (Done outcome) r = did outcome (does_so host told report out outcome is
+        (record { program = q; takes = takes; hosts = has; polls = polls; tells = tells; answers = by.answers; answered = by.answered; ran = r }))
     go Unwritten (cause, r) = unwritten_in cause (in_part r)
     go Memory r = starved_in (in_part r)
     go Usage h = absurd h
@@ -134,6 +183,7 @@ run_ended told command options text is q unread unwritten report out takes end (
     go (Unread role) h = absurd h
     go (TooLong role) h = absurd h
     go (BadLine fault) h = absurd h
+    go (NoHost name) h = absurd h
 
 -- what `run` runs, once the run has left the printed text as it was
 pub run_takes : (told : Option Files) (file : Text) (options : Options) (text : Bool) (q : LProgram) (old new : Report) → Printed q old → new.printed ≡ old.printed
@@ -192,6 +242,20 @@ behind q h options text report early late front out cause is end = go end
     go (Unread role) h = h
     go (TooLong role) h = h
     go (BadLine fault) h = h
+    go (NoHost name) h = h
+
+-- the same with what the host answered
+pub answered_behind : (host : Host) (q : Program) (polls : List T.Told) (options : Options) (text : Bool) (report : Report) (early late : Type 0) (front out : Text) → (early → late)
+    → front ≡ heading text report.printed.items → (end : End) → RanAnswered host q polls options false report early out end → RanAnswered host q polls options text report late (front ++ out) end
+answered_behind host q polls options text report early late front out cause is end by = record {
+  answers = by.answers;
+  answered = by.answered;
+  ran = behind q (history_with polls by.answers) options text report early late front out cause is end by.ran;
+}
+
+-- a run of which no state was made asked no host
+pub unasked : (host : Host) (q : Program) (polls : List T.Told) (report : Report) → NoSteps report → IsAnswered host q (history_with polls []) report.steps
+unasked host q polls report none = subst (IsAnswered host q (history_with polls [])) (sym none.steps) (record { answered = refl; meets = tt })
 
 -- a run of which no state was made shows no more than a part of what goes before it
 pub unbegun : (q : Program) (h : History) (options : Options) (text : Bool) (report : Report) (out : Text) → NoSteps report → IsPrefix out (heading text report.printed.items)
@@ -200,7 +264,7 @@ unbegun q h options text report out none part = record {
   cells = inr (none.steps, none.cells);
   fits = λ some. absurd (let z = none.steps in omega (arith, z, some));
   last = None;
-  left = tt;
+  left = record { within = let z = none.steps in omega (arith, z); going = λ m less. absurd (let z = none.steps in omega (arith, z, less)) };
   part = front_heading out _ _ part;
 }
 

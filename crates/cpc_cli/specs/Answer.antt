@@ -1,8 +1,9 @@
 -- The answer of a command line: why it ended, and what it said of that.
-use Rattle.std.specs.Prelude.{◌≡◌, ℕ, ◌==◌, ◌<◌, ◌≤◌, Bool, false, if◌then◌else◌, List, [], ◌++◌, length, Option, None, Some, ◌⊎◌, codes, decimal}
+use Rattle.std.specs.Prelude.{◌≡◌, ℕ, ℤ, ◌==◌, ◌<◌, ◌≤◌, Bool, false, if◌then◌else◌, List, [], ◌++◌, length, Option, None, Some, ◌⊎◌, codes, decimal}
 use Rattle.std.specs.Fmt.{signed_decimal}
 use Rattle.cpc_base.specs.Bytes.{Text}
 use Rattle.cpc_base.specs.Outside.{Files, Rose}
+use Rattle.cpc_base.specs.declared.stop.Dialect.{Dialect}
 use Rattle.cpc_base.specs.declared.stop.Dialect.TheVariants.{Cpc, Event}
 use Rattle.cpc_tree.specs.Located.{LProgram, bare}
 use Rattle.cpc_tree.specs.Texts.{fault_text}
@@ -16,23 +17,24 @@ use Rattle.cpc_history.specs.declared.read.HistoryFault.{HistoryFault}
 use Rattle.cpc_translate.specs.declared.fault.TextFault.{TextFault}
 use Rattle.cpc_translate.specs.declared.translating.Refusal.{Refusal}
 use Rattle.cpc_translate.specs.declared.translating.Refusal.TheVariants as X
-use Rattle.cpc_cli_command.specs.Commands.{Command, Check, Exec, Options, Translate, Run, command_of}
+use Rattle.cpc_cli_command.specs.Commands.{Command, Check, Exec, Options, Sample, Translate, Run, command_of}
 use Rattle.cpc_check.specs.Accepted.{Accepts}
 use Rattle.cpc_translate.specs.Refusals.{IsTextFault}
 use Rattle.cpc_convert_event.specs.Converted.{converted}
 use Rattle.cpc_convert_served_laws.specs.Serving.{unserved}
 use Rattle.cpc_answered.specs.Unanswered.{unanswered}
 use Rattle.cpc_translate.specs.Faults as F
+use Rattle.cpc_sample.specs.Sample.{sample_text}
 use Rattle.cpc_run.specs.Reports.{IsPrefix}
-use Rattle.cpc_cli.specs.Command.{IsRun, Labels, Source, any_source, events_source, history_named, labels_in, limit_of, name_of, source_of, text_limit, threads_source}
-use Rattle.cpc_cli.specs.Ran.{FileHas, NoSteps, NotTold, RanInPart, RanWhole, TellsPolls, history_with}
+use Rattle.cpc_cli.specs.Command.{Host, InFile, IsMade, IsRun, Labels, Origin, Source, any_source, bytes_line, events_source, history_named, labels_in, limit_of, made_source, name_of, sample_options, source_of, text_limit, threads_source}
+use Rattle.cpc_cli.specs.Ran.{FileHas, HasHosts, IsAnswered, LacksHost, NoSteps, NotTold, RanInPart, RanWhole, TellsPolls, history_with}
 use Rattle.cpc_cli.specs.declared.answer.Role.{Role}
 use Rattle.cpc_cli.specs.declared.answer.Role.TheVariants as R
 use Rattle.cpc_cli.specs.declared.answer.Report.{Report}
 use Rattle.cpc_cli.specs.declared.answer.Outcome.{Outcome}
 use Rattle.cpc_cli.specs.declared.answer.Outcome.TheVariants.{Ended, Exited, Failed, HistoryEnded, BadHistory, Stopped, Full, Accepted, Translated}
 use Rattle.cpc_cli.specs.declared.answer.End.{End}
-use Rattle.cpc_cli.specs.declared.answer.End.TheVariants.{Done, Usage, Refused, Unbuilt, Unread, Unwritten, Memory, TooLong, BadLine}
+use Rattle.cpc_cli.specs.declared.answer.End.TheVariants.{Done, Usage, Refused, Unbuilt, Unread, Unwritten, Memory, TooLong, BadLine, NoHost}
 
 -- the counts of faults of the shelf, by name, and of the two sinks
 pub record Counts : Type 0 where
@@ -74,9 +76,23 @@ pub record Printed (q : LProgram) (report : Report) : Type 0 where
 
 -- ---- the text of a command
 
--- a text is within its limit and has P
+-- a text has P; one of a file is within its limit
+abbrev pub TextIn : (told : Option Files) → Origin → Dialect → (Text → Type 0) → Type 0
+TextIn told (InFile name) dialect P = FileHas told name (λ text. (length text ≤ text_limit dialect) × P text)
+TextIn told (IsMade text) dialect P = P text
+
 abbrev pub TextHas : (told : Option Files) → Source → (Text → Type 0) → Type 0
-TextHas told source P = FileHas told source.file (λ text. (length text ≤ text_limit source.dialect) × P text)
+TextHas told source P = TextIn told source.origin source.dialect P
+
+-- the file of a text was not read
+abbrev pub UnreadIn : Origin → (unread : Text → Type 0) → Type 0
+UnreadIn (InFile name) unread = unread name
+UnreadIn (IsMade text) unread = ⊥
+
+-- the file of a text is too long
+abbrev pub LongIn : (told : Option Files) → Origin → Dialect → Type 0
+LongIn told (InFile name) dialect = FileHas told name (λ bytes. text_limit dialect < length bytes)
+LongIn told (IsMade text) dialect = ⊥
 
 -- a text is accepted as a program with P
 abbrev pub AcceptedAs : (told : Option Files) → Source → (LProgram → Type 0) → Type 0
@@ -86,8 +102,8 @@ AcceptedAs told source P = TextHas told source (λ text. (p : LProgram) × Accep
 abbrev pub NotAccepted : (told : Option Files) → Source → (unread : Text → Type 0) → End → Type 0
 NotAccepted told source unread (Refused fault) = TextHas told source (λ text. IsTextFault source.dialect text fault)
 NotAccepted told source unread (Unbuilt at) = AcceptedAs told source (λ p. source.unbuilt p ≡ Some at)
-NotAccepted told source unread (Unread R.Text) = unread source.file
-NotAccepted told source unread (TooLong R.Text) = FileHas told source.file (λ bytes. text_limit source.dialect < length bytes)
+NotAccepted told source unread (Unread R.Text) = UnreadIn source.origin unread
+NotAccepted told source unread (TooLong R.Text) = LongIn told source.origin source.dialect
 NotAccepted told source unread Memory = Unit {0}
 NotAccepted told source unread _ = ⊥
 
@@ -101,47 +117,65 @@ pub record IsTranslated (p q : LProgram) : Type 0 where
   pub shape : Shape (bare p) (bare q)
   pub no_leak : NoLeak (bare p) (bare q)
 
--- the program that a command runs: `run` what the printed text is accepted as, a program with the same runs as the accepted one; `exec` the
+-- a text has a fault, or asks for what is not served; or memory was wanting
+abbrev pub RefusesText : (text : Text) → End → Type 0
+RefusesText text (Refused fault) = IsTextFault Cpc text fault
+RefusesText text (Unbuilt at) = (p : LProgram) × Accepts Cpc text p × (unserved p ≡ Some at)
+RefusesText text Memory = Unit {0}
+RefusesText text _ = ⊥
+
+-- the program that a command runs: `run` and `sample` what the printed text is accepted as, a program with the same runs as the accepted one; `exec` the
 -- accepted one itself, which asks only for what is served, and nothing is printed
 abbrev pub Takes : (told : Option Files) → Command → Report → LProgram → Type 0
 Takes told (Run file options text) report q = Accepts Event report.printed.items q × AcceptedAs told (threads_source file) (λ p. IsTranslated p q)
 Takes told (Exec file options) report q = (report.printed.items ≡ []) × (unanswered q ≡ None) × TextHas told (events_source file) (λ text. Accepts Event text q)
+Takes told (Sample number) report q = Accepts Event report.printed.items q × AcceptedAs told (made_source (sample_text number)) (λ p. IsTranslated p q)
 Takes told (Translate file) report q = ⊥
 Takes told (Check file) report q = ⊥
 
 -- ---- what each command does
 
--- a command ran its program, told the polls of its history, and it ended so
-pub record Runs (told : Option Files) (command : Command) (options : Options) (text : Bool) (report : Report) (out : Text) (outcome : Outcome) : Type 0 where
+-- a command ran its program, told the polls of its history and given these answers of the host, and it ended so
+pub record Runs (host : Host) (told : Option Files) (command : Command) (options : Options) (text : Bool) (report : Report) (out : Text) (outcome : Outcome) : Type 0 where
   pub program : LProgram
   pub takes : Takes told command report program
+  pub hosts : HasHosts host.there (bare program)
   pub polls : List T.Told
   pub tells : TellsPolls told options.history polls
-  pub ran : RanWhole (bare program) (history_with polls) options text report out outcome
+  pub answers : List ℤ
+  pub answered : IsAnswered host (bare program) (history_with polls answers) report.steps
+  pub ran : RanWhole (bare program) (history_with polls answers) options text report out outcome
 
 -- the same, broken off by a sink or by want of memory
-pub record RunsInPart (told : Option Files) (command : Command) (options : Options) (text : Bool) (report : Report) (out : Text) : Type 0 where
+pub record RunsInPart (host : Host) (told : Option Files) (command : Command) (options : Options) (text : Bool) (report : Report) (out : Text) : Type 0 where
   pub program : LProgram
   pub takes : Takes told command report program
+  pub hosts : HasHosts host.there (bare program)
   pub polls : List T.Told
   pub tells : TellsPolls told options.history polls
-  pub ran : RanInPart (bare program) (history_with polls) options text report out
+  pub answers : List ℤ
+  pub answered : IsAnswered host (bare program) (history_with polls answers) report.steps
+  pub ran : RanInPart (bare program) (history_with polls answers) options text report out
 
--- the command's work, done: `run` and `exec` run a program, `translate` writes the printed text, `check` says that the text is accepted
-abbrev pub Does : Option Files → Command → Report → Text → Outcome → Type 0
-Does told (Run file options text) report out outcome = Runs told (Run file options text) options text report out outcome
-Does told (Exec file options) report out outcome = Runs told (Exec file options) options false report out outcome
-Does told (Translate file) report out Translated = (q : LProgram) × Printed q report × (out ≡ report.printed.items) × AcceptedAs told (threads_source file) (λ p. IsTranslated p q)
-Does told (Translate file) report out _ = ⊥
-Does told (Check file) report out Accepted = NoRun report × (out ≡ codes "accepted\n") × AcceptedAs told (any_source Cpc file) (λ p. Unit {0})
-Does told (Check file) report out _ = ⊥
+-- the command's work, done: `run` and `exec` run a program, `sample` one that it makes, and tells the length of its text, `translate` writes the printed text, `check` says that the text is accepted
+abbrev pub Does : Host → Option Files → Command → Report → Text → Outcome → Type 0
+Does host told (Run file options text) report out outcome = Runs host told (Run file options text) options text report out outcome
+Does host told (Exec file options) report out outcome = Runs host told (Exec file options) options false report out outcome
+Does host told (Sample number) report out outcome =
+    (front : Text) × Runs host told (Sample number) sample_options false report front outcome × (out ≡ front ++ bytes_line number)
+Does host told (Translate file) report out Translated = (q : LProgram) × Printed q report × (out ≡ report.printed.items) × AcceptedAs told (threads_source file) (λ p. IsTranslated p q)
+Does host told (Translate file) report out _ = ⊥
+Does host told (Check file) report out Accepted = NoRun report × (out ≡ codes "accepted\n") × AcceptedAs told (any_source Cpc file) (λ p. Unit {0})
+Does host told (Check file) report out _ = ⊥
 
 -- the command's work, broken off by a sink or by want of memory
-abbrev pub DoesInPart : Option Files → Command → Report → Text → Type 0
-DoesInPart told (Run file options text) report out = RunsInPart told (Run file options text) options text report out
-DoesInPart told (Exec file options) report out = RunsInPart told (Exec file options) options false report out
-DoesInPart told (Translate file) report out = (q : LProgram) × Printed q report × IsPrefix out report.printed.items × AcceptedAs told (threads_source file) (λ p. IsTranslated p q)
-DoesInPart told (Check file) report out = NoRun report × IsPrefix out (codes "accepted\n") × AcceptedAs told (any_source Cpc file) (λ p. Unit {0})
+abbrev pub DoesInPart : Host → Option Files → Command → Report → Text → Type 0
+DoesInPart host told (Run file options text) report out = RunsInPart host told (Run file options text) options text report out
+DoesInPart host told (Exec file options) report out = RunsInPart host told (Exec file options) options false report out
+DoesInPart host told (Sample number) report out = RunsInPart host told (Sample number) sample_options false report out
+    ⊎ ((outcome : Outcome) × (front : Text) × Runs host told (Sample number) sample_options false report front outcome × IsPrefix out (front ++ bytes_line number))
+DoesInPart host told (Translate file) report out = (q : LProgram) × Printed q report × IsPrefix out report.printed.items × AcceptedAs told (threads_source file) (λ p. IsTranslated p q)
+DoesInPart host told (Check file) report out = NoRun report × IsPrefix out (codes "accepted\n") × AcceptedAs told (any_source Cpc file) (λ p. Unit {0})
 
 -- ---- why a call ended
 
@@ -160,21 +194,24 @@ abbrev pub untranslated_end : Stop Refusal → End
 untranslated_end W.Memory = Memory
 untranslated_end (W.Fault refusal) = refused_end refusal
 
--- The command did its work, or its work was broken off; or its text was not accepted; or its text was, and its history was not told.
-pub data EndedIn (told : Option Files) (command : Command) (unread : Text → Type 0) (unwritten : Type 0) (report : Report) (out : Text) : End → Type 0 where
-  did : (outcome : Outcome) → Does told command report out outcome → EndedIn told command unread unwritten report out (Done outcome)
-  not_begun : (end : End) → NotAccepted told (source_of command) unread end → Nothing report out → EndedIn told command unread unwritten report out end
-  not_told : (end : End) (q : LProgram) → Takes told command report q → NotTold told (history_named command) unread end → NoSteps report → out ≡ []
-      → EndedIn told command unread unwritten report out end
-  unwritten_in : unwritten → DoesInPart told command report out → EndedIn told command unread unwritten report out Unwritten
-  starved_in : DoesInPart told command report out → EndedIn told command unread unwritten report out Memory
+-- The command did its work, or its work was broken off; or its text was not accepted; or its text was, and a function of the host is missing, or its
+-- history was not told.
+pub data EndedIn (host : Host) (told : Option Files) (command : Command) (unread : Text → Type 0) (unwritten : Type 0) (report : Report) (out : Text) : End → Type 0 where
+  did : (outcome : Outcome) → Does host told command report out outcome → EndedIn host told command unread unwritten report out (Done outcome)
+  not_begun : (end : End) → NotAccepted told (source_of command) unread end → Nothing report out → EndedIn host told command unread unwritten report out end
+  lacks_host : (end : End) (q : LProgram) → Takes told command report q → LacksHost host.there (bare q) end → NoSteps report → out ≡ []
+      → EndedIn host told command unread unwritten report out end
+  not_told : (end : End) (q : LProgram) → Takes told command report q → HasHosts host.there (bare q) → NotTold told (history_named command) unread end → NoSteps report → out ≡ []
+      → EndedIn host told command unread unwritten report out end
+  unwritten_in : unwritten → DoesInPart host told command report out → EndedIn host told command unread unwritten report out Unwritten
+  starved_in : DoesInPart host told command report out → EndedIn host told command unread unwritten report out Memory
 
 -- the words are refused, or there was no memory to read them, or they ask for a command, which ended so
-pub data IsEnd (words : List Text) (told : Option Files) (unread : Text → Type 0) (unwritten : Type 0) (report : Report) (out : Text) : End → Type 0 where
-  misused : command_of words ≡ None → Nothing report out → IsEnd words told unread unwritten report out Usage
-  starved : Nothing report out → IsEnd words told unread unwritten report out Memory
-  performed : (command : Command) {end : End} → command_of words ≡ Some command → EndedIn told command unread unwritten report out end
-      → IsEnd words told unread unwritten report out end
+pub data IsEnd (words : List Text) (host : Host) (told : Option Files) (unread : Text → Type 0) (unwritten : Type 0) (report : Report) (out : Text) : End → Type 0 where
+  misused : command_of words ≡ None → Nothing report out → IsEnd words host told unread unwritten report out Usage
+  starved : Nothing report out → IsEnd words host told unread unwritten report out Memory
+  performed : (command : Command) {end : End} → command_of words ≡ Some command → EndedIn host told command unread unwritten report out end
+      → IsEnd words host told unread unwritten report out end
 
 -- ---- what a call says of its end
 
@@ -196,6 +233,7 @@ status_of Unwritten = 9
 status_of Memory = 11
 status_of (TooLong role) = 13
 status_of (BadLine fault) = 4
+status_of (NoHost name) = 12
 
 -- the line on how a command's work stands
 abbrev pub outcome_line : Outcome → Text
@@ -225,6 +263,7 @@ line_of labels Unwritten = codes "write fault\n"
 line_of labels Memory = codes "no memory\n"
 line_of labels (TooLong role) = codes "too long: " ++ (name_of labels role ++ (codes " limit " ++ (decimal (limit_of labels role) ++ codes "\n")))
 line_of labels (BadLine fault) = codes "history line " ++ (decimal fault.line ++ (codes " " ++ (wrong_text fault.number ++ codes "\n")))
+line_of labels (NoHost name) = codes "no host " ++ (name.items ++ codes "\n")
 
 -- the line went out with its status, or `err` failed in it
 abbrev pub Said : (line : Text) → (due : ℕ) → (failed : Type 0) → (status : ℕ) → (err : Text) → Type 0
@@ -233,6 +272,6 @@ Said line due failed status err = ((status ≡ due) × (err ≡ line)) ⊎ ((sta
 -- ---- the answer
 
 -- there is an end with its cause, and what was said of it
-abbrev pub Answer : List Text → Option Files → Rises → Report → (out err : Text) → Type 0
-Answer words told rose report out err =
-    (end : End) × IsEnd words told rose.shelf rose.out report out end × Said (line_of (labels_in words) end) (status_of end) rose.err report.status err
+abbrev pub Answer : List Text → Host → Option Files → Rises → Report → (out err : Text) → Type 0
+Answer words host told rose report out err =
+    (end : End) × IsEnd words host told rose.shelf rose.out report out end × Said (line_of (labels_in words) end) (status_of end) rose.err report.status err

@@ -1,5 +1,5 @@
--- The files of a command, and what it takes as its text.
-use Rattle.std.specs.Prelude.{◌≡◌, ℕ, Bool, false, List, [], Option, None, Some, unwrap_or}
+-- The files of a command, what it takes as its text, and the functions of the host that its run may call.
+use Rattle.std.specs.Prelude.{◌≡◌, ℕ, ℤ, Bool, false, List, [], ◌++◌, length, Option, None, Some, codes, decimal, unwrap_or}
 use Rattle.std.specs.Option.{option_map_or}
 use Rattle.cpc_base.specs.Bytes.{Text}
 use Rattle.cpc_base.specs.declared.stop.Dialect.{Dialect}
@@ -8,7 +8,9 @@ use Rattle.cpc_base.specs.declared.stop.Place.{Place}
 use Rattle.cpc_tree.specs.Located.{LProgram}
 use Rattle.cpc_convert_served_laws.specs.Serving.{unserved}
 use Rattle.cpc_answered.specs.Unanswered.{unanswered}
-use Rattle.cpc_cli_command.specs.Commands.{Command, Check, Exec, Options, Translate, Run, command_of}
+use Rattle.cpc_cli_command.specs.Commands.{Command, Check, Exec, Options, Sample, Translate, Run, command_of}
+use Rattle.cpc_cli_command.specs.Usage.{defaults}
+use Rattle.cpc_sample.specs.Sample.{sample_text}
 use Rattle.cpc_cli.specs.declared.answer.Role.{Role}
 use Rattle.cpc_cli.specs.declared.answer.Role.TheVariants as R
 
@@ -21,29 +23,44 @@ text_limit Event = 16777216
 abbrev pub history_limit : ℕ
 history_limit = 16777216
 
--- a text that a command takes: its file, how it is read, and where a program asks for what is not served, if that matters
+-- where a text comes from: it stands in a file, or the command makes it
+pub data Origin : Type 0 where
+  InFile : (name : Text) → Origin
+  IsMade : (text : Text) → Origin
+
+-- the name of the file, where there is one
+abbrev pub file_named : Origin → Option Text
+file_named (InFile name) = Some name
+file_named (IsMade text) = None
+
+-- a text that a command takes: where it comes from, how it is read, and where a program asks for what is not served, if that matters
 pub record Source : Type 0 where
-  pub file : Text
+  pub origin : Origin
   pub dialect : Dialect
   pub unbuilt : LProgram → Option Place
 
 -- any program is taken
 abbrev pub any_source : Dialect → Text → Source
-any_source dialect file = record { file = file; dialect = dialect; unbuilt = λ _. None }
+any_source dialect file = record { origin = InFile file; dialect = dialect; unbuilt = λ _. None }
 
 -- programs of threads are taken whose event programs the loop answers
 abbrev pub threads_source : Text → Source
-threads_source file = record { file = file; dialect = Cpc; unbuilt = unserved }
+threads_source file = record { origin = InFile file; dialect = Cpc; unbuilt = unserved }
+
+-- the same of a text that the command makes
+abbrev pub made_source : Text → Source
+made_source text = record { origin = IsMade text; dialect = Cpc; unbuilt = unserved }
 
 -- programs of events are taken that the loop answers
 abbrev pub events_source : Text → Source
-events_source file = record { file = file; dialect = Event; unbuilt = unanswered }
+events_source file = record { origin = InFile file; dialect = Event; unbuilt = unanswered }
 
 abbrev pub source_of : Command → Source
 source_of (Check file) = any_source Cpc file
 source_of (Translate file) = threads_source file
 source_of (Run file options text) = threads_source file
 source_of (Exec file options) = events_source file
+source_of (Sample number) = made_source (sample_text number)
 
 -- the history that a command names, if it names one
 abbrev pub history_named : Command → Option Text
@@ -51,16 +68,42 @@ history_named (Check file) = None
 history_named (Translate file) = None
 history_named (Run file options text) = options.history
 history_named (Exec file options) = options.history
+history_named (Sample number) = None
 
 -- the file that a command reads, if it reads one
 abbrev pub named : Command → Role → Option Text
-named command R.Text = Some (source_of command).file
+named command R.Text = file_named (source_of command).origin
 named command R.History = history_named command
 
 -- the command runs a program with these options; the printed text is wanted before what it shows, or not
 pub data IsRun : Command → Options → (text : Bool) → Type 0 where
   by_run : (file : Text) (options : Options) (text : Bool) → IsRun (Run file options text) options text
   by_exec : (file : Text) (options : Options) → IsRun (Exec file options) options false
+
+-- the options of a sample's run
+abbrev pub sample_options : Options
+sample_options = defaults
+
+abbrev pub length_line : (bytes : ℕ) → Text
+length_line bytes = codes "bytes " ++ (decimal bytes ++ codes "\n")
+
+-- the line behind the output of a sample's run: the length of the sample's text
+abbrev pub bytes_line : (number : ℕ) → Text
+bytes_line number = length_line (length (sample_text number))
+
+-- ---- the host
+
+-- the functions of the host: their names with arities, in order, and the answers that each may give to arguments
+pub record Host : Type 1 where
+  pub there : List (Text × ℕ)
+  pub allows : Text → List ℤ → ℤ → Type 0
+
+abbrev pub host_of : (there : List (Text × ℕ)) → (allows : Text → List ℤ → ℤ → Type 0) → Host
+host_of there allows = record { there = there; allows = allows }
+
+-- no function of the host is there
+abbrev pub no_host : Host
+no_host = host_of [] (λ name arguments answer. ⊥)
 
 -- ---- what a line says of files
 
@@ -82,7 +125,7 @@ abbrev pub no_labels : Labels
 no_labels = record { text = []; history = []; limit = 0 }
 
 abbrev pub labels_of : Command → Labels
-labels_of command = record { text = (source_of command).file; history = unwrap_or (history_named command) []; limit = text_limit (source_of command).dialect }
+labels_of command = record { text = unwrap_or (file_named (source_of command).origin) []; history = unwrap_or (history_named command) []; limit = text_limit (source_of command).dialect }
 
 -- those of the command that the words ask for
 abbrev pub labels_in : List Text → Labels

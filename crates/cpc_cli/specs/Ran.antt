@@ -1,5 +1,5 @@
--- How a run came to its end: which history it was told, how it stands, and what it shows.
-use Rattle.std.specs.Prelude.{◌≡◌, ℕ, suc, ◌+◌, ◌<◌, ◌≤◌, Bool, true, false, List, [], ◌++◌, length, Option, None, Some, ◌⊎◌, codes}
+-- How a run came to its end: which history it was told, what hosts answered, how it stands, and what it shows.
+use Rattle.std.specs.Prelude.{◌≡◌, ℕ, ℤ, suc, ◌+◌, ◌<◌, ◌≤◌, Bool, true, false, List, [], ◌++◌, length, Option, None, Some, ◌⊎◌, codes}
 use Rattle.cpc_base.specs.Bytes.{Text}
 use Rattle.cpc_base.specs.Outside.{Files, WhereTold}
 use Rattle.cpc_tree.specs.Syntax.{Program}
@@ -9,16 +9,17 @@ use Rattle.cpc_meaning.specs.Events.{event}
 use Rattle.cpc_meaning.specs.History.{History}
 use Rattle.cpc_meaning.specs.Runs.{Full as IsAbove, live_cells}
 use Rattle.cpc_history.specs.Reading.{IsFaultOf}
+use Rattle.cpc_run.specs.Hosts.{HostsMeet, answers_of, missing_of}
 use Rattle.cpc_run.specs.Reports.{IsPrefix}
 use Rattle.cpc_run.specs.Shown.{traced}
 use Rattle.cpc_cli_command.specs.Commands.{Options}
-use Rattle.cpc_cli.specs.Command.{history_limit}
+use Rattle.cpc_cli.specs.Command.{Host, history_limit}
 use Rattle.cpc_cli.specs.declared.answer.Role.TheVariants as R
 use Rattle.cpc_cli.specs.declared.answer.Report.{Report}
 use Rattle.cpc_cli.specs.declared.answer.Outcome.{Outcome}
 use Rattle.cpc_cli.specs.declared.answer.Outcome.TheVariants.{Ended, Exited, Failed, HistoryEnded, BadHistory, Stopped, Full, Accepted, Translated}
 use Rattle.cpc_cli.specs.declared.answer.End.{End}
-use Rattle.cpc_cli.specs.declared.answer.End.TheVariants.{Done, Usage, Refused, Unbuilt, Unread, Unwritten, Memory, TooLong, BadLine}
+use Rattle.cpc_cli.specs.declared.answer.End.TheVariants.{Done, Usage, Refused, Unbuilt, Unread, Unwritten, Memory, TooLong, BadLine, NoHost}
 
 -- ---- what a run is told
 
@@ -40,9 +41,30 @@ NotTold told history unread (BadLine fault) =
 NotTold told history unread Memory = Unit {0}
 NotTold told history unread _ = ⊥
 
--- the history of a run that is told these polls; no host is asked
-abbrev pub history_with : List T.Told → History
-history_with polls = record { polls = polls; answers = []; section_bound = 10000000 }
+-- the history of a run that is told these polls, and is given these answers by the host
+abbrev pub history_with : List T.Told → (answers : List ℤ) → History
+history_with polls answers = record { polls = polls; answers = answers; section_bound = 10000000 }
+
+-- ---- what the host answers
+
+-- this function of the host is missing, and is told; or memory was wanting for its name
+abbrev pub Lacks : (missing : Option Text) → End → Type 0
+Lacks missing (NoHost name) = missing ≡ Some name.items
+Lacks missing Memory = Unit {0}
+Lacks missing _ = ⊥
+
+-- a function of the host that q declares is not there, with its arity: the first by declaration is told
+abbrev pub LacksHost : (there : List (Text × ℕ)) → (q : Program) → End → Type 0
+LacksHost there q end = Lacks (missing_of there q) end
+
+-- all functions of the host that q declares are there, with their arities
+abbrev pub HasHosts : (there : List (Text × ℕ)) → (q : Program) → Type 0
+HasHosts there q = missing_of there q ≡ None
+
+-- the answers of the history are those that the marks of q's event run after n steps tell, in order, and each is one that the host may give
+pub record IsAnswered (host : Host) (q : Program) (h : History) (n : ℕ) : Type 0 where
+  pub answered : answers_of (event q h n).trace ≡ h.answers
+  pub meets : HostsMeet host.allows (event q h n).trace
 
 -- ---- how a run stands
 
@@ -115,12 +137,17 @@ stop_in (Full c m) = Some AtCells
 stop_in Accepted = None
 stop_in Translated = None
 
--- q's event run was left for this after n steps; nothing is said where it was broken off
+-- q's event run was broken off after n steps, as the bound allows, and was not over before
+pub record IsBrokenOff (q : Program) (h : History) (bound n : ℕ) : Type 0 where
+  pub within : n ≤ bound
+  pub going : (m : ℕ) → m < n → (event q h m).outcome ≡ T.Going
+
+-- q's event run was left for this after n steps, or was broken off
 abbrev pub IsLeftBy : (q : Program) → History → (bound cap n : ℕ) → Option Stop → Type 0
 IsLeftBy q h bound cap n (Some (Over outcome)) = IsOver q h bound cap n outcome
 IsLeftBy q h bound cap n (Some AtSteps) = IsStopped q h bound cap n
 IsLeftBy q h bound cap n (Some AtCells) = (m : ℕ) × (IsFull q h bound cap n m ⊎ StartsFull q h cap n m)
-IsLeftBy q h bound cap n None = Unit {0}
+IsLeftBy q h bound cap n None = IsBrokenOff q h bound n
 
 -- the trace of these marks, with its last line where the run was left for something; or their output alone
 abbrev pub run_text : (trace : Bool) → Option Stop → List T.Mark → Text
@@ -167,12 +194,25 @@ RanTo q h options text report unwritten out Unwritten = unwritten × RanInPart q
 RanTo q h options text report unwritten out Memory = RanInPart q h options text report out
 RanTo q h options text report unwritten out _ = ⊥
 
+-- a line was put behind a run that ended so: all of it, or the sink failed in it, or memory was wanting for it
+abbrev pub ClosedBy : (line : Text) → Outcome → (unwritten : Type 0) → (out : Text) → End → Type 0
+ClosedBy line outcome unwritten out (Done last) = (last ≡ outcome) × (out ≡ line)
+ClosedBy line outcome unwritten out Unwritten = unwritten × IsPrefix out line
+ClosedBy line outcome unwritten out Memory = out ≡ []
+ClosedBy line outcome unwritten out _ = ⊥
+
 -- no state of a run was made
 pub record NoSteps (report : Report) : Type 0 where
   pub steps : report.steps ≡ 0
   pub cells : report.cells ≡ 0
 
--- how a run by a history's file ended: the history was not told, and no run began; or it ended so
-abbrev pub RanTold : (told : Option Files) → (q : Program) → Options → (text : Bool) → Report → (unread : Text → Type 0) → (unwritten : Type 0) → (out : Text) → End → Type 0
-RanTold told q options text report unread unwritten out end = (NotTold told options.history unread end × NoSteps report × (out ≡ []))
-    ⊎ ((polls : List T.Told) × TellsPolls told options.history polls × RanTo q (history_with polls) options text report unwritten out end)
+-- a run that was told these polls ended so, with answers of the host
+pub record RanAnswered (host : Host) (q : Program) (polls : List T.Told) (options : Options) (text : Bool) (report : Report) (unwritten : Type 0) (out : Text) (end : End) : Type 0 where
+  pub answers : List ℤ
+  pub answered : IsAnswered host q (history_with polls answers) report.steps
+  pub ran : RanTo q (history_with polls answers) options text report unwritten out end
+
+-- how a run by a history's file ended: a function of the host is missing, or the history was not told, and no run began; or it ended so
+abbrev pub RanTold : Host → (told : Option Files) → (q : Program) → Options → (text : Bool) → Report → (unread : Text → Type 0) → (unwritten : Type 0) → (out : Text) → End → Type 0
+RanTold host told q options text report unread unwritten out end = (LacksHost host.there q end × NoSteps report × (out ≡ []))
+    ⊎ (HasHosts host.there q × ((NotTold told options.history unread end × NoSteps report × (out ≡ [])) ⊎ ((polls : List T.Told) × TellsPolls told options.history polls × RanAnswered host q polls options text report unwritten out end)))

@@ -82,6 +82,8 @@ pub enum End {
     TooLong(Role),
     /// A line of the history is no poll.
     BadLine(HistoryFault),
+    /// A function of the host of this name is declared, and the host has none of its arity.
+    NoHost(Vec<u8>),
 }
 
 /// What a call tells its caller.
@@ -122,6 +124,7 @@ fn status(end: &End) -> u8
         End::Unread(_) => 8,
         End::Unwritten => 9,
         End::Memory => 11,
+        End::NoHost(_) => 12,
         End::TooLong(_) => 13,
     }
 }
@@ -227,6 +230,15 @@ fn bad_line(alloc: Global, fault: &HistoryFault) -> Result<Vec<u8>, AllocError>
     Ok(format!(in alloc; "history line {number} {wrong}\n")?.into_bytes())
 }
 
+fn host_line(alloc: Global, name: &[u8]) -> Result<Vec<u8>, AllocError>
+    ensures { IfOk result (λ line. line.items ≡ codes "no host " ++ (name.now ++ codes "\n")) }
+{
+    let mut line = b"no host ".to_vec(alloc)?;
+    line.extend_from_slice(name)?;
+    line.push(b'\n')?;
+    Ok(line)
+}
+
 // The name of a file.
 fn name<'a>(inputs: &Inputs<'a>, role: Role) -> &'a str
     ensures { result.now ≡ name_of (labels inputs.now) role }
@@ -276,6 +288,7 @@ fn line(alloc: Global, inputs: &Inputs<'_>, end: &End) -> Result<Vec<u8>, AllocE
         End::Memory => b"no memory\n".to_vec(alloc),
         End::TooLong(role) => long_line(alloc, name(inputs, *role), limit(inputs, *role)),
         End::BadLine(fault) => bad_line(alloc, fault),
+        End::NoHost(name) => host_line(alloc, name.as_slice()),
     }
 }
 

@@ -7,11 +7,12 @@ ghost use Rattle.cpc_base.specs.declared.stop.Place.{Place};
 ghost use Rattle.cpc_check.specs.Accepted.{Accepts};
 ghost use Rattle.cpc_tree.specs.Erase.{program_of};
 ghost use Rattle.cpc_tree.specs.Locate.{located};
+ghost use Rattle.cpc_tree.specs.Located.{LProgram};
 ghost use Rattle.cpc_native_builtins.specs.Served.{is_served_program};
 ghost use Rattle.cpc_answered.specs.Unanswered.{unanswered};
 ghost use Rattle.cpc_cli.specs.declared.answer.End.{End};
 ghost use Rattle.cpc_cli.specs.Command.{any_source, events_source, text_limit as limit_in, threads_source};
-ghost use Rattle.cpc_cli.specs.Answer.{AcceptedAs, IsTranslated, NotAccepted, Nothing, Printed, TextHas, refused_end, unread_end, untranslated_end};
+ghost use Rattle.cpc_cli.specs.Answer.{AcceptedAs, IsTranslated, NotAccepted, Nothing, Printed, RefusesText, TextHas, refused_end, unread_end, untranslated_end};
 
 use crate::answer::{End, Report, Role};
 use cpc_answered::answered;
@@ -114,6 +115,29 @@ pub(crate) fn checked<F: Shelf>(
     }
 }
 
+/// Translates a text, and gives the event program that is read of its print, which goes into the report.
+pub(crate) fn translated_text(
+    alloc: Global,
+    text: &[u8],
+    report: &mut Report,
+) -> Result<Checked, End>
+    requires { Nothing report.old [] }
+    ensures printed { IfOk result (λ q. Printed (located q.program) report.new) }
+    ensures dialect { IfOk result (λ q. q.dialect ≡ D.Event) }
+    ensures served { IfOk result (λ q. is_served_program (program_of q.program) ≡ true) }
+    ensures same { IfOk result (λ q. (p : LProgram) × Accepts D.Cpc text.now p × IsTranslated p (located q.program)) }
+    ensures refused { (end : End) → IsErrOf result end → RefusesText text.now end }
+    ensures none { (end : End) → IsErrOf result end → Nothing report.new [] }
+{
+    match translate(alloc, text) {
+        Ok(translated) => {
+            report.printed = translated.printed;
+            Ok(translated.read_back)
+        }
+        Err(stop) => Err(untranslated(stop)),
+    }
+}
+
 /// Reads the text of a file, and gives the event program that is read of its print, which goes into the report.
 pub(crate) fn translated<F: Shelf>(
     alloc: Global,
@@ -136,13 +160,7 @@ pub(crate) fn translated<F: Shelf>(
         Ok(text) => text,
         Err(end) => return Err(end),
     };
-    match translate(alloc, text.as_slice()) {
-        Ok(translated) => {
-            report.printed = translated.printed;
-            Ok(translated.read_back)
-        }
-        Err(stop) => Err(untranslated(stop)),
-    }
+    translated_text(alloc, text.as_slice(), report)
 }
 
 // A program of events that the loop answers, or the place at which it asks for something else.

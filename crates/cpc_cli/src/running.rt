@@ -1,5 +1,5 @@
-//! A run of an event program, by the history that the words name.
-ghost use Rattle.std.specs.Prelude.{◌≡◌, ◌≤◌, ◌<◌, ◌^◌, IfOk, IsErrOf, MatchResult, None, Some, [], map, option_map, false, true};
+//! A run of an event program, by the history that the words name, with the functions of a host.
+ghost use Rattle.std.specs.Prelude.{◌≡◌, ◌≤◌, ◌<◌, ◌^◌, IfOk, IsErrOf, MatchResult, Option, None, Some, [], map, option_map, false, true};
 ghost use Rattle.cpc_base.specs.Bytes.{Text};
 ghost use Rattle.cpc_base.specs.Outside.{Rose};
 ghost use Rattle.cpc_base.specs.declared.stop.Dialect.TheVariants as D;
@@ -8,12 +8,14 @@ ghost use Rattle.cpc_meaning.specs.History.{polls_fit};
 ghost use Rattle.cpc_history_marks.specs.Views.{told_of};
 ghost use Rattle.cpc_native_builtins.specs.Served.{is_served_program};
 ghost use Rattle.cpc_run.specs.Outcomes.{outcome_of as run_outcome_of};
-ghost use Rattle.cpc_run.specs.Reports.{IsPrefix, Wrote, history_of};
+ghost use Rattle.cpc_run.specs.Hosts.{missing_of};
+ghost use Rattle.cpc_run.specs.Reports.{IsPrefix, Wrote};
 ghost use Rattle.cpc_cli_command.specs.Commands.{asked_options};
 ghost use Rattle.cpc_cli_command.specs.Number.{most_cells};
 ghost use Rattle.cpc_cli.specs.declared.answer.End.{End};
+ghost use Rattle.cpc_cli.specs.Command.{host_of, length_line};
 ghost use Rattle.cpc_cli.specs.Counted.{IsCounted};
-ghost use Rattle.cpc_cli.specs.Ran.{NoSteps, NotTold, RanTo, RanTold, TellsPolls, heading, outcome_in};
+ghost use Rattle.cpc_cli.specs.Ran.{ClosedBy, HasHosts, Lacks, NoSteps, NotTold, RanAnswered, RanTold, TellsPolls, heading, outcome_in};
 
 use crate::answer::{End, Outcome, Report, Role};
 use crate::reading::HISTORY_LIMIT;
@@ -22,7 +24,8 @@ use cpc_check::Checked;
 use cpc_cli_command::Options;
 use cpc_history::read_history;
 use cpc_history_marks::Told;
-use cpc_run::{Ended, Limits, Outcome as RunOutcome, before_bars, run_event};
+use cpc_hosts::{HostRule, HostTable, Kept};
+use cpc_run::{Ended, Limits, Outcome as RunOutcome, before_bars, missing_host, run_event};
 use std::alloc::Global;
 
 // Reads the polls of a history's file.
@@ -107,10 +110,11 @@ fn over(alloc: Global, outcome: RunOutcome, polls: u64, names: &Names) -> Result
 }
 
 // Runs an event program that is told these polls, with nothing before its text.
-fn run_bare<O: Sink>(
+fn run_bare<O: Sink, R: HostRule>(
     alloc: Global,
     program: &Checked,
     polls: &[Told],
+    hosts: &HostTable<R>,
     options: Options<'_>,
     out: &mut O,
     report: &mut Report,
@@ -120,16 +124,19 @@ fn run_bare<O: Sink>(
     requires some { 1 ≤ options.steps }
     requires room { options.cells ≤ most_cells }
     requires polls { polls_fit (map told_of polls.now) ≡ true }
-    ensures ended { Wrote (O.taken out.old) (O.taken out.new) (λ o. RanTo (program_of program.now.program) (history_of polls.now)
-        (asked_options options.entry) false report.new (Rose (O.faults out.old) (O.faults out.new)) o result) }
+    requires rule { ⟦<HostTable<R> as Kept>⟧.keeps hosts.now }
+    requires hosts { HasHosts (⟦<HostTable<R> as Kept>⟧.names hosts.now) (program_of program.now.program) }
+    ensures ended { Wrote (O.taken out.old) (O.taken out.new) (λ o. RanAnswered (host_of (⟦<HostTable<R> as Kept>⟧.names hosts.now) R.answers)
+        (program_of program.now.program) (map told_of polls.now) (asked_options options.entry) false report.new (Rose (O.faults out.old) (O.faults out.new)) o result) }
     ensures kept { report.new.printed ≡ report.old.printed }
+    ensures later { O.faults out.old ≤ O.faults out.new }
 {
     let _most = polls.len();
     let limits = Limits {
         steps: options.steps,
         cells: options.cells,
     };
-    let ran = run_event(alloc, program, limits, polls, options.trace, out);
+    let ran = run_event(alloc, program, polls, hosts, limits, options.trace, out);
     report.steps = ran.steps;
     report.cells = ran.cells;
     match ran.ended {
@@ -141,14 +148,17 @@ fn run_bare<O: Sink>(
         Ended::Full(asked) => End::Done(Outcome::Full(options.cells, asked)),
         Ended::WriteFault => End::Unwritten,
         Ended::Memory => End::Memory,
+        // No function of the host is missing, so this end is none.
+        Ended::NoHost(_) => End::Memory,
     }
 }
 
 // Runs an event program that is told these polls, and writes what goes before its text.
-fn run_back<O: Sink>(
+fn run_back<O: Sink, R: HostRule>(
     alloc: Global,
     program: &Checked,
     polls: &[Told],
+    hosts: &HostTable<R>,
     options: Options<'_>,
     text: bool,
     out: &mut O,
@@ -159,24 +169,39 @@ fn run_back<O: Sink>(
     requires some { 1 ≤ options.steps }
     requires room { options.cells ≤ most_cells }
     requires polls { polls_fit (map told_of polls.now) ≡ true }
+    requires rule { ⟦<HostTable<R> as Kept>⟧.keeps hosts.now }
+    requires hosts { HasHosts (⟦<HostTable<R> as Kept>⟧.names hosts.now) (program_of program.now.program) }
     requires fresh { NoSteps report.old }
-    ensures ended { Wrote (O.taken out.old) (O.taken out.new) (λ o. RanTo (program_of program.now.program) (history_of polls.now)
-        (asked_options options.entry) text report.new (Rose (O.faults out.old) (O.faults out.new)) o result) }
+    ensures ended { Wrote (O.taken out.old) (O.taken out.new) (λ o. RanAnswered (host_of (⟦<HostTable<R> as Kept>⟧.names hosts.now) R.answers)
+        (program_of program.now.program) (map told_of polls.now) (asked_options options.entry) text report.new (Rose (O.faults out.old) (O.faults out.new)) o result) }
     ensures kept { report.new.printed ≡ report.old.printed }
+    ensures later { O.faults out.old ≤ O.faults out.new }
 {
     match write_heading(text, report.printed.as_slice(), out) {
-        Ok(()) => run_bare(alloc, program, polls, options, out, report),
+        Ok(()) => run_bare(alloc, program, polls, hosts, options, out, report),
         Err(Failed) => End::Unwritten,
     }
 }
 
-/// Reads the history that is named, and runs an event program by it.
-pub(crate) fn run_told<F: Shelf, O: Sink>(
+// The end of a call whose program declares a function of the host that is missing: the name, or want of memory for it.
+fn lacks(alloc: Global, names: &Names, name: Name) -> End
+    ensures { (missing : Option Text) → missing ≡ Some (in_table names.now name) → Lacks missing result }
+{
+    match text_of(names, name).to_vec(alloc) {
+        Ok(name) => End::NoHost(name),
+        Err(_) => End::Memory,
+    }
+}
+
+/// Looks for the functions of the host that an event program declares, reads the history that is named, and runs the program
+/// by it.
+pub(crate) fn run_told<F: Shelf, O: Sink, R: HostRule>(
     alloc: Global,
     program: &Checked,
     options: Options<'_>,
     text: bool,
     shelf: &mut F,
+    hosts: &HostTable<R>,
     out: &mut O,
     report: &mut Report,
 ) -> End
@@ -185,14 +210,47 @@ pub(crate) fn run_told<F: Shelf, O: Sink>(
     requires some { 1 ≤ options.steps }
     requires room { options.cells ≤ most_cells }
     requires fresh { NoSteps report.old }
-    ensures ended { Wrote (O.taken out.old) (O.taken out.new) (λ o. RanTold (F.files shelf.old) (program_of program.now.program)
-        (asked_options options.entry) text report.new (λ name. Rose (F.faults shelf.old name) (F.faults shelf.new name))
-        (Rose (O.faults out.old) (O.faults out.new)) o result) }
+    requires rule { ⟦<HostTable<R> as Kept>⟧.keeps hosts.now }
+    ensures ended { Wrote (O.taken out.old) (O.taken out.new) (λ o. RanTold (host_of (⟦<HostTable<R> as Kept>⟧.names hosts.now) R.answers)
+        (F.files shelf.old) (program_of program.now.program) (asked_options options.entry) text report.new
+        (λ name. Rose (F.faults shelf.old name) (F.faults shelf.new name)) (Rose (O.faults out.old) (O.faults out.new)) o result) }
     ensures kept { report.new.printed ≡ report.old.printed }
+    ensures later { O.faults out.old ≤ O.faults out.new }
     ensures stays { F.files shelf.new ≡ F.files shelf.old }
 {
+    if let Some(name) = missing_host(&program.program, hosts) {
+        return lacks(alloc, &program.program.names, name);
+    }
     match polls_of(alloc, options.history, shelf) {
-        Ok(polls) => run_back(alloc, program, polls.as_slice(), options, text, out, report),
+        Ok(polls) => run_back(
+            alloc,
+            program,
+            polls.as_slice(),
+            hosts,
+            options,
+            text,
+            out,
+            report,
+        ),
         Err(end) => end,
+    }
+}
+
+/// Writes the line of a sample's length, of so many bytes, behind the output of its run, which ended so.
+pub(crate) fn close_sample<O: Sink>(
+    alloc: Global,
+    length: usize,
+    outcome: Outcome,
+    out: &mut O,
+) -> End
+    ensures closed { Wrote (O.taken out.old) (O.taken out.new) (λ o. ClosedBy (length_line length) outcome (Rose (O.faults out.old) (O.faults out.new)) o result) }
+    ensures later { O.faults out.old ≤ O.faults out.new }
+{
+    let Ok(line) = format!(in alloc; "bytes {length}\n") else {
+        return End::Memory;
+    };
+    match write_all(out, line.as_bytes()) {
+        Ok(()) => End::Done(outcome),
+        Err(Failed) => End::Unwritten,
     }
 }

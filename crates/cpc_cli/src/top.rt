@@ -3,62 +3,69 @@ ghost use Rattle.std.specs.Prelude.{◌≡◌, ◌≢◌, ◌⊎◌, ◌≤◌, 
 ghost use Rattle.cpc_base.specs.Bytes.{Text};
 ghost use Rattle.cpc_base.specs.Outside.{Rose, WhereTold};
 ghost use Rattle.cpc_run.specs.Reports.{Wrote};
-ghost use Rattle.cpc_cli_command.specs.Commands.{Check, Exec, Run, Translate, asked, asked_options, command_of};
+ghost use Rattle.cpc_cli_command.specs.Commands.{Check, Exec, Run, Sample, Translate, asked, asked_options, command_of};
 ghost use Rattle.cpc_cli_command.specs.Number.{most_cells};
+ghost use Rattle.cpc_cli_command.specs.Usage.{defaults};
 ghost use Rattle.cpc_cli_command.specs.Usage.{IsBounded};
 ghost use Rattle.cpc_cli.specs.Answer.{Answer, EndedIn, IsEnd, Nothing, line_of, rises};
-ghost use Rattle.cpc_cli.specs.Command.{Asks, labels_in, labels_of, named};
+ghost use Rattle.cpc_cli.specs.Command.{Asks, host_of, labels_in, labels_of, named, no_host};
 ghost use Rattle.cpc_cli.specs.Exact.{Gives, NoneRose};
 ghost use Rattle.cpc_cli.specs.Inputs.{labels};
 
 use crate::answer::{End, Inputs, Outcome, Report, conclude};
-use crate::reading::{checked, taken, text_limit, translated};
-use crate::running::run_told;
-use cpc_base::{Dialect, Failed, Shelf, Sink, Stop, write_all};
-use cpc_cli_command::{Command, Options, Usage, read_words};
+use crate::reading::{checked, taken, text_limit, translated, translated_text};
+use crate::running::{close_sample, run_told};
+use cpc_base::{Dialect, Failed, NoMemory, Shelf, Sink, Stop, write_all};
+use cpc_cli_command::{Command, DEFAULT_CELLS, DEFAULT_STEPS, Options, Usage, read_words};
+use cpc_hosts::{HostRule, HostTable, Kept};
+use cpc_sample::sample;
 use std::alloc::Global;
 
 // Translates the text of a file, and runs what was made.
-fn run_file<F: Shelf, O: Sink>(
+fn run_file<F: Shelf, O: Sink, R: HostRule>(
     alloc: Global,
     file: &str,
     options: Options<'_>,
     text: bool,
     shelf: &mut F,
+    hosts: &HostTable<R>,
     out: &mut O,
     report: &mut Report,
 ) -> End
     requires none { Nothing report.old [] }
     requires some { 1 ≤ options.steps }
     requires room { options.cells ≤ most_cells }
-    ensures ended { Wrote (O.taken out.old) (O.taken out.new) (λ o. EndedIn (F.files shelf.old) (Run file.now (asked_options options.entry) text)
+    requires rule { ⟦<HostTable<R> as Kept>⟧.keeps hosts.now }
+    ensures ended { Wrote (O.taken out.old) (O.taken out.new) (λ o. EndedIn (host_of (⟦<HostTable<R> as Kept>⟧.names hosts.now) R.answers) (F.files shelf.old) (Run file.now (asked_options options.entry) text)
         (λ name. Rose (F.faults shelf.old name) (F.faults shelf.new name)) (Rose (O.faults out.old) (O.faults out.new)) report.new o result) }
     ensures stays { F.files shelf.new ≡ F.files shelf.old }
 {
     match translated(alloc, file, shelf, report) {
-        Ok(program) => run_told(alloc, &program, options, text, shelf, out, report),
+        Ok(program) => run_told(alloc, &program, options, text, shelf, hosts, out, report),
         Err(end) => end,
     }
 }
 
 // Runs the text of a file, which is one of events.
-fn exec_file<F: Shelf, O: Sink>(
+fn exec_file<F: Shelf, O: Sink, R: HostRule>(
     alloc: Global,
     file: &str,
     options: Options<'_>,
     shelf: &mut F,
+    hosts: &HostTable<R>,
     out: &mut O,
     report: &mut Report,
 ) -> End
     requires none { Nothing report.old [] }
     requires some { 1 ≤ options.steps }
     requires room { options.cells ≤ most_cells }
-    ensures ended { Wrote (O.taken out.old) (O.taken out.new) (λ o. EndedIn (F.files shelf.old) (Exec file.now (asked_options options.entry))
+    requires rule { ⟦<HostTable<R> as Kept>⟧.keeps hosts.now }
+    ensures ended { Wrote (O.taken out.old) (O.taken out.new) (λ o. EndedIn (host_of (⟦<HostTable<R> as Kept>⟧.names hosts.now) R.answers) (F.files shelf.old) (Exec file.now (asked_options options.entry))
         (λ name. Rose (F.faults shelf.old name) (F.faults shelf.new name)) (Rose (O.faults out.old) (O.faults out.new)) report.new o result) }
     ensures stays { F.files shelf.new ≡ F.files shelf.old }
 {
     match taken(alloc, file, shelf) {
-        Ok(program) => run_told(alloc, &program, options, false, shelf, out, report),
+        Ok(program) => run_told(alloc, &program, options, false, shelf, hosts, out, report),
         Err(end) => end,
     }
 }
@@ -72,7 +79,7 @@ fn translate_file<F: Shelf, O: Sink>(
     report: &mut Report,
 ) -> End
     requires { Nothing report.old [] }
-    ensures ended { Wrote (O.taken out.old) (O.taken out.new) (λ o. EndedIn (F.files shelf.old) (Translate file.now)
+    ensures ended { Wrote (O.taken out.old) (O.taken out.new) (λ o. EndedIn no_host (F.files shelf.old) (Translate file.now)
         (λ name. Rose (F.faults shelf.old name) (F.faults shelf.new name)) (Rose (O.faults out.old) (O.faults out.new)) report.new o result) }
     ensures stays { F.files shelf.new ≡ F.files shelf.old }
 {
@@ -94,7 +101,7 @@ fn check_file<F: Shelf, O: Sink>(
     report: &Report,
 ) -> End
     requires { Nothing report.now [] }
-    ensures ended { Wrote (O.taken out.old) (O.taken out.new) (λ o. EndedIn (F.files shelf.old) (Check file.now)
+    ensures ended { Wrote (O.taken out.old) (O.taken out.new) (λ o. EndedIn no_host (F.files shelf.old) (Check file.now)
         (λ name. Rose (F.faults shelf.old name) (F.faults shelf.new name)) (Rose (O.faults out.old) (O.faults out.new)) report.now o result) }
     ensures stays { F.files shelf.new ≡ F.files shelf.old }
 {
@@ -107,17 +114,70 @@ fn check_file<F: Shelf, O: Sink>(
     }
 }
 
+// The options of a sample's run.
+fn sample_options<'a>() -> Options<'a>
+    ensures { asked_options result ≡ defaults }
+{
+    Options {
+        history: None,
+        steps: DEFAULT_STEPS,
+        cells: DEFAULT_CELLS,
+        trace: false,
+    }
+}
+
+// Makes the sample text of a number, translates it, runs what was made, and tells the length of the text.
+fn run_sample<F: Shelf, O: Sink, R: HostRule>(
+    alloc: Global,
+    number: u32,
+    shelf: &mut F,
+    hosts: &HostTable<R>,
+    out: &mut O,
+    report: &mut Report,
+) -> End
+    requires none { Nothing report.old [] }
+    requires rule { ⟦<HostTable<R> as Kept>⟧.keeps hosts.now }
+    ensures ended { Wrote (O.taken out.old) (O.taken out.new) (λ o. EndedIn (host_of (⟦<HostTable<R> as Kept>⟧.names hosts.now) R.answers) (F.files shelf.old) (Sample number)
+        (λ name. Rose (F.faults shelf.old name) (F.faults shelf.new name)) (Rose (O.faults out.old) (O.faults out.new)) report.new o result) }
+    ensures stays { F.files shelf.new ≡ F.files shelf.old }
+{
+    let text = match sample(alloc, number) {
+        Ok(text) => text,
+        Err(NoMemory) => return End::Memory,
+    };
+    let bytes = text.as_slice();
+    let program = match translated_text(alloc, bytes, report) {
+        Ok(program) => program,
+        Err(end) => return end,
+    };
+    match run_told(
+        alloc,
+        &program,
+        sample_options(),
+        false,
+        shelf,
+        hosts,
+        out,
+        report,
+    ) {
+        End::Done(outcome) => close_sample(alloc, bytes.len(), outcome, out),
+        end => end,
+    }
+}
+
 // Does what a command asks for.
-fn perform<F: Shelf, O: Sink>(
+fn perform<F: Shelf, O: Sink, R: HostRule>(
     alloc: Global,
     command: Command,
     shelf: &mut F,
+    hosts: &HostTable<R>,
     out: &mut O,
     report: &mut Report,
 ) -> End
     requires none { Nothing report.old [] }
     requires bounded { IsBounded (asked command) }
-    ensures ended { Wrote (O.taken out.old) (O.taken out.new) (λ o. EndedIn (F.files shelf.old) (asked command.entry)
+    requires rule { ⟦<HostTable<R> as Kept>⟧.keeps hosts.now }
+    ensures ended { Wrote (O.taken out.old) (O.taken out.new) (λ o. EndedIn (host_of (⟦<HostTable<R> as Kept>⟧.names hosts.now) R.answers) (F.files shelf.old) (asked command.entry)
         (λ name. Rose (F.faults shelf.old name) (F.faults shelf.new name)) (Rose (O.faults out.old) (O.faults out.new)) report.new o result) }
     ensures stays { F.files shelf.new ≡ F.files shelf.old }
 {
@@ -128,8 +188,11 @@ fn perform<F: Shelf, O: Sink>(
             file,
             options,
             text,
-        } => run_file(alloc, file, options, text, shelf, out, report),
-        Command::Exec { file, options } => exec_file(alloc, file, options, shelf, out, report),
+        } => run_file(alloc, file, options, text, shelf, hosts, out, report),
+        Command::Exec { file, options } => exec_file(
+            alloc, file, options, shelf, hosts, out, report,
+        ),
+        Command::Sample { number } => run_sample(alloc, number, shelf, hosts, out, report),
     }
 }
 
@@ -163,6 +226,11 @@ fn inputs_of(command: Command<'_>) -> Inputs<'_>
             history: history_name(options.history),
             limit: text_limit(Dialect::Event) as u64,
         },
+        Command::Sample { .. } => Inputs {
+            text: "",
+            history: "",
+            limit: text_limit(Dialect::Cpc) as u64,
+        },
     }
 }
 
@@ -176,15 +244,17 @@ fn no_inputs<'a>() -> Inputs<'a> {
 }
 
 // Does what the words ask for, and gives the files that they name.
-fn follow<'a, F: Shelf, O: Sink>(
+fn follow<'a, F: Shelf, O: Sink, R: HostRule>(
     alloc: Global,
     words: &'a [String],
     shelf: &mut F,
+    hosts: &HostTable<R>,
     out: &mut O,
     report: &mut Report,
 ) -> (Inputs<'a>, End)
-    requires { Nothing report.old [] }
-    ensures ended { Wrote (O.taken out.old) (O.taken out.new) (λ o. IsEnd (map string_bytes words.now) (F.files shelf.old)
+    requires none { Nothing report.old [] }
+    requires rule { ⟦<HostTable<R> as Kept>⟧.keeps hosts.now }
+    ensures ended { Wrote (O.taken out.old) (O.taken out.new) (λ o. IsEnd (map string_bytes words.now) (host_of (⟦<HostTable<R> as Kept>⟧.names hosts.now) R.answers) (F.files shelf.old)
         (λ name. Rose (F.faults shelf.old name) (F.faults shelf.new name)) (Rose (O.faults out.old) (O.faults out.new)) report.new o result.1) }
     ensures line { line_of (labels result.0) result.1 ≡ line_of (labels_in (map string_bytes words.now)) result.1 }
     ensures stays { F.files shelf.new ≡ F.files shelf.old }
@@ -192,7 +262,7 @@ fn follow<'a, F: Shelf, O: Sink>(
     match read_words(alloc, words) {
         Ok(command) => (
             inputs_of(command),
-            perform(alloc, command, shelf, out, report),
+            perform(alloc, command, shelf, hosts, out, report),
         ),
         Err(Stop::Memory) => (no_inputs(), End::Memory),
         Err(Stop::Fault(Usage)) => (no_inputs(), End::Usage),
@@ -200,23 +270,27 @@ fn follow<'a, F: Shelf, O: Sink>(
 }
 
 /// Does what a command line asks for. `words` are its words without the program's name; the text and the history are read
-/// from `shelf`, what a command makes goes to `out`, and the line on how the call ended to `err`.
+/// from `shelf`, what a command makes goes to `out`, and the line on how the call ended to `err`. A program that is run may
+/// call the functions of `hosts`, whose answers meet its rule; before its history is read, each that it declares is looked for.
 ///
 /// The status of the report is 0 where the command did its work, 1 where the program that was run has a fault, 2 where
 /// the words are no command line, 3 where the text has a fault or a form that is not built yet, 4 where a line of the
 /// history is no poll, or a poll tells a section that is not out, 5 where the run wanted more polls than the history has, 6
 /// where it made as many steps as it may and is not over, 7 where it would have more live cells than it may, 8 where the
-/// shelf failed at the text or the history, 9 where a sink failed, 11 where memory was wanting, 13 where the text or the
+/// shelf failed at the text or the history, 9 where a sink failed, 11 where memory was wanting, 12 where a function of the host is declared that
+/// `hosts` has not with its arity, the first of them by declaration being named, 13 where the text or the
 /// history has more bytes than its limit, and 14 where the run is over and some wait.
-pub fn cpc_main<F: Shelf, O: Sink, E: Sink>(
+pub fn cpc_main<F: Shelf, O: Sink, E: Sink, R: HostRule>(
     alloc: Global,
     words: &[String],
     shelf: &mut F,
     out: &mut O,
     err: &mut E,
+    hosts: &HostTable<R>,
 ) -> Report
+    requires rule { ⟦<HostTable<R> as Kept>⟧.keeps hosts.now }
     ensures answer { Wrote (O.taken out.old) (O.taken out.new) (λ o. Wrote (E.taken err.old) (E.taken err.new) (λ e.
-        Answer (map string_bytes words.now) (F.files shelf.old)
+        Answer (map string_bytes words.now) (host_of (⟦<HostTable<R> as Kept>⟧.names hosts.now) R.answers) (F.files shelf.old)
         (rises (record { shelf = F.faults shelf.old; out = O.faults out.old; err = E.faults err.old })
         (record { shelf = F.faults shelf.new; out = O.faults out.new; err = E.faults err.new }))
         result o e)) }
@@ -226,7 +300,7 @@ pub fn cpc_main<F: Shelf, O: Sink, E: Sink>(
         (record { shelf = F.faults shelf.new; out = O.faults out.new; err = E.faults err.new }))
         → result.status ≢ 11
         → Wrote (O.taken out.old) (O.taken out.new) (λ o. Wrote (E.taken err.old) (E.taken err.new) (λ e.
-        Gives files (map string_bytes words.now) result.status o e))) }
+        Gives (host_of (⟦<HostTable<R> as Kept>⟧.names hosts.now) R.answers) files (map string_bytes words.now) result.status o e))) }
     ensures usage { result.status ≡ 2 → command_of (map string_bytes words.now) ≡ None }
     ensures read { result.status ≡ 8 → Asks (map string_bytes words.now) (λ command. (role : _) × (name : Text) × (named command role ≡ Some name)
         × Rose (F.faults shelf.old name) (F.faults shelf.new name)) }
@@ -239,7 +313,7 @@ pub fn cpc_main<F: Shelf, O: Sink, E: Sink>(
         steps: 0,
         cells: 0,
     };
-    let (inputs, end) = follow(alloc, words, shelf, out, &mut report);
+    let (inputs, end) = follow(alloc, words, shelf, hosts, out, &mut report);
     report.status = conclude(alloc, &inputs, &end, err);
     report
 }

@@ -1,14 +1,20 @@
 //! Runs the examples by the top call and shows what each writes: its output, the line on `err`, and its status.
 #![tactic(auto)]
 
+ghost use Rattle.std.specs.Prelude.{◌≡◌, length, Some, codes};
+ghost use Rattle.cpc_hosts.specs.Standard.{standard_answer};
+
 use anyhow::Context;
 use cpc_base::{Calls, MemFile, MemShelf, MemSink};
 use cpc_cli::cpc_main;
+use cpc_hosts::{
+    Answer, HostTable, Kept, StdHosts, abs_diff, clamp, greatest, least, sign, standard_hosts,
+};
 use std::alloc::Global;
 use std::fs;
 
 /// The examples that run, in the order in which they are run.
-const RUN: [&str; 11] = [
+const RUN: [&str; 12] = [
     "seven.c",
     "calculator.c",
     "list.c",
@@ -20,6 +26,7 @@ const RUN: [&str; 11] = [
     "accounts.c",
     "pipeline.c",
     "queens.c",
+    "hosts.c",
 ];
 
 /// The examples that are read and checked, and have forms that no command runs yet.
@@ -40,12 +47,20 @@ fn file(rt: &HostRuntime, name: &str) -> anyhow::Result<MemFile> {
 }
 
 // Does what these words ask for over these files, and shows what comes of it under a name.
-fn show(rt: &HostRuntime, name: &str, words: &[String], files: Vec<MemFile>) -> anyhow::Result<()> {
+fn show(
+    rt: &HostRuntime,
+    hosts: &HostTable<StdHosts>,
+    name: &str,
+    words: &[String],
+    files: Vec<MemFile>,
+) -> anyhow::Result<()>
+    requires { ⟦<HostTable<StdHosts> as Kept>⟧.keeps hosts.now }
+{
     let alloc = rt.alloc();
     let mut shelf = MemShelf::new(files, 4096, never(alloc));
     let mut out = MemSink::new(alloc, 4096, never(alloc));
     let mut err = MemSink::new(alloc, 4096, never(alloc));
-    let report = cpc_main(alloc, words, &mut shelf, &mut out, &mut err);
+    let report = cpc_main(alloc, words, &mut shelf, &mut out, &mut err, hosts);
     let status = report.status;
     println!(rt; "== {name}")?;
     print!(rt; "{}", String::from_utf8_lossy(alloc, out.bytes())?)?;
@@ -55,18 +70,32 @@ fn show(rt: &HostRuntime, name: &str, words: &[String], files: Vec<MemFile>) -> 
 }
 
 // Does what the command of this word does with one text.
-fn show_text(rt: &HostRuntime, word: &str, name: &str) -> anyhow::Result<()> {
+fn show_text(
+    rt: &HostRuntime,
+    hosts: &HostTable<StdHosts>,
+    word: &str,
+    name: &str,
+) -> anyhow::Result<()>
+    requires { ⟦<HostTable<StdHosts> as Kept>⟧.keeps hosts.now }
+{
     let alloc = rt.alloc();
     let words = vec![in alloc;
         String::from_str(alloc, word)?,
         String::from_str(alloc, name)?,
     ]?;
     let files = vec![in alloc; file(rt, name)?]?;
-    show(rt, name, words.as_slice(), files)
+    show(rt, hosts, name, words.as_slice(), files)
 }
 
 // Runs a text by its history.
-fn show_told(rt: &HostRuntime, name: &str, history: &str) -> anyhow::Result<()> {
+fn show_told(
+    rt: &HostRuntime,
+    hosts: &HostTable<StdHosts>,
+    name: &str,
+    history: &str,
+) -> anyhow::Result<()>
+    requires { ⟦<HostTable<StdHosts> as Kept>⟧.keeps hosts.now }
+{
     let alloc = rt.alloc();
     let words = vec![in alloc;
         String::from_str(alloc, "run")?,
@@ -75,18 +104,59 @@ fn show_told(rt: &HostRuntime, name: &str, history: &str) -> anyhow::Result<()> 
         String::from_str(alloc, history)?,
     ]?;
     let files = vec![in alloc; file(rt, name)?, file(rt, history)?]?;
-    show(rt, name, words.as_slice(), files)
+    show(rt, hosts, name, words.as_slice(), files)
 }
 
 fn main(rt: HostRuntime) -> anyhow::Result<()> {
+    let alloc = rt.alloc();
+    let abs_diff_by: Answer = Box::new(
+        alloc,
+        |args: &[i64]| -> i64
+            requires { length args.now ≡ 2 }
+            ensures { standard_answer (codes "abs_diff") args.now ≡ Some result }
+        { abs_diff(args) },
+    )?;
+    let least_by: Answer = Box::new(
+        alloc,
+        |args: &[i64]| -> i64
+            requires { length args.now ≡ 2 }
+            ensures { standard_answer (codes "least") args.now ≡ Some result }
+        { least(args) },
+    )?;
+    let greatest_by: Answer = Box::new(
+        alloc,
+        |args: &[i64]| -> i64
+            requires { length args.now ≡ 2 }
+            ensures { standard_answer (codes "greatest") args.now ≡ Some result }
+        { greatest(args) },
+    )?;
+    let clamp_by: Answer = Box::new(
+        alloc,
+        |args: &[i64]| -> i64
+            requires { length args.now ≡ 3 }
+            ensures { standard_answer (codes "clamp") args.now ≡ Some result }
+        { clamp(args) },
+    )?;
+    let sign_by: Answer = Box::new(
+        alloc,
+        |args: &[i64]| -> i64
+            requires { length args.now ≡ 1 }
+            ensures { standard_answer (codes "sign") args.now ≡ Some result }
+        { sign(args) },
+    )?;
+    let Ok(hosts) = standard_hosts(alloc, abs_diff_by, least_by, greatest_by, clamp_by, sign_by)
+    else {
+        println!(rt; "no memory")?;
+        return Ok(());
+    };
     for name in RUN {
-        show_text(&rt, "run", name)?;
+        show_text(&rt, &hosts, "run", name)?;
     }
     for (name, history) in TOLD {
-        show_told(&rt, name, history)?;
+        show_told(&rt, &hosts, name, history)?;
     }
     for name in CHECKED {
-        show_text(&rt, "check", name)?;
+        show_text(&rt, &hosts, "check", name)?;
     }
     Ok(())
 }

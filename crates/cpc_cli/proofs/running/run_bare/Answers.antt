@@ -1,69 +1,115 @@
 use Rattle.std.proofs.Common.{refl}
 use Rattle.cpc_tree.specs.Erase.{in_table, program_of}
+use Rattle.cpc_run.specs.Hosts.{with_answers}
 use Rattle.cpc_run.specs.Reports.{history_of}
 use Rattle.cpc_cli_command.specs.Commands.{asked_options}
-use Rattle.cpc_cli.proofs.RunLemmas.{ended_full, ended_over, ended_starved, ended_steps, ended_unwritten, over_starved, took_some}
+use Rattle.cpc_cli.proofs.RunLemmas.{ended_full, ended_hosted, ended_over, ended_starved, ended_steps, ended_unwritten, over_starved}
 use Rattle.cpc_cli.proofs.running.run_bare.Goals as goal
 
 pub returns-in-Ok-clause-ended : goal.returns-in-Ok-clause-ended
 returns-in-Ok-clause-ended g c =
-    let told = c.run_event-ran.ensures.told in
+    let told = c.run_event-ran.ensures.told c.requires.hosts in
+    let ran = told.2 in
     let p = c.args.program.now.program in (
       told.0,
       told.1,
-      ended_over (in_table p.names) (program_of p) (history_of c.args.polls.now) (asked_options c.args.options) _ refl refl c.requires.some c.run_event-ran.result told.0 told.2 c.args.report.now
-          c.in-Over.outcome c.in-Ok.outcome c.in-Over.is c.in-Ok.ensures.is c.in-Ok.ensures.counted,
+      record {
+        answers = ran.answers;
+        answered = record { answered = ran.answered; meets = ran.meets };
+        ran = ended_over (in_table p.names) (program_of p) (with_answers (history_of c.args.polls.now) ran.answers) (asked_options c.args.options) _ refl refl c.requires.some c.run_event-ran.result told.0 ran.tells c.args.report.now
+            c.in-Over.outcome c.in-Ok.outcome c.in-Over.is c.in-Ok.ensures.is c.in-Ok.ensures.counted;
+      },
     )
 
 pub returns-in-Err-clause-ended : goal.returns-in-Err-clause-ended
 returns-in-Err-clause-ended g c =
-    let told = c.run_event-ran.ensures.told in
+    let told = c.run_event-ran.ensures.told c.requires.hosts in
+    let ran = told.2 in
     let p = c.args.program.now.program in (
       told.0,
       told.1,
-      over_starved (in_table p.names) (program_of p) (history_of c.args.polls.now) (asked_options c.args.options) _ refl refl c.requires.some c.run_event-ran.result told.0 told.2 c.args.report.now
-          c.in-Over.outcome c.in-Over.is,
+      record {
+        answers = ran.answers;
+        answered = record { answered = ran.answered; meets = ran.meets };
+        ran = over_starved (in_table p.names) (program_of p) (with_answers (history_of c.args.polls.now) ran.answers) (asked_options c.args.options) _ refl refl c.requires.some c.run_event-ran.result told.0 ran.tells c.args.report.now
+            c.in-Over.outcome c.in-Over.is;
+      },
     )
 
 pub returns-in-Steps-clause-ended : goal.returns-in-Steps-clause-ended
 returns-in-Steps-clause-ended g c =
-    let told = c.run_event-ran.ensures.told in
+    let told = c.run_event-ran.ensures.told c.requires.hosts in
+    let ran = told.2 in
     let p = c.args.program.now.program in (
       told.0,
       told.1,
-      ended_steps (in_table p.names) (program_of p) (history_of c.args.polls.now) (asked_options c.args.options) _ refl refl c.requires.some c.run_event-ran.result told.0 told.2 c.args.report.now
-          c.in-Steps.is,
+      record {
+        answers = ran.answers;
+        answered = record { answered = ran.answered; meets = ran.meets };
+        ran = ended_steps (in_table p.names) (program_of p) (with_answers (history_of c.args.polls.now) ran.answers) (asked_options c.args.options) _ refl refl c.requires.some c.run_event-ran.result told.0 ran.tells c.args.report.now
+            c.in-Steps.is;
+      },
     )
 
 pub returns-in-Full-clause-ended : goal.returns-in-Full-clause-ended
 returns-in-Full-clause-ended g c =
-    let told = c.run_event-ran.ensures.told in
+    let told = c.run_event-ran.ensures.told c.requires.hosts in
+    let ran = told.2 in
     let p = c.args.program.now.program in (
       told.0,
       told.1,
-      ended_full (in_table p.names) (program_of p) (history_of c.args.polls.now) (asked_options c.args.options) _ refl refl c.requires.some c.run_event-ran.result told.0 told.2 c.args.report.now
-          c.in-Full.asked c.in-Full.is,
+      record {
+        answers = ran.answers;
+        answered = record { answered = ran.answered; meets = ran.meets };
+        ran = ended_full (in_table p.names) (program_of p) (with_answers (history_of c.args.polls.now) ran.answers) (asked_options c.args.options) _ refl refl c.requires.some c.run_event-ran.result told.0 ran.tells c.args.report.now
+            c.in-Full.asked c.in-Full.is;
+      },
     )
 
 pub returns-in-WriteFault-clause-ended : goal.returns-in-WriteFault-clause-ended
 returns-in-WriteFault-clause-ended g c =
-    let told = c.run_event-ran.ensures.told in
+    let told = c.run_event-ran.ensures.told c.requires.hosts in
+    let ran = told.2 in
     let p = c.args.program.now.program in (
       told.0,
       told.1,
-      (
-        c.run_event-ran.ensures.cause c.in-WriteFault.is,
-        ended_unwritten (in_table p.names) (program_of p) (history_of c.args.polls.now) (asked_options c.args.options) _ refl refl c.requires.some c.run_event-ran.result told.0 told.2 c.args.report.now
-            c.in-WriteFault.is,
-      ),
+      record {
+        answers = ran.answers;
+        answered = record { answered = ran.answered; meets = ran.meets };
+        ran = (
+          c.run_event-ran.ensures.cause c.in-WriteFault.is,
+          ended_unwritten (in_table p.names) (program_of p) (with_answers (history_of c.args.polls.now) ran.answers) (asked_options c.args.options) _ refl refl c.requires.some c.run_event-ran.result told.0 ran.tells c.args.report.now
+              c.in-WriteFault.is,
+        );
+      },
     )
 
 pub returns-in-Memory-clause-ended : goal.returns-in-Memory-clause-ended
 returns-in-Memory-clause-ended g c =
-    let told = c.run_event-ran.ensures.told in
+    let told = c.run_event-ran.ensures.told c.requires.hosts in
+    let ran = told.2 in
     let p = c.args.program.now.program in (
       told.0,
       told.1,
-      ended_starved (in_table p.names) (program_of p) (history_of c.args.polls.now) (asked_options c.args.options) _ refl refl c.requires.some c.run_event-ran.result told.0 told.2 c.args.report.now
-          c.in-Memory.is,
+      record {
+        answers = ran.answers;
+        answered = record { answered = ran.answered; meets = ran.meets };
+        ran = ended_starved (in_table p.names) (program_of p) (with_answers (history_of c.args.polls.now) ran.answers) (asked_options c.args.options) _ refl refl c.requires.some c.run_event-ran.result told.0 ran.tells c.args.report.now
+            c.in-Memory.is;
+      },
+    )
+
+pub returns-in-NoHost-clause-ended : goal.returns-in-NoHost-clause-ended
+returns-in-NoHost-clause-ended g c =
+    let told = c.run_event-ran.ensures.told c.requires.hosts in
+    let ran = told.2 in
+    let p = c.args.program.now.program in (
+      told.0,
+      told.1,
+      record {
+        answers = ran.answers;
+        answered = record { answered = ran.answered; meets = ran.meets };
+        ran = absurd (ended_hosted (in_table p.names) (program_of p) (with_answers (history_of c.args.polls.now) ran.answers) (asked_options c.args.options) _ refl refl c.requires.some c.run_event-ran.result told.0 ran.tells c.args.report.now
+            _ c.in-NoHost.is);
+      },
     )

@@ -17,7 +17,7 @@ returns-clause-answer g c =
     let unread = λ (name : List ℕ). Rose (g.F.Shelf.faults c.args.shelf.now name) (g.F.Shelf.faults c.follow-end.new.shelf name) in
     let unwritten = Rose (g.O.Sink.faults c.args.out.now) (g.O.Sink.faults c.follow-end.new.out) in
     let new = record c.follow-end.new.report { status = c.conclude.result } in
-    let caused = is_end_last (g.F.Shelf.files c.args.shelf.now) unread unwritten c.follow-end.new.report new ended.0 (record { printed = refl; steps = refl; cells = refl }) last.1 ended.2 in
+    let caused = is_end_last _ (g.F.Shelf.files c.args.shelf.now) unread unwritten c.follow-end.new.report new ended.0 (record { printed = refl; steps = refl; cells = refl }) last.1 ended.2 in
     (ended.0, ended.1, (said.0, said.1, (last.0, caused, subst (λ l. Said l (status_of last.0) (Rose (g.E.Sink.faults c.args.err.now) (g.E.Sink.faults c.conclude.new.err)) c.conclude.result said.0) line last.2)))
 
 pub returns-clause-exact : goal.returns-clause-exact
@@ -32,7 +32,7 @@ returns-clause-exact g c = λ files told none ample.
       (
         answer.2.0,
         answer.2.1,
-        exact_where_told words (g.F.Shelf.files c.args.shelf.now) (rises before now) new answer.0 answer.2.0 answer.2.2 ample files told none,
+        exact_where_told words _ (g.F.Shelf.files c.args.shelf.now) (rises before now) new answer.0 answer.2.0 answer.2.2 ample files told none,
       ),
     )
 
@@ -43,4 +43,4 @@ returns-clause-read g c = λ is.
     let before : Counts = record { shelf = g.F.Shelf.faults c.args.shelf.now; out = g.O.Sink.faults c.args.out.now; err = g.E.Sink.faults c.args.err.now } in
     let now : Counts = record { shelf = g.F.Shelf.faults c.follow-end.new.shelf; out = g.O.Sink.faults c.follow-end.new.out; err = g.E.Sink.faults c.conclude.new.err } in
     let new = record c.follow-end.new.report { status = c.conclude.result } in
-    read_cause words (g.F.Shelf.files c.args.shelf.now) (rises before now) new answer.0 answer.2.0 answer.2.2 is
+    read_cause words _ (g.F.Shelf.files c.args.shelf.now) (rises before now) new answer.0 answer.2.0 answer.2.2 is

@@ -8,7 +8,7 @@ use Rattle.cpc_cli_command.specs.Commands.{Exec, asked_options}
 use Rattle.cpc_cli.specs.Answer.{not_begun}
 use Rattle.cpc_cli.specs.Command.{by_exec}
 use Rattle.cpc_cli.specs.Ran.{RanTold}
-use Rattle.cpc_cli.proofs.TopLemmas.{exec_takes, no_steps_in, rose_earlier, run_ended, told_earlier}
+use Rattle.cpc_cli.proofs.TopLemmas.{exec_takes, no_steps_in, rose_earlier, run_ended, told_as, told_earlier}
 use Rattle.cpc_cli.proofs.top.exec_file.Goals as goal
 
 pub run_told-requires-clause-fresh : goal.run_told-requires-clause-fresh
@@ -23,11 +23,10 @@ returns-in-Ok-clause-ended g c =
     let unwritten = Rose (g.O.Sink.faults c.args.out.now) (g.O.Sink.faults c.run_told.new.out) in
     let new = c.run_told.new.report in
     let q = located c.in-Ok.program.program in
-    let by_tree = subst (λ p. RanTold (g.F.Shelf.files c.taken.new.shelf) p options false new late unwritten ran.0 c.run_told.result) (sym (bare_program c.in-Ok.program.program)) ran.2 in
-    let by_files = subst (λ t. RanTold t (bare q) options false new late unwritten ran.0 c.run_told.result) c.taken.ensures.stays by_tree in
-    let ended = told_earlier (g.F.Shelf.files c.args.shelf.now) (bare q) options false new late early unwritten ran.0 (λ name. rose_earlier _ _ _ (c.taken.ensures.later name)) c.run_told.result by_files in
+    let by_files = told_as _ (g.F.Shelf.files c.args.shelf.now) (g.F.Shelf.files c.taken.new.shelf) _ (bare q) options false new late unwritten ran.0 c.run_told.result c.taken.ensures.stays (sym (bare_program c.in-Ok.program.program)) ran.2 in
+    let ended = told_earlier _ (g.F.Shelf.files c.args.shelf.now) (bare q) options false new late early unwritten ran.0 (λ name. rose_earlier _ _ _ (c.taken.ensures.later name)) c.run_told.result by_files in
     let takes = exec_takes (g.F.Shelf.files c.args.shelf.now) c.args.file.now options q c.args.report.now new c.requires.none.no_run c.run_told.ensures.kept c.in-Ok.ensures.none c.in-Ok.ensures.accepted in
-    (ran.0, ran.1, run_ended _ _ options false (by_exec c.args.file.now options) q early unwritten new ran.0 takes c.run_told.result ended)
+    (ran.0, ran.1, run_ended _ _ _ options false (by_exec c.args.file.now options) q early unwritten new ran.0 takes c.run_told.result ended)
 
 pub returns-in-Err-clause-ended : goal.returns-in-Err-clause-ended
 returns-in-Err-clause-ended g c =

@@ -16,11 +16,11 @@ pub returns-in-Ok-clause-line : goal.returns-in-Ok-clause-line
 returns-in-Ok-clause-line g c = line_named (map string_bytes c.args.words.now) (asked c.in-Ok.command) (labels c.inputs_of.result) c.in-Ok.ensures.command c.inputs_of.ensures c.perform.result
 
 pub returns-in-Err-Memory-clause-ended : goal.returns-in-Err-Memory-clause-ended
-returns-in-Err-Memory-clause-ended g c = ([], sym (append_known-nil (g.O.Sink.taken c.args.out.now)), starved c.requires)
+returns-in-Err-Memory-clause-ended g c = ([], sym (append_known-nil (g.O.Sink.taken c.args.out.now)), starved c.requires.none)
 
 pub returns-in-Err-Fault-clause-ended : goal.returns-in-Err-Fault-clause-ended
 returns-in-Err-Fault-clause-ended g c =
-    ([], sym (append_known-nil (g.O.Sink.taken c.args.out.now)), misused (c.in-Err-Fault.ensures.usage c.in-Err-Fault.field-0-0 (ap Err c.in-Err-Fault.field-0-is)) c.requires)
+    ([], sym (append_known-nil (g.O.Sink.taken c.args.out.now)), misused (c.in-Err-Fault.ensures.usage c.in-Err-Fault.field-0-0 (ap Err c.in-Err-Fault.field-0-is)) c.requires.none)
 
 pub perform-requires-clause-bounded : goal.perform-requires-clause-bounded
 perform-requires-clause-bounded g c = bounded_is (map string_bytes c.args.words.now) (asked c.in-Ok.command) c.in-Ok.ensures.command

@@ -8,7 +8,7 @@ use Rattle.cpc_cli_command.specs.Commands.{Run, asked_options}
 use Rattle.cpc_cli.specs.Answer.{not_begun}
 use Rattle.cpc_cli.specs.Command.{by_run}
 use Rattle.cpc_cli.specs.Ran.{RanTold}
-use Rattle.cpc_cli.proofs.TopLemmas.{no_steps_printed, rose_earlier, run_ended, run_takes, told_earlier}
+use Rattle.cpc_cli.proofs.TopLemmas.{no_steps_printed, rose_earlier, run_ended, run_takes, told_as, told_earlier}
 use Rattle.cpc_cli.proofs.top.run_file.Goals as goal
 
 pub run_told-requires-clause-fresh : goal.run_told-requires-clause-fresh
@@ -23,11 +23,10 @@ returns-in-Ok-clause-ended g c =
     let unwritten = Rose (g.O.Sink.faults c.args.out.now) (g.O.Sink.faults c.run_told.new.out) in
     let new = c.run_told.new.report in
     let q = located c.in-Ok.program.program in
-    let by_tree = subst (λ p. RanTold (g.F.Shelf.files c.translated.new.shelf) p options c.args.text new late unwritten ran.0 c.run_told.result) (sym (bare_program c.in-Ok.program.program)) ran.2 in
-    let by_files = subst (λ t. RanTold t (bare q) options c.args.text new late unwritten ran.0 c.run_told.result) c.translated.ensures.stays by_tree in
-    let ended = told_earlier (g.F.Shelf.files c.args.shelf.now) (bare q) options c.args.text new late early unwritten ran.0 (λ name. rose_earlier _ _ _ (c.translated.ensures.later name)) c.run_told.result by_files in
+    let by_files = told_as _ (g.F.Shelf.files c.args.shelf.now) (g.F.Shelf.files c.translated.new.shelf) _ (bare q) options c.args.text new late unwritten ran.0 c.run_told.result c.translated.ensures.stays (sym (bare_program c.in-Ok.program.program)) ran.2 in
+    let ended = told_earlier _ (g.F.Shelf.files c.args.shelf.now) (bare q) options c.args.text new late early unwritten ran.0 (λ name. rose_earlier _ _ _ (c.translated.ensures.later name)) c.run_told.result by_files in
     let takes = run_takes (g.F.Shelf.files c.args.shelf.now) c.args.file.now options c.args.text q c.translated.new.report new c.in-Ok.ensures.printed c.run_told.ensures.kept c.in-Ok.ensures.same in
-    (ran.0, ran.1, run_ended _ _ options c.args.text (by_run c.args.file.now options c.args.text) q early unwritten new ran.0 takes c.run_told.result ended)
+    (ran.0, ran.1, run_ended _ _ _ options c.args.text (by_run c.args.file.now options c.args.text) q early unwritten new ran.0 takes c.run_told.result ended)
 
 pub returns-in-Err-clause-ended : goal.returns-in-Err-clause-ended
 returns-in-Err-clause-ended g c =
