@@ -1,0 +1,126 @@
+//! What a worker does in its thread.
+ghost use Rattle.std.specs.Prelude.{◌≡◌, ℕ, true, IfOk};
+ghost use Rattle.std.specs.Arc.{arc_value};
+ghost use Rattle.crossbeam_channel.specs.Claims.{view as job_view, IsSeatAt};
+ghost use Rattle.crossbeam_channel.specs.Ends.{receives_on};
+ghost use Rattle.crossbeam_queue.specs.Passes.{view as done_view, IsPassOf};
+ghost use Rattle.cpc_pool.specs.Passes.{WorksAt, PushesAt};
+
+use super::bell::Bell;
+use super::gate::Gate;
+use cpc_pool_ends::{Done, DoneOf, DonePass, Dones, push};
+use cpc_pool_jobs::{JobPass, Message, Receiver, Runner, take};
+use std::alloc::{AllocError, Global};
+use std::marker::PhantomData;
+use std::snapshot::Snapshot;
+use std::sync::{Arc, Wait};
+use std::thread;
+use std::thread::Promise;
+
+/// What all workers of a pool share.
+#[derive(Drop)]
+pub struct Crew<W: Runner, G: Gate> {
+    /// Runs the jobs.
+    pub runner: Arc<W, Global>,
+    /// Is called around each job that a worker runs.
+    pub gate: Arc<G, Global>,
+    /// Brings the completions back.
+    pub dones: Arc<Dones<W>, Global>,
+    /// Rings after each completion.
+    pub bell: Arc<Bell, Global>,
+}
+
+impl<W: Runner, G: Gate> Crew<W, G> {
+    /// The same once more, for another thread. An error is want of memory.
+    pub fn again(&self) -> Result<Crew<W, G>, AllocError>
+        ensures { IfOk result (λ c. arc_value c.dones ≡ arc_value self.now.dones) }
+    {
+        Ok(Crew {
+            runner: Arc::try_clone(&self.runner)?,
+            gate: Arc::try_clone(&self.gate)?,
+            dones: Arc::try_clone(&self.dones)?,
+            bell: Arc::try_clone(&self.bell)?,
+        })
+    }
+}
+
+// Pushes a completion. Where the queue is full it tries again.
+fn bring<W: Runner, R: Wait>(
+    rt: &R,
+    dones: &Dones<W>,
+    number: u64,
+    pass: &mut DonePass<W>,
+    done: DoneOf<W>,
+)
+    requires role { PushesAt dones.now number pass.old × (done.worker ≡ number) }
+    requires ends { W.ends done.job done.end }
+    ensures { PushesAt dones.now number pass.new }
+{
+    let mut left = done;
+    for _ in rt.forever() {
+        match push(rt, dones, pass, left) {
+            Ok(()) => return,
+            Err(back) => {
+                left = back;
+                thread::yield_now();
+            }
+        }
+    }
+    unreachable!()
+}
+
+/// Takes jobs and brings completions, each with the end of its own job, until it is told to stop.
+pub fn work<W: Runner, G: Gate, R: Wait>(
+    rt: &R,
+    crew: &Crew<W, G>,
+    jobs: &Receiver<W>,
+    number: u64,
+    mut taking: JobPass<W>,
+    mut bringing: DonePass<W>,
+) -> (JobPass<W>, DonePass<W>)
+    requires jobs { WorksAt (receives_on jobs.now) taking }
+    requires dones { PushesAt (arc_value crew.now.dones) number bringing }
+    ensures jobs { WorksAt (receives_on jobs.now) result.0 }
+    ensures dones { PushesAt (arc_value crew.now.dones) number result.1 }
+{
+    for _ in rt.forever() {
+        match take(rt, jobs, &mut taking) {
+            Ok(Message::Work(job)) => {
+                let at = W::number_of(&job);
+                crew.gate.before(at);
+                let end = crew.runner.run(&job);
+                crew.gate.after(at);
+                let done = Done {
+                    worker: number,
+                    job,
+                    end,
+                };
+                bring(rt, &crew.dones, number, &mut bringing, done);
+                crew.bell.ring(rt);
+            }
+            _ => return (taking, bringing),
+        }
+    }
+    unreachable!()
+}
+
+/// What a worker's thread gives back: its two passes.
+#[derive(Drop)]
+pub struct Gives<W: Runner> {
+    /// The channel.
+    pub jobs: Snapshot<Receiver<W>>,
+    /// The queue.
+    pub dones: Snapshot<Arc<Dones<W>, Global>>,
+    /// The number of the worker.
+    pub number: u64,
+    /// What is run.
+    pub of: PhantomData<W>,
+}
+
+impl<W: Runner> Promise<(JobPass<W>, DonePass<W>)> for Gives<W> {
+    ghost use Rattle.std.specs.Arc.{arc_value};
+    ghost use Rattle.crossbeam_channel.specs.Ends.{receives_on};
+    ghost use Rattle.cpc_pool.specs.Passes.{WorksAt, PushesAt};
+
+    ghost kept_by = { λ p r. WorksAt (receives_on p.jobs.value) r.0 × PushesAt (arc_value p.dones.value) p.number r.1 };
+}

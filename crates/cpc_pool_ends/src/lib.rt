@@ -1,0 +1,14 @@
+//! The queue that brings completions back, under a rule: each arrives once, in the order in which its worker pushed it, with the end of its own job.
+#![tactic(auto)]
+
+mod calls;
+mod done;
+mod rule;
+mod sections;
+mod views;
+
+pub use calls::{DoneOf, DonePass, DoneViewOf, Dones, begin, hire, pop, push, retire, settle};
+pub use done::Done;
+pub use rule::DoneRule;
+pub use sections::Sections;
+pub use views::{DoneKept, DoneView};

@@ -1,0 +1,5 @@
+pub mod Lists
+pub mod Steps
+pub mod Takes
+pub mod Passes
+pub mod Only

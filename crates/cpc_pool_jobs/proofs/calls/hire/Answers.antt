@@ -1,0 +1,5 @@
+use Rattle.cpc_pool_jobs.proofs.Passes.{forks}
+use Rattle.cpc_pool_jobs.proofs.calls.hire.Goals as goal
+
+pub another-requires-clause-rule : goal.another-requires-clause-rule
+another-requires-clause-rule g c = forks _ _ _ _ c.requires.role

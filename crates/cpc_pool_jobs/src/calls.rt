@@ -1,0 +1,119 @@
+//! The steps of the channel, for one who makes it, sends, and receives.
+ghost use Rattle.std.specs.Prelude.{◌≡◌, ◌<◌, ◌+◌, true, [], ◌∷◌, ◌++◌, IfOk, MatchResult, List};
+ghost use Rattle.std.specs.List.{AllByRecursion};
+ghost use Rattle.crossbeam_channel.specs.Claims.{view, IsSeatAt};
+ghost use Rattle.crossbeam_channel.specs.Ends.{sends_on, receives_on};
+ghost use Rattle.cpc_pool_jobs.specs.declared.message.Message.{Message};
+ghost use Rattle.cpc_pool_jobs.specs.declared.message.Message.TheVariants.{Work, Stop as Stops};
+ghost use Rattle.cpc_pool_jobs.specs.Views.{submitter, after_send, hiring, hired, keeping, Takes as Took, Settled};
+
+use super::message::Message;
+use super::rule::{Rule, Sends, Settles, Takes, Workers};
+use super::runner::Runner;
+use super::views::View;
+use crossbeam_channel::{Pass, RecvError, RuledReceiver, RuledSender, bounded_with};
+use std::alloc::{AllocError, Global};
+use std::sync::Wait;
+
+/// The end that sends.
+pub type Sender<W> = RuledSender<Message<<W as Runner>::Job>, View, Rule<W>>;
+
+/// The end that receives.
+pub type Receiver<W> = RuledReceiver<Message<<W as Runner>::Job>, View, Rule<W>>;
+
+/// What the submitter or a worker knows.
+pub type JobPass<W> = Pass<Message<<W as Runner>::Job>, View>;
+
+/// A channel in which nothing was sent, with room for so many messages, and the submitter's pass. An error is want of memory.
+pub fn begin<W: Runner>(
+    alloc: Global,
+    room: usize,
+) -> Result<(Sender<W>, Receiver<W>, JobPass<W>), AllocError>
+    requires { 0 < room }
+    ensures ends { IfOk result (λ r. (receives_on r.1 ≡ sends_on r.0) × IsSeatAt (sends_on r.0) r.2) }
+    ensures nothing { IfOk result (λ r. view r.2 ≡ submitter [] 0 0 []) }
+{
+    bounded_with(alloc, room)
+}
+
+/// Sends a job, behind all that were sent: its number is above theirs, and no stop was sent yet. It waits where the channel is full.
+/// At an error there is nobody who receives: the job comes back, and nothing was sent.
+pub fn send<W: Runner, R: Wait>(
+    rt: &R,
+    sender: &Sender<W>,
+    pass: &mut JobPass<W>,
+    job: W::Job,
+) -> Result<(), Message<W::Job>>
+    requires seat { IsSeatAt (sends_on sender.now) pass.old }
+    requires role { ((view pass.old).submits ≡ true) × ((view pass.old).stops ≡ 0) }
+    requires number { AllByRecursion (λ n. n < W.number job) (view pass.old).sent }
+    requires meets { W.meets job }
+    ensures seat { IsSeatAt (sends_on sender.now) pass.new × (pass.new.id ≡ pass.old.id) }
+    ensures sent { MatchResult result (λ _. view pass.new ≡ after_send W.number (view pass.old) (Work job)) (λ m. (view pass.new ≡ view pass.old) × (m ≡ Work job)) }
+{
+    match sender.send_as::<Sends<W>, R>(rt, pass, Message::Work(job)) {
+        Ok(()) => Ok(()),
+        Err(e) => Err(e.into_inner()),
+    }
+}
+
+/// Tells one worker to stop. It waits where the channel is full. At an error there is nobody who receives, and nothing was sent.
+pub fn send_stop<W: Runner, R: Wait>(
+    rt: &R,
+    sender: &Sender<W>,
+    pass: &mut JobPass<W>,
+) -> Result<(), Message<W::Job>>
+    requires seat { IsSeatAt (sends_on sender.now) pass.old }
+    requires role { (view pass.old).submits ≡ true }
+    ensures seat { IsSeatAt (sends_on sender.now) pass.new × (pass.new.id ≡ pass.old.id) }
+    ensures sent { MatchResult result (λ _. view pass.new ≡ after_send W.number (view pass.old) Stops) (λ m. view pass.new ≡ view pass.old) }
+{
+    match sender.send_as::<Sends<W>, R>(rt, pass, Message::Stop) {
+        Ok(()) => Ok(()),
+        Err(e) => Err(e.into_inner()),
+    }
+}
+
+/// Takes the next message, and waits until there is one. At an error nobody sends any more, and nothing was taken.
+pub fn take<W: Runner, R: Wait>(
+    rt: &R,
+    receiver: &Receiver<W>,
+    pass: &mut JobPass<W>,
+) -> Result<Message<W::Job>, RecvError>
+    requires seat { IsSeatAt (receives_on receiver.now) pass.old }
+    requires role { (view pass.old).works ≡ true }
+    ensures seat { IsSeatAt (receives_on receiver.now) pass.new × (pass.new.id ≡ pass.old.id) }
+    ensures took { MatchResult result (λ x. Took W.number W.meets (view pass.old) x (view pass.new)) (λ _. view pass.new ≡ view pass.old) }
+{
+    receiver.recv_as::<Takes<W>, R>(rt, pass)
+}
+
+/// A pass for one more worker.
+pub fn hire<W: Runner>(sender: &Sender<W>, pass: &mut JobPass<W>) -> JobPass<W>
+    requires seat { IsSeatAt (sends_on sender.now) pass.old }
+    requires role { (view pass.old).submits ≡ true }
+    ensures seat { IsSeatAt (sends_on sender.now) pass.new × (pass.new.id ≡ pass.old.id) × IsSeatAt (sends_on sender.now) result }
+    ensures views { (view pass.new ≡ hiring (view pass.old)) × (view result ≡ hired (view pass.old)) }
+{
+    sender.another::<Workers>(pass)
+}
+
+/// Takes the pass of a worker that has ended in, and keeps its list.
+pub fn retire<W: Runner>(sender: &Sender<W>, pass: &mut JobPass<W>, worker: JobPass<W>)
+    requires seat { IsSeatAt (sends_on sender.now) pass.old × IsSeatAt (sends_on sender.now) worker }
+    requires role { ((view pass.old).submits ≡ true) × ((view worker).works ≡ true) }
+    ensures seat { IsSeatAt (sends_on sender.now) pass.new × (pass.new.id ≡ pass.old.id) }
+    ensures views { view pass.new ≡ keeping (view pass.old) (view worker) }
+{
+    sender.absorb::<Workers>(pass, worker)
+}
+
+/// Tells the submitter what became of all that it sent: it was taken, in order and each job once, but for what the channel holds.
+pub fn settle<W: Runner>(sender: &Sender<W>, pass: &mut JobPass<W>)
+    requires seat { IsSeatAt (sends_on sender.now) pass.old }
+    requires role { (view pass.old).submits ≡ true }
+    ensures seat { IsSeatAt (sends_on sender.now) pass.new × (pass.new.id ≡ pass.old.id) }
+    ensures settled { (view pass.new ≡ view pass.old) × ((items : List (Message W.Job)) × Settled W.number (view pass.old) items) }
+{
+    sender.learn_as::<Settles<W>>(pass)
+}
