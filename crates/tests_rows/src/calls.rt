@@ -1,6 +1,7 @@
 //! The calls: the command over objects in memory, and the stages of reading that it has no words for.
 use cpc_base::{Calls, Dialect, MemFile, MemShelf, MemSink, Names, Stop};
 use cpc_cli::cpc_main;
+use cpc_hosts::{HostTable, Kept, StdHosts};
 use cpc_lexer::{end_of_text, tokens};
 use cpc_parser::parse;
 use cpc_printer::print;
@@ -84,17 +85,20 @@ fn words_of(alloc: Global, line: &str) -> Result<Vec<String>, AllocError> {
     Ok(words)
 }
 
-// Makes a call of the command over the objects of this setting.
+// Makes a call of the command over the objects of this setting, with the functions of the host that every run has.
 fn called(
     alloc: Global,
+    hosts: &HostTable<StdHosts>,
     words: &[String],
     mut shelf: MemShelf,
     setting: Setting,
-) -> Result<Left, AllocError> {
+) -> Result<Left, AllocError>
+    requires rule { ⟦<HostTable<StdHosts> as Kept>⟧.keeps hosts.now }
+{
     let most = setting.most as usize;
     let mut out = MemSink::new(alloc, most, failing(alloc, setting.put)?);
     let mut err = MemSink::new(alloc, most, failing(alloc, setting.said)?);
-    let report = cpc_main(alloc, words, &mut shelf, &mut out, &mut err);
+    let report = cpc_main(alloc, words, &mut shelf, &mut out, &mut err, hosts);
     Ok(Left {
         out: out.bytes().to_vec(alloc)?,
         err: err.bytes().to_vec(alloc)?,
@@ -106,13 +110,17 @@ fn called(
 
 fn command(
     alloc: Global,
+    hosts: &HostTable<StdHosts>,
     line: &str,
     files: Files<'_>,
     setting: Setting,
-) -> Result<Left, AllocError> {
+) -> Result<Left, AllocError>
+    requires rule { ⟦<HostTable<StdHosts> as Kept>⟧.keeps hosts.now }
+{
     let words = words_of(alloc, line)?;
     called(
         alloc,
+        hosts,
         words.as_slice(),
         shelf(alloc, "a.c", files, setting)?,
         setting,
@@ -122,11 +130,14 @@ fn command(
 // The text is translated, and what is printed stands in the file `b.c` of a call of `exec` with these words.
 fn exec_printed(
     alloc: Global,
+    hosts: &HostTable<StdHosts>,
     line: &str,
     files: Files<'_>,
     setting: Setting,
-) -> Result<Left, AllocError> {
-    let printed = command(alloc, "translate a.c", files, setting)?;
+) -> Result<Left, AllocError>
+    requires rule { ⟦<HostTable<StdHosts> as Kept>⟧.keeps hosts.now }
+{
+    let printed = command(alloc, hosts, "translate a.c", files, setting)?;
     if printed.status != 0 {
         return Ok(printed);
     }
@@ -138,6 +149,7 @@ fn exec_printed(
     };
     called(
         alloc,
+        hosts,
         words.as_slice(),
         shelf(alloc, "b.c", again, setting)?,
         setting,
@@ -217,16 +229,19 @@ fn read_event(alloc: Global, text: &[u8]) -> Result<Left, AllocError> {
 /// Where memory is wanting.
 pub fn make(
     alloc: Global,
+    hosts: &HostTable<StdHosts>,
     line: &str,
     files: Files<'_>,
     setting: Setting,
-) -> Result<Left, AllocError> {
+) -> Result<Left, AllocError>
+    requires rule { ⟦<HostTable<StdHosts> as Kept>⟧.keeps hosts.now }
+{
     match line {
         ":print" => print_twice(alloc, files.text),
         ":event" => read_event(alloc, files.text),
         _ => match line.strip_prefix(":exec") {
-            Some(words) => exec_printed(alloc, words, files, setting),
-            None => command(alloc, line, files, setting),
+            Some(words) => exec_printed(alloc, hosts, words, files, setting),
+            None => command(alloc, hosts, line, files, setting),
         },
     }
 }

@@ -4,11 +4,17 @@
 mod calls;
 mod row;
 
+ghost use Rattle.std.specs.Prelude.{◌≡◌, length, Some, codes};
+ghost use Rattle.cpc_hosts.specs.Standard.{standard_answer};
+
+use cpc_hosts::{
+    Answer, HostTable, Kept, StdHosts, abs_diff, clamp, greatest, least, sign, standard_hosts,
+};
 use row::Row;
 use std::fs;
 
 /// The files of rows, each with the texts of one subject.
-const FILES: [&str; 22] = [
+const FILES: [&str; 24] = [
     "grammar.rows",
     "printed.rows",
     "rules.rows",
@@ -28,20 +34,24 @@ const FILES: [&str; 22] = [
     "threads.rows",
     "waits.rows",
     "exec.rows",
+    "hosts.rows",
+    "sample.rows",
     "forms.rows",
     "command.rows",
     "failures.rows",
 ];
 
 // Goes over a file of rows, and tells how many it has.
-fn run_file(rt: &HostRuntime, name: &str) -> anyhow::Result<()> {
+fn run_file(rt: &HostRuntime, hosts: &HostTable<StdHosts>, name: &str) -> anyhow::Result<()>
+    requires rule { ⟦<HostTable<StdHosts> as Kept>⟧.keeps hosts.now }
+{
     let alloc = rt.alloc();
     let bytes = fs::read(rt, name)?;
     let mut row = Row::new(alloc);
     let mut line = Vec::new(alloc);
     for byte in bytes.iter() {
         if *byte == b'\n' {
-            row.take(rt, line.as_slice())?;
+            row.take(rt, hosts, line.as_slice())?;
             line.clear();
         } else {
             line.push(*byte)?;
@@ -54,8 +64,49 @@ fn run_file(rt: &HostRuntime, name: &str) -> anyhow::Result<()> {
 }
 
 fn main(rt: HostRuntime) -> anyhow::Result<()> {
+    let alloc = rt.alloc();
+    let abs_diff_by: Answer = Box::new(
+        alloc,
+        |args: &[i64]| -> i64
+            requires { length args.now ≡ 2 }
+            ensures { standard_answer (codes "abs_diff") args.now ≡ Some result }
+        { abs_diff(args) },
+    )?;
+    let least_by: Answer = Box::new(
+        alloc,
+        |args: &[i64]| -> i64
+            requires { length args.now ≡ 2 }
+            ensures { standard_answer (codes "least") args.now ≡ Some result }
+        { least(args) },
+    )?;
+    let greatest_by: Answer = Box::new(
+        alloc,
+        |args: &[i64]| -> i64
+            requires { length args.now ≡ 2 }
+            ensures { standard_answer (codes "greatest") args.now ≡ Some result }
+        { greatest(args) },
+    )?;
+    let clamp_by: Answer = Box::new(
+        alloc,
+        |args: &[i64]| -> i64
+            requires { length args.now ≡ 3 }
+            ensures { standard_answer (codes "clamp") args.now ≡ Some result }
+        { clamp(args) },
+    )?;
+    let sign_by: Answer = Box::new(
+        alloc,
+        |args: &[i64]| -> i64
+            requires { length args.now ≡ 1 }
+            ensures { standard_answer (codes "sign") args.now ≡ Some result }
+        { sign(args) },
+    )?;
+    let Ok(hosts) = standard_hosts(alloc, abs_diff_by, least_by, greatest_by, clamp_by, sign_by)
+    else {
+        println!(rt; "no memory")?;
+        return Ok(());
+    };
     for name in FILES {
-        run_file(&rt, name)?;
+        run_file(&rt, &hosts, name)?;
     }
     Ok(())
 }

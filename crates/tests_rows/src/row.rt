@@ -7,6 +7,7 @@
 //! is put behind it so many times as it is. `= STATUS`, with `steps N` and `cells N` behind it where they matter, ends
 //! the row, and `? STATUS` ends one of which only the status matters. Any other line behind a call is one of the text.
 use crate::calls::{Files, Left, Setting, make};
+use cpc_hosts::{HostTable, Kept, StdHosts};
 use std::alloc::{AllocError, Global};
 
 /// A row that is being read, and how many there were.
@@ -146,7 +147,14 @@ impl Row {
     ///
     /// # Errors
     /// Where memory is wanting, or what is found cannot be shown.
-    pub fn take(&mut self, rt: &HostRuntime, line: &[u8]) -> anyhow::Result<()> {
+    pub fn take(
+        &mut self,
+        rt: &HostRuntime,
+        hosts: &HostTable<StdHosts>,
+        line: &[u8],
+    ) -> anyhow::Result<()>
+        requires rule { ⟦<HostTable<StdHosts> as Kept>⟧.keeps hosts.now }
+    {
         let (kind, rest) = match line {
             [kind, b' ', rest @ ..] => (*kind, rest),
             _ => (b' ', line),
@@ -166,7 +174,7 @@ impl Row {
             b'h' | b'%' | b'*' | b'+' => self.put_part(kind, rest)?,
             b'#' => {}
             b'=' | b'?' => {
-                self.run(rt, str::from_utf8(rest).unwrap_or(""), kind == b'=')?;
+                self.run(rt, hosts, str::from_utf8(rest).unwrap_or(""), kind == b'=')?;
                 self.clear();
             }
             _ => self.put(line)?,
@@ -175,7 +183,15 @@ impl Row {
     }
 
     // Makes each call with each setting.
-    fn run(&mut self, rt: &HostRuntime, ending: &str, is_whole: bool) -> anyhow::Result<()> {
+    fn run(
+        &mut self,
+        rt: &HostRuntime,
+        hosts: &HostTable<StdHosts>,
+        ending: &str,
+        is_whole: bool,
+    ) -> anyhow::Result<()>
+        requires rule { ⟦<HostTable<StdHosts> as Kept>⟧.keeps hosts.now }
+    {
         if self.settings.is_empty() {
             self.settings.push(setting_of("4096"))?;
         }
@@ -186,7 +202,7 @@ impl Row {
                     self.history.as_slice(),
                     self.has_history,
                 );
-                let left = make(self.alloc, words.as_str(), files, *setting)?;
+                let left = make(self.alloc, hosts, words.as_str(), files, *setting)?;
                 let is_written = left.out == self.out && left.err == self.err;
                 if !(ends(&left, ending) && (is_written || !is_whole)) {
                     show(rt, words.as_str(), files, &left)?;
