@@ -40,8 +40,8 @@ ratio 'a loop that yields' 5 \
 # the test, the call, the callee's return, the arrival, the sum and the step of the loop
 ratio 'a call with a value' 6 \
   'cps int g(int n){ return n + 1; } cps void f(int n){ int i; int r; int s; s = 0; for (i = 0; i < n; i++) { r = g(i); s += r; } cpc_print(s); } int main(void){ cpc_spawn f(TURNS); return 0; }'
-# a level has its test, the call of the next one, the arrival of its value and the return
-ratio 'recursion' 4 \
+# a level has its declaration, its test, the call of the next one, the arrival of its value and the return
+ratio 'recursion' 5 \
   'cps int d(int n){ int r; if (n == 0) return 0; r = d(n - 1); return r + 1; } cps void f(void){ int r; r = d(TURNS); cpc_print(r); } int main(void){ cpc_spawn f(); return 0; }'
 # the test, the assignment, the yield, its arrival and the step of the loop, beside an array and twelve variables that stay
 ratio 'an array and twelve variables' 5 \
