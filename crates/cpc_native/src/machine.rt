@@ -39,6 +39,7 @@ use cpc_num::Fault;
 use cpc_store::{Block, Class, Store, Value};
 use cpc_tree::program::Function;
 use std::alloc::Global;
+use std::mem;
 
 /// What code asks of the loop: a primitive or a function of the host, with its converted arguments, which are what it takes, in
 /// a function.
@@ -378,6 +379,17 @@ impl<'p> Machine<'p> {
         ensures { result.now ≡ self.now.store }
     {
         &self.store
+    }
+
+    /// Puts another store in the place of the one that is there, which is handed out.
+    pub fn replace_store(&mut self, store: Store) -> Store
+        requires well { IsWell self.old }
+        ensures value { result ≡ self.old.store }
+        ensures store { self.new.store ≡ store }
+        ensures well { IsWell self.new }
+        ensures same { IsSameBut self.old self.new }
+    {
+        mem::replace(&mut self.store, store)
     }
 
     /// Makes the next block of a class in the store, its cells unset.

@@ -9,7 +9,7 @@ use Rattle.cpc_eval.specs.Values.{assigned_at}
 use Rattle.cpc_tree.specs.Erase.{Names}
 use Rattle.cpc_tree.specs.Syntax.{Ty, Expr, ENamed, Exprs, Function, Program}
 use Rattle.cpc_tree.specs.Typing.{NotMeant, function_named, Scope}
-use Rattle.cpc_tree.specs.Primitives.{Primitive, primitive_named, takes_first}
+use Rattle.cpc_tree.specs.Primitives.{Primitive, primitive_named}
 use Rattle.cpc_tree.specs.Points as P
 use Rattle.cpc_tree.specs.Registers.{scope_in_function}
 use Rattle.cpc_store.specs.Store as S
@@ -22,10 +22,6 @@ use Rattle.cpc_meaning.specs.Trees.{scope_from, stood_at}
 use Rattle.cpc_native_points.specs.declared.parts.Phase.{Phase}
 use Rattle.cpc_native_points.specs.declared.parts.Phase.TheVariants as F
 use Rattle.cpc_native_points.specs.Seen.{point_at}
-use Rattle.cpc_native_builtins.specs.declared.builtins.Builtin.{Builtin}
-use Rattle.cpc_native_builtins.specs.declared.builtins.Builtin.TheVariants as B
-use Rattle.cpc_native_builtins.specs.Builtins.{primitive_of}
-use Rattle.cpc_native_builtins.specs.Served.{is_served}
 use Rattle.cpc_native_acts.specs.Rows.{asked_with}
 use Rattle.cpc_native_acts.specs.Calls.{calls_unmeant}
 use Rattle.cpc_native_acts.specs.Deeds.{goes_on, aimed, returned, test_held, Plans}
@@ -72,27 +68,9 @@ module _ (c : E.Context) where
 
   -- ---- requests
 
-  takes_served : (b : Builtin) (p : Program) (vs : List Value) → is_served (primitive_of b) ≡ true → R.takes p (primitive_of b) vs ≡ takes_first (primitive_of b)
-  takes_served B.RtDetach p vs e = absurd cc
-  takes_served B.Print p vs e = refl
-  takes_served B.Putc p vs e = refl
-  takes_served B.Puts p vs e = refl
-  takes_served B.Exit p vs e = refl
-  takes_served B.Malloc p vs e = refl
-  takes_served B.Free p vs e = refl
-  takes_served B.RtFrame p vs e = refl
-  takes_served B.RtBox p vs e = refl
-  takes_served B.RtFrameFree p vs e = refl
-  takes_served B.RtUnbox p vs e = refl
-  takes_served B.RtReady p vs e = refl
-  takes_served _ p vs e = refl
-
-  pub asks_parts : (b : Builtin) (es : Exprs) (o : Option Text) → is_served (primitive_of b) ≡ true
-      → M.asks_with c (primitive_of b) es o ≡ (asked_with c (primitive_of b) es o >>= M.asks (R.Builtin (primitive_of b)))
-  asks_parts b es (Some bytes) e = refl
-  asks_parts b es None e =
-      then_same (E.values c es) _ _ (λ vs. ap (λ ts. R.all_taken ts vs >>= M.asks (R.Builtin (primitive_of b))) (takes_served b c.program vs e))
-      ∙ chain (E.values c es) (λ vs. R.all_taken (takes_first (primitive_of b)) vs) (M.asks (R.Builtin (primitive_of b)))
+  pub asks_parts : (prim : Primitive) (es : Exprs) (o : Option Text) → M.asks_with c prim es o ≡ (asked_with c prim es o >>= M.asks (R.Builtin prim))
+  asks_parts prim es (Some bytes) = refl
+  asks_parts prim es None = chain (E.values c es) (λ vs. R.all_taken (R.takes c.program prim vs) vs) (M.asks (R.Builtin prim))
 
   pub unmeant_asks : (x : Text) (es : Exprs) (prim : Primitive) → Some prim ≡ primitive_named x → M.asks_with c prim es (M.puts_text prim es) ≡ calls_unmeant c x es
   unmeant_asks x es prim e = ap (λ o. M.calls_named c x es NotMeant o (function_named c.program x)) e

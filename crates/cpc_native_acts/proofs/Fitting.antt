@@ -87,7 +87,7 @@ any_taken (Whole kind z) x g = let is : Whole kind z ≡ x = cc in let Q : Value
 any_taken v x g = absurd cc
 
 -- what is given of a value as it is taken
-fitted : (t : P.Taken) (k : Taken) (v x : Value) → Some k ≡ taken_of t → taken_as t v ≡ Gives x → is_taken_as k x ≡ true
+pub fitted : (t : P.Taken) (k : Taken) (v x : Value) → Some k ≡ taken_of t → taken_as t v ≡ Gives x → is_taken_as k x ≡ true
 fitted P.AnyInteger k v x e g = let i : T.AnyInteger ≡ k = cc in let Q : Taken → Type 0 = λ q. is_taken_as q x ≡ true in subst Q i (any_taken v x g)
 fitted (P.SetOf t) k v x e g = go (scalar_of t) refl e
   where
@@ -140,7 +140,7 @@ integer_shown names (W.At b k) = refl
 integer_shown names (W.Code f) = refl
 integer_shown names (W.Cond n) = refl
 
-taken_shown : (names : Names) (k : Taken) (w : V.Value) → is_taken_as k (value_of names w) ≡ is_taken_as k (seen w)
+pub taken_shown : (names : Names) (k : Taken) (w : V.Value) → is_taken_as k (value_of names w) ≡ is_taken_as k (seen w)
 taken_shown names T.AnyInteger w = integer_shown names w
 taken_shown names (T.SetOf s) w = ap (λ b. b && suits s (value_of names w)) (set_shown names w) ∙ ap (λ b. is_set (seen w) && b) (suits_shown names s w)
 taken_shown names (T.FreeOf s) w = suits_shown names s w
@@ -235,6 +235,7 @@ no_values [] h = λ k d l. absurd (omega (arith, l))
 no_values (w ∷ ws) h = absurd cc
 
 -- a primitive that takes such values is asked with them
-pub asked_so : (prim : P.Primitive) (ks : List Taken) (ws : List V.Value) → map Some ks ≡ map taken_of (P.takes_first prim) → are_taken (map Some ks) ws ≡ true → IsAskedWith prim ws
-asked_so P.Puts ks ws e h = no_values ws (subst (λ ts. are_taken ts ws ≡ true) e h)
-asked_so _ ks ws e h = subst (λ ts. are_taken ts ws ≡ true) e h
+pub asked_so : (prim : P.Primitive) (ks : List Taken) (ws : List V.Value) → (prim ≡ P.RtDetach → ⊥) → map Some ks ≡ map taken_of (P.takes_first prim) → are_taken (map Some ks) ws ≡ true → IsAskedWith prim ws
+asked_so P.Puts ks ws n e h = no_values ws (subst (λ ts. are_taken ts ws ≡ true) e h)
+asked_so P.RtDetach ks ws n e h = absurd (n refl)
+asked_so _ ks ws n e h = subst (λ ts. are_taken ts ws ≡ true) e h

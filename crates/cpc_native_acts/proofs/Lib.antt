@@ -16,3 +16,4 @@ pub mod Blocks
 pub mod Foretold
 pub mod Standing
 pub mod Fitting
+pub mod Detaching

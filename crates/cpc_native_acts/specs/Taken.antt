@@ -49,9 +49,17 @@ abbrev pub IsLong : V.Value → Type 0
 IsLong (W.Int kind z) = kind ≡ Long
 IsLong _ = ⊥
 
--- the arguments with which a primitive is asked for: what it takes; of `cpc_puts` the bytes of its string
+-- values are those with which a section is asked for: a set callback and its pointer, the code of a function, and what that takes;
+-- or there are none, where none are written
+abbrev pub is_detached : List V.Value → Bool
+is_detached [] = true
+is_detached (callback ∷ pointer ∷ W.Code f ∷ vs) = are_taken (map taken_of P.callback_and_pointer) (callback ∷ pointer ∷ [])
+is_detached _ = false
+
+-- the arguments with which a primitive is asked for: what it takes; of `cpc_puts` the bytes of its string, of `rt_detach` a section
 abbrev pub IsAskedWith : P.Primitive → List V.Value → Type 0
 IsAskedWith P.Puts vs = All IsByte vs
+IsAskedWith P.RtDetach vs = is_detached vs ≡ true
 IsAskedWith prim vs = IsTaken (P.takes_first prim) vs
 
 -- those with which a primitive is called, or a function of the host, which takes set values of long

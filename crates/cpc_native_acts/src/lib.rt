@@ -6,6 +6,7 @@ mod below;
 mod calls;
 mod changes;
 mod deeds;
+mod detached;
 mod fits;
 mod looked;
 mod places;

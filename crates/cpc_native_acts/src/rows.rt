@@ -21,6 +21,7 @@ ghost use Rattle.cpc_native_acts.specs.Taken.{are_taken, IsByte, IsLong, IsAsked
 ghost use Rattle.cpc_native_acts.specs.Rows.{row_types, parameter_list, by_nth, passed, taken, longs, asked_with, text_in};
 
 use crate::below::{stopped, value};
+use crate::detached::detached;
 use crate::fits::{are_long, are_taken};
 use cpc_base::{NoMemory, Stop};
 use cpc_eval::Around;
@@ -45,8 +46,8 @@ fn parameter_of(parameters: &[Parameter], i: usize) -> Option<&Parameter>
     parameters.get(i)
 }
 
-// The type of a parameter.
-fn parameter_at(parameters: &[Parameter], i: usize) -> Option<&CType>
+/// The type of a parameter.
+pub(crate) fn parameter_at(parameters: &[Parameter], i: usize) -> Option<&CType>
     ensures { (names : Names) → option_map (λ t. type_of names t.now) result ≡ slice_get (parameter_list names parameters.now) i }
 {
     match parameter_of(parameters, i) {
@@ -65,8 +66,8 @@ pub(crate) fn type_at(row: Row, i: usize) -> Option<&CType>
     }
 }
 
-// The values of arguments, from left to right.
-fn values<'a>(
+/// The values of arguments, from left to right.
+pub(crate) fn values<'a>(
     alloc: Global,
     arguments: &'a [Expr],
     around: &Around<'a>,
@@ -134,8 +135,8 @@ fn take_at(takes: &[Taken], i: usize) -> Option<Taken>
     takes.get(i).copied()
 }
 
-// A value as the argument of a number is taken.
-fn taken_at(takes: &[Taken], i: usize, value: Value) -> Result<Value, Fault>
+/// A value as the argument of a number is taken.
+pub(crate) fn taken_at(takes: &[Taken], i: usize, value: Value) -> Result<Value, Fault>
     requires { IsLawful (seen value) }
     ensures value { (names : Names) (ts : List P.Taken) → map Some takes.now ≡ map taken_of ts → Meets (shown names result) (by_nth R.taken_as ts i (value_of names value)) }
     ensures lawful { IfOk result (λ v. IsLawful (seen v)) }
@@ -288,6 +289,9 @@ pub(crate) fn asked_with<'a>(
 {
     match puts_text(builtin, arguments) {
         Some(bytes) => Ok(byte_values(alloc, bytes)?),
-        None => taken(alloc, takes(builtin), arguments, around),
+        None => match builtin {
+            Builtin::RtDetach => detached(alloc, arguments, around),
+            _ => taken(alloc, takes(builtin), arguments, around),
+        },
     }
 }

@@ -1,7 +1,7 @@
 -- Programs whose code asks only for what the loop answers so far.
 use Rattle.std.specs.Prelude.{◌≡◌, Bool, true, false, ◌&&◌, [], ◌∷◌, Option, Some, None}
 use Rattle.cpc_tree.specs.Syntax.{Expr, ENamed, Stmt, Block, Call, Detach, Spawn, If, While, DoWhile, For, Label, Stmts, NoStmt, AndStmt, MaybeStmt, Absent, Present, Function, Item, FunctionItem, Program}
-use Rattle.cpc_tree.specs.Primitives.{Primitive, Print, Putc, Puts, Now, CondNew, CondFree, Signal, SignalAll, Exit, Malloc, Free, RtFrame, RtBox, RtFrameFree, RtUnbox, RtReady, RtWait, RtSleep, RtIo, primitive_named}
+use Rattle.cpc_tree.specs.Primitives.{Primitive, Print, Putc, Puts, Now, CondNew, CondFree, Signal, SignalAll, Exit, Malloc, Free, RtFrame, RtBox, RtFrameFree, RtUnbox, RtReady, RtWait, RtSleep, RtIo, RtDetach, primitive_named}
 use Rattle.cpc_tree.specs.Points.{Found, Simple}
 use Rattle.cpc_native_builtins.specs.declared.call.Call as H
 use Rattle.cpc_native_builtins.specs.declared.call.Call.TheVariants as C
@@ -28,6 +28,7 @@ is_served RtReady = true
 is_served RtWait = true
 is_served RtSleep = true
 is_served RtIo = true
+is_served RtDetach = true
 is_served _ = false
 
 -- what a name would call as a primitive, if it is the name of one, is served
