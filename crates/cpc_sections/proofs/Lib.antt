@@ -1,0 +1,5 @@
+pub mod Collecting
+pub mod Leaving
+pub mod Reading
+pub mod Telling
+pub mod Writing
