@@ -12,7 +12,7 @@ use std::alloc::Global;
 
 /// For each name what the cells of the struct hold whose tag it is, or nothing where there is none or it is incomplete.
 #[derive(Drop)]
-pub(crate) struct Layouts {
+pub struct Layouts {
     rows: Vec<Option<Vec<Scalar>>>,
 }
 
@@ -74,7 +74,7 @@ impl Layouts {
     }
 
     /// What the cells of a type hold, in order; nothing where it is incomplete. `NoMemory` is want of memory.
-    pub(crate) fn of_type(&self, alloc: Global, of: &CType) -> Result<Option<Vec<Scalar>>, NoMemory>
+    pub fn of_type(&self, alloc: Global, of: &CType) -> Result<Option<Vec<Scalar>>, NoMemory>
         ensures { IfOk result (λ o. (names : Names) (items : List S.Item) → AreLayouts self.now names items → option_map (λ row. row.items) o ≡ type_layout items (type_of names of.now)) }
     {
         match of {
@@ -141,7 +141,7 @@ impl Layouts {
     }
 
     /// What the structs of these items hold. `NoMemory` is want of memory.
-    pub(crate) fn of(alloc: Global, items: &[Item]) -> Result<Layouts, NoMemory>
+    pub fn of(alloc: Global, items: &[Item]) -> Result<Layouts, NoMemory>
         ensures { IfOk result (λ layouts. (names : Names) → AreApart names → AreLayouts layouts names (reverse (map (item_of names) items.now))) }
     {
         let mut layouts = Layouts::new(alloc);

@@ -7,4 +7,5 @@ mod making;
 mod starts;
 
 pub use counts::global_cells;
-pub use making::globals;
+pub use layouts::Layouts;
+pub use making::{globals, make_block};

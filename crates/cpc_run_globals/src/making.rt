@@ -22,8 +22,10 @@ use std::alloc::Global;
 // No store has as many cells, and no class as many blocks.
 const LIMIT: u64 = 0x8000_0000_0000_0000;
 
-// Makes a static block with these cells.
-fn make_block(alloc: Global, cells: &[Value], store: &mut Store) -> Result<(), NoMemory>
+/// Makes the next static block, with these cells.
+///
+/// `NoMemory` is want of memory, or of numbers for so many cells.
+pub fn make_block(alloc: Global, cells: &[Value], store: &mut Store) -> Result<(), NoMemory>
     requires { All (λ v. IsLawful (seen v)) cells.now }
     ensures { OnOk result ((names : Names) → store_of names store.new ≡ S.alloc Static (values_of names cells.now) (store_of names store.old)) }
 {

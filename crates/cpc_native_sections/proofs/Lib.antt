@@ -1,0 +1,5 @@
+pub mod Asking
+pub mod Copying
+pub mod Finding
+pub mod Leading
+pub mod Running
