@@ -42,8 +42,20 @@ impl<T: Drop> Agenda<T> {
         if let Some(section) = self.first_not_out(alloc, &told.events)? {
             return Err(Stop::Fault(PollFault { section }));
         }
+        self.take_poll(told, values)?;
+        Ok(())
+    }
+
+    /// A poll as `poll` takes it, whose sections are not looked at before: what it tells of a section that is not out changes
+    /// nothing. `NoMemory` is want of memory, and leaves the agenda as it was.
+    pub fn take_poll(&mut self, told: &Told, values: &[Value]) -> Result<(), NoMemory>
+        requires { told.now.clock ≤ 2 ^ 53 }
+        ensures ok { OnOk result ((names : Names) → lists_of names self.new ≡ A.poll (told_of told.now) (map (value_of names) values.now) (lists_of names self.old)) }
+        ensures counters { counters_of self.new ≡ counters_of self.old }
+        ensures err { OnErr result (IsAsBefore self.old self.new) }
+    {
         let Some(room) = self.most_polled() else {
-            return Err(Stop::Memory);
+            return Err(NoMemory);
         };
         self.ready.reserve(room)?;
         self.clock.tell(told.clock);
@@ -61,9 +73,11 @@ impl<T: Drop> Agenda<T> {
         self.sections.waiting().checked_add(others)
     }
 
-    // The first section that these events name which is not out at its turn.
-    fn first_not_out(&self, alloc: Global, events: &[Event]) -> Result<Option<u64>, NoMemory>
-        ensures { IfOk result (λ o. o ≡ A.not_out (A.completed events.now) (numbers self.now.sections)) }
+    /// The first section that these events name which is not out at its turn; none where all are.
+    ///
+    /// `NoMemory` is want of memory.
+    pub fn first_not_out(&self, alloc: Global, events: &[Event]) -> Result<Option<u64>, NoMemory>
+        ensures { IfOk result (λ o. (names : Names) → o ≡ A.not_out (A.completed events.now) (A.out (lists_of names self.now))) }
     {
         let mut named = Vec::new(alloc);
         let mut rest = events;
