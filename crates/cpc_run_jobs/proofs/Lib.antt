@@ -1,0 +1,5 @@
+mod Collecting
+mod Held
+mod Numbered
+mod Submitted
+mod Told

@@ -1,0 +1,4 @@
+pub mod Held
+pub mod Holding
+pub mod Telling
+pub mod Under

@@ -1,0 +1,121 @@
+//! The sections that were submitted and that no poll has told.
+ghost use Rattle.std.specs.Prelude.{◌≡◌, ℕ, List, [], Some, None, IfOk, map};
+ghost use Rattle.std.specs.List.{All};
+ghost use Rattle.cpc_tree.specs.Erase.{Names, item_of};
+ghost use Rattle.cpc_tree.specs.Syntax as S;
+ghost use Rattle.cpc_tree.specs.Typing.{function_named};
+ghost use Rattle.cpc_store.specs.Seen.{seen, IsLawful};
+ghost use Rattle.cpc_meaning.specs.Agenda as A;
+ghost use Rattle.cpc_meaning.specs.Copies as C;
+ghost use Rattle.cpc_meaning.specs.Section as M;
+ghost use Rattle.cpc_meaning.specs.Trees.{trees};
+ghost use Rattle.cpc_eval_values.specs.Shown.{value_of, values_of, store_of};
+ghost use Rattle.cpc_native.specs.Runs.{Runs};
+ghost use Rattle.cpc_sections.specs.Backs.{CollectsAs, collected_of};
+ghost use Rattle.cpc_run_jobs.specs.Holding.{items_of, Serves, Holds, KeepsJobs, SubmitsAs, IfAllGave, left_out};
+
+use crate::ends::all_told;
+use crate::out::Out;
+use cpc_base::{Event, Name, NoMemory, Stop};
+use cpc_native_sections::copy_of;
+use cpc_num::Fault;
+use cpc_run_globals::Layouts;
+use cpc_sections::{Collected, Job};
+use cpc_store::{Store, Value};
+use cpc_tree::program::Program;
+use std::alloc::Global;
+
+/// The sections of a program that were submitted and that no poll has told.
+///
+/// A section does nothing until a poll tells it: its value does not depend on when it runs.
+#[derive(Drop)]
+pub struct Jobs<'p> {
+    program: &'p Program,
+    layouts: Layouts,
+    bound: u64,
+    out: Out,
+}
+
+impl<'p> Jobs<'p> {
+    /// No section of a program was submitted. Each may make so many steps.
+    ///
+    /// `NoMemory` is want of memory.
+    pub fn new(alloc: Global, program: &'p Program, bound: u64) -> Result<Jobs<'p>, NoMemory>
+        ensures items { IfOk result (λ j. (names : Names) → items_of names j ≡ map (item_of names) program.now.items.items) }
+        ensures serves { IfOk result (λ j. (names : Names) → Runs names program.now.names (map (item_of names) program.now.items.items) → Serves names j) }
+        ensures bound { IfOk result (λ j. j.bound ≡ bound) }
+        ensures holds { IfOk result (λ j. (names : Names) → Holds names j [] 0 []) }
+    {
+        Ok(Jobs {
+            program,
+            layouts: Layouts::of(alloc, &program.items)?,
+            bound,
+            out: Out::new(alloc),
+        })
+    }
+
+    /// The section of a number is submitted: a call of a function with a pointer, whose cells are copied, and other arguments. The
+    /// number is that of no section that was submitted before.
+    ///
+    /// - `Memory`: want of memory.
+    /// - `Fault`: of a cell that could not be copied, as `copy_of` has it.
+    pub fn submit(
+        &mut self,
+        alloc: Global,
+        number: u64,
+        function: Name,
+        pointer: Value,
+        arguments: &[Value],
+        store: &Store,
+    ) -> Result<(), Stop<Fault>>
+        requires pointer { IsLawful (seen pointer) }
+        requires arguments { All (λ v. IsLawful (seen v)) arguments.now }
+        ensures submitted { (names : Names) → Serves names self.old → (jobs : List M.Job) (outs : List ℕ) → Holds names self.old jobs number outs
+            → (g : S.Function) → function_named (items_of names self.old) (names function) ≡ Some g
+            → SubmitsAs names self.new result jobs number outs
+            (λ cells. record { number = number; function = names function; arguments = values_of names arguments.now; cells = cells; pointer = value_of names pointer })
+            (C.copy_of (items_of names self.old) g (value_of names pointer) (store_of names store.now)) }
+        ensures keeps { KeepsJobs self.old self.new }
+    {
+        let cells = copy_of(alloc, self.program, &self.layouts, function, pointer, store)?;
+        let mut args = Vec::new(alloc);
+        args.extend_from_slice(arguments)?;
+        self.out.put(Job {
+            number,
+            function,
+            args,
+            cells,
+            pointer,
+        })?;
+        Ok(())
+    }
+
+    /// What the sections come to that these events name, in this order: each is run, and is out no more. Their values, once the cells
+    /// of each went back; or the first fault, of a section, or of the cells that it gave back. After a fault the cells of those before
+    /// it were written. What an event names that is not out is passed over.
+    ///
+    /// `NoMemory` is want of memory; then some of the cells were written.
+    pub fn finish(
+        &mut self,
+        alloc: Global,
+        events: &[Event],
+        store: &mut Store,
+    ) -> Result<Collected, NoMemory>
+        ensures collected { IfOk result (λ told. (names : Names) → Serves names self.old → (jobs : List M.Job) (made : ℕ) (outs : List ℕ) → Holds names self.old jobs made outs
+            → A.not_out (A.completed events.now) outs ≡ None
+            → CollectsAs (collected_of names (store_of names store.new) told) (C.collect (trees (items_of names self.old)) self.old.bound jobs (A.completed events.now) (store_of names store.old))) }
+        ensures holds { IfOk result (λ told. (names : Names) → Serves names self.old → (jobs : List M.Job) (made : ℕ) (outs : List ℕ) → Holds names self.old jobs made outs
+            → A.not_out (A.completed events.now) outs ≡ None
+            → IfAllGave told (Holds names self.new jobs made (left_out (A.completed events.now) outs))) }
+        ensures keeps { KeepsJobs self.old self.new }
+    {
+        all_told(
+            alloc,
+            self.program,
+            self.bound,
+            &mut self.out,
+            events,
+            store,
+        )
+    }
+}
