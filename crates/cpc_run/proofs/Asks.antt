@@ -33,7 +33,9 @@ use Rattle.cpc_run.specs.declared.outcome.Outcome.TheVariants as O
 use Rattle.cpc_run.specs.Code.{items_in, store_in, stack_in}
 use Rattle.cpc_run.specs.Outcomes.{outcome_of}
 use Rattle.cpc_run.specs.Shown.{shown, shown_of}
-use Rattle.cpc_run.specs.States.{States, IsCallback, SameLists, Stands, Did, Acted, lists_in, settles, program_in}
+use Rattle.cpc_run.specs.States.{States, IsCallback, SameLists, HasLists, Stands, Did, Acted, lists_in, settles, program_in}
+use Rattle.cpc_run_jobs.specs.declared.jobs.Jobs.{Jobs}
+use Rattle.cpc_run_jobs.specs.Holding.{Holds}
 use Rattle.cpc_run.proofs.Alike.{KeepsSections, ok_same, err_same}
 use Rattle.cpc_run.proofs.Marks.{shown_more}
 
@@ -56,14 +58,20 @@ carried names r l mid new printed s t v program stack h =
     subst (λ p. Did names r new printed s (settled (callbacks p) s (reply (trees p) (stack_in names l.machine) v t))) program
     (subst (λ k. Did names r new printed s (settled (callbacks (program_in names mid)) s (reply (trees (program_in names mid)) k v t))) stack h)
 
+-- the loop has the same lists and sections
+pub same_lists : (names : Names) (l mid : Loop) (s : States) → mid.turns ≡ l.turns → mid.jobs ≡ l.jobs → HasLists names l s → HasLists names mid s
+same_lists names l mid s turns jobs h =
+    subst (λ j. SameLists names mid.turns j s.agenda s.history.polls s.history.section_bound s.jobs) (sym jobs)
+    (subst (λ t. SameLists names t l.jobs s.agenda s.history.polls s.history.section_bound s.jobs) (sym turns) h)
+
 -- the store is another one
-pub stored : (names : Names) (l mid : Loop) (f : Name) (printed : Text) (s : States) (t : Store) → stack_in names mid.machine ≡ stack_in names l.machine → store_in names mid.machine ≡ t → mid.turns ≡ l.turns → mid.trace ≡ l.trace
+pub stored : (names : Names) (l mid : Loop) (f : Name) (printed : Text) (s : States) (t : Store) → stack_in names mid.machine ≡ stack_in names l.machine → store_in names mid.machine ≡ t → mid.turns ≡ l.turns → mid.jobs ≡ l.jobs → mid.trace ≡ l.trace
     → Acted names l f printed s s → Acted names mid f printed s (with_store s t)
-stored names l mid f printed s t stack store turns trace h = record {
+stored names l mid f printed s t stack store turns jobs trace h = record {
   store = sym store;
   asks = h.asks ∙ ap Some (sym stack);
   name = h.name ∙ ap (λ k. running_function k) (sym stack);
-  lists = subst (λ t. SameLists names t s.agenda s.history.polls) (sym turns) h.lists;
+  lists = same_lists names l mid s turns jobs h.lists;
   printed_so = ap (λ b. shown b s.trace) trace ∙ h.printed_so;
   going = h.going;
 }
@@ -143,45 +151,63 @@ freed_so class v s t e = simp (sym e) refl
 
 pub freed_answered : (names : Names) (r : Result (Option Outcome) NoMemory) (l mid new : Loop) (f : Name) (printed : Text) (s : States) (class : Class) (v : Value)
     → Ok (store_in names mid.machine) ≡ free class v (store_in names l.machine)
-    → program_in names mid ≡ program_in names l → stack_in names mid.machine ≡ stack_in names l.machine → mid.turns ≡ l.turns → mid.trace ≡ l.trace
+    → program_in names mid ≡ program_in names l → stack_in names mid.machine ≡ stack_in names l.machine → mid.turns ≡ l.turns → mid.jobs ≡ l.jobs → mid.trace ≡ l.trace
     → Acted names l f printed s s
     → ((t : States) → Acted names mid f printed s t → Did names r new printed s (settles names mid s (reply (trees (program_in names mid)) (stack_in names mid.machine) Unset t)))
     → Did names r new printed s (settles names l s (replies (trees (program_in names l)) (stack_in names l.machine) (freed class v s.store) s))
-freed_answered names r l mid new f printed s class v e program stack turns trace h answer =
+freed_answered names r l mid new f printed s class v e program stack turns jobs trace h answer =
     let t = store_in names mid.machine in
-    let done = carried names r l mid new printed s (with_store s t) Unset program stack (answer (with_store s t) (stored names l mid f printed s t stack refl turns trace h)) in
+    let done = carried names r l mid new printed s (with_store s t) Unset program stack (answer (with_store s t) (stored names l mid f printed s t stack refl turns jobs trace h)) in
     subst (λ a. Did names r new printed s (settles names l s (replies (trees (program_in names l)) (stack_in names l.machine) a s))) (sym (freed_so class v s.store t (e ∙ ap (free class v) (sym h.store)))) done
 
 -- ---- acts on the lists
 
+-- as many sections are out
+held_so : (names : Names) (l mid : Loop) (s : States) (b : A.Agenda Callback) → mid.jobs ≡ l.jobs → (b.sections ≡ s.agenda.sections) × (b.sections_made ≡ s.agenda.sections_made)
+    → Holds names l.jobs s.jobs s.agenda.sections_made (A.out s.agenda) → Holds names mid.jobs s.jobs b.sections_made (A.out b)
+held_so names l mid s b jobs kept h =
+    subst (λ j. Holds names j s.jobs b.sections_made (A.out b)) (sym jobs)
+    (subst (λ n. Holds names l.jobs s.jobs n (A.out b)) (sym kept.1)
+    (subst (λ xs. Holds names l.jobs s.jobs s.agenda.sections_made (map (λ (x : A.OnSection Callback). x.section) xs)) (sym kept.0) h))
+
 -- the lists are others, in which as many sections are out
-pub relisted : (names : Names) (l mid : Loop) (f : Name) (printed : Text) (s : States) (b : A.Agenda Callback) → mid.machine ≡ l.machine → mid.trace ≡ l.trace → mid.turns.polls.now ≡ l.turns.polls.now
-    → SameAgenda (IsCallback names) (lists_in names mid) b → b.sections ≡ s.agenda.sections → Acted names l f printed s s → Acted names mid f printed s (with_agenda s b)
-relisted names l mid f printed s b machine trace polls same kept h = record {
+pub same_agenda : (names : Names) (l mid : Loop) (s : States) (b : A.Agenda Callback) → mid.turns.polls.now ≡ l.turns.polls.now → mid.jobs ≡ l.jobs
+    → SameAgenda (IsCallback names) (lists_in names mid) b → (b.sections ≡ s.agenda.sections) × (b.sections_made ≡ s.agenda.sections_made) → HasLists names l s → HasLists names mid (with_agenda s b)
+same_agenda names l mid s b polls jobs same kept h = record {
+  agenda = same;
+  polls = h.polls ∙ ap (map told_of) (sym polls);
+  held = held_so names l mid s b jobs kept h.held;
+  bound_so = h.bound_so ∙ ap (λ (j : Jobs). j.bound) (sym jobs);
+}
+
+-- the same of a state whose code asked
+pub relisted : (names : Names) (l mid : Loop) (f : Name) (printed : Text) (s : States) (b : A.Agenda Callback) → mid.machine ≡ l.machine → mid.trace ≡ l.trace → mid.turns.polls.now ≡ l.turns.polls.now → mid.jobs ≡ l.jobs
+    → SameAgenda (IsCallback names) (lists_in names mid) b → (b.sections ≡ s.agenda.sections) × (b.sections_made ≡ s.agenda.sections_made) → Acted names l f printed s s → Acted names mid f printed s (with_agenda s b)
+relisted names l mid f printed s b machine trace polls jobs same kept h = record {
   store = h.store ∙ ap (store_in names) (sym machine);
   asks = h.asks ∙ ap (λ m. Some (stack_in names m)) (sym machine);
   name = h.name ∙ ap (λ m. running_function (stack_in names m)) (sym machine);
-  lists = record { agenda = same; polls = h.lists.polls ∙ ap (map told_of) (sym polls); none_out = kept ∙ h.lists.none_out };
+  lists = same_agenda names l mid s b polls jobs same kept h.lists;
   printed_so = ap (λ x. shown x s.trace) trace ∙ h.printed_so;
   going = h.going;
 }
 
 -- a condition is made
-pub condition_made : (names : Names) (l mid : Loop) (f : Name) (printed : Text) (s : States) → mid.machine ≡ l.machine → mid.trace ≡ l.trace → mid.turns.polls.now ≡ l.turns.polls.now
+pub condition_made : (names : Names) (l mid : Loop) (f : Name) (printed : Text) (s : States) → mid.machine ≡ l.machine → mid.trace ≡ l.trace → mid.turns.polls.now ≡ l.turns.polls.now → mid.jobs ≡ l.jobs
     → lists_in names mid ≡ A.cond_new (lists_in names l) → Acted names l f printed s s → Acted names mid f printed s (with_agenda s (A.cond_new s.agenda))
-condition_made names l mid f printed s machine trace polls e h =
-    relisted names l mid f printed s (A.cond_new s.agenda) machine trace polls
-    (subst (λ a. SameAgenda (IsCallback names) a (A.cond_new s.agenda)) (sym e) (cond_same (IsCallback names) (lists_in names l) s.agenda h.lists.agenda)) refl h
+condition_made names l mid f printed s machine trace polls jobs e h =
+    relisted names l mid f printed s (A.cond_new s.agenda) machine trace polls jobs
+    (subst (λ a. SameAgenda (IsCallback names) a (A.cond_new s.agenda)) (sym e) (cond_same (IsCallback names) (lists_in names l) s.agenda h.lists.agenda)) (refl, refl) h
 
 -- an act on the lists of the code, which is done, is that of the definition
 module _ (names : Names) (l mid new : Loop) (f : Name) (result : Result (Option Outcome) NoMemory) (s : States) (u : Result (A.Agenda Item) Fault) (v : Result (A.Agenda Callback) Fault)
-    (same : SameResult (IsCallback names) u v) (kept : KeepsSections s.agenda.sections v) (done : u ≡ Ok (lists_in names mid))
-    (machine : mid.machine ≡ l.machine) (trace : mid.trace ≡ l.trace) (polls : mid.turns.polls.now ≡ l.turns.polls.now) where
+    (same : SameResult (IsCallback names) u v) (kept : KeepsSections s.agenda v) (done : u ≡ Ok (lists_in names mid))
+    (machine : mid.machine ≡ l.machine) (trace : mid.trace ≡ l.trace) (polls : mid.turns.polls.now ≡ l.turns.polls.now) (jobs : mid.jobs ≡ l.jobs) where
   act_done : (b : A.Agenda Callback) × (v ≡ Ok b) × SameAgenda (IsCallback names) (lists_in names mid) b
   act_done = ok_same (IsCallback names) u v same (lists_in names mid) done
 
   act_acted : (before : Text) → Acted names l f before s s → Acted names mid f before s (with_agenda s act_done.0)
-  act_acted before h = relisted names l mid f before s act_done.0 machine trace polls act_done.2 (subst (KeepsSections s.agenda.sections) act_done.1 kept) h
+  act_acted before h = relisted names l mid f before s act_done.0 machine trace polls jobs act_done.2 (subst (KeepsSections s.agenda) act_done.1 kept) h
 
   -- the answer goes on from there
   abbrev pub Answers : Text → (States → States) → Text → Type 0

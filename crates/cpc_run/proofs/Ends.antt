@@ -31,10 +31,14 @@ use Rattle.cpc_meaning.proofs.Agendas.{SameAgenda, readies_all}
 use Rattle.cpc_meaning.proofs.Both.{Ends, Goes}
 use Rattle.cpc_check.specs.Accepted.{IsRead}
 use Rattle.cpc_check_sound_laws.specs.Promises.{AcceptedCallbacksNeverStuck}
+use Rattle.cpc_native_builtins.specs.Served.{is_served_program}
+use Rattle.cpc_check_served_laws.specs.Laws.{AcceptedAreServed}
 use Rattle.cpc_history_marks.specs.declared.marks.Told.{Told}
 use Rattle.cpc_history_marks.specs.Views.{told_of}
 use Rattle.cpc_agenda.specs.Lists.{lists_of}
 use Rattle.cpc_agenda_turns.specs.declared.turns.Turns.{Turns}
+use Rattle.cpc_run_jobs.specs.declared.jobs.Jobs.{Jobs}
+use Rattle.cpc_run_jobs.specs.Holding.{Holds}
 use Rattle.cpc_run.specs.declared.items.Item.{Item}
 use Rattle.cpc_run.specs.declared.items.Item.TheVariants as I
 use Rattle.cpc_run.specs.declared.looped.Loop.{Loop}
@@ -111,6 +115,24 @@ checked_never_stuck law p dialect h e read unbroken n stuck =
     let parses = r.parses in
     not_stuck (program_of p) h n (subst (λ q. NotStuck T.is_over (event_system (trees q) h) (run_of q h n)) (bare_program p) ((law parses.0 _ (located p) parses.2 unbroken_so h).here n)) stuck)
 
+-- a checked event program asks only for what the loop answers
+pub checked_served : AcceptedAreServed → (p : GProgram.Program) (dialect : Dialect) → dialect ≡ D.Event → ∥ IsRead dialect (located p) ∥₁ → breaks dialect (located p) ≡ [] → is_served_program (program_of p) ≡ true
+checked_served law p dialect e read unbroken = go (is_served_program (program_of p)) refl
+  where
+    not_false : is_served_program (program_of p) ≡ false → ⊥
+    not_false i =
+        let read_so = subst (λ d. ∥ IsRead d (located p) ∥₁) e read in
+        let unbroken_so = subst (λ d. breaks d (located p) ≡ []) e unbroken in
+        ∥∥₁_elim read_so (λ x y. absurd x) (λ (r : IsRead D.Event (located p)).
+        let parses = r.parses in
+        let served : is_served_program (program_of p) ≡ true = subst (λ q. is_served_program q ≡ true) (bare_program p) (law parses.0 _ (located p) parses.2 unbroken_so) in
+        let both : false ≡ true = sym i ∙ served in
+        cc)
+
+    go : (b : Bool) → is_served_program (program_of p) ≡ b → is_served_program (program_of p) ≡ true
+    go true i = i
+    go false i = absurd (not_false i)
+
 -- ---- the first state
 
 none_there : (names : Names) → SameAgenda (IsCallback names) A.new_agenda A.new_agenda
@@ -129,11 +151,13 @@ none_there names = record {
 }
 
 -- the call of `main` is ready, and nothing waits
-pub main_ready : (names : Names) (t : Turns Item) (polls : List Told) → polls ≡ t.polls.now → lists_of names t.agenda ≡ A.ready_one I.Main A.new_agenda → SameLists names t (A.ready_one CallMain A.new_agenda) (map told_of polls)
-main_ready names t polls same e = record {
+pub main_ready : (names : Names) (t : Turns Item) (j : Jobs) (polls : List Told) (bound : ℕ) → polls ≡ t.polls.now → j.bound ≡ bound → Holds names j [] 0 [] → lists_of names t.agenda ≡ A.ready_one I.Main A.new_agenda
+    → SameLists names t j (A.ready_one CallMain A.new_agenda) (map told_of polls) bound []
+main_ready names t j polls bound same bounded held e = record {
   agenda = subst (λ a. SameAgenda (IsCallback names) a (A.ready_one CallMain A.new_agenda)) (sym e) (readies_all (IsCallback names) (I.Main ∷ []) (CallMain ∷ []) A.new_agenda A.new_agenda (Goes I.Main CallMain [] [] refl Ends) (none_there names));
   polls = ap (map told_of) same;
-  none_out = refl;
+  held = held;
+  bound_so = sym bounded;
 }
 
 first_stands : (names : Names) (p : GProgram.Program) (h : History) (l : Loop) → Opened names p h l → map (item_of names) p.items.items ≡ program_of p → Stands names l [] (run_of (program_of p) h 0)

@@ -1,9 +1,13 @@
 pub mod Alike
+pub mod Kept
+pub mod Written
 pub mod Making
 pub mod Marks
 pub mod Asks
 pub mod Turns
+pub mod Polls
 pub mod Steps
+pub mod Submits
 pub mod Coded
 pub mod Weighed
 pub mod Runs

@@ -1,9 +1,8 @@
--- A step of the event machine in a state in which no section is out keeps that its pointers lead into blocks that were made, also where a poll is taken.
-use Rattle.std.proofs.Common.{◌≡◌, suc, pos, List, [], ◌∷◌, ◌++◌, Option, Some, Result, Ok, refl, sym, subst, ℕ, Bool, true, false, map, None, max, not, ap, ◌∙◌}
-use Rattle.std.specs.Prelude.{filter}
+-- A step of the event machine keeps that its pointers lead into blocks that were made, also where a poll is taken.
+use Rattle.std.proofs.Common.{◌≡◌, pos, List, [], ◌∷◌, ◌++◌, Option, Some, Result, Ok, refl, sym, subst, ℕ, Bool, true, false, None, suc}
 use Rattle.std.specs.Fmt.{signed_decimal}
 use Rattle.std.specs.List.{All}
-use Rattle.std.proofs.lemmas.List.Elements.{All-nil, All-cons, All-head, All-tail, All-filter, All-map}
+use Rattle.std.proofs.lemmas.List.Elements.{All-nil, All-cons, All-head, All-tail}
 use Rattle.cpc_base.specs.Bytes.{Text}
 use Rattle.cpc_num.specs.declared.kinds.Fault.{Fault}
 use Rattle.cpc_num.specs.declared.kinds.Kind.TheVariants.{Int, Long}
@@ -13,92 +12,82 @@ use Rattle.cpc_tree.specs.Typing.{function_named}
 use Rattle.cpc_tree.specs.Primitives.{Primitive, Print, Putc, Puts, Now, CondNew, CondFree, Signal, SignalAll, Exit, Malloc, Free, RtFrame, RtBox, RtFrameFree, RtUnbox, RtReady, RtWait, RtSleep, RtIo, RtDetach}
 use Rattle.cpc_tree.specs.Trace.{Mark, Output, Sleeping, Waiting, Awaiting, Outcome, Exited, Told, Going, Ended, Failed, HistoryEnded, BadHistory}
 use Rattle.cpc_store.specs.declared.values.Class.TheVariants.{Auto, Heap, Frame as FrameClass}
-use Rattle.cpc_store.specs.Store.{Value, Unset, Whole, Code, Cond, Store}
+use Rattle.cpc_store.specs.Store.{Value, Unset, Whole, Null, At, Code, Cond, Store}
 use Rattle.cpc_meaning.specs.Answer.{Answer, Gives, Faults, of_result, needed, NoAnswer}
 use Rattle.cpc_meaning.specs.Eval.{assigned}
 use Rattle.cpc_meaning.specs.Plain.{Form, Stack, Done, Went, Returned, Asks, answered, make_frame, plain}
-use Rattle.cpc_meaning.specs.Agenda.{Agenda, cond_new, cond_free, signal, signal_all, section, ready_one, wait, sleep, io, Due, begin_round, needs_poll, OnDescriptor, Timer, completed, out, not_out, finish_sections, wake, wake_all, ring, poll, without, waits_for, descriptor_waiter, is_due, sleeper}
+use Rattle.cpc_meaning.specs.Agenda.{Agenda, cond_new, cond_free, signal, signal_all, section, ready_one, wait, sleep, io, Due, begin_round, needs_poll, completed, out, not_out, poll}
 use Rattle.cpc_meaning.specs.Section.{allocated, freed}
-use Rattle.cpc_meaning.specs.Copies.{copy_of, collect}
+use Rattle.cpc_meaning.specs.Copies.{copy_of, Collected, AllGave, OneFailed, NotClear, collect}
 use Rattle.cpc_meaning.specs.Machine.{State, ends, marks, with_agenda, with_store, runs, after_done, reply, int_of, cond_of, prints, replies, acts, primitive, direction_of, submits, ints_of, first_answer, host_call, asked_by, next_poll, next_round, turns_where, schedules, runs_on, code_step, step_running, settled, try_step, unless_over, next, step, takes_poll, polled, told_state}
 use Rattle.cpc_meaning.specs.Events.{Callback, CallMain, CallWith, starts_callback, event_primitive, callbacks_of, event, callbacks}
 use Rattle.cpc_meaning.specs.Start.{main_name}
-use Rattle.cpc_meaning_pointer_laws.specs.Made.{IsMade, IsMadeCallback, IsMadeStore, IsMadeCode, IsMadeAgenda, IsMadeState}
+use Rattle.cpc_meaning_pointer_laws.specs.Made.{IsMade, IsMadeCallback, IsMadeStore, IsMadeCode}
 use Rattle.cpc_meaning_pointer_laws.proofs.Blocks.{Only, only_then, any_then}
 use Rattle.cpc_meaning_pointer_laws.proofs.Values.{assigned_made}
-use Rattle.cpc_meaning_pointer_laws.proofs.Stores.{Later, Onward}
+use Rattle.cpc_meaning_pointer_laws.proofs.Stores.{Later, later_made, Onward}
 use Rattle.cpc_meaning_pointer_laws.proofs.Steps.{FrameMade, DoneMade, frame_come, stack_made, code_later, answered_made, plain_made}
-use Rattle.cpc_meaning_pointer_laws.proofs.Agendas.{later_agenda, ready_one_made, other_conditions, cond_free_made, wait_made, signal_made, signal_all_made, sleep_made, io_made, section_made, DueMade, begin_round_made, later_round, ready_all_made}
 use Rattle.cpc_meaning_matching.specs.Steps.{or_stay}
 use Rattle.cpc_meaning.specs.Requests.{Asked, Builtin, Host, ToSpawn, Section}
 use Rattle.cpc_meaning.specs.Trees.{trees}
 use Rattle.cpc_meaning.specs.History.{History}
-use Rattle.cpc_base.specs.declared.poll.Event.{Event}
-use Rattle.cpc_base.specs.declared.poll.Event.TheVariants.{Done as EventDone, Ready as EventReady}
 use Rattle.cpc_tree.specs.Points.{Point}
 use Rattle.cpc_meaning_pointer_laws.proofs.Machine.{Handed, allocated_made, freed_made}
 use Rattle.cpc_meaning_pointer_laws.proofs.Runs.{runs_are_made}
+use Rattle.cpc_meaning_kept_laws.specs.Kept.{KeptAgenda}
+use Rattle.cpc_meaning_kept_laws.proofs.Agendas as L
+use Rattle.cpc_run.specs.Made.{IsValue, IsMadeRun}
+use Rattle.cpc_run.proofs.Written.{Collects, collects}
 
--- ---- polls
+-- ---- lists
 
 module _ (s : Store) where
-  wake_made : (e : Event) (a : Agenda Callback) → IsMadeAgenda s a → IsMadeAgenda s (wake e a)
-  wake_made (EventDone n) a k = k
-  wake_made (EventReady fd way) a k =
-      ready_all_made s (map descriptor_waiter (filter (waits_for fd way) a.descriptors)) (record a { descriptors = without (waits_for fd way) a.descriptors })
-      (All-map (λ c. IsMadeCallback s c) descriptor_waiter (filter (waits_for fd way) a.descriptors) (All-filter (waits_for fd way) (λ (w : OnDescriptor Callback). IsMadeCallback s w.item) a.descriptors k.descriptors))
-      (record {
-        ready = k.ready;
-        round = k.round;
-        waiters = k.waiters;
-        descriptors = All-filter (λ w. not (waits_for fd way w)) (λ (w : OnDescriptor Callback). IsMadeCallback s w.item) a.descriptors k.descriptors;
-        timers = k.timers;
-        sections = k.sections;
-      })
+  abbrev Fine : Callback → Type 0
+  Fine c = IsMadeCallback s c
 
-  wake_all_made : (es : List Event) (a : Agenda Callback) → IsMadeAgenda s a → IsMadeAgenda s (wake_all es a)
-  wake_all_made [] a k = k
-  wake_all_made (e ∷ es) a k = wake_all_made es (wake e a) (wake_made e a k)
+  -- the callbacks of lists lead into blocks that were made
+  abbrev MadeLists : Agenda Callback → Type 0
+  MadeLists a = KeptAgenda Fine IsValue a
 
-  ring_made : (a : Agenda Callback) → IsMadeAgenda s a → IsMadeAgenda s (ring a)
-  ring_made a k =
-      ready_all_made s (map sleeper (filter (is_due a.now) a.timers)) (record a { timers = without (is_due a.now) a.timers })
-      (All-map (λ c. IsMadeCallback s c) sleeper (filter (is_due a.now) a.timers) (All-filter (is_due a.now) (λ (w : Timer Callback). IsMadeCallback s w.item) a.timers k.timers))
-      (record {
-        ready = k.ready;
-        round = k.round;
-        waiters = k.waiters;
-        descriptors = k.descriptors;
-        timers = All-filter (λ w. not (is_due a.now w)) (λ (w : Timer Callback). IsMadeCallback s w.item) a.timers k.timers;
-        sections = k.sections;
-      })
+  abbrev DueMade : Due Callback → Type 0
+  DueMade d = Fine d.item × IsValue d.result
 
-  finish_made : (ns : List ℕ) (a : Agenda Callback) → IsMadeAgenda s a → IsMadeAgenda s (finish_sections ns [] a)
-  finish_made [] a k = k
-  finish_made (n ∷ ns) a k = k
+  -- what is taken as an int points nowhere
+  int_made : (v : Value) → Only (IsMade s) (assigned (TyInt Int) v)
+  int_made Unset = assigned_made s (TyInt Int) Unset tt
+  int_made (Whole kind z) = assigned_made s (TyInt Int) (Whole kind z) tt
+  int_made Null = tt
+  int_made (At c n k) = tt
+  int_made (Code f) = tt
+  int_made (Cond n) = tt
 
-  -- a poll that gives no values
-  poll_made : (told : Told) (a : Agenda Callback) → IsMadeAgenda s a → IsMadeAgenda s (poll told [] a)
-  poll_made told a k =
-      ring_made _ (wake_all_made told.events _ (finish_made (completed told.events) (record a { now = max a.now told.clock })
-      (record { ready = k.ready; round = k.round; waiters = k.waiters; descriptors = k.descriptors; timers = k.timers; sections = k.sections })))
+  any_values : (vs : List Value) → All IsValue vs
+  any_values [] = All-nil IsValue
+  any_values (v ∷ vs) = All-cons IsValue v vs tt (any_values vs)
+
+later_callback : (s t : Store) → Later s t → (c : Callback) → IsMadeCallback s c → IsMadeCallback t c
+later_callback s t l CallMain h = tt
+later_callback s t l (CallWith f pointer) h = later_made s t l pointer h
+
+later_lists : (s t : Store) → Later s t → (a : Agenda Callback) → MadeLists s a → MadeLists t a
+later_lists s t l a h = L.agenda_as (Fine s) (Fine t) IsValue IsValue (later_callback s t l) (λ v i. i) a h
 
 -- ---- states
 
 module _ {P : Type 0} (p : Form P) where
   -- what holds of all states
   record Good (s : State P Callback) : Type 0 where
-    pub made : IsMadeState s
+    pub made : IsMadeRun s
 
   -- another store, and the stack that runs on it
   with_code : (s : State P Callback) (t : Store) (o : Option (Stack P)) → Good s → Later s.store t → IsMadeStore t → ((k : Stack P) → o ≡ Some k → IsMadeCode t k) → Good (record s { store = t; running = o })
-  with_code s t o h l made code = record { made = record { store = made; running = code; agenda = later_agenda s.store t l s.agenda h.made.agenda } }
+  with_code s t o h l made code = record { made = record { store = made; running = code; agenda = later_lists s.store t l s.agenda h.made.agenda } }
 
   code_is : (t : Store) (k : Stack P) → IsMadeCode t k → (j : Stack P) → Some k ≡ Some j → IsMadeCode t j
   code_is t k h j e = let same : k ≡ j = cc in subst (IsMadeCode t) same h
 
   -- another agenda
-  with_agenda_good : (s : State P Callback) (a : Agenda Callback) → Good s → IsMadeAgenda s.store a → Good (with_agenda s a)
+  with_agenda_good : (s : State P Callback) (a : Agenda Callback) → Good s → MadeLists s.store a → Good (with_agenda s a)
   with_agenda_good s a h k = record { made = record { store = h.made.store; running = h.made.running; agenda = k } }
 
   marks_good : (m : Mark) (s : State P Callback) → Good s → Good (marks m s)
@@ -131,8 +120,8 @@ module _ {P : Type 0} (p : Form P) where
       stored : (t : Store) → Onward s.store t → Good (with_store s t)
       stored t on = with_code s t s.running h on.later on.made (λ j e. code_later s.store t j on.later on.made (h.made.running j e))
 
-  acts_good : (k : Stack P) (r : Result (Agenda Callback) Fault) (s : State P Callback) → Good s → IsMadeCode s.store k → Only (IsMadeAgenda s.store) (of_result r) → Only Good (acts p k r s)
-  acts_good k r s h code i = only_then (IsMadeAgenda s.store) Good (of_result r) _ i λ a j. reply_good k Unset (with_agenda s a) (with_agenda_good s a h j) code tt
+  acts_good : (k : Stack P) (r : Result (Agenda Callback) Fault) (s : State P Callback) → Good s → IsMadeCode s.store k → Only (MadeLists s.store) (of_result r) → Only Good (acts p k r s)
+  acts_good k r s h code i = only_then (MadeLists s.store) Good (of_result r) _ i λ a j. reply_good k Unset (with_agenda s a) (with_agenda_good s a h j) code tt
 
   -- ---- sections
 
@@ -143,17 +132,17 @@ module _ {P : Type 0} (p : Form P) where
 
   submits_good : (f : Text) (vs : List Value) (item : Callback) (s : State P Callback) → Good s → IsMadeCallback s.store item → Only (SameStore s) (submits p f vs item s)
   submits_good f vs item s h i =
-      only_then (IsMadeAgenda s.store) (SameStore s) (of_result (section item s.agenda)) _ (section_made s.store item s.agenda i h.made.agenda) λ a j.
+      only_then (MadeLists s.store) (SameStore s) (of_result (section item s.agenda)) _ (L.section_so (Fine s.store) IsValue tt item s.agenda i h.made.agenda) λ a j.
       any_then (SameStore s) (needed (function_named p.program f)) _ λ g.
       any_then (SameStore s) (copy_of p.program g (first_or Unset vs) s.store) _ λ cells.
       record { good = record { made = record { store = h.made.store; running = h.made.running; agenda = j } }; store = refl }
 
   -- ---- the event machine's own primitives
 
-  starts_good : (item : Callback) (v : Value) (s : State P Callback) → Good s → IsMadeCallback s.store item → IsMade s.store v → Only Good (starts_callback p item v s)
-  starts_good CallMain v s h i j = runs_good main_name [] s h (All-nil (IsMade s.store))
-  starts_good (CallWith f pointer) v s h i j =
-      only_then (IsMade s.store) Good (assigned (TyInt Int) v) _ (assigned_made s.store (TyInt Int) v j) λ w l.
+  starts_good : (item : Callback) (v : Value) (s : State P Callback) → Good s → IsMadeCallback s.store item → Only Good (starts_callback p item v s)
+  starts_good CallMain v s h i = runs_good main_name [] s h (All-nil (IsMade s.store))
+  starts_good (CallWith f pointer) v s h i =
+      only_then (IsMade s.store) Good (assigned (TyInt Int) v) _ (int_made s.store v) λ w l.
       runs_good f (pointer ∷ w ∷ []) s h (All-cons (IsMade s.store) pointer (w ∷ []) i (All-cons (IsMade s.store) w [] l (All-nil (IsMade s.store))))
 
   second : (s : Store) (v w : Value) (vs : List Value) → All (IsMade s) (v ∷ w ∷ vs) → IsMade s w
@@ -171,18 +160,18 @@ module _ {P : Type 0} (p : Form P) where
   own_good RtFrameFree (v ∷ []) k s h code i = replies_good k (freed FrameClass v s.store) s h code (freed_made FrameClass v s.store h.made.store)
   own_good RtUnbox (v ∷ []) k s h code i = replies_good k (freed Auto v s.store) s h code (freed_made Auto v s.store h.made.store)
   own_good RtReady (Code f ∷ x ∷ []) k s h code i =
-      acts_good k (Ok (ready_one (CallWith f x) s.agenda)) s h code (ready_one_made s.store (CallWith f x) s.agenda (second s.store (Code f) x [] i) h.made.agenda)
+      acts_good k (Ok (ready_one (CallWith f x) s.agenda)) s h code (L.ready_one_so (Fine s.store) IsValue tt (CallWith f x) s.agenda (second s.store (Code f) x [] i) h.made.agenda)
   own_good RtWait (v ∷ Code f ∷ x ∷ []) k s h code i =
       any_then Good (cond_of v) _ λ n.
-      acts_good k (wait n (CallWith f x) s.agenda) (marks (Waiting n) s) (marks_good (Waiting n) s h) code (wait_made s.store n (CallWith f x) s.agenda (third s.store v (Code f) x [] i) h.made.agenda)
+      acts_good k (wait n (CallWith f x) s.agenda) (marks (Waiting n) s) (marks_good (Waiting n) s h) code (L.wait_so (Fine s.store) IsValue tt n (CallWith f x) s.agenda (third s.store v (Code f) x [] i) h.made.agenda)
   own_good RtSleep (v ∷ Code f ∷ x ∷ []) k s h code i =
       any_then Good (int_of v) _ λ z.
-      acts_good k (sleep z (CallWith f x) s.agenda) (marks (Sleeping z) s) (marks_good (Sleeping z) s h) code (sleep_made s.store z (CallWith f x) s.agenda (third s.store v (Code f) x [] i) h.made.agenda)
+      acts_good k (sleep z (CallWith f x) s.agenda) (marks (Sleeping z) s) (marks_good (Sleeping z) s h) code (L.sleep_so (Fine s.store) IsValue tt z (CallWith f x) s.agenda (third s.store v (Code f) x [] i) h.made.agenda)
   own_good RtIo (v ∷ w ∷ Code f ∷ x ∷ []) k s h code i =
       any_then Good (int_of v) _ λ fd.
       any_then Good (int_of w) _ λ way.
       acts_good k (Ok (io fd (direction_of way) (CallWith f x) s.agenda)) (marks (Awaiting fd (direction_of way)) s) (marks_good (Awaiting fd (direction_of way)) s h) code
-      (io_made s.store fd (direction_of way) (CallWith f x) s.agenda (fourth s.store v w (Code f) x [] i) h.made.agenda)
+      (L.io_so (Fine s.store) IsValue tt fd (direction_of way) (CallWith f x) s.agenda (fourth s.store v w (Code f) x [] i) h.made.agenda)
   own_good RtDetach (Code f ∷ x ∷ Code g ∷ vs) k s h code i =
       only_then (SameStore s) Good (submits p g vs (CallWith f x) s) _ (submits_good g vs (CallWith f x) s h (second s.store (Code f) x (Code g ∷ vs) i)) λ t j.
       reply_good k Unset t j.good (subst (λ u. IsMadeCode u k) (sym j.store) code) tt
@@ -200,10 +189,10 @@ module _ {P : Type 0} (p : Form P) where
   primitive_good Now [] k s h code i = reply_good k (Whole Long (pos s.agenda.now)) s h code tt
   primitive_good CondNew [] k s h code i =
       reply_good k (Cond s.agenda.conditions_made) (with_agenda s (cond_new s.agenda))
-      (with_agenda_good s (cond_new s.agenda) h (other_conditions s.store (s.agenda.live ++ s.agenda.conditions_made ∷ []) (suc s.agenda.conditions_made) s.agenda h.made.agenda)) code tt
-  primitive_good CondFree (v ∷ []) k s h code i = any_then Good (cond_of v) _ λ n. acts_good k (cond_free n s.agenda) s h code (cond_free_made s.store n s.agenda h.made.agenda)
-  primitive_good Signal (v ∷ []) k s h code i = any_then Good (cond_of v) _ λ n. acts_good k (signal n s.agenda) s h code (signal_made s.store n s.agenda h.made.agenda)
-  primitive_good SignalAll (v ∷ []) k s h code i = any_then Good (cond_of v) _ λ n. acts_good k (signal_all n s.agenda) s h code (signal_all_made s.store n s.agenda h.made.agenda)
+      (with_agenda_good s (cond_new s.agenda) h (L.other_conditions (Fine s.store) IsValue tt (s.agenda.live ++ s.agenda.conditions_made ∷ []) (suc s.agenda.conditions_made) s.agenda h.made.agenda)) code tt
+  primitive_good CondFree (v ∷ []) k s h code i = any_then Good (cond_of v) _ λ n. acts_good k (cond_free n s.agenda) s h code (L.cond_free_so (Fine s.store) IsValue tt n s.agenda h.made.agenda)
+  primitive_good Signal (v ∷ []) k s h code i = any_then Good (cond_of v) _ λ n. acts_good k (signal n s.agenda) s h code (L.signal_so (Fine s.store) IsValue tt n s.agenda h.made.agenda)
+  primitive_good SignalAll (v ∷ []) k s h code i = any_then Good (cond_of v) _ λ n. acts_good k (signal_all n s.agenda) s h code (L.signal_all_so (Fine s.store) IsValue tt n s.agenda h.made.agenda)
   primitive_good Exit (v ∷ []) k s h code i = any_then Good (int_of v) _ λ z. ends_good (Exited z) s h
   primitive_good Malloc (v ∷ []) k s h code i = replies_good k (allocated Heap v s.store) s h code (allocated_made Heap v s.store h.made.store)
   primitive_good Free (v ∷ []) k s h code i = replies_good k (freed Heap v s.store) s h code (freed_made Heap v s.store h.made.store)
@@ -234,40 +223,50 @@ module _ {P : Type 0} (p : Form P) where
 
   -- ---- the loop
 
-  -- where no section is out, none is told
-  none_told : (ns : List ℕ) (outs : List ℕ) → outs ≡ [] → not_out ns outs ≡ None → ns ≡ []
-  none_told [] outs e h = refl
-  none_told (n ∷ ns) outs e h = let g : Some n ≡ None = sym (ap (not_out (n ∷ ns)) e) ∙ h in cc
+  -- what is known of a state is known of it behind the mark of a poll
+  told_good : (s : State P Callback) (told : Told) (polls : List Told) → Good s → Good (told_state told polls s)
+  told_good s told polls h = record { made = record { store = h.made.store; running = h.made.running; agenda = h.made.agenda } }
 
-  taken_good : (s : State P Callback) (told : Told) (polls : List Told) → s.agenda.sections ≡ [] → Good s → (o : Option ℕ) → not_out (completed told.events) (out s.agenda) ≡ o → Only Good (takes_poll (callbacks_of p) s told polls o)
-  taken_good s told polls none h (Some n) e = ends_good (BadHistory n) s h
-  taken_good s told polls none h None e =
-      let outs : out s.agenda ≡ [] = ap (λ x. out (record s.agenda { sections = x })) none in
-      subst (λ ns. Only Good (polled (callbacks_of p) told (told_state told polls s) (collect p s.history.section_bound s.jobs ns s.store))) (sym (none_told (completed told.events) (out s.agenda) outs e))
-      (record { made = record { store = h.made.store; running = h.made.running; agenda = begin_round_made s.store _ (poll_made s.store told s.agenda h.made.agenda) } })
+  polled_good : (told : Told) (s : State P Callback) (x : Collected) → Good s → Collects s.store x → Only Good (polled (callbacks_of p) told s x)
+  polled_good told s (AllGave vs t) h i =
+      let later = later_lists s.store t i.0.later s.agenda h.made.agenda in record {
+        made = record {
+          store = i.0.made;
+          running = λ k e. code_later s.store t k i.0.later i.0.made (h.made.running k e);
+          agenda = L.begin_round_so (Fine t) IsValue tt (poll told vs s.agenda) (L.poll_so (Fine t) IsValue tt told vs s.agenda (any_values s.store vs) later);
+        };
+      }
+  polled_good told s (OneFailed fault f) h i = ends_good _ s h
+  polled_good told s NotClear h i = tt
 
-  poll_good : (s : State P Callback) (polls : List Told) → s.agenda.sections ≡ [] → Good s → Only Good (next_poll (callbacks_of p) s polls)
-  poll_good s [] none h = ends_good HistoryEnded s h
-  poll_good s (told ∷ polls) none h = taken_good s told polls none h (not_out (completed told.events) (out s.agenda)) refl
+  taken_good : (s : State P Callback) (told : Told) (polls : List Told) → Good s → (o : Option ℕ) → Only Good (takes_poll (callbacks_of p) s told polls o)
+  taken_good s told polls h (Some n) = ends_good (BadHistory n) s h
+  taken_good s told polls h None =
+      polled_good told (told_state told polls s) (collect p s.history.section_bound s.jobs (completed told.events) s.store) (told_good s told polls h)
+      (collects p s.history.section_bound s.jobs (completed told.events) s.store h.made.store)
+
+  poll_good : (s : State P Callback) (polls : List Told) → Good s → Only Good (next_poll (callbacks_of p) s polls)
+  poll_good s [] h = ends_good HistoryEnded s h
+  poll_good s (told ∷ polls) h = taken_good s told polls h (not_out (completed told.events) (out s.agenda))
 
   round_good : (s : State P Callback) (none_ready : Bool) → Good s → Good (next_round s none_ready)
   round_good s true h = ends_good _ s h
-  round_good s false h = with_agenda_good s (begin_round s.agenda) h (begin_round_made s.store s.agenda h.made.agenda)
+  round_good s false h = with_agenda_good s (begin_round s.agenda) h (L.begin_round_so (Fine s.store) IsValue tt s.agenda h.made.agenda)
 
-  turns_good : (s : State P Callback) (b : Bool) → s.agenda.sections ≡ [] → Good s → Only Good (turns_where (callbacks_of p) s b)
-  turns_good s true none h = poll_good s s.history.polls none h
-  turns_good s false none h = round_good s (is_empty s.agenda.ready) h
+  turns_good : (s : State P Callback) (b : Bool) → Good s → Only Good (turns_where (callbacks_of p) s b)
+  turns_good s true h = poll_good s s.history.polls h
+  turns_good s false h = round_good s (is_empty s.agenda.ready) h
 
-  schedules_good : (s : State P Callback) (round : List (Due Callback)) → All (DueMade s.store) round → s.agenda.sections ≡ [] → Good s → Only Good (schedules (callbacks_of p) s round)
-  schedules_good s [] i none h = turns_good s (needs_poll s.agenda) none h
-  schedules_good s (d ∷ ds) i none h =
+  schedules_good : (s : State P Callback) (round : List (Due Callback)) → All (DueMade s.store) round → Good s → Only Good (schedules (callbacks_of p) s round)
+  schedules_good s [] i h = turns_good s (needs_poll s.agenda) h
+  schedules_good s (d ∷ ds) i h =
       let due = All-head (DueMade s.store) d ds i in
       starts_good d.item d.result (with_agenda s (record s.agenda { round = ds }))
-      (with_agenda_good s (record s.agenda { round = ds }) h (later_round s.store ds s.agenda (All-tail (DueMade s.store) d ds i) h.made.agenda)) due.0 due.1
+      (with_agenda_good s (record s.agenda { round = ds }) h (L.later_round (Fine s.store) IsValue tt ds s.agenda (All-tail (DueMade s.store) d ds i) h.made.agenda)) due.0
 
-  running_good : (s : State P Callback) (o : Option (Stack P)) → s.running ≡ o → s.agenda.sections ≡ [] → Good s → Only Good (step_running (callbacks_of p) s o)
-  running_good s None e none h = schedules_good s s.agenda.round h.made.agenda.round none h
-  running_good s (Some k) e none h = code_good s k h (h.made.running k e)
+  running_good : (s : State P Callback) (o : Option (Stack P)) → s.running ≡ o → Good s → Only Good (step_running (callbacks_of p) s o)
+  running_good s None e h = schedules_good s s.agenda.round h.made.agenda.round h
+  running_good s (Some k) e h = code_good s k h (h.made.running k e)
 
   -- nothing, or a state of which it holds
   abbrev Next : Option (State P Callback) → Type 0
@@ -291,17 +290,29 @@ module _ {P : Type 0} (p : Form P) where
   stays_good s None h i = h
   stays_good s (Some t) h i = i
 
-  step_good : (s : State P Callback) → s.agenda.sections ≡ [] → Good s → Good (step (callbacks_of p) s)
-  step_good s none h =
+  step_good : (s : State P Callback) → Good s → Good (step (callbacks_of p) s)
+  step_good s h =
       stays_good s (next (callbacks_of p) s) h
-      (going_good s.outcome (try_step (callbacks_of p) s) (settled_good s (step_running (callbacks_of p) s s.running) (running_good s s.running refl none h) h))
+      (going_good s.outcome (try_step (callbacks_of p) s) (settled_good s (step_running (callbacks_of p) s s.running) (running_good s s.running refl h) h))
 
 -- the next state
-pub step_made : (q : Program) (s : State Point Callback) → s.agenda.sections ≡ [] → IsMadeState s → IsMadeState (step (callbacks q) s)
-step_made q s none h = (step_good (trees q) s none (record { made = h })).made
+pub step_made : (q : Program) (s : State Point Callback) → IsMadeRun s → IsMadeRun (step (callbacks q) s)
+step_made q s h = (step_good (trees q) s (record { made = h })).made
 
 -- the first state
-pub first_made : (q : Program) (h : History) → IsMadeState (event q h 0)
+pub first_made : (q : Program) (h : History) → IsMadeRun (event q h 0)
 first_made q h =
     let made = runs_are_made q (record { polls = []; answers = []; section_bound = 0 }) 0 refl in
-    record { store = made.store; running = made.running; agenda = made.agenda }
+    let s : Store = (event q h 0).store in
+    record {
+      store = made.store;
+      running = made.running;
+      agenda = L.agenda_as (Fine s) (Fine s) (IsMade s) IsValue (λ c i. i) (λ v i. tt) (event q h 0).agenda (record {
+        ready = made.agenda.ready;
+        round = made.agenda.round;
+        waiters = made.agenda.waiters;
+        descriptors = made.agenda.descriptors;
+        timers = made.agenda.timers;
+        sections = made.agenda.sections;
+      });
+    }

@@ -3,7 +3,9 @@ use Rattle.std.proofs.Common.{◌≡◌, ◌⊎◌, inl, inr, ℕ, suc, ◌+◌,
 use Rattle.std.proofs.lemmas.List.{append-nil, length-map}
 use Rattle.std.proofs.lemmas.Bool.{cases_lt}
 use Rattle.cpc_base.specs.Bytes.{Text}
+use Rattle.cpc_base.specs.declared.names.Name.{Name}
 use Rattle.cpc_base.specs.declared.stop.NoMemory.{NoMemory}
+use Rattle.cpc_num.specs.declared.kinds.Fault.{Fault}
 use Rattle.cpc_tree.specs.Erase.{Names, Table, in_table}
 use Rattle.cpc_tree.specs.Syntax.{Program}
 use Rattle.cpc_tree.specs.Trace as T
@@ -26,7 +28,7 @@ use Rattle.cpc_run.specs.declared.outcome.Outcome.TheVariants as O
 use Rattle.cpc_run.specs.declared.outcome.RunReport.{RunReport}
 use Rattle.cpc_run.specs.Outcomes.{outcome_of}
 use Rattle.cpc_run.specs.Shown.{shown, all_shown, last_of}
-use Rattle.cpc_run.specs.States.{States, Within, Keeps, program_in}
+use Rattle.cpc_run.specs.States.{States, Breaks, Within, Keeps, program_in}
 use Rattle.cpc_run.specs.Reports.{MadeSo, Reached, NeverStuck, IsInTable, IsLeft, IsBrokenOff, IsPrefix, WentOut, EndsSo, Tells, Wrote, run_of}
 use Rattle.cpc_run.proofs.Making.{step_made}
 use Rattle.cpc_run.proofs.Marks.{all_is, no_last, none_last}
@@ -81,7 +83,7 @@ module _ (names : Names) (q : Program) (h : History) (cap : ℕ) (trace : Bool) 
         bounded = upto (λ m. live_cells (run_of q h m) ≤ cap) n r.bounded (subst (λ c. c ≤ cap) made.1 made.2);
         traces = keeps.trace ∙ r.traces;
         polls = keeps.polls ∙ r.polls;
-        made = step_made q (run_of q h n) r.stands.lists.none_out r.made;
+        made = step_made q (run_of q h n) r.made;
       }
 
   pub reached_more : (new : Loop) (text : Text) (left : ℕ) → Keeps l new → MadeSo names cap (Ok (M.On left)) new printed text (run_of q h n) (try_step (callbacks (program_in names l)) (run_of q h n))
@@ -236,6 +238,26 @@ module _ (names : Names) (q : Program) (h : History) (limits : Limits) (trace : 
           cells_are = r.cells_are ∙ sym (ap live_cells last);
           bounded = λ m pos le. upto (λ m. live_cells (run_of q h m) ≤ limits.cells) n r.bounded (subst (λ s. live_cells s ≤ limits.cells) (sym last) (r.bounded n (omega arith))) m le;
           polls_are = here.polls_are ∙ sym (ap (λ s. polls + length s.history.polls) last);
+          broken_off = record { within = omega arith; going = λ m lt. r.going m (omega arith) };
+        },
+      )
+
+  -- where a step took a poll, and a section failed
+  pub left_broke : (new : Loop) (text : Text) (fault : Fault) (f : Name) → new.trace ≡ l.trace
+      → MadeSo names limits.cells (Ok (M.Broke fault f)) new printed text (run_of q h n) (try_step (callbacks (program_in names l)) (run_of q h n))
+      → IsLeft names q h limits (n + 1) (E.Over (O.Failed fault f)) × AtEnd q h limits trace (n + 1) cells (polls + 1) text
+  left_broke new text fault f same x =
+      let b : Breaks names fault f new.trace text (run_of q h n) (run_of q h (suc n)) = made_next names q h limits.cells trace l printed n cells stuck r (Ok (M.Broke fault f)) new printed text x in
+      let before : length h.polls ≡ polls + length (run_of q h n).history.polls = here.polls_are in
+      let took : length (run_of q h n).history.polls ≡ suc (length b.left) = ap length b.next in
+      let left : length (run_of q h (suc n)).history.polls ≡ length b.left = ap (λ s. length s.history.polls) b.over in
+      subst (λ m. IsLeft names q h limits m (E.Over (O.Failed fault f)) × AtEnd q h limits trace m cells (polls + 1) text) (sym (add-one n)) (
+        record { within = omega arith; over = ap (λ s. s.outcome) b.over; before = λ m lt. r.going m (omega arith) },
+        record {
+          wrote = sym b.printed_so ∙ ap (λ y. shown y (run_of q h (suc n)).trace) (same ∙ r.traces);
+          cells_are = r.cells_are ∙ sym (ap live_cells b.over);
+          bounded = λ m pos le. upto (λ m. live_cells (run_of q h m) ≤ limits.cells) n r.bounded (subst (λ s. live_cells s ≤ limits.cells) (sym b.over) (r.bounded n (omega arith))) m le;
+          polls_are = omega (arith, before, took, left);
           broken_off = record { within = omega arith; going = λ m lt. r.going m (omega arith) };
         },
       )

@@ -4,7 +4,7 @@ use Rattle.cpc_base.specs.Bytes.{Text}
 use Rattle.cpc_tree.specs.Lists.{is_empty}
 use Rattle.cpc_tree.specs.Trace as T
 use Rattle.cpc_meaning.specs.Agenda as A
-use Rattle.cpc_meaning.specs.Copies.{collect}
+use Rattle.cpc_meaning.specs.Copies.{Collected, AllGave, OneFailed, NotClear, collect}
 use Rattle.cpc_num.specs.declared.kinds.Fault.{Fault}
 use Rattle.cpc_num.specs.declared.kinds.Kind.TheVariants.{Int}
 use Rattle.cpc_tree.specs.Erase.{Names}
@@ -18,7 +18,7 @@ use Rattle.cpc_meaning.specs.Eval.{assigned}
 use Rattle.cpc_meaning.specs.Events.{Callback, CallWith, callbacks, starts_callback}
 use Rattle.cpc_meaning.specs.Machine.{Machine, settled, step_running, code_step, runs, try_step, turns, turns_where, next_poll, next_round, takes_poll, polled, told_state}
 use Rattle.cpc_meaning.specs.Plain.{Frame, make_frame, stack_of}
-use Rattle.cpc_meaning.specs.Runs.{live_cells, frames_registers}
+use Rattle.cpc_meaning.specs.Runs.{live_cells, frames_registers, registers}
 use Rattle.cpc_meaning.specs.Trees.{trees}
 use Rattle.cpc_meaning_cell_laws.specs.Cells.{call_cells}
 use Rattle.cpc_meaning_cell_laws.proofs.Steps.{taking_adds}
@@ -27,8 +27,10 @@ use Rattle.cpc_run.specs.declared.short.Short.{Short}
 use Rattle.cpc_run.specs.declared.short.Short.TheVariants as W
 use Rattle.cpc_run.specs.Code.{store_in, stack_in}
 use Rattle.cpc_run.specs.Shorts.{Counts, IsAbove, IsBeyond}
-use Rattle.cpc_run.specs.States.{States, settles, program_in}
+use Rattle.cpc_run.specs.States.{States, Within, settles, program_in}
+use Rattle.cpc_meaning_pointer_laws.specs.Made.{IsMadeStore}
 use Rattle.cpc_run.proofs.Turns.{frame_never_fails}
+use Rattle.cpc_run.proofs.Written.{Collects, collects}
 
 -- ---- numbers
 
@@ -110,35 +112,38 @@ calls_count P names l s f pointer (S.Cond n) w e h = tt
 
 -- ---- a turn
 
--- a turn leaves as many live cells, where no section is out
+-- a turn leaves as many live cells, also where sections write what they came to
 module _ (names : Names) (l : Loop) (s : States) where
   abbrev m : Machine Point Callback
   m = callbacks (program_in names l)
 
-  none_named : (ns outs : List ℕ) → outs ≡ [] → A.not_out ns outs ≡ None → ns ≡ []
-  none_named [] outs e h = refl
-  none_named (n ∷ ns) outs e h = let g : Some n ≡ None = sym (ap (A.not_out (n ∷ ns)) e) ∙ h in cc
+  abbrev Same : Option States → Type 0
+  Same o = Counts (λ n. n ≡ live_cells s) o
 
-  poll_counts : s.agenda.sections ≡ [] → (polls : List T.Told) → Counts (λ n. n ≡ live_cells s) (settled m s (next_poll m s polls))
-  poll_counts none [] = refl
-  poll_counts none (told ∷ polls) = go (A.not_out (A.completed told.events) (A.out s.agenda)) refl
-    where
-      go : (o : Option ℕ) → A.not_out (A.completed told.events) (A.out s.agenda) ≡ o → Counts (λ n. n ≡ live_cells s) (settled m s (takes_poll m s told polls o))
-      go (Some n) e = refl
-      go None e =
-          let outs : A.out s.agenda ≡ [] = ap (λ x. A.out (record s.agenda { sections = x })) none in
-          subst (λ ns. Counts (λ n. n ≡ live_cells s) (settled m s (polled m told (told_state told polls s) (collect m.form s.history.section_bound s.jobs ns s.store)))) (sym (none_named (A.completed told.events) (A.out s.agenda) outs e)) refl
+  polled_counts : (told : T.Told) (polls : List T.Told) (c : Collected) → Collects s.store c → Same (settled m s (polled m told (told_state told polls s) c))
+  polled_counts told polls (AllGave vs t) h = ap (λ n. n + registers s.running) h.1
+  polled_counts told polls (OneFailed fault f) h = refl
+  polled_counts told polls NotClear h = tt
 
-  round_counts : (b : Bool) → Counts (λ n. n ≡ live_cells s) (settled m s (Gives (next_round s b)))
+  taken_so : IsMadeStore s.store → (told : T.Told) (polls : List T.Told) (o : Option ℕ) → Same (settled m s (takes_poll m s told polls o))
+  taken_so made told polls (Some n) = refl
+  taken_so made told polls None =
+      polled_counts told polls (collect m.form s.history.section_bound s.jobs (A.completed told.events) s.store) (collects m.form s.history.section_bound s.jobs (A.completed told.events) s.store made)
+
+  poll_counts : IsMadeStore s.store → (polls : List T.Told) → Same (settled m s (next_poll m s polls))
+  poll_counts made [] = refl
+  poll_counts made (told ∷ polls) = taken_so made told polls (A.not_out (A.completed told.events) (A.out s.agenda))
+
+  round_counts : (b : Bool) → Same (settled m s (Gives (next_round s b)))
   round_counts true = refl
   round_counts false = refl
 
-  turns_count : s.agenda.sections ≡ [] → (b : Bool) → Counts (λ n. n ≡ live_cells s) (settled m s (turns_where m s b))
-  turns_count none true = poll_counts none s.history.polls
-  turns_count none false = round_counts (is_empty s.agenda.ready)
+  turns_count : IsMadeStore s.store → (b : Bool) → Same (settled m s (turns_where m s b))
+  turns_count made true = poll_counts made s.history.polls
+  turns_count made false = round_counts (is_empty s.agenda.ready)
 
-  pub turn_counts : s.agenda.sections ≡ [] → (cap : ℕ) → live_cells s ≤ cap → Counts (λ n. n ≤ cap) (settles names l s (turns m s))
-  turn_counts none cap le = counts_more (λ n. n ≡ live_cells s) (λ n. n ≤ cap) (settled m s (turns m s)) (λ n e. subst (λ k. k ≤ cap) (sym e) le) (turns_count none (A.needs_poll s.agenda))
+  pub turn_counts : (cap : ℕ) → Within cap s → Counts (λ n. n ≤ cap) (settles names l s (turns m s))
+  turn_counts cap within = counts_more (λ n. n ≡ live_cells s) (λ n. n ≤ cap) (settled m s (turns m s)) (λ n e. subst (λ k. k ≤ cap) (sym e) within.live) (turns_count within.made.store (A.needs_poll s.agenda))
 
 -- of want of memory nothing is told
 pub memory_counts : (cap : ℕ) (short : Short) (o : Option States) → short ≡ W.Memory → Counts (IsBeyond cap short) o

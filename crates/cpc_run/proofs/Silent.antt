@@ -25,7 +25,9 @@ use Rattle.cpc_meaning.specs.Section.{allocated, freed}
 use Rattle.cpc_meaning.specs.Start.{main_name}
 use Rattle.cpc_meaning.specs.Trees.{trees}
 use Rattle.cpc_meaning_pointer_laws.proofs.Blocks.{Only, any_then, only_then}
-use Rattle.cpc_run.specs.Answers.{Allows, Answered}
+use Rattle.cpc_run.specs.declared.made.Made.{Made}
+use Rattle.cpc_run.specs.declared.made.Made.TheVariants as M
+use Rattle.cpc_run.specs.Answers.{Allows, Answered, MadeAnswered}
 use Rattle.cpc_run.specs.Hosts.{HostsMeet, IsAllowed, answer_of, answers_of}
 use Rattle.cpc_run.specs.States.{States}
 
@@ -229,3 +231,10 @@ module _ (allows : Allows) (q : Program) (s : States) where
   idle_silent e =
       settled_silent (step_running (callbacks q) s s.running)
       (subst (λ o. Only (Good allows F told left) (step_running (callbacks q) s o)) (sym e) (schedules_fine allows F told left (trees q) s s.agenda.round itself))
+
+  -- the same of what was made of it
+  pub made_silent : (rest : List ℤ) (m : Made) → s.history.answers ≡ rest → s.running ≡ None → MadeAnswered allows [] rest m s (try_step (callbacks q) s)
+  made_silent rest (M.On cells) e idle = subst (λ ys. Answered allows [] ys s (try_step (callbacks q) s)) e (idle_silent idle)
+  made_silent rest (M.Over outcome) e idle = subst (λ ys. Answered allows [] ys s (try_step (callbacks q) s)) e (idle_silent idle)
+  made_silent rest (M.Broke fault f) e idle = subst (λ ys. Answered allows [] ys s (try_step (callbacks q) s)) e (idle_silent idle)
+  made_silent rest (M.Full cells) e idle = refl

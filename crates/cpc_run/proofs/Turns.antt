@@ -1,7 +1,7 @@
 -- Where nothing runs: a turn of the round, and what is taken.
-use Rattle.std.proofs.Common.{◌≡◌, ℕ, suc, ◌≤◌, length, true, false, List, [], ◌∷◌, ◌++◌, map, Option, Some, None, Ok, refl, sym, ap, subst, ◌∙◌, arith}
-use Rattle.std.proofs.lemmas.List.{length-map}
+use Rattle.std.proofs.Common.{◌≡◌, ℕ, suc, ◌<◌, ◌≤◌, length, Result, Err, IfOk, true, false, List, [], ◌∷◌, map, Option, Some, None, Ok, refl, sym, ap, subst, ◌∙◌}
 use Rattle.cpc_base.specs.Bytes.{Text}
+use Rattle.cpc_base.specs.declared.stop.NoMemory.{NoMemory}
 use Rattle.cpc_num.specs.declared.kinds.Fault.{Fault}
 use Rattle.cpc_tree.specs.Erase.{Names}
 use Rattle.cpc_tree.specs.Points.{Point}
@@ -22,7 +22,9 @@ use Rattle.cpc_meaning.specs.Trees.{trees}
 use Rattle.cpc_meaning.proofs.Agendas.{SameAgenda, SameDue}
 use Rattle.cpc_meaning.proofs.Both.{Both, Ends, Goes}
 use Rattle.cpc_history_marks.specs.Views.{told_of}
-use Rattle.cpc_agenda_turns.specs.Laws.{after_turn}
+use Rattle.cpc_meaning.specs.History.{polls_fit}
+use Rattle.cpc_agenda_turns.specs.declared.turns.Turns.{Turns}
+use Rattle.cpc_agenda_turns.specs.Laws.{turned}
 use Rattle.cpc_agenda_turns.specs.Turns as N
 use Rattle.cpc_agenda_turns.proofs.Follow.{turns_follow}
 use Rattle.cpc_run.specs.declared.items.Item.{Item}
@@ -30,10 +32,12 @@ use Rattle.cpc_run.specs.declared.looped.Loop.{Loop}
 use Rattle.cpc_run.specs.declared.outcome.Outcome.TheVariants as O
 use Rattle.cpc_run.specs.declared.short.Short.{Short}
 use Rattle.cpc_run.specs.Code.{store_in, stack_in}
-use Rattle.cpc_run.specs.Shown.{shown, shown_of}
-use Rattle.cpc_run.specs.States.{States, IsCallback, SameLists, Stands, Did, Came, lists_in, polls_in, settles, where_running, program_in}
-use Rattle.cpc_run.proofs.Alike.{turn_same, turn_keeps}
-use Rattle.cpc_run.proofs.Marks.{shown_more}
+use Rattle.cpc_run.specs.Shown.{shown}
+use Rattle.cpc_run.specs.declared.step.Step.{Step}
+use Rattle.cpc_run.specs.declared.step.Step.TheVariants as X
+use Rattle.cpc_run.specs.States.{States, IsCallback, Stands, DidTurn, CameTo, IsSteady, CountsPolls, lists_in, polls_in, settles, where_running, program_in}
+use Rattle.cpc_run.proofs.Alike.{turn_same}
+use Rattle.cpc_run.proofs.Asks.{same_lists, same_agenda}
 
 -- ---- a call of a function
 
@@ -94,7 +98,7 @@ runs_named p vs s o = do
   Gives (record s { store = t; running = Some (stack_of frame) })
 
 -- where the code called the function as the definition does, the loop stands as the next state
-module _ (names : Names) (l new : Loop) (printed : Text) (s : States) (h : Stands names l printed s) (turns : new.turns ≡ l.turns) (trace : new.trace ≡ l.trace) (running : new.running ≡ true) where
+module _ (names : Names) (l new : Loop) (printed : Text) (s : States) (h : Stands names l printed s) (turns : new.turns ≡ l.turns) (jobs : new.jobs ≡ l.jobs) (trace : new.trace ≡ l.trace) (running : new.running ≡ true) where
   abbrev Entered : Text → List Value → Type 0
   Entered f vs =
       (g : Function) (frame : Frame Point) (t : Store) → function_named (program_in names l) f ≡ Some g → make_frame (trees (program_in names l)) g vs (store_in names l.machine) ≡ Gives (frame, t)
@@ -105,25 +109,25 @@ module _ (names : Names) (l new : Loop) (printed : Text) (s : States) (h : Stand
   in_frame frame t e = record {
     store = sym e.1;
     running = ap Some (sym e.0) ∙ sym (ap (λ b. where_running b (stack_in names new.machine)) running);
-    lists = subst (λ t. SameLists names t s.agenda s.history.polls) (sym turns) h.lists;
+    lists = same_lists names l new s turns jobs h.lists;
     printed_so = ap (λ b. shown b s.trace) trace ∙ h.printed_so;
     going = h.going;
   }
 
   made : (g : Function) (vs : List Value) (a : Answer (Frame Point × Store)) → ((fault : Fault) → a ≡ Faults fault → ⊥) → ((frame : Frame Point) (t : Store) → a ≡ Gives (frame, t) → (stack_in names new.machine ≡ stack_of frame) × (store_in names new.machine ≡ t))
-      → Did {E = Short} names (Ok None) new printed s (settles names l s (runs_in s a))
+      → DidTurn {E = Short} names (Ok X.On) new printed s (settles names l s (runs_in s a))
   made g vs NoAnswer none entered = tt
   made g vs (Faults fault) none entered = absurd (none fault refl)
   made g vs (Gives (frame, t)) none entered = in_frame frame t (entered frame t refl)
 
   named : (f : Text) (vs : List Value) (o : Option Function) → function_named (program_in names l) f ≡ o → Entered f vs
-      → Did {E = Short} names (Ok None) new printed s (settles names l s (runs_named (program_in names l) vs s o))
+      → DidTurn {E = Short} names (Ok X.On) new printed s (settles names l s (runs_named (program_in names l) vs s o))
   named f vs None e entered = tt
   named f vs (Some g) e entered =
       made g vs (make_frame (trees (program_in names l)) g vs s.store) (λ fault. frame_never_fails (program_in names l) g vs s.store fault)
       (λ frame t m. entered g frame t e (ap (make_frame (trees (program_in names l)) g vs) (sym h.store) ∙ m))
 
-  pub called : (f : Text) (vs : List Value) → Entered f vs → Did {E = Short} names (Ok None) new printed s (settles names l s (runs (trees (program_in names l)) f vs s))
+  pub called : (f : Text) (vs : List Value) → Entered f vs → DidTurn {E = Short} names (Ok X.On) new printed s (settles names l s (runs (trees (program_in names l)) f vs s))
   called f vs entered = named f vs (function_named (program_in names l) f) refl entered
 
 -- ---- a turn
@@ -142,81 +146,80 @@ turn_step names l printed s h idle none =
     sym (ap (λ o. settled m s (step_running m s o)) running ∙ ap (λ r. settled m s (schedules m s r)) round)
 
 -- the loop stands with the same lists
-pub stands_as_before : (names : Names) (l mid : Loop) (printed : Text) (s : States) → mid.machine ≡ l.machine → mid.running ≡ l.running → mid.trace ≡ l.trace → mid.turns.polls.now ≡ l.turns.polls.now
+pub stands_as_before : (names : Names) (l mid : Loop) (printed : Text) (s : States) → mid.machine ≡ l.machine → mid.running ≡ l.running → mid.trace ≡ l.trace → mid.turns.polls.now ≡ l.turns.polls.now → mid.jobs ≡ l.jobs
     → lists_in names mid ≡ lists_in names l → Stands names l printed s → Stands names mid printed s
-stands_as_before names l mid printed s machine running trace polls same h = record {
+stands_as_before names l mid printed s machine running trace polls jobs same h = record {
   store = h.store ∙ ap (store_in names) (sym machine);
   running = h.running ∙ ap (λ b. where_running b (stack_in names l.machine)) (sym running) ∙ ap (λ m. where_running mid.running (stack_in names m)) (sym machine);
-  lists = record {
-    agenda = subst (λ a. SameAgenda (IsCallback names) a s.agenda) (sym same) h.lists.agenda;
-    polls = h.lists.polls ∙ ap (map told_of) (sym polls);
-    none_out = h.lists.none_out;
-  };
+  lists = same_agenda names l mid s s.agenda polls jobs (subst (λ a. SameAgenda (IsCallback names) a s.agenda) (sym same) h.lists.agenda) (refl, refl) h.lists;
   printed_so = ap (λ b. shown b s.trace) trace ∙ h.printed_so;
   going = h.going;
 }
 
-module _ (names : Names) (l new : Loop) (printed : Text) (s : States) (h : Stands names l printed s) (machine : new.machine ≡ l.machine) (still : new.running ≡ l.running) (trace : new.trace ≡ l.trace) where
+module _ (names : Names) (l new : Loop) (printed : Text) (s : States) (h : Stands names l printed s) (machine : new.machine ≡ l.machine) (still : new.running ≡ l.running) (trace : new.trace ≡ l.trace) (jobs : new.jobs ≡ l.jobs) (polls : new.turns.polls.now ≡ l.turns.polls.now) where
   abbrev m : Machine Point Callback
   m = callbacks (program_in names l)
 
-  -- the lists and polls after the turn
+  -- the lists after the turn
   abbrev pub TurnedTo : N.Turn → Type 0
-  TurnedTo t = N.TurnIs t (lists_in names l) (polls_in l) (lists_in names new) (polls_in new)
+  TurnedTo t = N.TurnIs t (lists_in names l) (polls_in l) (lists_in names new)
 
-  turned : (t : N.Turn) → TurnedTo t → (b : A.Agenda Callback) × SameAgenda (IsCallback names) (lists_in names new) b × (b.sections ≡ []) × N.TurnIs t s.agenda s.history.polls b (polls_in new) × (turns m s ≡ Gives (after_turn t s b (polls_in new)))
-  turned t e =
-      let moved = subst (λ ps. N.TurnIs t (lists_in names l) ps (lists_in names new) (polls_in new)) (sym h.lists.polls) e in
-      let it = turn_same (IsCallback names) (lists_in names l) s.agenda h.lists.agenda t s.history.polls (lists_in names new) (polls_in new) moved in
-      (it.0, it.1, turn_keeps t s.agenda s.history.polls it.0 (polls_in new) it.2 ∙ h.lists.none_out, it.2, turns_follow Point Callback m s t it.0 (polls_in new) h.lists.none_out it.2)
+  turned_so : (t : N.Turn) → TurnedTo t → (b : A.Agenda Callback) × SameAgenda (IsCallback names) (lists_in names new) b × N.TurnIs t s.agenda s.history.polls b × (turns m s ≡ turned m t s b)
+  turned_so t e =
+      let moved = subst (λ ps. N.TurnIs t (lists_in names l) ps (lists_in names new)) (sym h.lists.polls) e in
+      let it = turn_same (IsCallback names) (lists_in names l) s.agenda h.lists.agenda t s.history.polls (lists_in names new) moved in
+      (it.0, it.1, it.2, turns_follow Point Callback m s t it.0 it.2)
 
   running_so : s.running ≡ where_running new.running (stack_in names new.machine)
   running_so = h.running ∙ ap (λ b. where_running b (stack_in names l.machine)) (sym still) ∙ ap (λ x. where_running new.running (stack_in names x)) (sym machine)
 
   -- what is ready becomes the round
-  pub round_began : TurnedTo N.Round → Came names None new printed s (settles names l s (turns m s))
+  pub round_began : TurnedTo N.Round → CameTo names X.On new printed s (settles names l s (turns m s))
   round_began e =
-      let it = turned N.Round e in
-      subst (λ a. Came names None new printed s (settles names l s a)) (sym it.4) (record {
+      let it = turned_so N.Round e in
+      subst (λ a. CameTo names X.On new printed s (settles names l s a)) (sym it.3) (record {
         store = h.store ∙ ap (store_in names) (sym machine);
         running = running_so;
-        lists = record { agenda = it.1; polls = sym it.3.same; none_out = it.2 };
+        lists = same_agenda names l new s it.0 polls jobs it.1 (ap (λ z. A.Agenda.sections z) it.2.begun, ap (λ z. A.Agenda.sections_made z) it.2.begun) h.lists;
         printed_so = ap (λ b. shown b s.trace) trace ∙ h.printed_so;
         going = h.going;
       })
 
-  -- a poll is taken, for which this goes out
-  pub poll_taken : (told : T.Told) (text : Text) → text ≡ printed ++ shown_of l.trace (T.Polled told) → TurnedTo (N.Polled told) → Came names None new text s (settles names l s (turns m s))
-  poll_taken told text more e =
-      let it = turned (N.Polled told) e in
-      subst (λ a. Came names None new text s (settles names l s a)) (sym it.4) (record {
-        store = h.store ∙ ap (store_in names) (sym machine);
-        running = running_so;
-        lists = record { agenda = it.1; polls = refl; none_out = it.2 };
-        printed_so = ap (λ b. shown b (s.trace ++ T.Polled told ∷ [])) trace ∙ shown_more l.trace s.trace (T.Polled told) ∙ ap (λ t. t ++ shown_of l.trace (T.Polled told)) h.printed_so ∙ sym more;
-        going = h.going;
-      })
+  -- a poll is wanted
+  pub poll_wanted : (told : T.Told) → TurnedTo (N.Poll told) → turns m s ≡ turned m (N.Poll told) s s.agenda
+  poll_wanted told e = (turned_so (N.Poll told) e).3
 
   -- the run is over
-  pub run_ended : (n : ℕ) (text : Text) → TurnedTo (N.Ended n) → Came names (Some (O.Ended n)) new text s (settles names l s (turns m s))
-  run_ended n text e = subst (λ a. Came names (Some (O.Ended n)) new text s (settles names l s a)) (sym (turned (N.Ended n) e).4) refl
+  pub run_ended : (n : ℕ) (text : Text) → TurnedTo (N.Ended n) → CameTo names (X.Over (O.Ended n)) new text s (settles names l s (turns m s))
+  run_ended n text e = subst (λ a. CameTo names (X.Over (O.Ended n)) new text s (settles names l s a)) (sym (turned_so (N.Ended n) e).3) refl
 
-  pub history_over : (text : Text) → TurnedTo N.HistoryEnded → Came names (Some O.HistoryEnded) new text s (settles names l s (turns m s))
-  history_over text e = subst (λ a. Came names (Some O.HistoryEnded) new text s (settles names l s a)) (sym (turned N.HistoryEnded e).4) refl
+  pub history_over : (text : Text) → TurnedTo N.HistoryEnded → CameTo names (X.Over O.HistoryEnded) new text s (settles names l s (turns m s))
+  history_over text e = subst (λ a. CameTo names (X.Over O.HistoryEnded) new text s (settles names l s a)) (sym (turned_so N.HistoryEnded e).3) refl
 
-  pub poll_refused : (n : ℕ) (text : Text) → TurnedTo (N.BadHistory n) → Came names (Some (O.BadHistory n)) new text s (settles names l s (turns m s))
-  poll_refused n text e = subst (λ a. Came names (Some (O.BadHistory n)) new text s (settles names l s a)) (sym (turned (N.BadHistory n) e).4) refl
+  pub poll_refused : (n : ℕ) (text : Text) → TurnedTo (N.BadHistory n) → CameTo names (X.Over (O.BadHistory n)) new text s (settles names l s (turns m s))
+  poll_refused n text e = subst (λ a. CameTo names (X.Over (O.BadHistory n)) new text s (settles names l s a)) (sym (turned_so (N.BadHistory n) e).3) refl
 
--- no turn gives polls back
-pub no_more_polls : (names : Names) (l new : Loop) (t : N.Turn) → N.TurnIs t (lists_in names l) (polls_in l) (lists_in names new) (polls_in new) → length new.turns.polls.now ≤ length l.turns.polls.now
-no_more_polls names l new t e = subst (λ n. n ≤ length l.turns.polls.now) (length-map new.turns.polls.now told_of) (subst (λ n. length (polls_in new) ≤ n) (length-map l.turns.polls.now told_of) (fewer t e))
-  where
-    same_length : polls_in new ≡ polls_in l → length (polls_in new) ≤ length (polls_in l)
-    same_length e = let f = ap length e in omega (arith, f)
+-- ---- a poll that is wanted
 
-    fewer : (t : N.Turn) → N.TurnIs t (lists_in names l) (polls_in l) (lists_in names new) (polls_in new) → length (polls_in new) ≤ length (polls_in l)
-    fewer N.Round h = same_length h.same
-    fewer (N.Polled told) h = let f : length (polls_in l) ≡ suc (length (polls_in new)) = ap length h.next in omega (arith, f)
-    fewer (N.Ended n) h = same_length h.2
-    fewer N.HistoryEnded h = same_length h.2
-    fewer (N.BadHistory n) h = same_length h.2
+pub wants_so : (names : Names) (l mid : Loop) (told : T.Told) → mid.turns.polls.now ≡ l.turns.polls.now → N.TurnIs (N.Poll told) (lists_in names l) (polls_in l) (lists_in names mid) → N.WantsPoll told (lists_in names mid) (polls_in mid)
+wants_so names l mid told polls e =
+    subst (λ ps. N.WantsPoll told (lists_in names mid) (map told_of ps)) (sym polls) (subst (λ a. N.WantsPoll told a (polls_in l)) (sym e.1) e.0)
+
+-- the lists are others, with the same polls
+pub steady_so : (l : Loop) (turns : Turns Item) → turns.polls.now ≡ l.turns.polls.now → IsSteady l → IsSteady (record l { turns = turns })
+steady_so l turns polls h = record {
+  well = h.well;
+  idle = h.idle;
+  fits = subst (λ ps. polls_fit (map told_of ps) ≡ true) (sym polls) h.fits;
+  counted = subst (λ ps. length ps ≤ l.polls) (sym polls) h.counted;
+  numbered = h.numbered;
+}
+
+counted_so : (l mid : Loop) (r : Step) → mid.turns.polls.now ≡ l.turns.polls.now → CountsPolls r mid → CountsPolls r l
+counted_so l mid X.On e h = tt
+counted_so l mid (X.Over outcome) e h = tt
+counted_so l mid (X.Broke fault f) e h = subst (λ ps. 0 < length ps) e h
+
+pub counts_so : (l mid : Loop) (r : Result Step NoMemory) → mid.turns.polls.now ≡ l.turns.polls.now → IfOk r (λ x. CountsPolls x mid) → IfOk r (λ x. CountsPolls x l)
+counts_so l mid (Ok x) e h = counted_so l mid x e h
+counts_so l mid (Err error) e h = tt

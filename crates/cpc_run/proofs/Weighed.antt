@@ -1,6 +1,8 @@
 -- A step within the cap.
 use Rattle.std.proofs.Common.{◌≡◌, ◌≢◌, ℕ, ◌+◌, ◌<◌, ◌≤◌, min, Bool, true, false, ◌++◌, Option, Some, None, Ok, refl, sym, ap, subst, ◌∙◌, arith, append_assoc}
 use Rattle.cpc_base.specs.Bytes.{Text}
+use Rattle.cpc_base.specs.declared.names.Name.{Name}
+use Rattle.cpc_num.specs.declared.kinds.Fault.{Fault}
 use Rattle.cpc_tree.specs.Erase.{Names}
 use Rattle.cpc_store.specs.Store.{store_cells}
 use Rattle.cpc_meaning.specs.Plain.{Stack}
@@ -12,7 +14,8 @@ use Rattle.cpc_run.specs.declared.outcome.Outcome.{Outcome}
 use Rattle.cpc_run.specs.declared.short.Short.TheVariants as W
 use Rattle.cpc_run.specs.Shorts.{Counts, IsBeyond}
 use Rattle.cpc_run.specs.Code.{store_in, stack_in, IsIdle}
-use Rattle.cpc_run.specs.States.{States, Stands, Came, IsSteady, where_running}
+use Rattle.cpc_run.specs.declared.step.Step.TheVariants as X
+use Rattle.cpc_run.specs.States.{States, Stands, Breaks, Came, CameTo, IsSteady, where_running}
 use Rattle.cpc_run.specs.Reports.{MadeSo}
 use Rattle.cpc_run.proofs.Coded.{idle_frames}
 
@@ -55,3 +58,19 @@ module _ (names : Names) (cap : ℕ) (l : Loop) (s : States) where
   pub made_full : (old new : Text) (cells : ℕ) (o : Option States) → Counts (IsBeyond cap (W.Beyond cells)) o → new ≡ old → MadeSo names cap (Ok (M.Full cells)) l old new s o
   made_full old new cells None h same = tt
   made_full old new cells (Some t) h same = (same, h.0, h.1)
+
+  -- the same where nothing ran
+  pub turned_on : (old printed new : Text) (cells greatest : ℕ) (o : Option States) → printed ≡ new → CameTo names X.On l printed s o
+      → ((t : States) → Stands names l printed t → cells ≡ min (live_cells t) greatest) → cap < greatest → Counts (λ n. n ≤ cap) o → MadeSo names cap (Ok (M.On cells)) l old new s o
+  turned_on old printed new cells greatest None e h counted small le = tt
+  turned_on old printed new cells greatest (Some t) e h counted small le =
+      let is = counted t h in
+      (subst (λ p. Stands names l p t) e h, omega (arith, is, small, le), omega (arith, is, small, le))
+
+  pub turned_over : (old printed new : Text) (outcome : Outcome) (o : Option States) → CameTo names (X.Over outcome) l printed s o → new ≡ old → MadeSo names cap (Ok (M.Over outcome)) l old new s o
+  turned_over old printed new outcome None h same = tt
+  turned_over old printed new outcome (Some t) h same = (same, h)
+
+  pub turned_broke : (old printed new : Text) (fault : Fault) (f : Name) (o : Option States) → printed ≡ new → CameTo names (X.Broke fault f) l printed s o → MadeSo names cap (Ok (M.Broke fault f)) l old new s o
+  turned_broke old printed new fault f None e h = tt
+  turned_broke old printed new fault f (Some t) e h = subst (λ p. Breaks names fault f l.trace p s t) e h

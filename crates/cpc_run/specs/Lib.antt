@@ -2,6 +2,8 @@ pub mod Answers
 pub mod Code
 pub mod Hosts
 pub mod Outcomes
+pub mod Made
+pub mod Sections
 pub mod Shown
 pub mod States
 pub mod Reports

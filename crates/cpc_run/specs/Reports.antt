@@ -13,7 +13,6 @@ use Rattle.cpc_meaning.specs.History.{History}
 use Rattle.cpc_meaning.specs.Machine.{ends, IsStuck}
 use Rattle.cpc_meaning.specs.Runs.{live_cells, Full}
 use Rattle.cpc_meaning.specs.Start.{opening}
-use Rattle.cpc_meaning_pointer_laws.specs.Made.{IsMadeState}
 use Rattle.cpc_history_marks.specs.declared.marks.Told.{Told}
 use Rattle.cpc_history_marks.specs.Views.{told_of}
 use Rattle.cpc_run.specs.declared.looped.Loop.{Loop}
@@ -25,10 +24,11 @@ use Rattle.cpc_run.specs.declared.outcome.Outcome.TheVariants as O
 use Rattle.cpc_run.specs.declared.outcome.RunReport.{RunReport}
 use Rattle.cpc_run.specs.declared.made.Made.{Made}
 use Rattle.cpc_run.specs.declared.made.Made.TheVariants as M
+use Rattle.cpc_run.specs.Made.{IsMadeRun}
 use Rattle.cpc_run.specs.Hosts.{answers_of, HostsMeet, with_answers}
 use Rattle.cpc_run.specs.Outcomes.{outcome_of}
 use Rattle.cpc_run.specs.Shown.{shown, all_shown, last_of}
-use Rattle.cpc_run.specs.States.{States, Stands, Fits, IsSteady, program_in}
+use Rattle.cpc_run.specs.States.{States, Stands, Breaks, Fits, IsSteady, program_in}
 
 -- a sink took some bytes that have P
 abbrev pub Wrote : (old new : Option Text) → (Text → Type 0) → Type 0
@@ -39,9 +39,9 @@ pub record IsPrefix (front all : Text) : Type 0 where
   pub rest : Text
   pub whole : all ≡ front ++ rest
 
--- the history of a run that is told these polls, before a host has answered
-abbrev pub history_of : List Told → History
-history_of polls = record { polls = map told_of polls; answers = []; section_bound = 10000000 }
+-- the history of a run that is told these polls, before a host has answered, where a section may make so many steps
+abbrev pub history_of : List Told → (section_bound : ℕ) → History
+history_of polls section_bound = record { polls = map told_of polls; answers = []; section_bound = section_bound }
 
 -- q's event run over a history after n steps
 abbrev pub run_of : Program → History → ℕ → States
@@ -126,15 +126,21 @@ pub record Reached (names : Names) (q : Program) (h : History) (cap : ℕ) (trac
   pub bounded : (m : ℕ) → m ≤ n → live_cells (run_of q h m) ≤ cap
   pub traces : l.trace ≡ trace
   pub polls : l.polls ≡ length h.polls
-  pub made : IsMadeState (run_of q h n)
+  pub made : IsMadeRun (run_of q h n)
 
--- what one step came to, from s: the cells are those of the next state; one that is over, or has too many, adds no bytes
+-- what one step came to, from s: the cells are those of the next state; one that has too many, or is over without a poll, adds no bytes
 abbrev pub MadeSo : Names → (cap : ℕ) → Result Made NoMemory → Loop → (old new : Text) → States → Option States → Type 0
 MadeSo names cap (Err e) l old new s o = Unit {0}
 MadeSo names cap (Ok m) l old new s None = Unit {0}
 MadeSo names cap (Ok (M.On cells)) l old new s (Some t) = Stands names l new t × (cells ≡ live_cells t) × (cells ≤ cap)
 MadeSo names cap (Ok (M.Full cells)) l old new s (Some t) = (new ≡ old) × (cells ≡ live_cells t) × (cap < cells)
 MadeSo names cap (Ok (M.Over outcome)) l old new s (Some t) = (new ≡ old) × (t ≡ ends (outcome_of names outcome) s)
+MadeSo names cap (Ok (M.Broke fault f)) l old new s (Some t) = Breaks names fault f l.trace new s t
+
+-- a step that broke took a poll, so that one was there
+abbrev pub MadePolls : Made → Loop → Type 0
+MadePolls (M.Broke fault f) l = 0 < length l.turns.polls.now
+MadePolls m l = Unit {0}
 
 -- where a step goes on, the loop is as before in what it keeps
 abbrev pub MadeSteady : Result Made NoMemory → Loop → Type 0
@@ -167,7 +173,7 @@ pub record Begins (names : Names) (q : Program) (h : History) (l : Loop) (cells 
   pub stands : Stands names l [] (run_of q h 0)
   pub cells_are : cells ≡ live_cells (run_of q h 0)
   pub polls : l.polls ≡ length h.polls
-  pub made : IsMadeState (run_of q h 0)
+  pub made : IsMadeRun (run_of q h 0)
 
 -- the loop stands as the first state of the program
 pub record Opened (names : Names) (p : GProgram.Program) (h : History) (l : Loop) : Type 0 where

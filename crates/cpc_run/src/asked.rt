@@ -162,6 +162,7 @@ impl<'p> Loop<'p> {
     fn calls_builtin(
         &mut self,
         alloc: Global,
+        table: &Names,
         builtin: Builtin,
         request: &Request,
         pending: &mut Vec<u8>,
@@ -171,7 +172,7 @@ impl<'p> Loop<'p> {
         requires lawful { All (λ v. IsLawful (seen v)) request.now.args.items }
         ensures keeps { Keeps self.old self.new }
         ensures steady { GoesSteady result self.new }
-        ensures did { (names : Spelling) → Fits names self.old → (sent : Text) (s : States) → IsMadeCode s.store (stack_in names self.old.machine) → Acted names self.old request.now.function (sent ++ pending.old.items) s s
+        ensures did { (names : Spelling) → Fits names self.old → Spells table.now names → (sent : Text) (s : States) → IsMadeCode s.store (stack_in names self.old.machine) → Acted names self.old request.now.function (sent ++ pending.old.items) s s
             → Did names result self.new (sent ++ pending.new.items) s (settles names self.old s (primitive (callbacks (program_in names self.old)) (primitive_of builtin) (values_of names request.now.args.items) (stack_in names self.old.machine) s)) }
     {
         match builtin {
@@ -194,9 +195,12 @@ impl<'p> Loop<'p> {
             Builtin::RtWait => self.waits(alloc, request, pending),
             Builtin::RtSleep => self.sleeps(alloc, request, pending),
             Builtin::RtIo => self.awaits(alloc, request, pending),
-            _ => Err(NoMemory),
+            Builtin::RtDetach => self.detaches(alloc, table, request, pending),
+            // Primitives of threads, for which no code of an event program asks; of them nothing is said.
+            Builtin::Yield | Builtin::Sleep | Builtin::IoWait | Builtin::Wait => Err(NoMemory),
         }
     }
+
     /// A request of the running code is acted on and answered; or the run is over. What goes out is put behind `pending`.
     pub(crate) fn asked<R: HostRule>(
         &mut self,
@@ -217,7 +221,7 @@ impl<'p> Loop<'p> {
             → CameAnswered names R.answers said rest r self.new (sent ++ pending.new.items) s (settles names self.old s (asked_by (callbacks (program_in names self.old)) (stack_in names self.old.machine) s (request_of names request.now).asked (request_of names request.now).arguments)))) }
     {
         match request.call {
-            Call::Builtin(builtin) => self.calls_builtin(alloc, builtin, request, pending),
+            Call::Builtin(builtin) => self.calls_builtin(alloc, table, builtin, request, pending),
             Call::Host(name) => self.calls_host(alloc, table, hosts, name, request, pending),
         }
     }

@@ -139,6 +139,27 @@ impl<'p> Code<'p> {
         self.machine.store().live_cells()
     }
 
+    /// The store, to be read.
+    pub(crate) fn store(&self) -> &Store
+        ensures { (names : Spelling) → store_of names result.now ≡ store_in names self.now }
+    {
+        self.machine.store()
+    }
+
+    /// Puts another store in the place of the one that is there, which is handed out.
+    pub(crate) fn replace_store(&mut self, store: Store) -> Store
+        requires well { IsWell self.old }
+        ensures value { (names : Spelling) → store_of names result ≡ store_in names self.old }
+        ensures store { (names : Spelling) → store_in names self.new ≡ store_of names store }
+        ensures items { (names : Spelling) → items_in names self.new ≡ items_in names self.old }
+        ensures runs { (names : Spelling) → Runs names self.old → Runs names self.new }
+        ensures stack { (names : Spelling) → stack_in names self.new ≡ stack_in names self.old }
+        ensures idle { IsIdle self.old → IsIdle self.new }
+        ensures well { IsWell self.new }
+    {
+        self.machine.replace_store(store)
+    }
+
     /// Makes the next block of a class, its cells unset.
     pub(crate) fn alloc(
         &mut self,

@@ -13,8 +13,10 @@ mod memory;
 mod open;
 mod outcome;
 mod run;
+mod sections;
 mod short;
 mod shown;
+mod step;
 mod waits;
 
 pub use hosts::missing_host;

@@ -12,21 +12,23 @@ ghost use Rattle.cpc_eval_values.specs.Shown.{value_of, values_of};
 ghost use Rattle.cpc_run.specs.Answers.{CameAnswered};
 ghost use Rattle.cpc_run.specs.Code.{stack_in};
 ghost use Rattle.cpc_run.specs.Shorts.{Counts, IsBeyond};
-ghost use Rattle.cpc_run.specs.States.{States, Stands, Within, Fits, IsSteady, GoesSteady, Keeps, Came, Did, Acted, settles, program_in, callback_of, lists_in};
+ghost use Rattle.cpc_run.specs.declared.step.Step.TheVariants.{On};
+ghost use Rattle.cpc_run.specs.States.{States, Stands, Within, Fits, IsSteady, GoesSteady, TurnsSteady, CountsPolls, Keeps, Did, DidTurn, Acted, settles, program_in, callback_of, lists_in};
 
 use crate::code::Code;
 use crate::items::{Item, waited_for};
 use crate::outcome::Outcome;
 use crate::short::{Short, above};
-use crate::shown::put_poll;
+use crate::step::Step;
 use cpc_agenda_turns::{Turned, Turns};
 use cpc_base::{Name, Names, NoMemory, Stop};
 use cpc_hosts::{HostRule, HostTable, Kept};
 use cpc_native::Stepped;
+use cpc_run_jobs::Jobs;
 use cpc_store::Value;
 use std::alloc::Global;
 
-/// A run that goes on: the running code, what is ready and what waits, and the polls that are left.
+/// A run that goes on: the running code, what is ready and what waits, the sections that are out, and the polls that are left.
 #[derive(Drop)]
 pub(crate) struct Loop<'p> {
     /// The code, its store and its stack.
@@ -35,6 +37,8 @@ pub(crate) struct Loop<'p> {
     pub running: bool,
     /// What is ready, what is left of the round, what waits, and the polls that are left.
     pub turns: Turns<'p, Item>,
+    /// The sections that are out.
+    pub jobs: Jobs<'p>,
     /// How many polls the history has.
     pub polls: u64,
     /// Whether a trace is wanted, in place of what is put out.
@@ -69,47 +73,37 @@ impl<'p> Loop<'p> {
 
     // Nothing runs and the round is over: the run ends, or what is ready becomes the round, before which the next poll is taken
     // where something is outstanding. What goes out for the poll is put behind `pending`.
-    fn turn(&mut self, alloc: Global, pending: &mut Vec<u8>) -> Result<Option<Outcome>, NoMemory>
+    fn turn(&mut self, alloc: Global, pending: &mut Vec<u8>) -> Result<Step, NoMemory>
         requires steady { IsSteady self.old }
         requires idle { self.old.running ≡ false }
         requires round { (names : Spelling) → (lists_in names self.old).round ≡ [] }
         ensures keeps { Keeps self.old self.new }
-        ensures steady { GoesSteady result self.new }
-        ensures same { self.new.machine ≡ self.old.machine }
+        ensures steady { TurnsSteady result self.new }
+        ensures polls { IfOk result (λ r. CountsPolls r self.old) }
         ensures did { (names : Spelling) → Fits names self.old → (sent : Text) (s : States) → Stands names self.old (sent ++ pending.old.items) s
-            → Did names result self.new (sent ++ pending.new.items) s (settles names self.old s (turns (callbacks (program_in names self.old)) s)) }
+            → DidTurn names result self.new (sent ++ pending.new.items) s (settles names self.old s (turns (callbacks (program_in names self.old)) s)) }
     {
-        let polls = self.turns.polls;
         match self.turns.turn(alloc)? {
-            Turned::Round => Ok(None),
-            Turned::Polled(_) => {
-                put_poll(self.trace, alloc, polls, pending)?;
-                Ok(None)
-            }
-            Turned::Ended(waiters) => Ok(Some(Outcome::Ended(waiters))),
-            Turned::HistoryEnded => Ok(Some(Outcome::HistoryEnded)),
-            Turned::BadHistory(section) => Ok(Some(Outcome::BadHistory(section))),
+            Turned::Round => Ok(Step::On),
+            Turned::Poll(told) => self.polls(alloc, told, pending),
+            Turned::Ended(waiters) => Ok(Step::Over(Outcome::Ended(waiters))),
+            Turned::HistoryEnded => Ok(Step::Over(Outcome::HistoryEnded)),
+            Turned::BadHistory(section) => Ok(Step::Over(Outcome::BadHistory(section))),
         }
     }
 
     // Nothing runs: an item that was the first of the round is taken.
-    fn take(
-        &mut self,
-        alloc: Global,
-        item: Item,
-        waited: Value,
-        cap: u64,
-    ) -> Result<Option<Outcome>, Short>
+    fn take(&mut self, alloc: Global, item: Item, waited: Value, cap: u64) -> Result<Step, Short>
         requires steady { IsSteady self.old }
         requires idle { self.old.running ≡ false }
         requires cap { cap < 2 ^ 62 }
         ensures keeps { Keeps self.old self.new }
-        ensures steady { GoesSteady result self.new }
-        ensures on { IfOk result (λ o. o ≡ None) }
+        ensures steady { TurnsSteady result self.new }
+        ensures on { IfOk result (λ step. step ≡ On) }
         ensures short { IfErr result (λ short. (names : Spelling) → Fits names self.old → (sent : Text) (s : States) → Stands names self.old sent s → Counts (IsBeyond cap short) (settles names self.old s (starts_callback (trees (program_in names self.old)) (callback_of names item) (value_of names waited) s))) }
         ensures capped { OnOk result ((names : Spelling) → Fits names self.old → (sent : Text) (s : States) → Stands names self.old sent s → Counts (λ cells. cells ≤ cap) (settles names self.old s (starts_callback (trees (program_in names self.old)) (callback_of names item) (value_of names waited) s))) }
         ensures did { (names : Spelling) → Fits names self.old → (printed : Text) (s : States) → Stands names self.old printed s
-            → Did names result self.new printed s (settles names self.old s (starts_callback (trees (program_in names self.old)) (callback_of names item) (value_of names waited) s)) }
+            → DidTurn names result self.new printed s (settles names self.old s (starts_callback (trees (program_in names self.old)) (callback_of names item) (value_of names waited) s)) }
     {
         match item {
             Item::Main => {
@@ -133,30 +127,31 @@ impl<'p> Loop<'p> {
         function: Name,
         arguments: &[Value],
         cap: u64,
-    ) -> Result<Option<Outcome>, Short>
+    ) -> Result<Step, Short>
         requires steady { IsSteady self.old }
         requires idle { self.old.running ≡ false }
         requires lawful { All (λ v. IsLawful (seen v)) arguments.now }
         requires cap { cap < 2 ^ 62 }
-        ensures on { IfOk result (λ o. o ≡ None) }
+        ensures on { IfOk result (λ step. step ≡ On) }
         ensures keeps { Keeps self.old self.new }
-        ensures steady { GoesSteady result self.new }
+        ensures steady { TurnsSteady result self.new }
         ensures short { IfErr result (λ short. (names : Spelling) → Fits names self.old → (sent : Text) (s : States) → Stands names self.old sent s → Counts (IsBeyond cap short) (settles names self.old s (runs (trees (program_in names self.old)) (names function) (values_of names arguments.now) s))) }
         ensures capped { OnOk result ((names : Spelling) → Fits names self.old → (sent : Text) (s : States) → Stands names self.old sent s → Counts (λ cells. cells ≤ cap) (settles names self.old s (runs (trees (program_in names self.old)) (names function) (values_of names arguments.now) s))) }
         ensures did { (names : Spelling) → Fits names self.old → (printed : Text) (s : States) → Stands names self.old printed s
-            → Did names result self.new printed s (settles names self.old s (runs (trees (program_in names self.old)) (names function) (values_of names arguments.now) s)) }
+            → DidTurn names result self.new printed s (settles names self.old s (runs (trees (program_in names self.old)) (names function) (values_of names arguments.now) s)) }
     {
         if let Some(short) = above(self.machine.cells_with(function), cap) {
             return Err(short);
         }
         self.machine.call(alloc, function, arguments)?;
         self.running = true;
-        Ok(None)
+        Ok(Step::On)
     }
 
-    // A step of the running code, with what it asks for, unless it would leave more live cells than the cap. What goes out is
-    // put behind `pending`.
-    fn goes_on<R: HostRule>(
+    /// A step of the running code, with what it asks for, unless it would leave more live cells than the cap, which is told as
+    /// short. What goes out is put behind `pending`. The answers that hosts give in it are those of its marks: one that cannot
+    /// arrive leaves none.
+    pub(crate) fn goes_on<R: HostRule>(
         &mut self,
         alloc: Global,
         table: &Names,
@@ -190,54 +185,28 @@ impl<'p> Loop<'p> {
         }
     }
 
-    // Nothing runs: the next of the round is taken, or the loop turns. What goes out is put behind `pending`.
-    fn schedules(
+    /// Nothing runs: the next of the round is taken, or the loop turns. What goes out is put behind `pending`. A step that would
+    /// leave more live cells than the cap is not made, and told as short.
+    pub(crate) fn schedules(
         &mut self,
         alloc: Global,
         pending: &mut Vec<u8>,
         cap: u64,
-    ) -> Result<Option<Outcome>, Short>
+    ) -> Result<Step, Short>
         requires steady { IsSteady self.old }
         requires idle { self.old.running ≡ false }
         requires cap { cap < 2 ^ 62 }
         ensures keeps { Keeps self.old self.new }
-        ensures steady { GoesSteady result self.new }
+        ensures steady { TurnsSteady result self.new }
+        ensures polls { IfOk result (λ r. CountsPolls r self.old) }
         ensures short { IfErr result (λ short. (names : Spelling) → Fits names self.old → (sent : Text) (s : States) → Within cap s → Stands names self.old sent s → Counts (IsBeyond cap short) (try_step (callbacks (program_in names self.old)) s)) }
         ensures capped { OnOk result ((names : Spelling) → Fits names self.old → (sent : Text) (s : States) → Within cap s → Stands names self.old sent s → Counts (λ cells. cells ≤ cap) (try_step (callbacks (program_in names self.old)) s)) }
         ensures did { (names : Spelling) → Fits names self.old → (sent : Text) (s : States) → Within cap s → Stands names self.old (sent ++ pending.old.items) s
-            → Did names result self.new (sent ++ pending.new.items) s (try_step (callbacks (program_in names self.old)) s) }
+            → DidTurn names result self.new (sent ++ pending.new.items) s (try_step (callbacks (program_in names self.old)) s) }
     {
         match self.turns.agenda.next() {
             Some((item, waited)) => self.take(alloc, item, waited, cap),
             None => Ok(self.turn(alloc, pending)?),
         }
-    }
-
-    /// A step of the run, as the event machine makes it: the run goes on, or is over. What goes out is put behind `pending`.
-    /// A step that would leave more live cells than the cap is not made, and told as short. The answers that hosts give in it are
-    /// those of its marks: one that cannot arrive leaves none.
-    pub(crate) fn step<R: HostRule>(
-        &mut self,
-        alloc: Global,
-        table: &Names,
-        hosts: &HostTable<R>,
-        pending: &mut Vec<u8>,
-        cap: u64,
-    ) -> Result<Option<Outcome>, Short>
-        requires steady { IsSteady self.old }
-        requires rule { ⟦<HostTable<R> as Kept>⟧.keeps hosts.now }
-        requires cap { cap < 2 ^ 62 }
-        ensures keeps { Keeps self.old self.new }
-        ensures steady { GoesSteady result self.new }
-        ensures short { IfErr result (λ short. (names : Spelling) → Fits names self.old → (sent : Text) (s : States) → Within cap s → Stands names self.old sent s → Counts (IsBeyond cap short) (try_step (callbacks (program_in names self.old)) s)) }
-        ensures capped { OnOk result ((names : Spelling) → Fits names self.old → (sent : Text) (s : States) → Within cap s → Stands names self.old sent s → Counts (λ cells. cells ≤ cap) (try_step (callbacks (program_in names self.old)) s)) }
-        ensures did { IfOk result (λ r. (said : List ℤ) × ((names : Spelling) → Fits names self.old → Spells table.now names → (sent : Text) (s : States) → Within cap s → Stands names self.old (sent ++ pending.old.items) s
-            → (rest : List ℤ) → s.history.answers ≡ said ++ rest
-            → CameAnswered names R.answers said rest r self.new (sent ++ pending.new.items) s (try_step (callbacks (program_in names self.old)) s))) }
-    {
-        if self.running {
-            return self.goes_on(alloc, table, hosts, pending, cap);
-        }
-        self.schedules(alloc, pending, cap)
     }
 }

@@ -1,5 +1,5 @@
 //! One step of a run, within the cap on live cells.
-ghost use Rattle.std.specs.Prelude.{◌≡◌, List, ℤ, Ok, IfOk, ◌++◌, ◌-◌, ◌+◌, ◌<◌, ◌^◌, length, min};
+ghost use Rattle.std.specs.Prelude.{◌≡◌, true, false, List, ℤ, Ok, IfOk, ◌++◌, ◌-◌, ◌+◌, ◌<◌, ◌^◌, length, min};
 ghost use Rattle.cpc_base.specs.Bytes.{Text};
 ghost use Rattle.cpc_check_rules.specs.Apart.{Spells};
 ghost use Rattle.cpc_tree.specs.Erase.{Names as Spelling};
@@ -8,13 +8,15 @@ ghost use Rattle.cpc_meaning.specs.Machine.{try_step};
 ghost use Rattle.cpc_meaning.specs.Runs.{live_cells};
 ghost use Rattle.cpc_run.specs.Answers.{MadeAnswered};
 ghost use Rattle.cpc_run.specs.States.{States, Stands, Within, Fits, IsSteady, Keeps, program_in};
-ghost use Rattle.cpc_run.specs.Reports.{MadeSo, MadeSteady};
+ghost use Rattle.cpc_run.specs.Reports.{MadeSo, MadePolls, MadeSteady};
 
 use crate::looped::Loop;
 use crate::outcome::Outcome;
 use crate::short::Short;
-use cpc_base::{Names, NoMemory};
+use crate::step::Step;
+use cpc_base::{Name, Names, NoMemory};
 use cpc_hosts::{HostRule, HostTable, Kept};
+use cpc_num::Fault;
 use std::alloc::Global;
 
 // How many bytes wait before they are written, where no poll is taken.
@@ -25,8 +27,10 @@ const CHUNK: usize = 4096;
 pub(crate) enum Made {
     /// The run goes on, with so many live cells.
     On(u64),
-    /// The run is over.
+    /// The run is over, and no poll was taken.
     Over(Outcome),
+    /// The run is over: a poll was taken, and a section that it tells failed, in the code of a function.
+    Broke(Fault, Name),
     /// The step would leave so many live cells, more than the cap.
     Full(u64),
 }
@@ -70,14 +74,69 @@ impl<'p> Loop<'p> {
         requires cap { cap < 2 ^ 62 }
         ensures keeps { Keeps self.old self.new }
         ensures steady { MadeSteady result self.new }
+        ensures polls { IfOk result (λ m. MadePolls m self.old) }
+        ensures made { IfOk result (λ m. (said : List ℤ) × ((names : Spelling) → Fits names self.old → Spells table.now names → (sent : Text) (s : States) → Within cap s → Stands names self.old (sent ++ pending.old.items) s
+            → (rest : List ℤ) → s.history.answers ≡ said ++ rest
+            → MadeSo names cap (Ok m) self.new (sent ++ pending.old.items) (sent ++ pending.new.items) s (try_step (callbacks (program_in names self.old)) s) × MadeAnswered R.answers said rest m s (try_step (callbacks (program_in names self.old)) s))) }
+    {
+        if self.running {
+            return self.runs(alloc, table, hosts, pending, cap);
+        }
+        self.idles(alloc, pending, cap)
+    }
+
+    // A step of the running code.
+    fn runs<R: HostRule>(
+        &mut self,
+        alloc: Global,
+        table: &Names,
+        hosts: &HostTable<R>,
+        pending: &mut Vec<u8>,
+        cap: u64,
+    ) -> Result<Made, NoMemory>
+        requires steady { IsSteady self.old }
+        requires running { self.old.running ≡ true }
+        requires rule { ⟦<HostTable<R> as Kept>⟧.keeps hosts.now }
+        requires cap { cap < 2 ^ 62 }
+        ensures keeps { Keeps self.old self.new }
+        ensures steady { MadeSteady result self.new }
+        ensures polls { IfOk result (λ m. MadePolls m self.old) }
         ensures made { IfOk result (λ m. (said : List ℤ) × ((names : Spelling) → Fits names self.old → Spells table.now names → (sent : Text) (s : States) → Within cap s → Stands names self.old (sent ++ pending.old.items) s
             → (rest : List ℤ) → s.history.answers ≡ said ++ rest
             → MadeSo names cap (Ok m) self.new (sent ++ pending.old.items) (sent ++ pending.new.items) s (try_step (callbacks (program_in names self.old)) s) × MadeAnswered R.answers said rest m s (try_step (callbacks (program_in names self.old)) s))) }
     {
         let mut text = Vec::new(alloc);
-        match self.step(alloc, table, hosts, &mut text, cap) {
+        match self.goes_on(alloc, table, hosts, &mut text, cap) {
+            // What a step put out that fails does not go out.
             Ok(Some(outcome)) => Ok(Made::Over(outcome)),
             Ok(None) => {
+                pending.extend_from_slice(text.as_slice())?;
+                Ok(Made::On(self.cells()))
+            }
+            Err(Short::Beyond(cells)) => Ok(Made::Full(cells)),
+            Err(Short::Memory) => Err(NoMemory),
+        }
+    }
+
+    // A step where nothing runs.
+    fn idles(&mut self, alloc: Global, pending: &mut Vec<u8>, cap: u64) -> Result<Made, NoMemory>
+        requires steady { IsSteady self.old }
+        requires idle { self.old.running ≡ false }
+        requires cap { cap < 2 ^ 62 }
+        ensures keeps { Keeps self.old self.new }
+        ensures steady { MadeSteady result self.new }
+        ensures polls { IfOk result (λ m. MadePolls m self.old) }
+        ensures made { IfOk result (λ m. (names : Spelling) → Fits names self.old → (sent : Text) (s : States) → Within cap s → Stands names self.old (sent ++ pending.old.items) s
+            → MadeSo names cap (Ok m) self.new (sent ++ pending.old.items) (sent ++ pending.new.items) s (try_step (callbacks (program_in names self.old)) s)) }
+    {
+        let mut text = Vec::new(alloc);
+        match self.schedules(alloc, &mut text, cap) {
+            Ok(Step::Over(outcome)) => Ok(Made::Over(outcome)),
+            Ok(Step::Broke(fault, function)) => {
+                pending.extend_from_slice(text.as_slice())?;
+                Ok(Made::Broke(fault, function))
+            }
+            Ok(Step::On) => {
                 pending.extend_from_slice(text.as_slice())?;
                 Ok(Made::On(self.cells()))
             }

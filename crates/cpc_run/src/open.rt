@@ -16,6 +16,7 @@ use cpc_agenda_turns::Turns;
 use cpc_base::{Name, Names, NoMemory};
 use cpc_history_marks::Told;
 use cpc_run_globals::globals;
+use cpc_run_jobs::Jobs;
 use cpc_tree::program::{Item as Declared, Program};
 use std::alloc::Global;
 
@@ -45,30 +46,34 @@ fn main_of(program: &Program) -> Option<Name>
 }
 
 impl<'p> Loop<'p> {
-    /// A run of a program in its first state, over a history of these polls: nothing runs, and the call of `main` is ready.
+    /// A run of a program in its first state, over a history of these polls, where a section may make so many steps: nothing
+    /// runs, and the call of `main` is ready.
     /// `NoMemory` is want of memory; nothing is said of a program without `main`.
     pub(crate) fn open(
         alloc: Global,
         program: &'p Program,
         polls: &'p [Told],
+        section_steps: u64,
         trace: bool,
     ) -> Result<Loop<'p>, NoMemory>
         requires polls { polls_fit (map told_of polls.now) ≡ true }
         ensures steady { IfOk result (λ l. IsSteady l) }
         ensures trace { IfOk result (λ l. l.trace ≡ trace) }
-        ensures opened { IfOk result (λ l. (names : Spelling) → Given names program.now → Opened names program.now (history_of polls.now) l) }
+        ensures opened { IfOk result (λ l. (names : Spelling) → Given names program.now → Opened names program.now (history_of polls.now section_steps) l) }
     {
         let Some(main) = main_of(program) else {
             return Err(NoMemory);
         };
         let store = globals(alloc, program)?;
         let machine = Code::new(alloc, program, store)?;
+        let jobs = Jobs::new(alloc, program, section_steps)?;
         let mut agenda = Agenda::new(alloc);
         match agenda.ready(Item::Main) {
             Ok(()) => Ok(Loop {
                 machine,
                 running: false,
                 turns: Turns { agenda, polls },
+                jobs,
                 polls: polls.len() as u64,
                 trace,
                 main,

@@ -12,6 +12,8 @@ pub struct Limits {
     pub steps: u64,
     /// The most live cells: of blocks, and of the variables of the running code that are registers.
     pub cells: u64,
+    /// The most steps of a section.
+    pub section_steps: u64,
 }
 
 /// How a run is over.

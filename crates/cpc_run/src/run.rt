@@ -6,7 +6,6 @@ ghost use Rattle.cpc_base.specs.Outside.{Rose};
 ghost use Rattle.cpc_base.specs.declared.stop.Dialect.TheVariants.{Event};
 ghost use Rattle.cpc_tree.specs.Erase.{Names as Spelling, in_table, program_of};
 ghost use Rattle.cpc_check_rules.specs.Apart.{Spells};
-ghost use Rattle.cpc_native_builtins.specs.Served.{is_served_program};
 ghost use Rattle.cpc_meaning.specs.History.{History, polls_fit};
 ghost use Rattle.cpc_history_marks.specs.Views.{told_of};
 ghost use Rattle.cpc_meaning.specs.Runs.{live_cells};
@@ -21,10 +20,11 @@ ghost use Rattle.cpc_run.specs.declared.outcome.Limits.{Limits as Bounds};
 use crate::hosts::missing_host;
 use crate::looped::Loop;
 use crate::made::Made;
-use crate::outcome::{Ended, Limits, RunReport};
+use crate::outcome::{Ended, Limits, Outcome, RunReport};
 use crate::shown::put_last;
 use cpc_base::{Failed, Names, NoMemory, Sink, write_all};
 use cpc_check::Checked;
+use cpc_check_served_laws::accepted_are_served;
 use cpc_check_sound_laws::accepted_callbacks_never_stuck;
 use cpc_history_marks::Told;
 use cpc_hosts::{HostRule, HostTable, Kept};
@@ -137,6 +137,11 @@ fn run_on<O: Sink, R: HostRule>(
                 let due = report(Ended::Over(outcome), steps + 1, cells, polls);
                 return told(alloc, table, trace, out, &mut pending, due);
             }
+            Ok(Made::Broke(fault, function)) => {
+                let over = Ended::Over(Outcome::Failed(fault, function));
+                let due = report(over, steps + 1, cells, polls + 1);
+                return told(alloc, table, trace, out, &mut pending, due);
+            }
             Ok(Made::Full(left)) => {
                 let due = report(Ended::Full(left), steps, cells, polls);
                 return told(alloc, table, trace, out, &mut pending, due);
@@ -181,14 +186,14 @@ fn run_from<O: Sink, R: HostRule>(
     requires never_stuck { (h : History) → NeverStuck (program_of program.now) h }
     requires rule { ⟦<HostTable<R> as Kept>⟧.keeps hosts.now }
     requires cap { limits.cells < 2 ^ 62 }
-    requires first { first ≡ live_cells (run_of (program_of program.now) (history_of polls.now) 0) }
+    requires first { first ≡ live_cells (run_of (program_of program.now) (history_of polls.now limits.section_steps) 0) }
     requires within { first ≤ limits.cells }
     requires polls { polls_fit (map told_of polls.now) ≡ true }
-    ensures told { Wrote (O.taken out.old) (O.taken out.new) (Ran R.answers (in_table program.now.names) (program_of program.now) (history_of polls.now) limits trace result) }
+    ensures told { Wrote (O.taken out.old) (O.taken out.new) (Ran R.answers (in_table program.now.names) (program_of program.now) (history_of polls.now limits.section_steps) limits trace result) }
     ensures cause { result.ended ≡ IsWriteFault → Rose (O.faults out.old) (O.faults out.new) }
     ensures later { O.faults out.old ≤ O.faults out.new }
 {
-    let mut run = match Loop::open(alloc, program, polls, trace) {
+    let mut run = match Loop::open(alloc, program, polls, limits.section_steps, trace) {
         Ok(run) => run,
         Err(NoMemory) => return STARVED,
     };
@@ -228,7 +233,7 @@ fn run_program<O: Sink, R: HostRule>(
     requires rule { ⟦<HostTable<R> as Kept>⟧.keeps hosts.now }
     requires cap { limits.cells < 2 ^ 62 }
     requires polls { polls_fit (map told_of polls.now) ≡ true }
-    ensures told { Wrote (O.taken out.old) (O.taken out.new) (Ran R.answers (in_table program.now.names) (program_of program.now) (history_of polls.now) limits trace result) }
+    ensures told { Wrote (O.taken out.old) (O.taken out.new) (Ran R.answers (in_table program.now.names) (program_of program.now) (history_of polls.now limits.section_steps) limits trace result) }
     ensures cause { result.ended ≡ IsWriteFault → Rose (O.faults out.old) (O.faults out.new) }
     ensures later { O.faults out.old ≤ O.faults out.new }
 {
@@ -242,8 +247,8 @@ fn run_program<O: Sink, R: HostRule>(
     run_from(alloc, program, limits, first, polls, hosts, trace, out)
 }
 
-/// Runs an event program that asks only for what the loop answers, over a history of polls within the limits of a history, with
-/// the functions of a table of hosts, and writes what it puts out; with a trace it writes the lines of the trace in place of
+/// Runs an event program over a history of polls within the limits of a history, with the functions of a table of hosts, and
+/// writes what it puts out; with a trace it writes the lines of the trace in place of
 /// that, and the last line. The bound on steps is looked at before each step, and so is the cap, at what the step would leave:
 /// one that would leave more live cells is not made, and nothing of it goes out. The cells of the first state are counted
 /// before it is made.
@@ -255,6 +260,9 @@ fn run_program<O: Sink, R: HostRule>(
 /// `Ended::WriteFault` is a failure of the sink, `Ended::Memory` want of memory; then what went out is the first part of
 /// what the run put out. A step that would leave more cells than the cap is told before it is made, so that it takes no
 /// memory, whatever the size of a block or of a call. A poll that is refused is not taken.
+///
+/// A section runs at the poll that tells it, on its own copy of the cells, with at most `limits.section_steps` steps, which are none of
+/// the run's. A fault of one ends the run in its function; the poll counts as taken and shows in a trace, and no cell goes back.
 pub fn run_event<O: Sink, R: HostRule>(
     alloc: Global,
     program: &Checked,
@@ -265,12 +273,11 @@ pub fn run_event<O: Sink, R: HostRule>(
     out: &mut O,
 ) -> RunReport
     requires dialect { program.now.dialect ≡ Event }
-    requires served { is_served_program (program_of program.now.program) ≡ true }
     requires cap { limits.cells < 2 ^ 62 }
     requires polls { polls_fit (map told_of polls.now) ≡ true }
     requires rule { ⟦<HostTable<R> as Kept>⟧.keeps hosts.now }
     ensures missing { (x : Text) → missing_of (⟦<HostTable<R> as Kept>⟧.names hosts.now) (program_of program.now.program) ≡ Some x → IsMissing (in_table program.now.program.names) x result × (O.taken out.new ≡ O.taken out.old) }
-    ensures told { missing_of (⟦<HostTable<R> as Kept>⟧.names hosts.now) (program_of program.now.program) ≡ None → Wrote (O.taken out.old) (O.taken out.new) (Ran R.answers (in_table program.now.program.names) (program_of program.now.program) (history_of polls.now) limits trace result) }
+    ensures told { missing_of (⟦<HostTable<R> as Kept>⟧.names hosts.now) (program_of program.now.program) ≡ None → Wrote (O.taken out.old) (O.taken out.new) (Ran R.answers (in_table program.now.program.names) (program_of program.now.program) (history_of polls.now limits.section_steps) limits trace result) }
     ensures cause { result.ended ≡ IsWriteFault → Rose (O.faults out.old) (O.faults out.new) }
     ensures later { O.faults out.old ≤ O.faults out.new }
 {
@@ -280,5 +287,6 @@ pub fn run_event<O: Sink, R: HostRule>(
     is_spelled(program);
     checked_has_numbers(program);
     accepted_callbacks_never_stuck();
+    accepted_are_served();
     run_program(alloc, &program.program, limits, polls, hosts, trace, out)
 }

@@ -79,6 +79,23 @@ pub(crate) fn put_host(
     put_line(alloc, &Mark::Host(name, arguments, answer), pending)
 }
 
+/// What goes out for a section that is submitted, by its number and the name of its function: its line, where a trace is wanted.
+pub(crate) fn put_section(
+    trace: bool,
+    alloc: Global,
+    number: u64,
+    name: &[u8],
+    pending: &mut Vec<u8>,
+) -> Result<(), NoMemory>
+    ensures { OnOk result (pending.new.items ≡ pending.old.items ++ shown_of trace (T.Submitted number name.now)) }
+{
+    if !trace {
+        return Ok(());
+    }
+    let name = name.to_vec(alloc)?;
+    put_line(alloc, &Mark::Section(number, name), pending)
+}
+
 /// What goes out for the first of these polls, which is taken: its line, where a trace is wanted.
 pub(crate) fn put_poll(
     trace: bool,

@@ -1,7 +1,7 @@
 use Rattle.std.proofs.Common.{refl, sym, ap, ◌∙◌}
 use Rattle.std.specs.Prelude.{option_map}
 use Rattle.cpc_tree.specs.Erase.{in_table}
-use Rattle.cpc_run.proofs.Ends.{checked_never_stuck}
+use Rattle.cpc_run.proofs.Ends.{checked_never_stuck, checked_served}
 use Rattle.cpc_run.proofs.run.run_event.Goals as goal
 
 pub run_program-requires-clause-never_stuck : goal.run_program-requires-clause-never_stuck
@@ -17,3 +17,9 @@ returns-in-Some-clause-told g c = λ e. absurd (let i = c.in-Some.ensures ∙ e 
 
 pub returns-clause-missing : goal.returns-clause-missing
 returns-clause-missing g c = λ x e. absurd (let i = sym (ap (λ o. option_map (in_table c.args.program.now.program.names) o) c.in_default.is) ∙ c.missing_host.ensures ∙ e in cc i)
+
+pub run_program-requires-clause-given : goal.run_program-requires-clause-given
+run_program-requires-clause-given g c =
+    let p = c.args.program.now in
+    let spelled = c.is_spelled.ensures in
+    (spelled.0, record { spelled = spelled.1; served = checked_served c.accepted_are_served.ensures.law p.program p.dialect c.requires.dialect p.read p.unbroken; numbers = c.checked_has_numbers.ensures })

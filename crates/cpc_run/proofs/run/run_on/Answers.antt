@@ -7,9 +7,9 @@ use Rattle.cpc_tree.specs.Erase.{in_table}
 use Rattle.cpc_run.specs.Answers.{HasSaid, MadeAnswered}
 use Rattle.cpc_run.specs.Hosts.{with_answers}
 use Rattle.cpc_run.specs.States.{program_in}
-use Rattle.cpc_run.specs.Reports.{MadeSo, MadeSteady, Reached, IsLeft, Tells, run_of}
+use Rattle.cpc_run.specs.Reports.{MadeSo, MadePolls, MadeSteady, Reached, IsLeft, Tells, run_of}
 use Rattle.cpc_run.proofs.Given.{has_next, has_same, none_given, ran_with, reached_first}
-use Rattle.cpc_run.proofs.Runs.{AtEnd, within_cap, ends_told, left_in, left_over, left_full, reached_more, at_end, tells_cut, tells_memory}
+use Rattle.cpc_run.proofs.Runs.{AtEnd, within_cap, ends_told, left_in, left_over, left_broke, left_full, reached_more, at_end, tells_cut, tells_memory}
 use Rattle.cpc_run.proofs.run.run_on.Goals as goal
 
 pub returns-in-Ok-Over-clause-told : goal.returns-in-Ok-Over-clause-told
@@ -38,6 +38,33 @@ returns-in-Ok-Over-clause-told g c = λ names q hist spells begins.
     ran_with allows (in_table table) q hist limits trace c.told.result answers (n + 1) (g.O.Sink.taken c.args.out.now) (g.O.Sink.taken c.told.new.out) (ap (λ r. r.steps) c.told.ensures.same ∙ ap (λ r. r.steps) c.report-due.ensures) said_so
     (ends_told table q h limits trace c.report-due.result c.told.result new (g.O.Sink.taken c.args.out.now) (g.O.Sink.taken c.told.new.out)
     (λ i. left_in names table spells q h limits c.report-due.result.steps c.report-due.result.ended i left) at c.told.ensures.same (c.told.ensures.told (g.O.Sink.taken c.args.out.now) sent taken))
+
+pub returns-in-Ok-Broke-clause-told : goal.returns-in-Ok-Broke-clause-told
+returns-in-Ok-Broke-clause-told g c = λ names q hist spells begins.
+    let allows = g.R.HostRule.answers in
+    let l = c.steps.run in
+    let n = c.steps.steps in
+    let table = c.args.table.now in
+    let trace = c.args.run.now.trace in
+    let limits = c.args.limits in
+    let (sent, taken, given, far) = c.steps.invariant.so_far names q hist spells begins in
+    let (said, make) = c.in-Ok-Broke.ensures.made in
+    let answers = given ++ said in
+    let h = with_answers hist answers in
+    let stuck = (begins answers).never_stuck in
+    let (reached, has) = far said in
+    let old = sent ++ c.steps.pending.items in
+    let new = sent ++ c.make.new.pending.items in
+    let s = run_of q h n in
+    let o = try_step (callbacks (program_in names l)) s in
+    let both = subst (λ m. MadeSo names limits.cells (Ok m) c.make.new.self old new s o × MadeAnswered allows said [] m s o) c.in-Ok-Broke.field-0-is
+    (make names reached.fits spells sent s (within_cap names q h limits.cells trace l old n c.steps.cells reached) reached.stands [] (has.left ∙ sym (append-nil said))) in
+    let said_so = has_next allows given said [] names q h l n stuck (reached.going n (omega arith)) reached.program both.1 (subst (λ r. HasSaid allows given r s) (sym (append-nil said)) has) in
+    let (left, at) = subst (λ d. IsLeft names q h limits d.steps d.ended × AtEnd q h limits trace d.steps d.cells d.polls new) (sym c.report-due-in-Ok-Broke.ensures)
+    (left_broke names q h limits trace l old n c.steps.cells c.steps.polls stuck reached c.steps.invariant.counted c.steps-test.true c.make.new.self new c.in-Ok-Broke.fault c.in-Ok-Broke.function c.in-Ok-Broke.ensures.keeps.trace both.0) in
+    ran_with allows (in_table table) q hist limits trace c.told-in-Ok-Broke.result answers (n + 1) (g.O.Sink.taken c.args.out.now) (g.O.Sink.taken c.told-in-Ok-Broke.new.out) (ap (λ r. r.steps) c.told-in-Ok-Broke.ensures.same ∙ ap (λ r. r.steps) c.report-due-in-Ok-Broke.ensures) said_so
+    (ends_told table q h limits trace c.report-due-in-Ok-Broke.result c.told-in-Ok-Broke.result new (g.O.Sink.taken c.args.out.now) (g.O.Sink.taken c.told-in-Ok-Broke.new.out)
+    (λ i. left_in names table spells q h limits c.report-due-in-Ok-Broke.result.steps c.report-due-in-Ok-Broke.result.ended i left) at c.told-in-Ok-Broke.ensures.same (c.told-in-Ok-Broke.ensures.told (g.O.Sink.taken c.args.out.now) sent taken))
 
 pub returns-in-Ok-Full-clause-told : goal.returns-in-Ok-Full-clause-told
 returns-in-Ok-Full-clause-told g c = λ names q hist spells begins.
@@ -181,3 +208,10 @@ returns-clause-told g c = λ names q hist spells begins.
     (has_same allows given [] [] (run_of q h n) refl has)
     (ends_told table q h limits trace c.report-due-2.result c.told-2.result whole (g.O.Sink.taken c.args.out.now) (g.O.Sink.taken c.told-2.new.out)
     (λ i. left_in names table spells q h limits c.report-due-2.result.steps c.report-due-2.result.ended i left) at c.told-2.ensures.same (c.told-2.ensures.told (g.O.Sink.taken c.args.out.now) sent taken))
+
+pub overflow_add-polls : goal.overflow_add-polls
+overflow_add-polls g c =
+    let some = subst (λ m. MadePolls m c.steps.run) c.in-Ok-Broke.field-0-is c.in-Ok-Broke.ensures.polls in
+    let counted = c.steps.invariant.counted in
+    let numbered = c.steps.invariant.steady.numbered in
+    omega (arith, some, counted, numbered)

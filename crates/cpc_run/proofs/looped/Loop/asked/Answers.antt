@@ -20,7 +20,7 @@ returns-in-Builtin-clause-did g c = ok_is _ c.calls_builtin.result (λ r e. (
       let after = sent ++ c.calls_builtin.new.pending.items in
       let o = settles names l s (primitive (callbacks (program_in names l)) (primitive_of c.in-Builtin.builtin) vs k s) in
       subst (λ call. CameAnswered names g.R.HostRule.answers [] rest r c.calls_builtin.new.self after s (settles names l s (asked_by (callbacks (program_in names l)) k s (asked_of names call) vs))) (sym c.in-Builtin.is) (
-        subst (λ x. Did names x c.calls_builtin.new.self after s o) e (c.calls_builtin.ensures.did names fits sent s made acted),
+        subst (λ x. Did names x c.calls_builtin.new.self after s o) e (c.calls_builtin.ensures.did names fits spells sent s made acted),
         subst (λ ys. Answered g.R.HostRule.answers [] ys s o) left (primitive_silent g.R.HostRule.answers (program_in names l) s (primitive_of c.in-Builtin.builtin) vs k),
       ),
 ))

@@ -40,7 +40,7 @@ returns-in-Ok-clause-did c = λ names fits sent s acted.
     (subst (λ a. Did names c.marks.result c.marks.new.self after s (settles names l s (a >>= λ x. int_of (value_of names c.args.place.1) >>= λ y. acts p k (Ok (A.io x (direction_of y) callback s.agenda)) (marks (Awaiting x (direction_of y)) s)))) (sym (c.in-Some.ensures names))
     (subst (λ a. Did names c.marks.result c.marks.new.self after s (settles names l s (a >>= λ y. acts p k (Ok (A.io fd (direction_of y) callback s.agenda)) (marks (Awaiting fd (direction_of y)) s)))) (sym (c.in-Some-long.ensures names))
     (subst (λ w. Did names c.marks.result c.marks.new.self after s (settles names l s (acts p k (Ok (A.io fd w callback s.agenda)) (marks (Awaiting fd w) s)))) (c.direction-way.ensures ∙ ap direction_of same_way)
-    (acts_marked names l mid c.marks.new.self c.args.function c.marks.result s (Ok (A.io fd c.direction-way.result item (lists_in names l))) (Ok (A.io fd c.direction-way.result callback s.agenda)) (BothOk _ _ (ios (IsCallback names) fd c.direction-way.result item callback _ _ refl acted.lists.agenda)) refl
-    (subst (λ y. done_of (A.io y c.direction-way.result item (lists_in names l)) ≡ done_of (lists_in names mid)) same (ap Ok (sym (c.in-Ok.ensures.ok names)))) refl refl refl (Awaiting fd c.direction-way.result) (sent ++ c.args.pending.now.items) after acted
+    (acts_marked names l mid c.marks.new.self c.args.function c.marks.result s (Ok (A.io fd c.direction-way.result item (lists_in names l))) (Ok (A.io fd c.direction-way.result callback s.agenda)) (BothOk _ _ (ios (IsCallback names) fd c.direction-way.result item callback _ _ refl acted.lists.agenda)) (refl, refl)
+    (subst (λ y. done_of (A.io y c.direction-way.result item (lists_in names l)) ≡ done_of (lists_in names mid)) same (ap Ok (sym (c.in-Ok.ensures.ok names)))) refl refl refl refl (Awaiting fd c.direction-way.result) (sent ++ c.args.pending.now.items) after acted
     (λ t a. subst (λ y. Did names c.marks.result c.marks.new.self after s (settles names mid s (reply (trees (program_in names mid)) (stack_in names mid.machine) Unset (marks (Awaiting y c.direction-way.result) t)))) same
-    (c.marks.ensures.did names (record { runs = fits.runs; main = fits.main }) sent s t a))))))
+    (c.marks.ensures.did names (record { runs = fits.runs; main = fits.main; serves = fits.serves; items = fits.items }) sent s t a))))))

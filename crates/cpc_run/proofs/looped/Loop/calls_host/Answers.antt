@@ -34,6 +34,6 @@ returns-clause-did g c = ok_is _ c.reply.result (λ r e.
           call_says g.R.HostRule.answers names l new c.args.request.now.function c.args.name c.args.table.now text (values_of names c.args.request.now.args.items) zs z sent c.args.pending.now.items after r said which
           (subst (λ xs. ints_of (values_of names xs) ≡ Gives zs) c.as_slice.ensures.value (c.in_ok-numbers.ensures names)) spells (sym c.in-Some.ensures.text) (subst (λ ys. g.R.HostRule.answers text ys z) c.as_slice-2.ensures.value c.in-Some-call.ensures.meets) shows s acted
           (λ t a. subst (λ y. Came names r new (sent ++ after) s (settles names l s (reply (trees (program_in names l)) (stack_in names l.machine) (Whole Long y) t))) value
-          (subst (λ x. Did names x new (sent ++ after) s (settles names l s (reply (trees (program_in names l)) (stack_in names l.machine) (Whole Long (to_z w128 (of_z w128 (to_z w64 (of_z w64 z))))) t))) e (c.reply.ensures.did names (record { runs = fits.runs; main = fits.main }) (sent ++ after) s t a)))
+          (subst (λ x. Did names x new (sent ++ after) s (settles names l s (reply (trees (program_in names l)) (stack_in names l.machine) (Whole Long (to_z w128 (of_z w128 (to_z w64 (of_z w64 z))))) t))) e (c.reply.ensures.did names (record { runs = fits.runs; main = fits.main; serves = fits.serves; items = fits.items }) (sent ++ after) s t a)))
           rest left,
     ))

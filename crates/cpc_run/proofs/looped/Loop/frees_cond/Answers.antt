@@ -19,7 +19,7 @@ returns-in-Ok-clause-did c = λ names fits printed s acted.
     let n = c.in-Cond.number in
     subst (λ v. Did names c.reply.result c.reply.new.self printed s (settles names l s (primitive (callbacks (program_in names l)) CondFree (value_of names v ∷ []) (stack_in names l.machine) s))) (sym c.in-Cond.is)
     (acts_so names l mid c.reply.new.self c.args.function c.reply.result s (A.cond_free n (lists_in names l)) (A.cond_free n s.agenda) (freed (IsCallback names) n _ _ acted.lists.agenda) (cond_free_keeps n s.agenda)
-    (c.in-Ok.ensures.ok names) refl refl refl printed printed acted (λ t a. c.reply.ensures.did names (record { runs = fits.runs; main = fits.main }) printed s t a))
+    (c.in-Ok.ensures.ok names) refl refl refl refl printed printed acted (λ t a. c.reply.ensures.did names (record { runs = fits.runs; main = fits.main; serves = fits.serves; items = fits.items }) printed s t a))
 
 pub returns-in-Err-clause-did : goal.returns-in-Err-clause-did
 returns-in-Err-clause-did c = λ names fits printed s acted.

@@ -6,7 +6,6 @@ use Rattle.cpc_run.specs.Answers.{CameAnswered}
 use Rattle.cpc_run.specs.Code.{AskedIn, EndsIdle, Same, done_of, store_in, stack_in}
 use Rattle.cpc_native.specs.Stacks.{request_of}
 use Rattle.cpc_meaning_pointer_laws.specs.Made.{IsMadeCode}
-use Rattle.cpc_meaning_pointer_laws.proofs.Runs.{code_made}
 use Rattle.cpc_run.specs.States.{where_running, program_in}
 use Rattle.cpc_meaning.specs.Runs.{live_cells}
 use Rattle.cpc_run.specs.Shorts.{IsBeyond}
@@ -21,6 +20,7 @@ returns-in-Returned-clause-steady g c = record {
   idle = λ e. subst (λ x. EndsIdle x c.step.new.self) c.in-Returned.is c.in_ok-step.ensures.idle;
   fits = c.requires.steady.fits;
   counted = c.requires.steady.counted;
+  numbered = c.requires.steady.numbered;
 }
 
 pub returns-in-Went-clause-did : goal.returns-in-Went-clause-did
@@ -69,8 +69,8 @@ returns-in_ok-asked-in-Asked-clause-did g c =
           subst (λ x. Same (done_of names c.step.new.self x) (plain (trees (program_in names l)) (store_in names l.machine) k)) c.in-Asked.is (c.in_ok-step.ensures.did names fits.runs) in
           code_by T names l s (Asks (request_of names r)) (tt, tt) stands.store did
           (asked_by_mid T names l mid s (request_of names r) (c.in_ok-step.ensures.items names) told.0
-          (h.1 names (record { runs = c.in_ok-step.ensures.runs names fits.runs; main = fits.main }) spells sent s
-          (subst (λ j. IsMadeCode s.store j) (sym told.0) (code_made s k within.made (stands.running ∙ ap (λ b. where_running b k) c.requires.running))) (record {
+          (h.1 names (record { runs = c.in_ok-step.ensures.runs names fits.runs; main = fits.main; serves = fits.serves; items = fits.items ∙ sym (c.in_ok-step.ensures.items names) }) spells sent s
+          (subst (λ j. IsMadeCode s.store j) (sym told.0) (within.made.running k (stands.running ∙ ap (λ b. where_running b k) c.requires.running))) (record {
             store = stands.store ∙ sym told.1;
             asks = stands.running ∙ ap (λ b. where_running b k) c.requires.running ∙ ap Some (sym told.0);
             name = told.2 ∙ sym (ap (λ j. running_function j) told.0);
@@ -102,25 +102,25 @@ returns-in-Some-clause-short g c = λ names fits sent s within stands.
     let over = c.in-Some.ensures.some in
     goes_count (IsBeyond c.args.cap c.in-Some.short) names l s running
     (λ t step. by_more c.args.cap c.next_cells.result c.in-Some.short (live_cells s) (live_cells t) over within.live
-    (λ more. c.next_cells.ensures.more names s fits.runs stands.store running (code_made s (stack_in names l.machine) within.made running) (omega (arith, within.live, c.requires.cap)) more t step))
+    (λ more. c.next_cells.ensures.more names s fits.runs stands.store running (within.made.running (stack_in names l.machine) running) (omega (arith, within.live, c.requires.cap)) more t step))
 
 pub returns-in-Went-clause-capped : goal.returns-in-Went-clause-capped
 returns-in-Went-clause-capped g c = λ names fits sent s within stands.
     let l = c.args.self.now in
     let running = stands.running ∙ ap (λ b. where_running b (stack_in names l.machine)) c.requires.running in
     goes_count (λ n. n ≤ c.args.cap) names l s running
-    (λ t step. c.next_cells.ensures.within names s fits.runs stands.store running (code_made s (stack_in names l.machine) within.made running) c.args.cap c.requires.cap within.live c.in_default.ensures.none t step)
+    (λ t step. c.next_cells.ensures.within names s fits.runs stands.store running (within.made.running (stack_in names l.machine) running) c.args.cap c.requires.cap within.live c.in_default.ensures.none t step)
 
 pub returns-in-Returned-clause-capped : goal.returns-in-Returned-clause-capped
 returns-in-Returned-clause-capped g c = λ names fits sent s within stands.
     let l = c.args.self.now in
     let running = stands.running ∙ ap (λ b. where_running b (stack_in names l.machine)) c.requires.running in
     goes_count (λ n. n ≤ c.args.cap) names l s running
-    (λ t step. c.next_cells.ensures.within names s fits.runs stands.store running (code_made s (stack_in names l.machine) within.made running) c.args.cap c.requires.cap within.live c.in_default.ensures.none t step)
+    (λ t step. c.next_cells.ensures.within names s fits.runs stands.store running (within.made.running (stack_in names l.machine) running) c.args.cap c.requires.cap within.live c.in_default.ensures.none t step)
 
 pub returns-in_ok-asked-in-Asked-clause-capped : goal.returns-in_ok-asked-in-Asked-clause-capped
 returns-in_ok-asked-in-Asked-clause-capped g c = λ names fits sent s within stands.
     let l = c.args.self.now in
     let running = stands.running ∙ ap (λ b. where_running b (stack_in names l.machine)) c.requires.running in
     goes_count (λ n. n ≤ c.args.cap) names l s running
-    (λ t step. c.next_cells.ensures.within names s fits.runs stands.store running (code_made s (stack_in names l.machine) within.made running) c.args.cap c.requires.cap within.live c.in_default.ensures.none t step)
+    (λ t step. c.next_cells.ensures.within names s fits.runs stands.store running (within.made.running (stack_in names l.machine) running) c.args.cap c.requires.cap within.live c.in_default.ensures.none t step)

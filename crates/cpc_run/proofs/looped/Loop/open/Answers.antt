@@ -3,6 +3,7 @@ use Rattle.std.proofs.lemmas.List.{length-map}
 use Rattle.cpc_history_marks.specs.Views.{told_of}
 use Rattle.cpc_run.specs.declared.items.Item.TheVariants as I
 use Rattle.cpc_meaning.specs.Agenda as A
+use Rattle.cpc_run.proofs.Coded.{runs_given}
 use Rattle.cpc_run.proofs.Ends.{main_is, main_ready}
 use Rattle.cpc_run.proofs.Marks.{nothing_shown}
 use Rattle.cpc_run.proofs.looped.Loop.open.Goals as goal
@@ -11,12 +12,12 @@ pub returns-in-Ok-clause-opened : goal.returns-in-Ok-clause-opened
 returns-in-Ok-clause-opened c = λ names given.
     let program = c.args.program.now in
     record {
-      fits = record { runs = c.in_ok-machine.ensures.runs names given; main = main_is names program.names c.in-Some.main given.spelled.spells c.in-Some.ensures };
+      fits = record { runs = c.in_ok-machine.ensures.runs names given; main = main_is names program.names c.in-Some.main given.spelled.spells c.in-Some.ensures; serves = c.in_ok-jobs.ensures.serves names (runs_given names program program.names _ refl refl given); items = c.in_ok-jobs.ensures.items names ∙ sym (c.in_ok-machine.ensures.items names) };
       items = c.in_ok-machine.ensures.items names;
       stands = record {
         store = sym (c.in_ok-store.ensures names given.spelled.spells.apart) ∙ sym (c.in_ok-machine.ensures.store names);
         running = refl;
-        lists = main_ready names (record { agenda = c.ready.new.self; polls = c.args.polls }) c.args.polls.now refl (c.in-Ok.ensures.ready names ∙ ap (A.ready_one I.Main) (c.new-agenda.ensures.lists names));
+        lists = main_ready names (record { agenda = c.ready.new.self; polls = c.args.polls }) c.in_ok-jobs.jobs c.args.polls.now c.args.section_steps refl c.in_ok-jobs.ensures.bound (c.in_ok-jobs.ensures.holds names) (c.in-Ok.ensures.ready names ∙ ap (A.ready_one I.Main) (c.new-agenda.ensures.lists names));
         printed_so = nothing_shown c.args.trace;
         going = refl;
       };
@@ -24,4 +25,4 @@ returns-in-Ok-clause-opened c = λ names given.
     }
 
 pub returns-in-Ok-clause-steady : goal.returns-in-Ok-clause-steady
-returns-in-Ok-clause-steady c = record { well = c.in_ok-machine.ensures.well; idle = λ e. c.in_ok-machine.ensures.idle; fits = c.requires.polls; counted = omega arith }
+returns-in-Ok-clause-steady c = record { well = c.in_ok-machine.ensures.well; idle = λ e. c.in_ok-machine.ensures.idle; fits = c.requires.polls; counted = omega arith; numbered = omega arith }

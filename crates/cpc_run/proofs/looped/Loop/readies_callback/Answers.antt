@@ -20,5 +20,5 @@ returns-in-Ok-clause-did c = λ names fits printed s acted.
     let callback = callback_of names item in
     subst (λ v. Did names c.reply.result c.reply.new.self printed s (settles names l s (event_primitive (trees (program_in names l)) RtReady (value_of names v ∷ value_of names c.args.pointer ∷ []) (stack_in names l.machine) s))) (sym c.in-Code.is)
     (acts_so names l mid c.reply.new.self c.args.function c.reply.result s (Ok (A.ready_one item (lists_in names l))) (Ok (A.ready_one callback s.agenda))
-    (BothOk _ _ (readies_all (IsCallback names) (item ∷ []) (callback ∷ []) (lists_in names l) s.agenda (Goes item callback [] [] refl Ends) acted.lists.agenda)) refl (ap Ok (sym (c.in-Ok.ensures.ready names))) refl refl refl printed printed acted
-    (λ t a. c.reply.ensures.did names (record { runs = fits.runs; main = fits.main }) printed s t a))
+    (BothOk _ _ (readies_all (IsCallback names) (item ∷ []) (callback ∷ []) (lists_in names l) s.agenda (Goes item callback [] [] refl Ends) acted.lists.agenda)) (refl, refl) (ap Ok (sym (c.in-Ok.ensures.ready names))) refl refl refl refl printed printed acted
+    (λ t a. c.reply.ensures.did names (record { runs = fits.runs; main = fits.main; serves = fits.serves; items = fits.items }) printed s t a))

@@ -14,5 +14,5 @@ returns-clause-did c = λ names fits printed s acted.
     let mid = record l { turns = record l.turns { agenda = c.cond_new.new.self } } in
     subst (λ n. Did names c.reply.result c.reply.new.self printed s (settles names l s (reply (trees (program_in names l)) (stack_in names l.machine) (Cond n) (with_agenda s (A.cond_new s.agenda)))))
     (c.in_ok-cond.ensures.number ∙ acted.lists.agenda.conditions_made)
-    (c.reply.ensures.did names (record { runs = fits.runs; main = fits.main }) printed s (with_agenda s (A.cond_new s.agenda))
-    (condition_made names l mid c.args.function printed s refl refl refl (c.in_ok-cond.ensures.ok names) acted))
+    (c.reply.ensures.did names (record { runs = fits.runs; main = fits.main; serves = fits.serves; items = fits.items }) printed s (with_agenda s (A.cond_new s.agenda))
+    (condition_made names l mid c.args.function printed s refl refl refl refl (c.in_ok-cond.ensures.ok names) acted))

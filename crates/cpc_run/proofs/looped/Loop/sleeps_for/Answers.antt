@@ -30,6 +30,6 @@ returns-in-Ok-clause-did c = λ names fits sent s acted.
     subst (λ v. Did names c.marks.result c.marks.new.self after s (settles names l s (event_primitive (trees (program_in names l)) RtSleep (value_of names c.args.length ∷ value_of names v ∷ value_of names c.args.pointer ∷ []) (stack_in names l.machine) s))) (sym c.in-Code.is)
     (subst (λ a. Did names c.marks.result c.marks.new.self after s (settles names l s (a >>= λ y. acts (trees (program_in names l)) (stack_in names l.machine) (A.sleep y (callback_of names item) s.agenda) (marks (Sleeping y) s)))) (sym (c.in-Some.ensures names))
     (acts_marked names l mid c.marks.new.self c.args.function c.marks.result s (A.sleep z item (lists_in names l)) (A.sleep z (callback_of names item) s.agenda) (slept (IsCallback names) z item (callback_of names item) _ _ refl acted.lists.agenda) (sleep_keeps z (callback_of names item) s.agenda)
-    (subst (λ y. A.sleep y item (lists_in names l) ≡ Ok (lists_in names mid)) same (c.in-Ok.ensures.ok names)) refl refl refl (Sleeping z) (sent ++ c.args.pending.now.items) after acted
+    (subst (λ y. A.sleep y item (lists_in names l) ≡ Ok (lists_in names mid)) same (c.in-Ok.ensures.ok names)) refl refl refl refl (Sleeping z) (sent ++ c.args.pending.now.items) after acted
     (λ t a. subst (λ y. Did names c.marks.result c.marks.new.self after s (settles names mid s (reply (trees (program_in names mid)) (stack_in names mid.machine) Unset (marks (Sleeping y) t)))) same
-    (c.marks.ensures.did names (record { runs = fits.runs; main = fits.main }) sent s t a))))
+    (c.marks.ensures.did names (record { runs = fits.runs; main = fits.main; serves = fits.serves; items = fits.items }) sent s t a))))

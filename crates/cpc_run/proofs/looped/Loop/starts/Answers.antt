@@ -8,7 +8,7 @@ use Rattle.cpc_run.proofs.looped.Loop.starts.Goals as goal
 
 pub returns-clause-did : goal.returns-clause-did
 returns-clause-did c = λ names fits printed s stands.
-    called names c.args.self.now _ printed s stands refl refl refl (names c.args.function) (values_of names c.args.arguments.now) (c.in_ok-call.ensures.entered names fits.runs)
+    called names c.args.self.now _ printed s stands refl refl refl refl (names c.args.function) (values_of names c.args.arguments.now) (c.in_ok-call.ensures.entered names fits.runs)
 
 pub returns-in-Some-clause-short : goal.returns-in-Some-clause-short
 returns-in-Some-clause-short c = λ names fits sent s stands.

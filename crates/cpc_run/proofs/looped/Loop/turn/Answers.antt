@@ -1,64 +1,72 @@
-use Rattle.std.proofs.Common.{[], ◌++◌, refl, sym, ap, subst, ◌∙◌, append_assoc, arith}
-use Rattle.cpc_tree.specs.Erase.{Names}
-use Rattle.cpc_tree.specs.Trace as T
+use Rattle.std.proofs.Common.{◌++◌, refl, sym, ap, subst, ◌∙◌}
 use Rattle.cpc_history_marks.specs.Views.{told_of}
 use Rattle.cpc_agenda_turns.specs.Turns.{turn_of, TurnIs}
-use Rattle.cpc_run.specs.Shown.{shown_of}
-use Rattle.cpc_run.specs.States.{lists_in, polls_in}
-use Rattle.cpc_run.proofs.Turns.{round_began, poll_taken, run_ended, history_over, poll_refused, no_more_polls}
+use Rattle.cpc_run.specs.States.{DidTurn, Fits, lists_in, polls_in, settles}
+use Rattle.cpc_run.proofs.Kept.{turns_kept, kept_then}
+use Rattle.cpc_run.proofs.Turns.{round_began, poll_wanted, run_ended, history_over, poll_refused, stands_as_before, wants_so, steady_so, counts_so}
 use Rattle.cpc_run.proofs.looped.Loop.turn.Goals as goal
 
 pub returns-in-Round-clause-steady : goal.returns-in-Round-clause-steady
-returns-in-Round-clause-steady c =
-    let l = c.args.self.now in
-    let new = record l { turns = c.turn.new.self } in
-    let none : Names = λ n. [] in
-    let fewer = no_more_polls none l new _ (c.in_ok-turn.ensures.turned none) in
-    let counted = c.requires.steady.counted in
-    record { well = c.requires.steady.well; idle = c.requires.steady.idle; fits = c.turn.ensures.fits; counted = omega (arith, fewer, counted) }
-
-pub returns-in_ok-put_poll-in-Polled-clause-steady : goal.returns-in_ok-put_poll-in-Polled-clause-steady
-returns-in_ok-put_poll-in-Polled-clause-steady c =
-    let l = c.args.self.now in
-    let new = record l { turns = c.turn.new.self } in
-    let none : Names = λ n. [] in
-    let fewer = no_more_polls none l new _ (c.in_ok-turn.ensures.turned none) in
-    let counted = c.requires.steady.counted in
-    record { well = c.requires.steady.well; idle = c.requires.steady.idle; fits = c.turn.ensures.fits; counted = omega (arith, fewer, counted) }
+returns-in-Round-clause-steady c = steady_so c.args.self.now c.turn.new.self c.turn.ensures.polls c.requires.steady
 
 pub returns-in-Round-clause-did : goal.returns-in-Round-clause-did
 returns-in-Round-clause-did c = λ names fits sent s stands.
     let l = c.args.self.now in
     let new = record l { turns = c.turn.new.self } in
-    let tie = subst (λ t. TurnIs (turn_of t) (lists_in names l) (polls_in l) (lists_in names new) (polls_in new)) c.in-Round.is (c.in_ok-turn.ensures.turned names) in
-    round_began names l new (sent ++ c.args.pending.now.items) s stands refl refl refl tie
+    let tie = subst (λ t. TurnIs (turn_of t) (lists_in names l) (polls_in l) (lists_in names new)) c.in-Round.is (c.in_ok-turn.ensures.turned names) in
+    round_began names l new (sent ++ c.args.pending.now.items) s stands refl refl refl refl c.turn.ensures.polls tie
 
-pub returns-in_ok-put_poll-in-Polled-clause-did : goal.returns-in_ok-put_poll-in-Polled-clause-did
-returns-in_ok-put_poll-in-Polled-clause-did c = λ names fits sent s stands.
+pub polls-requires-clause-steady : goal.polls-requires-clause-steady
+polls-requires-clause-steady c = steady_so c.args.self.now c.turn.new.self c.turn.ensures.polls c.requires.steady
+
+pub polls-requires-clause-round : goal.polls-requires-clause-round
+polls-requires-clause-round c = λ names.
     let l = c.args.self.now in
     let new = record l { turns = c.turn.new.self } in
-    let told = told_of c.in-Polled.field-0.now in
-    let tie = subst (λ t. TurnIs (turn_of t) (lists_in names l) (polls_in l) (lists_in names new) (polls_in new)) c.in-Polled.is (c.in_ok-turn.ensures.turned names) in
-    poll_taken names l new (sent ++ c.args.pending.now.items) s stands refl refl refl told (sent ++ c.put_poll.new.pending.items)
-    (ap (λ t. sent ++ t) (c.in_ok-put_poll-in-Polled.ensures told (polls_in new) tie.next) ∙ sym (append_assoc sent c.args.pending.now.items (shown_of l.trace (T.Polled told)))) tie
+    let tie = subst (λ t. TurnIs (turn_of t) (lists_in names l) (polls_in l) (lists_in names new)) c.in-Poll.is (c.in_ok-turn.ensures.turned names) in
+    ap (λ a. a.round) tie.1 ∙ c.requires.round names
+
+pub polls-requires-clause-wants : goal.polls-requires-clause-wants
+polls-requires-clause-wants c = λ names.
+    let l = c.args.self.now in
+    let new = record l { turns = c.turn.new.self } in
+    let tie = subst (λ t. TurnIs (turn_of t) (lists_in names l) (polls_in l) (lists_in names new)) c.in-Poll.is (c.in_ok-turn.ensures.turned names) in
+    wants_so names l new (told_of c.in-Poll.told.now) c.turn.ensures.polls tie
+
+pub returns-in-Poll-clause-keeps : goal.returns-in-Poll-clause-keeps
+returns-in-Poll-clause-keeps c = kept_then c.args.self.now _ c.polls.new.self (turns_kept c.args.self.now c.turn.new.self) c.polls.ensures.keeps
+
+pub returns-in-Poll-clause-polls : goal.returns-in-Poll-clause-polls
+returns-in-Poll-clause-polls c = counts_so c.args.self.now (record c.args.self.now { turns = c.turn.new.self }) c.polls.result c.turn.ensures.polls c.polls.ensures.polls
+
+pub returns-in-Poll-clause-did : goal.returns-in-Poll-clause-did
+returns-in-Poll-clause-did c = λ names fits sent s stands.
+    let l = c.args.self.now in
+    let mid = record l { turns = c.turn.new.self } in
+    let printed = sent ++ c.args.pending.now.items in
+    let tie = subst (λ t. TurnIs (turn_of t) (lists_in names l) (polls_in l) (lists_in names mid)) c.in-Poll.is (c.in_ok-turn.ensures.turned names) in
+    let fits_mid : Fits names mid = record { runs = fits.runs; main = fits.main; serves = fits.serves; items = fits.items } in
+    subst (λ a. DidTurn names c.polls.result c.polls.new.self (sent ++ c.polls.new.pending.items) s (settles names l s a))
+    (sym (poll_wanted names l mid printed s stands refl refl refl refl c.turn.ensures.polls (told_of c.in-Poll.told.now) tie))
+    (c.polls.ensures.did names fits_mid sent s (stands_as_before names l mid printed s refl refl refl c.turn.ensures.polls refl tie.1 stands))
 
 pub returns-in-Ended-clause-did : goal.returns-in-Ended-clause-did
 returns-in-Ended-clause-did c = λ names fits sent s stands.
     let l = c.args.self.now in
     let new = record l { turns = c.turn.new.self } in
-    let tie = subst (λ t. TurnIs (turn_of t) (lists_in names l) (polls_in l) (lists_in names new) (polls_in new)) c.in-Ended.is (c.in_ok-turn.ensures.turned names) in
-    run_ended names l new (sent ++ c.args.pending.now.items) s stands refl refl refl c.in-Ended.waiters (sent ++ c.args.pending.now.items) tie
+    let tie = subst (λ t. TurnIs (turn_of t) (lists_in names l) (polls_in l) (lists_in names new)) c.in-Ended.is (c.in_ok-turn.ensures.turned names) in
+    run_ended names l new (sent ++ c.args.pending.now.items) s stands refl refl refl refl c.turn.ensures.polls c.in-Ended.waiters (sent ++ c.args.pending.now.items) tie
 
 pub returns-in-HistoryEnded-clause-did : goal.returns-in-HistoryEnded-clause-did
 returns-in-HistoryEnded-clause-did c = λ names fits sent s stands.
     let l = c.args.self.now in
     let new = record l { turns = c.turn.new.self } in
-    let tie = subst (λ t. TurnIs (turn_of t) (lists_in names l) (polls_in l) (lists_in names new) (polls_in new)) c.in-HistoryEnded.is (c.in_ok-turn.ensures.turned names) in
-    history_over names l new (sent ++ c.args.pending.now.items) s stands refl refl refl (sent ++ c.args.pending.now.items) tie
+    let tie = subst (λ t. TurnIs (turn_of t) (lists_in names l) (polls_in l) (lists_in names new)) c.in-HistoryEnded.is (c.in_ok-turn.ensures.turned names) in
+    history_over names l new (sent ++ c.args.pending.now.items) s stands refl refl refl refl c.turn.ensures.polls (sent ++ c.args.pending.now.items) tie
 
 pub returns-in-BadHistory-clause-did : goal.returns-in-BadHistory-clause-did
 returns-in-BadHistory-clause-did c = λ names fits sent s stands.
     let l = c.args.self.now in
     let new = record l { turns = c.turn.new.self } in
-    let tie = subst (λ t. TurnIs (turn_of t) (lists_in names l) (polls_in l) (lists_in names new) (polls_in new)) c.in-BadHistory.is (c.in_ok-turn.ensures.turned names) in
-    poll_refused names l new (sent ++ c.args.pending.now.items) s stands refl refl refl c.in-BadHistory.section (sent ++ c.args.pending.now.items) tie
+    let tie = subst (λ t. TurnIs (turn_of t) (lists_in names l) (polls_in l) (lists_in names new)) c.in-BadHistory.is (c.in_ok-turn.ensures.turned names) in
+    poll_refused names l new (sent ++ c.args.pending.now.items) s stands refl refl refl refl c.turn.ensures.polls c.in-BadHistory.section (sent ++ c.args.pending.now.items) tie

@@ -24,5 +24,5 @@ returns-in-Ok-clause-did c = λ names fits sent s acted.
     subst (λ v. Did names c.marks.result c.marks.new.self after s (settles names l s (event_primitive (trees (program_in names l)) RtWait (value_of names v ∷ value_of names c.args.callback ∷ value_of names c.args.pointer ∷ []) (stack_in names l.machine) s))) (sym c.in-Cond.is)
     (subst (λ v. Did names c.marks.result c.marks.new.self after s (settles names l s (event_primitive (trees (program_in names l)) RtWait (value_of names (V.Cond n) ∷ value_of names v ∷ value_of names c.args.pointer ∷ []) (stack_in names l.machine) s))) (sym c.in-Code.is)
     (acts_marked names l mid c.marks.new.self c.args.function c.marks.result s (A.wait n item (lists_in names l)) (A.wait n (callback_of names item) s.agenda) (waits (IsCallback names) n item (callback_of names item) _ _ refl acted.lists.agenda) (wait_keeps n (callback_of names item) s.agenda)
-    (c.in-Ok.ensures.ok names) refl refl refl (Waiting n) (sent ++ c.args.pending.now.items) after acted
-    (λ t a. c.marks.ensures.did names (record { runs = fits.runs; main = fits.main }) sent s t a)))
+    (c.in-Ok.ensures.ok names) refl refl refl refl (Waiting n) (sent ++ c.args.pending.now.items) after acted
+    (λ t a. c.marks.ensures.did names (record { runs = fits.runs; main = fits.main; serves = fits.serves; items = fits.items }) sent s t a)))

@@ -1,0 +1,15 @@
+//! What a step comes to.
+use crate::outcome::Outcome;
+use cpc_base::Name;
+use cpc_num::Fault;
+
+/// What a step comes to where nothing ran before it.
+#[derive(Clone, Copy, Debug)]
+pub(crate) enum Step {
+    /// The run goes on.
+    On,
+    /// The run is over, and no poll was taken.
+    Over(Outcome),
+    /// The run is over: a poll was taken, and a section that it tells failed, in the code of a function.
+    Broke(Fault, Name),
+}
