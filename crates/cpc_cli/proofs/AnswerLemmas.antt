@@ -23,7 +23,7 @@ use Rattle.cpc_cli.specs.declared.answer.Report.{Report}
 use Rattle.cpc_cli.specs.declared.answer.Outcome.{Outcome}
 use Rattle.cpc_cli.specs.declared.answer.Outcome.TheVariants.{Ended, Exited, Failed, HistoryEnded, BadHistory, Stopped, Full, Accepted, Translated}
 use Rattle.cpc_cli.specs.declared.answer.End.{End}
-use Rattle.cpc_cli.specs.declared.answer.End.TheVariants.{Done, Usage, Refused, Unbuilt, Unread, Unwritten, Memory, TooLong, BadLine, NoHost}
+use Rattle.cpc_cli.specs.declared.answer.End.TheVariants.{Done, Usage, Refused, Unread, Unwritten, Memory, TooLong, BadLine, NoHost}
 
 -- the two reports differ at most in the status
 pub record SameRun (old new : Report) : Type 0 where
@@ -98,7 +98,7 @@ module _ (host : Host) (told : Option Files) (unread : Text → Type 0) (unwritt
 
   takes : (command : Command) (q : LProgram) → Takes told command old q → Takes told command new q
   takes (Run file options text) q h = (accepts q h.0, h.1)
-  takes (Exec file options) q h = (same.printed ∙ h.0, h.1, h.2)
+  takes (Exec file options) q h = (same.printed ∙ h.0, h.1)
   takes (Sample number) q h = (accepts q h.0, h.1)
   takes (Translate file) q h = h
   takes (Check file) q h = h

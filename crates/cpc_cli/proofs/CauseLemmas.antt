@@ -15,7 +15,7 @@ use Rattle.cpc_cli.specs.declared.answer.Report.{Report}
 use Rattle.cpc_cli.specs.declared.answer.Outcome.{Outcome}
 use Rattle.cpc_cli.specs.declared.answer.Outcome.TheVariants.{Ended, Exited, Failed, HistoryEnded, BadHistory, Stopped, Full, Accepted, Translated}
 use Rattle.cpc_cli.specs.declared.answer.End.{End}
-use Rattle.cpc_cli.specs.declared.answer.End.TheVariants.{Done, Usage, Refused, Unbuilt, Unread, Unwritten, Memory, TooLong, BadLine, NoHost}
+use Rattle.cpc_cli.specs.declared.answer.End.TheVariants.{Done, Usage, Refused, Unread, Unwritten, Memory, TooLong, BadLine, NoHost}
 
 waiting_not_8 : (b : Bool) → ◌≢◌ {A = ℕ} (if b then 0 else 14) 8
 waiting_not_8 true e = absurd (omega (arith, e))
@@ -44,7 +44,6 @@ module _ (words : List Text) (host : Host) (told : Option Files) (rose : Rises) 
   not_read command (Unread R.Text) asks h e = let f = file_of (source_of command).origin h in (command, asks, (R.Text, f.0, f.1, f.2))
   not_read command (Unread R.History) asks h e = absurd h
   not_read command (Refused fault) asks h e = absurd (omega (arith, e))
-  not_read command (Unbuilt at) asks h e = absurd (omega (arith, e))
   not_read command (TooLong role) asks h e = absurd (omega (arith, e))
   not_read command (BadLine fault) asks h e = absurd h
   not_read command Memory asks h e = absurd (omega (arith, e))
@@ -57,7 +56,6 @@ module _ (words : List Text) (host : Host) (told : Option Files) (rose : Rises) 
   none_told command (Unread R.History) asks h e = (command, asks, (R.History, h.0, h.1, h.2))
   none_told command (Unread R.Text) asks h e = absurd h
   none_told command (Refused fault) asks h e = absurd h
-  none_told command (Unbuilt at) asks h e = absurd h
   none_told command (TooLong role) asks h e = absurd (omega (arith, e))
   none_told command (BadLine fault) asks h e = absurd (omega (arith, e))
   none_told command Memory asks h e = absurd (omega (arith, e))
@@ -72,7 +70,6 @@ module _ (words : List Text) (host : Host) (told : Option Files) (rose : Rises) 
   not_lacking q (Done outcome) h e = absurd h
   not_lacking q Usage h e = absurd h
   not_lacking q (Refused fault) h e = absurd h
-  not_lacking q (Unbuilt at) h e = absurd h
   not_lacking q (Unread role) h e = absurd h
   not_lacking q Unwritten h e = absurd h
   not_lacking q (TooLong role) h e = absurd h

@@ -9,17 +9,17 @@ use Rattle.cpc_translate.specs.Refusals.{IsTextFault}
 use Rattle.cpc_tree.specs.Located.{LProgram, bare}
 use Rattle.cpc_tree.specs.Trace as T
 use Rattle.cpc_cli_command.specs.Commands.{Command, Check, Exec, Options, Sample, Translate, Run, command_of}
-use Rattle.cpc_cli.specs.Command.{Host, InFile, IsMade, IsRun, Origin, Source, any_source, by_exec, by_run, bytes_line, events_source, history_limit, history_named, made_source, sample_options, source_of, text_limit, threads_source}
+use Rattle.cpc_cli.specs.Command.{Host, InFile, IsMade, IsRun, Origin, Source, by_exec, by_run, bytes_line, events_source, history_limit, history_named, made_source, sample_options, source_of, text_limit, threads_source}
 use Rattle.cpc_sample.specs.Sample.{sample_text}
 use Rattle.cpc_cli.specs.Ran.{FileHas, HasHosts, IsAnswered, LacksHost, NotTold, StandsSo, TellsPolls, history_with, shown, stop_in}
 use Rattle.cpc_cli.specs.Answer.{AcceptedAs, Answer, IsTranslated, Rises, Does, NotAccepted, EndedIn, did, not_begun, lacks_host, not_told, unwritten_in, starved_in, IsEnd, misused, starved, performed, LongIn, Runs, Takes, TextHas, TextIn, UnreadIn, status_of}
-use Rattle.cpc_cli.specs.Exact.{ArePolls, Due, for_usage, for_absent, for_too_long, for_refused, for_unbuilt, for_no_host, for_no_history, for_long_history, for_bad_line, for_check, for_translate, for_run, for_sample, CanRun, Given, IsProgram, IsText, IsTextIn, NoneRose, Gives}
+use Rattle.cpc_cli.specs.Exact.{ArePolls, Due, for_usage, for_absent, for_too_long, for_refused, for_no_host, for_no_history, for_long_history, for_bad_line, for_check, for_translate, for_run, for_sample, CanRun, Given, IsProgram, IsText, IsTextIn, NoneRose, Gives}
 use Rattle.cpc_cli.specs.declared.answer.Role.TheVariants as R
 use Rattle.cpc_cli.specs.declared.answer.Report.{Report}
 use Rattle.cpc_cli.specs.declared.answer.Outcome.{Outcome}
 use Rattle.cpc_cli.specs.declared.answer.Outcome.TheVariants.{Ended, Exited, Failed, HistoryEnded, BadHistory, Stopped, Full, Accepted, Translated}
 use Rattle.cpc_cli.specs.declared.answer.End.{End}
-use Rattle.cpc_cli.specs.declared.answer.End.TheVariants.{Done, Usage, Refused, Unbuilt, Unread, Unwritten, Memory, TooLong, BadLine, NoHost}
+use Rattle.cpc_cli.specs.declared.answer.End.TheVariants.{Done, Usage, Refused, Unread, Unwritten, Memory, TooLong, BadLine, NoHost}
 
 -- ---- what is told of files, of the files themselves
 
@@ -38,8 +38,8 @@ program_there files source P h =
 given : (files : Files) (command : Command) (report : Report) (q : LProgram) → Takes (Some files) command report q → Given files command report.printed.items q
 given files (Run file options text) report q t = let p = program_there files (threads_source file) (λ p. IsTranslated p q) t.1 in (t.0, p.0, p.1, p.2)
 given files (Exec file options) report q t =
-    let text = text_there files (events_source file) (λ text. Accepts Event text q) t.2 in
-    (t.0, t.1, record { text = text.0; is_text = text.1; accepts = text.2 })
+    let text = text_there files (events_source file) (λ text. Accepts Event text q) t.1 in
+    (t.0, record { text = text.0; is_text = text.1; accepts = text.2 })
 given files (Sample number) report q t =
     let p = program_there files (made_source (sample_text number)) (λ p. IsTranslated p q) t.1 in (t.0, p.0, p.1, p.2)
 given files (Translate file) report q t = t
@@ -60,12 +60,12 @@ module _ (host : Host) (files : Files) (words : List Text) (rose : Rises) (none 
       → Runs host (Some files) (Sample number) sample_options false report front outcome → out ≡ front ++ bytes_line number → Due host files words (Done outcome) out
   sample_due number outcome asks front r wrote =
       let none : r.polls ≡ [] = r.tells in
-      let is : out ≡ shown false false report.printed.items (bare r.program) (history_with r.polls r.answers) report.steps (stop_in outcome) ++ bytes_line number = wrote ∙ ap (λ t. t ++ bytes_line number) r.ran.whole in
+      let is : out ≡ shown false false report.printed.items (bare r.program) (history_with sample_options r.polls r.answers) report.steps (stop_in outcome) ++ bytes_line number = wrote ∙ ap (λ t. t ++ bytes_line number) r.ran.whole in
       subst (Due host files words (Done outcome)) (sym is) (subst (λ polls. Due host files words (Done outcome)
-      (shown false false report.printed.items (bare r.program) (history_with polls r.answers) report.steps (stop_in outcome) ++ bytes_line number)) (sym none)
+      (shown false false report.printed.items (bare r.program) (history_with sample_options polls r.answers) report.steps (stop_in outcome) ++ bytes_line number)) (sym none)
       (for_sample number report.printed.items r.program r.answers report.steps outcome asks (given files (Sample number) report r.program r.takes, r.hosts)
-      (subst (λ polls. IsAnswered host (bare r.program) (history_with polls r.answers) report.steps) none r.answered)
-      (subst (λ polls. StandsSo (bare r.program) (history_with polls r.answers) sample_options.steps sample_options.cells report.steps outcome) none r.ran.stands)))
+      (subst (λ polls. IsAnswered host (bare r.program) (history_with sample_options polls r.answers) report.steps) none r.answered)
+      (subst (λ polls. StandsSo (bare r.program) (history_with sample_options polls r.answers) sample_options.steps sample_options.cells report.steps outcome) none r.ran.stands)))
 
   did_due : (command : Command) (outcome : Outcome) → command_of words ≡ Some command → Does host (Some files) command report out outcome → Due host files words (Done outcome) out
   did_due (Run file options text) outcome asks h = ran_due (Run file options text) options text outcome asks (by_run file options text) h
@@ -83,7 +83,7 @@ module _ (host : Host) (files : Files) (words : List Text) (rose : Rises) (none 
   did_due (Translate file) (Stopped n) asks h = absurd h
   did_due (Translate file) (Full c m) asks h = absurd h
   did_due (Check file) Accepted asks (no_run, wrote, accepted) =
-      let p = program_there files (any_source Cpc file) (λ p. Unit {0}) accepted in
+      let p = program_there files (threads_source file) (λ p. Unit {0}) accepted in
       subst (Due host files words (Done Accepted)) (sym wrote) (for_check file p.0 asks p.1)
   did_due (Check file) Translated asks h = absurd h
   did_due (Check file) (Ended n) asks h = absurd h
@@ -113,7 +113,6 @@ module _ (host : Host) (files : Files) (words : List Text) (rose : Rises) (none 
 
   refused_due : (command : Command) (end : End) → command_of words ≡ Some command → NotAccepted (Some files) (source_of command) rose.shelf end → status_of end ≢ 11 → Due host files words end []
   refused_due command (Refused fault) asks h ample = let text = text_there files (source_of command) (λ text. IsTextFault (source_of command).dialect text fault) h in for_refused command text.0 fault asks text.1 text.2
-  refused_due command (Unbuilt at) asks h ample = let p = program_there files (source_of command) (λ p. (source_of command).unbuilt p ≡ Some at) h in for_unbuilt command p.0 at asks p.1 p.2
   refused_due command (Unread R.Text) asks h ample = unread_due command (source_of command).origin asks refl h
   refused_due command (Unread R.History) asks h ample = absurd h
   refused_due command (TooLong R.Text) asks h ample = long_due command (source_of command).origin asks refl h
@@ -132,7 +131,6 @@ module _ (host : Host) (files : Files) (words : List Text) (rose : Rises) (none 
   lacking_due command q (Done outcome) asks t h ample = absurd h
   lacking_due command q Usage asks t h ample = absurd h
   lacking_due command q (Refused fault) asks t h ample = absurd h
-  lacking_due command q (Unbuilt at) asks t h ample = absurd h
   lacking_due command q (Unread role) asks t h ample = absurd h
   lacking_due command q Unwritten asks t h ample = absurd h
   lacking_due command q (TooLong role) asks t h ample = absurd h
@@ -150,7 +148,6 @@ module _ (host : Host) (files : Files) (words : List Text) (rose : Rises) (none 
   untold_due command q (Unread R.Text) asks t has h ample = absurd h
   untold_due command q (TooLong R.Text) asks t has h ample = absurd h
   untold_due command q (Refused fault) asks t has h ample = absurd h
-  untold_due command q (Unbuilt at) asks t has h ample = absurd h
   untold_due command q Memory asks t has h ample = absurd (ample refl)
   untold_due command q (Done outcome) asks t has h ample = absurd h
   untold_due command q Usage asks t has h ample = absurd h

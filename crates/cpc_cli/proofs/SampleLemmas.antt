@@ -16,7 +16,7 @@ use Rattle.cpc_cli.specs.declared.answer.Report.{Report}
 use Rattle.cpc_cli.specs.declared.answer.Outcome.{Outcome}
 use Rattle.cpc_cli.specs.declared.answer.Role.TheVariants as R
 use Rattle.cpc_cli.specs.declared.answer.End.{End}
-use Rattle.cpc_cli.specs.declared.answer.End.TheVariants.{Done, Usage, Refused, Unbuilt, Unread, Unwritten, Memory, TooLong, BadLine, NoHost}
+use Rattle.cpc_cli.specs.declared.answer.End.TheVariants.{Done, Usage, Refused, Unread, Unwritten, Memory, TooLong, BadLine, NoHost}
 use Rattle.cpc_cli.proofs.TopLemmas.{behind_heading}
 
 -- what `sample` runs, once the run has left the printed text as it was
@@ -41,7 +41,6 @@ pub unfinished : (end : End) → ((outcome : Outcome) → end ≡ Done outcome �
 unfinished (Done outcome) other = other outcome refl
 unfinished Usage other = tt
 unfinished (Refused fault) other = tt
-unfinished (Unbuilt at) other = tt
 unfinished (Unread role) other = tt
 unfinished Unwritten other = tt
 unfinished Memory other = tt
@@ -65,17 +64,16 @@ module _ (host : Host) (told : Option Files) (number : ℕ) (q : LProgram) (unre
   sample_unfinished out end un (inr (has, inl (h, none, silent))) = not_told end q takes has h none silent
   sample_unfinished out end un (inr (has, inr (polls, tells, by))) = go end un by.ran
     where
-      in_part : RanInPart (bare q) (history_with polls by.answers) sample_options false report out → RunsInPart host told (Sample number) sample_options false report out
+      in_part : RanInPart (bare q) (history_with sample_options polls by.answers) sample_options false report out → RunsInPart host told (Sample number) sample_options false report out
       in_part r = record { program = q; takes = takes; hosts = has; polls = polls; tells = tells; answers = by.answers; answered = by.answered; ran = r }
 
-      go : (end : End) → IsUnfinished end → RanTo (bare q) (history_with polls by.answers) sample_options false report unwritten out end
+      go : (end : End) → IsUnfinished end → RanTo (bare q) (history_with sample_options polls by.answers) sample_options false report unwritten out end
           → EndedIn host told (Sample number) unread unwritten report out end
       go (Done outcome) un r = absurd un
       go Unwritten un (cause, r) = unwritten_in cause (inl (in_part r))
       go Memory un r = starved_in (inl (in_part r))
       go Usage un h = absurd h
       go (Refused fault) un h = absurd h
-      go (Unbuilt at) un h = absurd h
       go (Unread role) un h = absurd h
       go (TooLong role) un h = absurd h
       go (BadLine fault) un h = absurd h
@@ -91,7 +89,6 @@ module _ (host : Host) (told : Option Files) (number : ℕ) (q : LProgram) (unre
       starved_in (inr (outcome, front, r, behind_heading front line (bytes_line number) (record { rest = bytes_line number; whole = ap (λ t. t ++ bytes_line number) (sym e) })))
   sample_closed late front line outcome Usage cause r h = absurd h
   sample_closed late front line outcome (Refused fault) cause r h = absurd h
-  sample_closed late front line outcome (Unbuilt at) cause r h = absurd h
   sample_closed late front line outcome (Unread role) cause r h = absurd h
   sample_closed late front line outcome (TooLong role) cause r h = absurd h
   sample_closed late front line outcome (BadLine fault) cause r h = absurd h

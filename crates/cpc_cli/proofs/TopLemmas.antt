@@ -5,7 +5,6 @@ use Rattle.cpc_base.specs.Bytes.{Text}
 use Rattle.cpc_base.specs.Outside.{Files, Rose}
 use Rattle.cpc_base.specs.declared.stop.Dialect.{Dialect}
 use Rattle.cpc_base.specs.declared.stop.Dialect.TheVariants.{Cpc, Event}
-use Rattle.cpc_base.specs.declared.stop.Place.{Place}
 use Rattle.std.specs.Option.{option_map_or}
 use Rattle.std.specs.Prelude.{codes}
 use Rattle.cpc_tree.specs.Syntax.{Program}
@@ -26,11 +25,9 @@ use Rattle.cpc_check.specs.Accepted.{Accepts}
 use Rattle.cpc_convert_shape_laws.specs.Shape.{Shape}
 use Rattle.cpc_convert_leak_laws.specs.Laws.{NoLeak}
 use Rattle.cpc_convert_event.specs.Converted.{converted}
-use Rattle.cpc_convert_served_laws.specs.Serving.{unserved}
-use Rattle.cpc_answered.specs.Unanswered.{unanswered}
 use Rattle.cpc_translate.specs.Refusals.{IsTextFault}
 use Rattle.cpc_sample.specs.Sample.{sample_text}
-use Rattle.cpc_cli.specs.Command.{Host, InFile, IsRun, Labels, Source, any_source, by_exec, by_run, events_source, history_named, labels_in, labels_of, made_source, no_labels, source_of, threads_source}
+use Rattle.cpc_cli.specs.Command.{Host, InFile, IsRun, Labels, Source, by_exec, by_run, events_source, file_source, history_named, labels_in, labels_of, made_source, no_labels, source_of, threads_source}
 use Rattle.cpc_cli.specs.Ran.{HasHosts, IsAnswered, LacksHost, NoSteps, NotTold, RanAnswered, RanInPart, RanTo, RanTold, RanWhole, TellsPolls, heading, history_with, run_text, shown, stop_in}
 use Rattle.cpc_cli.specs.Answer.{AcceptedAs, TextHas, IsTranslated, NotAccepted, Does, DoesInPart, EndedIn, did, not_begun, lacks_host, not_told, unwritten_in, starved_in, Nothing, NoRun, Printed, RefusesText, Runs, RunsInPart, Takes, line_of}
 use Rattle.cpc_run.specs.Reports.{IsPrefix}
@@ -38,29 +35,12 @@ use Rattle.cpc_cli.specs.declared.answer.Role.TheVariants as R
 use Rattle.cpc_cli.specs.declared.answer.Report.{Report}
 use Rattle.cpc_cli.specs.declared.answer.Outcome.{Outcome}
 use Rattle.cpc_cli.specs.declared.answer.End.{End}
-use Rattle.cpc_cli.specs.declared.answer.End.TheVariants.{Done, Usage, Refused, Unbuilt, Unread, Unwritten, Memory, TooLong, BadLine, NoHost}
-
--- what is not accepted for a command that takes any program is not accepted for one that asks for more
-pub not_for_any : (told : Option Files) (dialect : Dialect) (file : Text) (unbuilt : LProgram → Option Place) (unread : Text → Type 0) (end : End)
-    → NotAccepted told (any_source dialect file) unread end → NotAccepted told (record { origin = InFile file; dialect = dialect; unbuilt = unbuilt }) unread end
-not_for_any told dialect file unbuilt unread (Refused fault) h = h
-not_for_any told dialect file unbuilt unread (Unbuilt at) h = λ files is. let t = h files is in let none = t.2.1.2 in cc
-not_for_any told dialect file unbuilt unread (Unread R.Text) h = h
-not_for_any told dialect file unbuilt unread (Unread R.History) h = h
-not_for_any told dialect file unbuilt unread (TooLong R.Text) h = h
-not_for_any told dialect file unbuilt unread (TooLong R.History) h = h
-not_for_any told dialect file unbuilt unread (BadLine fault) h = h
-not_for_any told dialect file unbuilt unread Memory h = h
-not_for_any told dialect file unbuilt unread (Done outcome) h = h
-not_for_any told dialect file unbuilt unread Usage h = h
-not_for_any told dialect file unbuilt unread Unwritten h = h
-not_for_any told dialect file unbuilt unread (NoHost name) h = h
+use Rattle.cpc_cli.specs.declared.answer.End.TheVariants.{Done, Usage, Refused, Unread, Unwritten, Memory, TooLong, BadLine, NoHost}
 
 -- a text of a file that is refused
-pub text_refused : (told : Option Files) (file text : Text) (unread : Text → Type 0) (end : End) → TextHas told (any_source Cpc file) (λ bytes. text ≡ bytes)
+pub text_refused : (told : Option Files) (file text : Text) (unread : Text → Type 0) (end : End) → TextHas told (threads_source file) (λ bytes. text ≡ bytes)
     → RefusesText text end → NotAccepted told (threads_source file) unread end
 text_refused told file text unread (Refused fault) h x = λ files is. let t = h files is in (t.0, t.1, (t.2.0, subst (λ b. IsTextFault Cpc b fault) t.2.1 x))
-text_refused told file text unread (Unbuilt at) h x = λ files is. let t = h files is in (t.0, t.1, (t.2.0, (x.0, subst (λ b. Accepts Cpc b x.0) t.2.1 x.1, x.2)))
 text_refused told file text unread Memory h x = tt
 text_refused told file text unread (Unread role) h x = absurd x
 text_refused told file text unread (TooLong role) h x = absurd x
@@ -74,7 +54,6 @@ text_refused told file text unread (NoHost name) h x = absurd x
 pub sample_refused : (told : Option Files) (number : ℕ) (text : Text) (unread : Text → Type 0) (end : End) → text ≡ sample_text number → RefusesText text end
     → NotAccepted told (made_source (sample_text number)) unread end
 sample_refused told number text unread (Refused fault) is x = subst (λ b. IsTextFault Cpc b fault) is x
-sample_refused told number text unread (Unbuilt at) is x = (x.0, subst (λ b. Accepts Cpc b x.0) is x.1, x.2)
 sample_refused told number text unread Memory is x = tt
 sample_refused told number text unread (Unread role) is x = absurd x
 sample_refused told number text unread (TooLong role) is x = absurd x
@@ -85,14 +64,9 @@ sample_refused told number text unread Unwritten is x = absurd x
 sample_refused told number text unread (NoHost name) is x = absurd x
 
 -- a program that is read is accepted
-pub accepted_as : (told : Option Files) (dialect : Dialect) (file : Text) (q : LProgram) → TextHas told (any_source dialect file) (λ text. Accepts dialect text q)
-    → AcceptedAs told (any_source dialect file) (λ p. Unit {0})
+pub accepted_as : (told : Option Files) (dialect : Dialect) (file : Text) (q : LProgram) → TextHas told (file_source dialect file) (λ text. Accepts dialect text q)
+    → AcceptedAs told (file_source dialect file) (λ p. Unit {0})
 accepted_as told dialect file q h = λ files is. let t = h files is in (t.0, t.1, (t.2.0, (q, t.2.1, tt)))
-
--- and where it asks for what is not served, that is where
-pub unbuilt_at : (told : Option Files) (file : Text) (q : LProgram) (at : Place) → unanswered q ≡ Some at → TextHas told (any_source Event file) (λ text. Accepts Event text q)
-    → AcceptedAs told (events_source file) (λ p. unanswered p ≡ Some at)
-unbuilt_at told file q at e h = λ files is. let t = h files is in (t.0, t.1, (t.2.0, (q, t.2.1, e)))
 
 -- ---- the line
 
@@ -121,7 +95,6 @@ untold_earlier told history late early moves (TooLong R.History) h = h
 untold_earlier told history late early moves (TooLong R.Text) h = h
 untold_earlier told history late early moves (BadLine fault) h = h
 untold_earlier told history late early moves (Refused fault) h = h
-untold_earlier told history late early moves (Unbuilt at) h = h
 untold_earlier told history late early moves Memory h = h
 untold_earlier told history late early moves (Done outcome) h = h
 untold_earlier told history late early moves Usage h = h
@@ -169,17 +142,16 @@ run_ended host told command options text is q unread unwritten report out takes 
     not_told end q takes has (untold_so told unread end is h) none silent
 run_ended host told command options text is q unread unwritten report out takes end (inr (has, inr (polls, tells, by))) = go end by.ran
   where
-    in_part : RanInPart (bare q) (history_with polls by.answers) options text report out → DoesInPart host told command report out
+    in_part : RanInPart (bare q) (history_with options polls by.answers) options text report out → DoesInPart host told command report out
     in_part r = part_so host told report out is (record { program = q; takes = takes; hosts = has; polls = polls; tells = tells; answers = by.answers; answered = by.answered; ran = r })
 
-    go : (end : End) → RanTo (bare q) (history_with polls by.answers) options text report unwritten out end → EndedIn host told command unread unwritten report out end
+    go : (end : End) → RanTo (bare q) (history_with options polls by.answers) options text report unwritten out end → EndedIn host told command unread unwritten report out end
     go (Done outcome) r = did outcome (does_so host told report out outcome is
         (record { program = q; takes = takes; hosts = has; polls = polls; tells = tells; answers = by.answers; answered = by.answered; ran = r }))
     go Unwritten (cause, r) = unwritten_in cause (in_part r)
     go Memory r = starved_in (in_part r)
     go Usage h = absurd h
     go (Refused fault) h = absurd h
-    go (Unbuilt at) h = absurd h
     go (Unread role) h = absurd h
     go (TooLong role) h = absurd h
     go (BadLine fault) h = absurd h
@@ -191,9 +163,9 @@ pub run_takes : (told : Option Files) (file : Text) (options : Options) (text : 
 run_takes told file options text q old new printed same accepted = (subst (λ v. Accepts Event v.items q) (sym same) printed.printed, accepted)
 
 -- and what `exec` does
-pub exec_takes : (told : Option Files) (file : Text) (options : Options) (q : LProgram) (old new : Report) → NoRun old → new.printed ≡ old.printed → unanswered q ≡ None
+pub exec_takes : (told : Option Files) (file : Text) (options : Options) (q : LProgram) (old new : Report) → NoRun old → new.printed ≡ old.printed
     → TextHas told (events_source file) (λ text. Accepts Event text q) → Takes told (Exec file options) new q
-exec_takes told file options q old new none same served accepted = (ap (λ v. v.items) same ∙ none.printed, served, accepted)
+exec_takes told file options q old new none same accepted = (ap (λ v. v.items) same ∙ none.printed, accepted)
 
 -- nothing before a run makes a state of it
 pub no_steps_in : (report : Report) → Nothing report [] → NoSteps report
@@ -238,7 +210,6 @@ behind q h options text report early late front out cause is end = go end
     go Memory r = moved r
     go Usage h = h
     go (Refused fault) h = h
-    go (Unbuilt at) h = h
     go (Unread role) h = h
     go (TooLong role) h = h
     go (BadLine fault) h = h
@@ -250,12 +221,12 @@ pub answered_behind : (host : Host) (q : Program) (polls : List T.Told) (options
 answered_behind host q polls options text report early late front out cause is end by = record {
   answers = by.answers;
   answered = by.answered;
-  ran = behind q (history_with polls by.answers) options text report early late front out cause is end by.ran;
+  ran = behind q (history_with options polls by.answers) options text report early late front out cause is end by.ran;
 }
 
 -- a run of which no state was made asked no host
-pub unasked : (host : Host) (q : Program) (polls : List T.Told) (report : Report) → NoSteps report → IsAnswered host q (history_with polls []) report.steps
-unasked host q polls report none = subst (IsAnswered host q (history_with polls [])) (sym none.steps) (record { answered = refl; meets = tt })
+pub unasked : (host : Host) (q : Program) (options : Options) (polls : List T.Told) (report : Report) → NoSteps report → IsAnswered host q (history_with options polls []) report.steps
+unasked host q options polls report none = subst (IsAnswered host q (history_with options polls [])) (sym none.steps) (record { answered = refl; meets = tt })
 
 -- a run of which no state was made shows no more than a part of what goes before it
 pub unbegun : (q : Program) (h : History) (options : Options) (text : Bool) (report : Report) (out : Text) → NoSteps report → IsPrefix out (heading text report.printed.items)
@@ -278,10 +249,9 @@ in_line true printed n e = behind_heading printed (take n (codes "/* run */\n"))
 in_line false printed n e = absurd cc
 
 -- a program that is translated, by the trees with places
-pub translated_so : (p q : GProgram.Program) → unserved (located p) ≡ None → program_of q ≡ converted (program_of p) → SameRuns (program_of p) (program_of q)
+pub translated_so : (p q : GProgram.Program) → program_of q ≡ converted (program_of p) → SameRuns (program_of p) (program_of q)
     → Within (program_of p) (program_of q) → Shape (program_of p) (program_of q) → NoLeak (program_of p) (program_of q) → IsTranslated (located p) (located q)
-translated_so p q built event same within shape no_leak = record {
-  built = built;
+translated_so p q event same within shape no_leak = record {
   event = bare_program q ∙ event ∙ ap converted (sym (bare_program p));
   same = subst (λ x. SameRuns x (bare (located q))) (sym (bare_program p)) (subst (SameRuns (program_of p)) (sym (bare_program q)) same);
   within = subst (λ x. Within x (bare (located q))) (sym (bare_program p)) (subst (Within (program_of p)) (sym (bare_program q)) within);

@@ -15,18 +15,14 @@ use Rattle.cpc_base.specs.declared.stop.Stop.{Stop}
 use Rattle.cpc_base.specs.declared.stop.Stop.TheVariants as W
 use Rattle.cpc_history.specs.declared.read.HistoryFault.{HistoryFault}
 use Rattle.cpc_translate.specs.declared.fault.TextFault.{TextFault}
-use Rattle.cpc_translate.specs.declared.translating.Refusal.{Refusal}
-use Rattle.cpc_translate.specs.declared.translating.Refusal.TheVariants as X
 use Rattle.cpc_cli_command.specs.Commands.{Command, Check, Exec, Options, Sample, Translate, Run, command_of}
 use Rattle.cpc_check.specs.Accepted.{Accepts}
 use Rattle.cpc_translate.specs.Refusals.{IsTextFault}
 use Rattle.cpc_convert_event.specs.Converted.{converted}
-use Rattle.cpc_convert_served_laws.specs.Serving.{unserved}
-use Rattle.cpc_answered.specs.Unanswered.{unanswered}
 use Rattle.cpc_translate.specs.Faults as F
 use Rattle.cpc_sample.specs.Sample.{sample_text}
 use Rattle.cpc_run.specs.Reports.{IsPrefix}
-use Rattle.cpc_cli.specs.Command.{Host, InFile, IsMade, IsRun, Labels, Origin, Source, any_source, bytes_line, events_source, history_named, labels_in, limit_of, made_source, name_of, sample_options, source_of, text_limit, threads_source}
+use Rattle.cpc_cli.specs.Command.{Host, InFile, IsMade, IsRun, Labels, Origin, Source, bytes_line, events_source, history_named, labels_in, limit_of, made_source, name_of, sample_options, source_of, text_limit, threads_source}
 use Rattle.cpc_cli.specs.Ran.{FileHas, HasHosts, IsAnswered, LacksHost, NoSteps, NotTold, RanInPart, RanWhole, TellsPolls, history_with}
 use Rattle.cpc_cli.specs.declared.answer.Role.{Role}
 use Rattle.cpc_cli.specs.declared.answer.Role.TheVariants as R
@@ -34,7 +30,7 @@ use Rattle.cpc_cli.specs.declared.answer.Report.{Report}
 use Rattle.cpc_cli.specs.declared.answer.Outcome.{Outcome}
 use Rattle.cpc_cli.specs.declared.answer.Outcome.TheVariants.{Ended, Exited, Failed, HistoryEnded, BadHistory, Stopped, Full, Accepted, Translated}
 use Rattle.cpc_cli.specs.declared.answer.End.{End}
-use Rattle.cpc_cli.specs.declared.answer.End.TheVariants.{Done, Usage, Refused, Unbuilt, Unread, Unwritten, Memory, TooLong, BadLine, NoHost}
+use Rattle.cpc_cli.specs.declared.answer.End.TheVariants.{Done, Usage, Refused, Unread, Unwritten, Memory, TooLong, BadLine, NoHost}
 
 -- the counts of faults of the shelf, by name, and of the two sinks
 pub record Counts : Type 0 where
@@ -98,37 +94,33 @@ LongIn told (IsMade text) dialect = ⊥
 abbrev pub AcceptedAs : (told : Option Files) → Source → (LProgram → Type 0) → Type 0
 AcceptedAs told source P = TextHas told source (λ text. (p : LProgram) × Accepts source.dialect text p × P p)
 
--- a text has a fault, or asks for what is not served where that matters, or is not there or too long
+-- a text has a fault, or is not there or too long
 abbrev pub NotAccepted : (told : Option Files) → Source → (unread : Text → Type 0) → End → Type 0
 NotAccepted told source unread (Refused fault) = TextHas told source (λ text. IsTextFault source.dialect text fault)
-NotAccepted told source unread (Unbuilt at) = AcceptedAs told source (λ p. source.unbuilt p ≡ Some at)
 NotAccepted told source unread (Unread R.Text) = UnreadIn source.origin unread
 NotAccepted told source unread (TooLong R.Text) = LongIn told source.origin source.dialect
 NotAccepted told source unread Memory = Unit {0}
 NotAccepted told source unread _ = ⊥
 
--- p asks only for what is served, q is its event program and has the shape of one, and the event runs of q are the threaded runs of p, within the
--- cost, with no frames left over
+-- q is the event program of p and has the shape of one, and the event runs of q are the threaded runs of p, within the cost, with no frames left over
 pub record IsTranslated (p q : LProgram) : Type 0 where
-  pub built : unserved p ≡ None
   pub event : bare q ≡ converted (bare p)
   pub same : SameRuns (bare p) (bare q)
   pub within : Within (bare p) (bare q)
   pub shape : Shape (bare p) (bare q)
   pub no_leak : NoLeak (bare p) (bare q)
 
--- a text has a fault, or asks for what is not served; or memory was wanting
+-- a text has a fault, or memory was wanting
 abbrev pub RefusesText : (text : Text) → End → Type 0
 RefusesText text (Refused fault) = IsTextFault Cpc text fault
-RefusesText text (Unbuilt at) = (p : LProgram) × Accepts Cpc text p × (unserved p ≡ Some at)
 RefusesText text Memory = Unit {0}
 RefusesText text _ = ⊥
 
 -- the program that a command runs: `run` and `sample` what the printed text is accepted as, a program with the same runs as the accepted one; `exec` the
--- accepted one itself, which asks only for what is served, and nothing is printed
+-- accepted one itself, and nothing is printed
 abbrev pub Takes : (told : Option Files) → Command → Report → LProgram → Type 0
 Takes told (Run file options text) report q = Accepts Event report.printed.items q × AcceptedAs told (threads_source file) (λ p. IsTranslated p q)
-Takes told (Exec file options) report q = (report.printed.items ≡ []) × (unanswered q ≡ None) × TextHas told (events_source file) (λ text. Accepts Event text q)
+Takes told (Exec file options) report q = (report.printed.items ≡ []) × TextHas told (events_source file) (λ text. Accepts Event text q)
 Takes told (Sample number) report q = Accepts Event report.printed.items q × AcceptedAs told (made_source (sample_text number)) (λ p. IsTranslated p q)
 Takes told (Translate file) report q = ⊥
 Takes told (Check file) report q = ⊥
@@ -143,8 +135,8 @@ pub record Runs (host : Host) (told : Option Files) (command : Command) (options
   pub polls : List T.Told
   pub tells : TellsPolls told options.history polls
   pub answers : List ℤ
-  pub answered : IsAnswered host (bare program) (history_with polls answers) report.steps
-  pub ran : RanWhole (bare program) (history_with polls answers) options text report out outcome
+  pub answered : IsAnswered host (bare program) (history_with options polls answers) report.steps
+  pub ran : RanWhole (bare program) (history_with options polls answers) options text report out outcome
 
 -- the same, broken off by a sink or by want of memory
 pub record RunsInPart (host : Host) (told : Option Files) (command : Command) (options : Options) (text : Bool) (report : Report) (out : Text) : Type 0 where
@@ -154,8 +146,8 @@ pub record RunsInPart (host : Host) (told : Option Files) (command : Command) (o
   pub polls : List T.Told
   pub tells : TellsPolls told options.history polls
   pub answers : List ℤ
-  pub answered : IsAnswered host (bare program) (history_with polls answers) report.steps
-  pub ran : RanInPart (bare program) (history_with polls answers) options text report out
+  pub answered : IsAnswered host (bare program) (history_with options polls answers) report.steps
+  pub ran : RanInPart (bare program) (history_with options polls answers) options text report out
 
 -- the command's work, done: `run` and `exec` run a program, `sample` one that it makes, and tells the length of its text, `translate` writes the printed text, `check` says that the text is accepted
 abbrev pub Does : Host → Option Files → Command → Report → Text → Outcome → Type 0
@@ -165,7 +157,7 @@ Does host told (Sample number) report out outcome =
     (front : Text) × Runs host told (Sample number) sample_options false report front outcome × (out ≡ front ++ bytes_line number)
 Does host told (Translate file) report out Translated = (q : LProgram) × Printed q report × (out ≡ report.printed.items) × AcceptedAs told (threads_source file) (λ p. IsTranslated p q)
 Does host told (Translate file) report out _ = ⊥
-Does host told (Check file) report out Accepted = NoRun report × (out ≡ codes "accepted\n") × AcceptedAs told (any_source Cpc file) (λ p. Unit {0})
+Does host told (Check file) report out Accepted = NoRun report × (out ≡ codes "accepted\n") × AcceptedAs told (threads_source file) (λ p. Unit {0})
 Does host told (Check file) report out _ = ⊥
 
 -- the command's work, broken off by a sink or by want of memory
@@ -175,7 +167,7 @@ DoesInPart host told (Exec file options) report out = RunsInPart host told (Exec
 DoesInPart host told (Sample number) report out = RunsInPart host told (Sample number) sample_options false report out
     ⊎ ((outcome : Outcome) × (front : Text) × Runs host told (Sample number) sample_options false report front outcome × IsPrefix out (front ++ bytes_line number))
 DoesInPart host told (Translate file) report out = (q : LProgram) × Printed q report × IsPrefix out report.printed.items × AcceptedAs told (threads_source file) (λ p. IsTranslated p q)
-DoesInPart host told (Check file) report out = NoRun report × IsPrefix out (codes "accepted\n") × AcceptedAs told (any_source Cpc file) (λ p. Unit {0})
+DoesInPart host told (Check file) report out = NoRun report × IsPrefix out (codes "accepted\n") × AcceptedAs told (threads_source file) (λ p. Unit {0})
 
 -- ---- why a call ended
 
@@ -183,16 +175,6 @@ DoesInPart host told (Check file) report out = NoRun report × IsPrefix out (cod
 abbrev pub unread_end : Stop TextFault → End
 unread_end W.Memory = Memory
 unread_end (W.Fault fault) = Refused fault
-
--- the end where a text is refused
-abbrev pub refused_end : Refusal → End
-refused_end (X.Text fault) = Refused fault
-refused_end (X.Form at) = Unbuilt at
-
--- the end where a text is not translated
-abbrev pub untranslated_end : Stop Refusal → End
-untranslated_end W.Memory = Memory
-untranslated_end (W.Fault refusal) = refused_end refusal
 
 -- The command did its work, or its work was broken off; or its text was not accepted; or its text was, and a function of the host is missing, or its
 -- history was not told.
@@ -227,7 +209,6 @@ status_of (Done Accepted) = 0
 status_of (Done Translated) = 0
 status_of Usage = 2
 status_of (Refused fault) = 3
-status_of (Unbuilt at) = 3
 status_of (Unread role) = 8
 status_of Unwritten = 9
 status_of Memory = 11
@@ -257,7 +238,6 @@ line_of labels (Done outcome) = outcome_line outcome
 line_of labels Usage = codes "usage: cpc check, translate, run or exec FILE with options, or cpc sample N\n"
 line_of labels (Refused fault) = codes "refused " ++ (decimal (F.place_of fault).line ++ (codes ":" ++ (decimal (F.place_of fault).column
     ++ (codes " " ++ (F.stage_of fault ++ (codes " " ++ (decimal (F.number_of fault) ++ (codes " " ++ (F.name_of fault ++ codes "\n")))))))))
-line_of labels (Unbuilt at) = codes "refused " ++ (decimal at.line ++ (codes ":" ++ (decimal at.column ++ codes " form 1 not yet\n")))
 line_of labels (Unread role) = codes "read fault: " ++ (name_of labels role ++ codes "\n")
 line_of labels Unwritten = codes "write fault\n"
 line_of labels Memory = codes "no memory\n"

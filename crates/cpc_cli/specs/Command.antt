@@ -4,10 +4,6 @@ use Rattle.std.specs.Option.{option_map_or}
 use Rattle.cpc_base.specs.Bytes.{Text}
 use Rattle.cpc_base.specs.declared.stop.Dialect.{Dialect}
 use Rattle.cpc_base.specs.declared.stop.Dialect.TheVariants.{Cpc, Event}
-use Rattle.cpc_base.specs.declared.stop.Place.{Place}
-use Rattle.cpc_tree.specs.Located.{LProgram}
-use Rattle.cpc_convert_served_laws.specs.Serving.{unserved}
-use Rattle.cpc_answered.specs.Unanswered.{unanswered}
 use Rattle.cpc_cli_command.specs.Commands.{Command, Check, Exec, Options, Sample, Translate, Run, command_of}
 use Rattle.cpc_cli_command.specs.Usage.{defaults}
 use Rattle.cpc_sample.specs.Sample.{sample_text}
@@ -33,30 +29,29 @@ abbrev pub file_named : Origin → Option Text
 file_named (InFile name) = Some name
 file_named (IsMade text) = None
 
--- a text that a command takes: where it comes from, how it is read, and where a program asks for what is not served, if that matters
+-- a text that a command takes: where it comes from, and how it is read
 pub record Source : Type 0 where
   pub origin : Origin
   pub dialect : Dialect
-  pub unbuilt : LProgram → Option Place
 
--- any program is taken
-abbrev pub any_source : Dialect → Text → Source
-any_source dialect file = record { origin = InFile file; dialect = dialect; unbuilt = λ _. None }
+-- the text of a file
+abbrev pub file_source : Dialect → Text → Source
+file_source dialect file = record { origin = InFile file; dialect = dialect }
 
--- programs of threads are taken whose event programs the loop answers
+-- one of threads
 abbrev pub threads_source : Text → Source
-threads_source file = record { origin = InFile file; dialect = Cpc; unbuilt = unserved }
+threads_source file = file_source Cpc file
 
--- the same of a text that the command makes
-abbrev pub made_source : Text → Source
-made_source text = record { origin = IsMade text; dialect = Cpc; unbuilt = unserved }
-
--- programs of events are taken that the loop answers
+-- one of events
 abbrev pub events_source : Text → Source
-events_source file = record { origin = InFile file; dialect = Event; unbuilt = unanswered }
+events_source file = file_source Event file
+
+-- a text of threads that the command makes
+abbrev pub made_source : Text → Source
+made_source text = record { origin = IsMade text; dialect = Cpc }
 
 abbrev pub source_of : Command → Source
-source_of (Check file) = any_source Cpc file
+source_of (Check file) = threads_source file
 source_of (Translate file) = threads_source file
 source_of (Run file options text) = threads_source file
 source_of (Exec file options) = events_source file

@@ -3,19 +3,17 @@ use Rattle.std.specs.Prelude.{◌≡◌, ℕ, ℤ, ◌++◌, false, ◌<◌, ◌
 use Rattle.cpc_base.specs.Bytes.{Text}
 use Rattle.cpc_base.specs.declared.stop.Dialect.{Dialect}
 use Rattle.cpc_base.specs.declared.stop.Dialect.TheVariants.{Cpc, Event}
-use Rattle.cpc_base.specs.declared.stop.Place.{Place}
 use Rattle.cpc_base.specs.Outside.{Files}
 use Rattle.cpc_tree.specs.Located.{LProgram, bare}
 use Rattle.cpc_tree.specs.Texts.{Polls, read_history}
 use Rattle.cpc_tree.specs.Trace as T
-use Rattle.cpc_answered.specs.Unanswered.{unanswered}
 use Rattle.cpc_check.specs.Accepted.{Accepts}
 use Rattle.cpc_history.specs.Reading.{IsFaultOf}
 use Rattle.cpc_history.specs.declared.read.HistoryFault.{HistoryFault}
 use Rattle.cpc_translate.specs.Refusals.{IsTextFault}
 use Rattle.cpc_translate.specs.declared.fault.TextFault.{TextFault}
 use Rattle.cpc_cli_command.specs.Commands.{Command, Check, Exec, Options, Sample, Translate, Run, command_of}
-use Rattle.cpc_cli.specs.Command.{Host, InFile, IsMade, IsRun, Origin, Source, any_source, bytes_line, events_source, history_limit, history_named, labels_in, made_source, sample_options, source_of, text_limit, threads_source}
+use Rattle.cpc_cli.specs.Command.{Host, InFile, IsMade, IsRun, Origin, Source, bytes_line, events_source, history_limit, history_named, labels_in, made_source, sample_options, source_of, text_limit, threads_source}
 use Rattle.cpc_sample.specs.Sample.{sample_text}
 use Rattle.cpc_run.specs.Hosts.{missing_of}
 use Rattle.cpc_cli.specs.Ran.{HasHosts, IsAnswered, StandsSo, history_with, shown, stop_in}
@@ -24,7 +22,7 @@ use Rattle.cpc_cli.specs.declared.answer.Role.TheVariants as R
 use Rattle.cpc_cli.specs.declared.answer.Outcome.{Outcome}
 use Rattle.cpc_cli.specs.declared.answer.Outcome.TheVariants.{Accepted, Translated}
 use Rattle.cpc_cli.specs.declared.answer.End.{End}
-use Rattle.cpc_cli.specs.declared.answer.End.TheVariants.{Done, Usage, Refused, Unbuilt, Unread, TooLong, BadLine, NoHost}
+use Rattle.cpc_cli.specs.declared.answer.End.TheVariants.{Done, Usage, Refused, Unread, TooLong, BadLine, NoHost}
 
 -- the text of a source: its file is there and within its limit, or the command makes it
 abbrev pub IsTextIn : Files → Origin → Dialect → Text → Type 0
@@ -43,7 +41,7 @@ pub record IsProgram (files : Files) (source : Source) (p : LProgram) : Type 0 w
 -- the program that a command runs, and the printed text of it
 abbrev pub Given : Files → Command → (printed : Text) → LProgram → Type 0
 Given files (Run file options text) printed q = Accepts Event printed q × (p : LProgram) × IsProgram files (threads_source file) p × IsTranslated p q
-Given files (Exec file options) printed q = (printed ≡ []) × (unanswered q ≡ None) × IsProgram files (events_source file) q
+Given files (Exec file options) printed q = (printed ≡ []) × IsProgram files (events_source file) q
 Given files (Sample number) printed q = Accepts Event printed q × (p : LProgram) × IsProgram files (made_source (sample_text number)) p × IsTranslated p q
 Given files (Translate file) printed q = ⊥
 Given files (Check file) printed q = ⊥
@@ -71,8 +69,6 @@ pub data Due (host : Host) (files : Files) (words : List Text) : End → Text �
       → text_limit (source_of command).dialect < length text → Due host files words (TooLong R.Text) []
   for_refused : (command : Command) (text : Text) (fault : TextFault) → command_of words ≡ Some command → IsText files (source_of command) text
       → IsTextFault (source_of command).dialect text fault → Due host files words (Refused fault) []
-  for_unbuilt : (command : Command) (p : LProgram) (at : Place) → command_of words ≡ Some command → IsProgram files (source_of command) p
-      → (source_of command).unbuilt p ≡ Some at → Due host files words (Unbuilt at) []
   -- the functions of the host, once the text is taken
   for_no_host : (command : Command) (printed name : Text) (q : LProgram) (end : End) → command_of words ≡ Some command → Given files command printed q
       → missing_of host.there (bare q) ≡ Some name → IsNoHost name end → Due host files words end []
@@ -84,17 +80,19 @@ pub data Due (host : Host) (files : Files) (words : List Text) : End → Text �
   for_bad_line : (command : Command) (printed name bytes : Text) (q : LProgram) (fault : HistoryFault) → command_of words ≡ Some command → CanRun host files command printed q
       → history_named command ≡ Some name → files name ≡ Some bytes → length bytes ≤ history_limit → IsFaultOf fault (read_history bytes) → Due host files words (BadLine fault) []
   -- the work
-  for_check : (file : Text) (p : LProgram) → command_of words ≡ Some (Check file) → IsProgram files (any_source Cpc file) p → Due host files words (Done Accepted) (codes "accepted\n")
+  for_check : (file : Text) (p : LProgram) → command_of words ≡ Some (Check file) → IsProgram files (threads_source file) p
+      → Due host files words (Done Accepted) (codes "accepted\n")
   for_translate : (file printed : Text) (p q : LProgram) → command_of words ≡ Some (Translate file) → IsProgram files (threads_source file) p
       → Accepts Event printed q → IsTranslated p q → Due host files words (Done Translated) printed
   for_run : (command : Command) (options : Options) (text : Bool) (printed : Text) (q : LProgram) (polls : List T.Told) (answers : List ℤ) (n : ℕ) (outcome : Outcome)
       → command_of words ≡ Some command → IsRun command options text → CanRun host files command printed q → ArePolls files options.history polls
-      → IsAnswered host (bare q) (history_with polls answers) n → StandsSo (bare q) (history_with polls answers) options.steps options.cells n outcome
-      → Due host files words (Done outcome) (shown options.trace text printed (bare q) (history_with polls answers) n (stop_in outcome))
+      → IsAnswered host (bare q) (history_with options polls answers) n → StandsSo (bare q) (history_with options polls answers) options.steps options.cells n outcome
+      → Due host files words (Done outcome) (shown options.trace text printed (bare q) (history_with options polls answers) n (stop_in outcome))
   for_sample : (number : ℕ) (printed : Text) (q : LProgram) (answers : List ℤ) (n : ℕ) (outcome : Outcome)
       → command_of words ≡ Some (Sample number) → CanRun host files (Sample number) printed q
-      → IsAnswered host (bare q) (history_with [] answers) n → StandsSo (bare q) (history_with [] answers) sample_options.steps sample_options.cells n outcome
-      → Due host files words (Done outcome) (shown false false printed (bare q) (history_with [] answers) n (stop_in outcome) ++ bytes_line number)
+      → IsAnswered host (bare q) (history_with sample_options [] answers) n
+      → StandsSo (bare q) (history_with sample_options [] answers) sample_options.steps sample_options.cells n outcome
+      → Due host files words (Done outcome) (shown false false printed (bare q) (history_with sample_options [] answers) n (stop_in outcome) ++ bytes_line number)
 
 -- no count rose, but those of names that are absent
 pub record NoneRose (files : Files) (rose : Rises) : Type 0 where

@@ -19,7 +19,7 @@ use Rattle.cpc_cli.specs.declared.answer.Report.{Report}
 use Rattle.cpc_cli.specs.declared.answer.Outcome.{Outcome}
 use Rattle.cpc_cli.specs.declared.answer.Outcome.TheVariants.{Ended, Exited, Failed, HistoryEnded, BadHistory, Stopped, Full, Accepted, Translated}
 use Rattle.cpc_cli.specs.declared.answer.End.{End}
-use Rattle.cpc_cli.specs.declared.answer.End.TheVariants.{Done, Usage, Refused, Unbuilt, Unread, Unwritten, Memory, TooLong, BadLine, NoHost}
+use Rattle.cpc_cli.specs.declared.answer.End.TheVariants.{Done, Usage, Refused, Unread, Unwritten, Memory, TooLong, BadLine, NoHost}
 
 -- ---- what a run is told
 
@@ -41,9 +41,9 @@ NotTold told history unread (BadLine fault) =
 NotTold told history unread Memory = Unit {0}
 NotTold told history unread _ = ⊥
 
--- the history of a run that is told these polls, and is given these answers by the host
-abbrev pub history_with : List T.Told → (answers : List ℤ) → History
-history_with polls answers = record { polls = polls; answers = answers; section_bound = 10000000 }
+-- the history of a run with these options that is told these polls, and is given these answers by the host
+abbrev pub history_with : Options → List T.Told → (answers : List ℤ) → History
+history_with options polls answers = record { polls = polls; answers = answers; section_bound = options.section_steps }
 
 -- ---- what the host answers
 
@@ -209,8 +209,8 @@ pub record NoSteps (report : Report) : Type 0 where
 -- a run that was told these polls ended so, with answers of the host
 pub record RanAnswered (host : Host) (q : Program) (polls : List T.Told) (options : Options) (text : Bool) (report : Report) (unwritten : Type 0) (out : Text) (end : End) : Type 0 where
   pub answers : List ℤ
-  pub answered : IsAnswered host q (history_with polls answers) report.steps
-  pub ran : RanTo q (history_with polls answers) options text report unwritten out end
+  pub answered : IsAnswered host q (history_with options polls answers) report.steps
+  pub ran : RanTo q (history_with options polls answers) options text report unwritten out end
 
 -- how a run by a history's file ended: a function of the host is missing, or the history was not told, and no run began; or it ended so
 abbrev pub RanTold : Host → (told : Option Files) → (q : Program) → Options → (text : Bool) → Report → (unread : Text → Type 0) → (unwritten : Type 0) → (out : Text) → End → Type 0

@@ -12,7 +12,7 @@ ghost use Rattle.cpc_cli.specs.declared.answer.End.TheVariants as V;
 ghost use Rattle.cpc_cli.specs.declared.answer.Outcome.TheVariants as O;
 
 use crate::reading::HISTORY_LIMIT;
-use cpc_base::{Failed, Place, Sink, write_all};
+use cpc_base::{Failed, Sink, write_all};
 use cpc_history::HistoryFault;
 use cpc_num::Fault;
 use cpc_translate::TextFault;
@@ -70,8 +70,6 @@ pub enum End {
     Usage,
     /// The text has a fault.
     Refused(TextFault),
-    /// The text is accepted, and not translated yet, for what stands at a place.
-    Unbuilt(Place),
     /// The shelf failed at a file.
     Unread(Role),
     /// `out` failed.
@@ -119,7 +117,7 @@ fn status(end: &End) -> u8
     match end {
         End::Done(outcome) => outcome_status(outcome),
         End::Usage => 2,
-        End::Refused(_) | End::Unbuilt(_) => 3,
+        End::Refused(_) => 3,
         End::BadLine(_) => 4,
         End::Unread(_) => 8,
         End::Unwritten => 9,
@@ -207,14 +205,6 @@ fn refused_line(alloc: Global, fault: &TextFault) -> Result<Vec<u8>, AllocError>
     Ok(format!(in alloc; "refused {row}:{column} {stage} {number} {name}\n")?.into_bytes())
 }
 
-fn unbuilt_line(alloc: Global, at: Place) -> Result<Vec<u8>, AllocError>
-    ensures { IfOk result (λ line. line.items ≡ line_of no_labels (V.Unbuilt at)) }
-{
-    let row = at.line;
-    let column = at.column;
-    Ok(format!(in alloc; "refused {row}:{column} form 1 not yet\n")?.into_bytes())
-}
-
 // What is wrong with a line of a history, by its number.
 fn wrong(number: u8) -> &'static str
     ensures { result.now ≡ wrong_text number }
@@ -282,7 +272,6 @@ fn line(alloc: Global, inputs: &Inputs<'_>, end: &End) -> Result<Vec<u8>, AllocE
             )
         }
         End::Refused(fault) => refused_line(alloc, fault),
-        End::Unbuilt(at) => unbuilt_line(alloc, *at),
         End::Unread(role) => unread_line(alloc, name(inputs, *role)),
         End::Unwritten => b"write fault\n".to_vec(alloc),
         End::Memory => b"no memory\n".to_vec(alloc),

@@ -1,24 +1,19 @@
 //! The files of a command: its text, and the program that it is.
-ghost use Rattle.std.specs.Prelude.{◌≡◌, ◌≤◌, IfOk, IsErrOf, None, Some, [], true};
+ghost use Rattle.std.specs.Prelude.{◌≡◌, ◌≤◌, IfOk, IsErrOf, []};
 ghost use Rattle.cpc_base.specs.Bytes.{Text};
 ghost use Rattle.cpc_base.specs.Outside.{Rose};
 ghost use Rattle.cpc_base.specs.declared.stop.Dialect.TheVariants as D;
-ghost use Rattle.cpc_base.specs.declared.stop.Place.{Place};
 ghost use Rattle.cpc_check.specs.Accepted.{Accepts};
-ghost use Rattle.cpc_tree.specs.Erase.{program_of};
 ghost use Rattle.cpc_tree.specs.Locate.{located};
 ghost use Rattle.cpc_tree.specs.Located.{LProgram};
-ghost use Rattle.cpc_native_builtins.specs.Served.{is_served_program};
-ghost use Rattle.cpc_answered.specs.Unanswered.{unanswered};
 ghost use Rattle.cpc_cli.specs.declared.answer.End.{End};
-ghost use Rattle.cpc_cli.specs.Command.{any_source, events_source, text_limit as limit_in, threads_source};
-ghost use Rattle.cpc_cli.specs.Answer.{AcceptedAs, IsTranslated, NotAccepted, Nothing, Printed, RefusesText, TextHas, refused_end, unread_end, untranslated_end};
+ghost use Rattle.cpc_cli.specs.Command.{events_source, file_source, text_limit as limit_in, threads_source};
+ghost use Rattle.cpc_cli.specs.Answer.{AcceptedAs, IsTranslated, NotAccepted, Nothing, Printed, RefusesText, TextHas, unread_end};
 
 use crate::answer::{End, Report, Role};
-use cpc_answered::answered;
-use cpc_base::{Dialect, Place, ReadFault, Shelf, Stop, read_file};
+use cpc_base::{Dialect, ReadFault, Shelf, Stop, read_file};
 use cpc_check::Checked;
-use cpc_translate::{Refusal, TextFault, read, translate};
+use cpc_translate::{TextFault, read, translate};
 use std::alloc::Global;
 
 /// The most bytes of a text of threads.
@@ -47,8 +42,8 @@ fn read_text<F: Shelf>(
     dialect: Dialect,
     shelf: &mut F,
 ) -> Result<Vec<u8>, End>
-    ensures text { IfOk result (λ t. TextHas (F.files shelf.old) (any_source dialect file.now) (λ bytes. t.items ≡ bytes)) }
-    ensures refused { (end : End) → IsErrOf result end → NotAccepted (F.files shelf.old) (any_source dialect file.now)
+    ensures text { IfOk result (λ t. TextHas (F.files shelf.old) (file_source dialect file.now) (λ bytes. t.items ≡ bytes)) }
+    ensures refused { (end : End) → IsErrOf result end → NotAccepted (F.files shelf.old) (file_source dialect file.now)
         (λ name. Rose (F.faults shelf.old name) (F.faults shelf.new name)) end }
     ensures later { (name : Text) → F.faults shelf.old name ≤ F.faults shelf.new name }
     ensures stays { F.files shelf.new ≡ F.files shelf.old }
@@ -71,26 +66,6 @@ fn unread(stop: Stop<TextFault>) -> End
     }
 }
 
-// The end of a call whose text is refused.
-fn refused(refusal: Refusal) -> End
-    ensures { result ≡ refused_end refusal }
-{
-    match refusal {
-        Refusal::Text(fault) => End::Refused(fault),
-        Refusal::Form(at) => End::Unbuilt(at),
-    }
-}
-
-// The end of a call whose text is not translated.
-fn untranslated(stop: Stop<Refusal>) -> End
-    ensures { result ≡ untranslated_end stop }
-{
-    match stop {
-        Stop::Memory => End::Memory,
-        Stop::Fault(refusal) => refused(refusal),
-    }
-}
-
 /// Reads the text of a file, and the program that it is.
 pub(crate) fn checked<F: Shelf>(
     alloc: Global,
@@ -98,9 +73,9 @@ pub(crate) fn checked<F: Shelf>(
     dialect: Dialect,
     shelf: &mut F,
 ) -> Result<Checked, End>
-    ensures accepted { IfOk result (λ c. TextHas (F.files shelf.old) (any_source dialect file.now) (λ text. Accepts dialect text (located c.program))) }
+    ensures accepted { IfOk result (λ c. TextHas (F.files shelf.old) (file_source dialect file.now) (λ text. Accepts dialect text (located c.program))) }
     ensures dialect { IfOk result (λ c. c.dialect ≡ dialect) }
-    ensures refused { (end : End) → IsErrOf result end → NotAccepted (F.files shelf.old) (any_source dialect file.now)
+    ensures refused { (end : End) → IsErrOf result end → NotAccepted (F.files shelf.old) (file_source dialect file.now)
         (λ name. Rose (F.faults shelf.old name) (F.faults shelf.new name)) end }
     ensures later { (name : Text) → F.faults shelf.old name ≤ F.faults shelf.new name }
     ensures stays { F.files shelf.new ≡ F.files shelf.old }
@@ -124,7 +99,6 @@ pub(crate) fn translated_text(
     requires { Nothing report.old [] }
     ensures printed { IfOk result (λ q. Printed (located q.program) report.new) }
     ensures dialect { IfOk result (λ q. q.dialect ≡ D.Event) }
-    ensures served { IfOk result (λ q. is_served_program (program_of q.program) ≡ true) }
     ensures same { IfOk result (λ q. (p : LProgram) × Accepts D.Cpc text.now p × IsTranslated p (located q.program)) }
     ensures refused { (end : End) → IsErrOf result end → RefusesText text.now end }
     ensures none { (end : End) → IsErrOf result end → Nothing report.new [] }
@@ -134,7 +108,7 @@ pub(crate) fn translated_text(
             report.printed = translated.printed;
             Ok(translated.read_back)
         }
-        Err(stop) => Err(untranslated(stop)),
+        Err(stop) => Err(unread(stop)),
     }
 }
 
@@ -148,7 +122,6 @@ pub(crate) fn translated<F: Shelf>(
     requires { Nothing report.old [] }
     ensures printed { IfOk result (λ q. Printed (located q.program) report.new) }
     ensures dialect { IfOk result (λ q. q.dialect ≡ D.Event) }
-    ensures served { IfOk result (λ q. is_served_program (program_of q.program) ≡ true) }
     ensures same { IfOk result (λ q. AcceptedAs (F.files shelf.old) (threads_source file.now) (λ p. IsTranslated p (located q.program))) }
     ensures refused { (end : End) → IsErrOf result end → NotAccepted (F.files shelf.old) (threads_source file.now)
         (λ name. Rose (F.faults shelf.old name) (F.faults shelf.new name)) end }
@@ -163,35 +136,14 @@ pub(crate) fn translated<F: Shelf>(
     translated_text(alloc, text.as_slice(), report)
 }
 
-// A program of events that the loop answers, or the place at which it asks for something else.
-fn served(program: Checked) -> Result<Checked, Place>
-    ensures same { IfOk result (λ q. q ≡ program) }
-    ensures served { IfOk result (λ q. is_served_program (program_of q.program) ≡ true) }
-    ensures none { IfOk result (λ q. unanswered (located q.program) ≡ None) }
-    ensures place { (at : Place) → IsErrOf result at → unanswered (located program.program) ≡ Some at }
-{
-    match answered(&program) {
-        Ok(()) => Ok(program),
-        Err(at) => Err(at),
-    }
-}
-
 /// Reads the text of a file, and gives the event program that it is.
 pub(crate) fn taken<F: Shelf>(alloc: Global, file: &str, shelf: &mut F) -> Result<Checked, End>
     ensures accepted { IfOk result (λ q. TextHas (F.files shelf.old) (events_source file.now) (λ text. Accepts D.Event text (located q.program))) }
-    ensures none { IfOk result (λ q. unanswered (located q.program) ≡ None) }
     ensures dialect { IfOk result (λ q. q.dialect ≡ D.Event) }
-    ensures served { IfOk result (λ q. is_served_program (program_of q.program) ≡ true) }
     ensures refused { (end : End) → IsErrOf result end → NotAccepted (F.files shelf.old) (events_source file.now)
         (λ name. Rose (F.faults shelf.old name) (F.faults shelf.new name)) end }
     ensures later { (name : Text) → F.faults shelf.old name ≤ F.faults shelf.new name }
     ensures stays { F.files shelf.new ≡ F.files shelf.old }
 {
-    match checked(alloc, file, Dialect::Event, shelf) {
-        Ok(program) => match served(program) {
-            Ok(program) => Ok(program),
-            Err(at) => Err(End::Unbuilt(at)),
-        },
-        Err(end) => Err(end),
-    }
+    checked(alloc, file, Dialect::Event, shelf)
 }

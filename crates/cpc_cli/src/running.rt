@@ -6,7 +6,6 @@ ghost use Rattle.cpc_base.specs.declared.stop.Dialect.TheVariants as D;
 ghost use Rattle.cpc_tree.specs.Erase.{in_table, program_of};
 ghost use Rattle.cpc_meaning.specs.History.{polls_fit};
 ghost use Rattle.cpc_history_marks.specs.Views.{told_of};
-ghost use Rattle.cpc_native_builtins.specs.Served.{is_served_program};
 ghost use Rattle.cpc_run.specs.Outcomes.{outcome_of as run_outcome_of};
 ghost use Rattle.cpc_run.specs.Hosts.{missing_of};
 ghost use Rattle.cpc_run.specs.Reports.{IsPrefix, Wrote};
@@ -120,7 +119,6 @@ fn run_bare<O: Sink, R: HostRule>(
     report: &mut Report,
 ) -> End
     requires dialect { program.now.dialect ≡ D.Event }
-    requires served { is_served_program (program_of program.now.program) ≡ true }
     requires some { 1 ≤ options.steps }
     requires room { options.cells ≤ most_cells }
     requires polls { polls_fit (map told_of polls.now) ≡ true }
@@ -135,6 +133,7 @@ fn run_bare<O: Sink, R: HostRule>(
     let limits = Limits {
         steps: options.steps,
         cells: options.cells,
+        section_steps: options.section_steps,
     };
     let ran = run_event(alloc, program, polls, hosts, limits, options.trace, out);
     report.steps = ran.steps;
@@ -148,8 +147,7 @@ fn run_bare<O: Sink, R: HostRule>(
         Ended::Full(asked) => End::Done(Outcome::Full(options.cells, asked)),
         Ended::WriteFault => End::Unwritten,
         Ended::Memory => End::Memory,
-        // No function of the host is missing, so this end is none.
-        Ended::NoHost(_) => End::Memory,
+        Ended::NoHost(_) => unreachable!(),
     }
 }
 
@@ -165,7 +163,6 @@ fn run_back<O: Sink, R: HostRule>(
     report: &mut Report,
 ) -> End
     requires dialect { program.now.dialect ≡ D.Event }
-    requires served { is_served_program (program_of program.now.program) ≡ true }
     requires some { 1 ≤ options.steps }
     requires room { options.cells ≤ most_cells }
     requires polls { polls_fit (map told_of polls.now) ≡ true }
@@ -206,7 +203,6 @@ pub(crate) fn run_told<F: Shelf, O: Sink, R: HostRule>(
     report: &mut Report,
 ) -> End
     requires dialect { program.now.dialect ≡ D.Event }
-    requires served { is_served_program (program_of program.now.program) ≡ true }
     requires some { 1 ≤ options.steps }
     requires room { options.cells ≤ most_cells }
     requires fresh { NoSteps report.old }

@@ -16,7 +16,9 @@ use crate::answer::{End, Inputs, Outcome, Report, conclude};
 use crate::reading::{checked, taken, text_limit, translated, translated_text};
 use crate::running::{close_sample, run_told};
 use cpc_base::{Dialect, Failed, NoMemory, Shelf, Sink, Stop, write_all};
-use cpc_cli_command::{Command, DEFAULT_CELLS, DEFAULT_STEPS, Options, Usage, read_words};
+use cpc_cli_command::{
+    Command, DEFAULT_CELLS, DEFAULT_SECTION_STEPS, DEFAULT_STEPS, Options, Usage, read_words,
+};
 use cpc_hosts::{HostRule, HostTable, Kept};
 use cpc_sample::sample;
 use std::alloc::Global;
@@ -122,6 +124,7 @@ fn sample_options<'a>() -> Options<'a>
         history: None,
         steps: DEFAULT_STEPS,
         cells: DEFAULT_CELLS,
+        section_steps: DEFAULT_SECTION_STEPS,
         trace: false,
     }
 }
@@ -274,7 +277,7 @@ fn follow<'a, F: Shelf, O: Sink, R: HostRule>(
 /// call the functions of `hosts`, whose answers meet its rule; before its history is read, each that it declares is looked for.
 ///
 /// The status of the report is 0 where the command did its work, 1 where the program that was run has a fault, 2 where
-/// the words are no command line, 3 where the text has a fault or a form that is not built yet, 4 where a line of the
+/// the words are no command line, 3 where the text has a fault, 4 where a line of the
 /// history is no poll, or a poll tells a section that is not out, 5 where the run wanted more polls than the history has, 6
 /// where it made as many steps as it may and is not over, 7 where it would have more live cells than it may, 8 where the
 /// shelf failed at the text or the history, 9 where a sink failed, 11 where memory was wanting, 12 where a function of the host is declared that

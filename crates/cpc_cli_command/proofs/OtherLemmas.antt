@@ -56,6 +56,15 @@ pub cells_twice_is : (one two file : Text) → Means (codes "run" ∷ (codes "--
 unfolding cpc_app clap_on_literals
 cells_twice_is one two file = refl
 
+pub section_steps_twice_is : (one two file : Text)
+    → Means (codes "run" ∷ (codes "--section-steps=" ++ one) ∷ (codes "--section-steps=" ++ two) ∷ file ∷ []) None
+unfolding cpc_app clap_on_literals
+section_steps_twice_is one two file = refl
+
+pub no_workers_is : (number file : Text) → Means (codes "run" ∷ (codes "--workers=" ++ number) ∷ file ∷ []) None
+unfolding cpc_app clap_on_literals
+no_workers_is number file = refl
+
 pub history_twice_is : (one two file : Text) → Means (codes "run" ∷ (codes "--history=" ++ one) ∷ (codes "--history=" ++ two) ∷ file ∷ []) None
 unfolding cpc_app clap_on_literals
 history_twice_is one two file = refl

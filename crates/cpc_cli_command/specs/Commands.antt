@@ -10,7 +10,7 @@ use Rattle.clap.specs.declared.builder.command.Command.TheViews.{out-Command}
 use Rattle.clap.specs.declared.builder.command.Command.{Command as Built}
 use Rattle.clap.specs.declared.builder.action.ArgAction.TheVariants.{Set, SetTrue}
 use Rattle.cpc_base.specs.Bytes.{Text}
-use Rattle.cpc_cli_command.specs.Number.{cells_of, default_cells, default_steps, steps_of, threads_of}
+use Rattle.cpc_cli_command.specs.Number.{cells_of, default_cells, default_section_steps, default_steps, section_steps_of, steps_of, threads_of}
 use Rattle.cpc_cli_command.specs.declared.words.Options.{Options as ParsedOptions}
 use Rattle.cpc_cli_command.specs.declared.words.Command.{Command as Parsed}
 use Rattle.cpc_cli_command.specs.declared.words.Command.TheVariants as P
@@ -37,9 +37,14 @@ flag_rule name = record (new_rule name) { long = Some name; action = Some SetTru
 abbrev pub on_file : Text → App
 on_file name = with_rule (new_app name) file_rule
 
--- the options of a run: `--history H`, `--steps N`, `--cells N` and `--trace`
+-- the options of a run that have values: `--history H`, `--steps N`, `--cells N` and `--section-steps N`
+abbrev pub with_values : App → App
+with_values app = with_rule (with_rule (with_rule (with_rule app (option_rule (codes "history"))) (option_rule (codes "steps")))
+    (option_rule (codes "cells"))) (option_rule (codes "section-steps"))
+
+-- and `--trace`
 abbrev pub with_options : App → App
-with_options app = with_rule (with_rule (with_rule (with_rule app (option_rule (codes "history"))) (option_rule (codes "steps"))) (option_rule (codes "cells"))) (flag_rule (codes "trace"))
+with_options app = with_rule (with_values app) (flag_rule (codes "trace"))
 
 abbrev pub run_app : App
 run_app = with_rule (with_options (on_file (codes "run"))) (flag_rule (codes "text"))
@@ -78,9 +83,10 @@ IsLocal c = (out-Command c).has_globals ≡ false
 pub record Options : Type 0 where
   -- the file of the history, where one is named
   pub history : Option Text
-  -- the most steps, and the most live cells
+  -- the most steps, the most live cells, and the most steps of a section
   pub steps : ℕ
   pub cells : ℕ
+  pub section_steps : ℕ
   -- a trace is wanted, and not the output alone
   pub trace : Bool
 
@@ -101,18 +107,22 @@ steps_in rows = option_map_or steps_of (first_of (codes "steps") rows) (Some def
 abbrev pub cells_in : List Row → Option ℕ
 cells_in rows = option_map_or cells_of (first_of (codes "cells") rows) (Some default_cells)
 
+abbrev pub section_steps_in : List Row → Option ℕ
+section_steps_in rows = option_map_or section_steps_of (first_of (codes "section-steps") rows) (Some default_section_steps)
+
 -- the options of these rows with these numbers
-abbrev pub options_with : List Row → (steps cells : ℕ) → Options
-options_with rows steps cells = record {
+abbrev pub options_with : List Row → (steps cells section_steps : ℕ) → Options
+options_with rows steps cells section_steps = record {
   history = first_of (codes "history") rows;
   steps = steps;
   cells = cells;
+  section_steps = section_steps;
   trace = is_given (codes "trace") rows;
 }
 
 -- the options that the matches give, unless a number breaks its rule
 abbrev pub options_in : List Row → Option Options
-options_in rows = option_and_then (λ steps. option_map (options_with rows steps) (cells_in rows)) (steps_in rows)
+options_in rows = option_and_then (λ steps. option_and_then (λ cells. option_map (options_with rows steps cells) (section_steps_in rows)) (cells_in rows)) (steps_in rows)
 
 -- the command of the options, where no number breaks its rule
 abbrev pub run_in : (file : Text) → List Row → Option Command
@@ -154,7 +164,13 @@ command_of words = if_taken (fault_of cpc_app words) (option_and_then command_in
 
 -- the options that the code read
 abbrev pub asked_options : ParsedOptions → Options
-asked_options options = record { history = option_map (λ name. name.now) options.history; steps = options.steps; cells = options.cells; trace = options.trace }
+asked_options options = record {
+  history = option_map (λ name. name.now) options.history;
+  steps = options.steps;
+  cells = options.cells;
+  section_steps = options.section_steps;
+  trace = options.trace;
+}
 
 -- the command that the code read
 abbrev pub asked : Parsed → Command

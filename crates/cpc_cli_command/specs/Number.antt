@@ -1,4 +1,4 @@
--- How many steps a run may take, and how many cells.
+-- How many steps a run may take, how many cells, and how many steps a section.
 use Rattle.std.specs.Prelude.{ℕ, Bool, ◌&&◌, Option, Some, None, length, if◌then◌else◌, nat_le}
 use Rattle.std.specs.Char.{is_ascii_digit}
 use Rattle.std.specs.List.{list_all}
@@ -18,6 +18,13 @@ default_cells = 4000000
 
 abbrev pub most_cells : ℕ
 most_cells = 50000000
+
+-- where the words give no number
+abbrev pub default_section_steps : ℕ
+default_section_steps = 10000000
+
+abbrev pub most_section_steps : ℕ
+most_section_steps = 1000000000000
 
 -- the most threads of a sample
 abbrev pub most_threads : ℕ
@@ -42,6 +49,10 @@ steps_of text = number_of most_steps text
 -- the number of cells that a text writes
 abbrev pub cells_of : Text → Option ℕ
 cells_of text = number_of most_cells text
+
+-- the number of steps of a section that a text writes
+abbrev pub section_steps_of : Text → Option ℕ
+section_steps_of text = number_of most_section_steps text
 
 -- the number of threads that a text writes
 abbrev pub threads_of : Text → Option ℕ

@@ -6,6 +6,9 @@ mod laws;
 mod number;
 mod words;
 
-pub use laws::{asking_words, bounded_words, other_words, taken_words};
-pub use number::{DEFAULT_CELLS, DEFAULT_STEPS, MOST_CELLS, MOST_STEPS, MOST_THREADS};
+pub use laws::{asking_words, bounded_words, exec_words, other_words, taken_words};
+pub use number::{
+    DEFAULT_CELLS, DEFAULT_SECTION_STEPS, DEFAULT_STEPS, MOST_CELLS, MOST_SECTION_STEPS,
+    MOST_STEPS, MOST_THREADS,
+};
 pub use words::{Command, Options, Usage, read_words};

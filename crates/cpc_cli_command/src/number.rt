@@ -1,4 +1,4 @@
-//! How many steps a run may take, and how many cells.
+//! How many steps a run may take, how many cells, and how many steps a section.
 ghost use Rattle.std.specs.Prelude.{◌≡◌};
 ghost use Rattle.std.specs.Char.{is_ascii_digit};
 ghost use Rattle.std.specs.List.{list_all};
@@ -15,6 +15,12 @@ pub const DEFAULT_CELLS: u64 = 4_000_000;
 
 /// The most live cells that the words may ask for.
 pub const MOST_CELLS: u64 = 50_000_000;
+
+/// The steps of a section where the words give no number.
+pub const DEFAULT_SECTION_STEPS: u64 = 10_000_000;
+
+/// The most steps of a section that the words may ask for.
+pub const MOST_SECTION_STEPS: u64 = 1_000_000_000_000;
 
 /// The most threads of a sample.
 pub const MOST_THREADS: u32 = 1_000;

@@ -5,12 +5,14 @@ ghost use Rattle.clap.specs.Words.{found_of, kind_of, rows_of, subcommand_rows_o
 ghost use Rattle.cpc_cli_command.specs.Commands.{asked, asked_options, command_in, command_named as named_command, command_of};
 ghost use Rattle.cpc_cli_command.specs.Commands.{cells_in as cells_given, is_given as was_given};
 ghost use Rattle.cpc_cli_command.specs.Commands.{exec_in as exec_given, file_command_in, options_in as options_given};
-ghost use Rattle.cpc_cli_command.specs.Commands.{run_in as run_given, sample_in as sample_given, steps_in as steps_given};
+ghost use Rattle.cpc_cli_command.specs.Commands.{run_in as run_given, sample_in as sample_given, section_steps_in as section_steps_given};
+ghost use Rattle.cpc_cli_command.specs.Commands.{steps_in as steps_given};
 ghost use Rattle.cpc_base.specs.declared.stop.Stop.TheVariants.{Fault};
 
 use crate::build;
 use crate::number::{
-    DEFAULT_CELLS, DEFAULT_STEPS, MOST_CELLS, MOST_STEPS, MOST_THREADS, read_number,
+    DEFAULT_CELLS, DEFAULT_SECTION_STEPS, DEFAULT_STEPS, MOST_CELLS, MOST_SECTION_STEPS,
+    MOST_STEPS, MOST_THREADS, read_number,
 };
 use clap::ArgMatches;
 use clap::error::{Error, ErrorKind};
@@ -26,6 +28,8 @@ pub struct Options<'a> {
     pub steps: u64,
     /// The most live cells of the run, within 1 to `MOST_CELLS`.
     pub cells: u64,
+    /// The most steps of each section, within 1 to `MOST_SECTION_STEPS`.
+    pub section_steps: u64,
     /// Whether `--trace` was given.
     pub trace: bool,
 }
@@ -164,10 +168,12 @@ fn options_in<'a>(values: &ArgMatches<'a>) -> Option<Options<'a>>
 {
     let steps = steps_in(values)?;
     let cells = cells_in(values)?;
+    let section_steps = section_steps_in(values)?;
     Some(Options {
         history: history_in(values),
         steps,
         cells,
+        section_steps,
         trace: is_given("trace", values),
     })
 }
@@ -196,6 +202,16 @@ fn cells_in(values: &ArgMatches<'_>) -> Option<u64>
     match values.get_str("cells") {
         Some(text) => read_number(text, MOST_CELLS),
         None => Some(DEFAULT_CELLS),
+    }
+}
+
+/// The number of `--section-steps`, or the default where it was not given.
+fn section_steps_in(values: &ArgMatches<'_>) -> Option<u64>
+    ensures { result ≡ section_steps_given (rows_of (found_of values.now)) }
+{
+    match values.get_str("section-steps") {
+        Some(text) => read_number(text, MOST_SECTION_STEPS),
+        None => Some(DEFAULT_SECTION_STEPS),
     }
 }
 

@@ -1,5 +1,5 @@
 -- What is printed of the event program of an accepted program is accepted as an event program that has the same runs.
-use Rattle.std.proofs.Common.{◌≡◌, ◌<◌, true, All, None, sym, ap, subst, ◌∙◌}
+use Rattle.std.proofs.Common.{◌≡◌, ◌<◌, All, sym, ap, subst, ◌∙◌}
 use Rattle.cpc_base.specs.Bytes.{Text}
 use Rattle.cpc_base.specs.declared.stop.Dialect.TheVariants as D
 use Rattle.cpc_tree.specs.declared.program.Program as GProgram
@@ -10,7 +10,6 @@ use Rattle.cpc_tree.specs.Locate.{located}
 use Rattle.cpc_tree.proofs.Places.{bare_program}
 use Rattle.cpc_printer.specs.Style.{IsPrint}
 use Rattle.cpc_meaning.specs.Runs.{SameRuns, Within}
-use Rattle.cpc_native_builtins.specs.Served.{is_served_program}
 use Rattle.cpc_convert_event.specs.Converted.{converted}
 use Rattle.cpc_convert_accepted_laws.specs.Accepted.{OfAccepted}
 use Rattle.cpc_convert_accepted_laws.specs.Names.{HasNames}
@@ -19,8 +18,6 @@ use Rattle.cpc_convert_runs_laws.specs.Laws.{ConvertedHasSameRuns}
 use Rattle.cpc_convert_print_laws.proofs.Back.{converted_reads_back}
 use Rattle.cpc_convert_rules_laws.specs.Laws.{Unbroken}
 use Rattle.cpc_convert_row_bodies_laws.proofs.Theorem.{converted_unbroken}
-use Rattle.cpc_convert_served_laws.specs.Serving.{unserved}
-use Rattle.cpc_convert_served_laws.proofs.Served.{converted_are_served}
 use Rattle.cpc_convert_shape_laws.specs.Shape.{Shape}
 use Rattle.cpc_convert_shape_laws.proofs.Shape.{accepted_shape}
 use Rattle.cpc_convert_leak_laws.specs.Laws.{NoLeak, ConvertedRests}
@@ -74,9 +71,3 @@ module _ (text : Text) (program : GProgram.Program) (accepted : Accepts D.Cpc te
   -- holds no more frames than the threads need
   pub has_no_leak : ConvertedRests → (q : Program) → q ≡ converted own → NoLeak own q
   has_no_leak law q e = equals (λ u. NoLeak own u) q e (had (λ p. NoLeak p (converted p)) law)
-
-  -- and asks only for what the loop answers, where the program asks for nothing else
-  pub is_served : unserved (located program) ≡ None → (q : Program) → q ≡ converted own → is_served_program q ≡ true
-  is_served built q e =
-      let r = accepted.parses in
-      ap is_served_program (e ∙ ap converted (sym (bare_program program))) ∙ converted_are_served r.0 _ (located program) r.2 accepted.unbroken built

@@ -16,8 +16,6 @@ use Rattle.cpc_translate.specs.declared.fault.TextFault.{TextFault}
 use Rattle.cpc_translate.specs.declared.fault.TextFault.TheVariants.{Lex, Parse, Check}
 use Rattle.cpc_base.specs.declared.stop.Stop.{Stop}
 use Rattle.cpc_base.specs.declared.stop.Stop.TheVariants as S
-use Rattle.cpc_translate.specs.declared.translating.Refusal.{Refusal}
-use Rattle.cpc_translate.specs.declared.translating.Refusal.TheVariants as R
 
 pub data IsTextFault (dialect : Dialect) (text : Text) : TextFault → Type 0 where
   uncut : (f : LexFault) → IsLexFault text dialect f.place f.number → IsTextFault dialect text (Lex f)
@@ -34,8 +32,3 @@ uncut_as (S.Fault f) = S.Fault (Lex f)
 abbrev pub unread_as : Stop ParseFault → Stop TextFault
 unread_as S.Memory = S.Memory
 unread_as (S.Fault f) = S.Fault (Parse f)
-
--- how a text that is not accepted is refused
-abbrev pub refusal_of : Stop TextFault → Stop Refusal
-refusal_of S.Memory = S.Memory
-refusal_of (S.Fault fault) = S.Fault (R.Text fault)

@@ -9,4 +9,4 @@ mod translating;
 
 pub use fault::TextFault;
 pub use reading::read;
-pub use translating::{Refusal, Translated, translate};
+pub use translating::{Translated, translate};

@@ -1,40 +1,25 @@
 //! A text as a program, and as the event program that is printed of it.
-ghost use Rattle.std.specs.Prelude.{◌≡◌, ◌<◌, All, IfOk, Err, Some, None, true};
+ghost use Rattle.std.specs.Prelude.{◌≡◌, IfOk, Err};
 ghost use Rattle.cpc_base.specs.declared.stop.Dialect.TheVariants as D;
-ghost use Rattle.cpc_base.specs.declared.stop.Place.{Place};
 ghost use Rattle.cpc_base.specs.declared.stop.Stop.TheVariants.{Fault};
 ghost use Rattle.cpc_tree.specs.Erase.{program_of};
 ghost use Rattle.cpc_tree.specs.Locate.{located};
-ghost use Rattle.cpc_tree.specs.Located.{LProgram};
 ghost use Rattle.cpc_meaning.specs.Runs.{SameRuns, Within};
-ghost use Rattle.cpc_check.specs.Accepted.{Accepts, IsWithin};
-ghost use Rattle.cpc_native_builtins.specs.Served.{is_served_program};
-ghost use Rattle.cpc_convert_served_laws.specs.Serving.{unserved};
+ghost use Rattle.cpc_check.specs.Accepted.{Accepts};
 ghost use Rattle.cpc_convert_event.specs.Converted.{converted};
 ghost use Rattle.cpc_convert_shape_laws.specs.Shape.{Shape};
 ghost use Rattle.cpc_convert_leak_laws.specs.Laws.{NoLeak};
-ghost use Rattle.cpc_translate.specs.Refusals.{IsTextFault, refusal_of};
+ghost use Rattle.cpc_translate.specs.Refusals.{IsTextFault};
 ghost use Rattle.cpc_translate.specs.declared.fault.TextFault.{TextFault};
-ghost use Rattle.cpc_translate.specs.declared.translating.Refusal.TheVariants.{Text, Form};
 
 use crate::events::event_text;
 use crate::fault::TextFault;
 use crate::reading::{read, read_again};
-use cpc_base::{Dialect, NoMemory, Place, Stop};
-use cpc_built::built;
+use cpc_base::{Dialect, NoMemory, Stop};
 use cpc_check::Checked;
 use cpc_convert_leak_laws::converted_rests_with_held_frames;
 use cpc_convert_runs_laws::converted_has_the_same_runs;
 use std::alloc::Global;
-
-/// Why a text is not translated.
-#[derive(Clone, Copy, Debug, PartialEq, Eq)]
-pub enum Refusal {
-    /// It is not accepted.
-    Text(TextFault),
-    /// It is accepted, and submits a section here, which is not served yet.
-    Form(Place),
-}
 
 /// A program, the text that is printed of its event program, and the program that this is read as.
 #[derive(Drop)]
@@ -47,60 +32,27 @@ pub struct Translated {
     pub read_back: Checked,
 }
 
-// The refusal of a text that is not accepted.
-fn refused(stop: Stop<TextFault>) -> Stop<Refusal>
-    ensures { result ≡ refusal_of stop }
-{
-    match stop {
-        Stop::Memory => Stop::Memory,
-        Stop::Fault(fault) => Stop::Fault(Refusal::Text(fault)),
-    }
-}
-
-// The program of a text of the dialect Cpc, which asks only for what is served.
-fn source_of(alloc: Global, text: &[u8]) -> Result<Checked, Stop<Refusal>>
-    ensures accepted { IfOk result (λ c. Accepts D.Cpc text.now (located c.program)) }
-    ensures dialect { IfOk result (λ c. c.dialect ≡ D.Cpc) }
-    ensures within { IfOk result (λ c. IsWithin c.program) }
-    ensures built { IfOk result (λ c. unserved (located c.program) ≡ None) }
-    ensures refused { (fault : TextFault) → result ≡ Err (Fault (Text fault)) → IsTextFault D.Cpc text.now fault }
-    ensures form { (at : Place) → result ≡ Err (Fault (Form at)) → (p : LProgram) × Accepts D.Cpc text.now p × (unserved p ≡ Some at) }
-    ensures bytes { All (λ b. b < 256) text.now }
-{
-    match read(alloc, text, Dialect::Cpc) {
-        Ok(source) => match built(&source) {
-            Ok(()) => Ok(source),
-            Err(at) => Err(Stop::Fault(Refusal::Form(at))),
-        },
-        Err(stop) => Err(refused(stop)),
-    }
-}
-
 /// The translation of a text of the dialect Cpc: an event program that has the same runs, within the cost, and the shape: native
 /// functions and globals stay, and each cps function becomes its spawner and one function for each point where a thread of it
 /// may begin to run. Wherever nothing runs in it, it holds no more frames, and no more live cells, than the threads need.
 ///
 /// # Errors
 ///
-/// `Stop::Fault` with `Refusal::Text` for the fault of a text that is not accepted, or with `Refusal::Form` for the first function of
-/// the host that an accepted one declares, or section that it submits. `Stop::Memory` for want of memory.
-pub fn translate(alloc: Global, text: &[u8]) -> Result<Translated, Stop<Refusal>>
+/// `Stop::Fault` with the fault of a text that is not accepted. `Stop::Memory` for want of memory.
+pub fn translate(alloc: Global, text: &[u8]) -> Result<Translated, Stop<TextFault>>
     ensures source { IfOk result (λ t. Accepts D.Cpc text.now (located t.source.program)) }
     ensures printed { IfOk result (λ t. Accepts D.Event t.printed.items (located t.read_back.program)) }
     ensures dialects { IfOk result (λ t. (t.source.dialect ≡ D.Cpc) × (t.read_back.dialect ≡ D.Event)) }
-    ensures built { IfOk result (λ t. unserved (located t.source.program) ≡ None) }
     ensures equal { IfOk result (λ t. program_of t.read_back.program ≡ converted (program_of t.source.program)) }
     ensures same { IfOk result (λ t. SameRuns (program_of t.source.program) (program_of t.read_back.program)) }
     ensures within { IfOk result (λ t. Within (program_of t.source.program) (program_of t.read_back.program)) }
     ensures shape { IfOk result (λ t. Shape (program_of t.source.program) (program_of t.read_back.program)) }
     ensures no_leak { IfOk result (λ t. NoLeak (program_of t.source.program) (program_of t.read_back.program)) }
-    ensures served { IfOk result (λ t. is_served_program (program_of t.read_back.program) ≡ true) }
-    ensures refused { (fault : TextFault) → result ≡ Err (Fault (Text fault)) → IsTextFault D.Cpc text.now fault }
-    ensures form { (at : Place) → result ≡ Err (Fault (Form at)) → (p : LProgram) × Accepts D.Cpc text.now p × (unserved p ≡ Some at) }
+    ensures refused { (fault : TextFault) → result ≡ Err (Fault fault) → IsTextFault D.Cpc text.now fault }
 {
     converted_has_the_same_runs();
     converted_rests_with_held_frames();
-    let source = source_of(alloc, text)?;
+    let source = read(alloc, text, Dialect::Cpc)?;
     let printed = match event_text(alloc, &source.program) {
         Ok(printed) => printed,
         Err(NoMemory) => return Err(Stop::Memory),

@@ -5,15 +5,8 @@ use Rattle.cpc_base.specs.Bytes.{Text}
 use Rattle.cpc_base.specs.Outside.{Rose}
 use Rattle.cpc_base.specs.declared.stop.Dialect.TheVariants.{Cpc}
 use Rattle.cpc_check.specs.Accepted.{Accepts}
-use Rattle.cpc_convert_served_laws.specs.Serving.{unserved}
-use Rattle.cpc_cli.proofs.TopLemmas.{not_for_any, text_refused}
+use Rattle.cpc_cli.proofs.TopLemmas.{text_refused}
 use Rattle.cpc_cli.proofs.reading.translated.Goals as goal
-
-pub returns-in-Err-clause-refused : goal.returns-in-Err-clause-refused
-returns-in-Err-clause-refused g c = λ end is.
-    let unread = λ (name : Text). Rose (g.F.Shelf.faults c.args.shelf.now name) (g.F.Shelf.faults c.read_text.new.shelf name) in
-    let same : c.in-Err.end ≡ end = cc in
-    not_for_any (g.F.Shelf.files c.args.shelf.now) Cpc c.args.file.now unserved unread end (c.in-Err.ensures.refused end (ap Err same))
 
 pub returns-clause-refused : goal.returns-clause-refused
 returns-clause-refused g c = λ end is.

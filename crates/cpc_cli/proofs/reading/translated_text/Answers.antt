@@ -7,4 +7,4 @@ pub returns-in-Ok-clause-same : goal.returns-in-Ok-clause-same
 returns-in-Ok-clause-same c =
     let t = c.in-Ok.ensures in
     let p = c.in-Ok.translated.source.program in
-    (located p, t.source, translated_so p c.in-Ok.translated.read_back.program t.built t.equal t.same t.within t.shape t.no_leak)
+    (located p, t.source, translated_so p c.in-Ok.translated.read_back.program t.equal t.same t.within t.shape t.no_leak)

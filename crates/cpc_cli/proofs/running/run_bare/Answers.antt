@@ -16,7 +16,7 @@ returns-in-Ok-clause-ended g c =
       record {
         answers = ran.answers;
         answered = record { answered = ran.answered; meets = ran.meets };
-        ran = ended_over (in_table p.names) (program_of p) (with_answers (history_of c.args.polls.now) ran.answers) (asked_options c.args.options) _ refl refl c.requires.some c.run_event-ran.result told.0 ran.tells c.args.report.now
+        ran = ended_over (in_table p.names) (program_of p) (with_answers (history_of c.args.polls.now c.args.options.section_steps) ran.answers) (asked_options c.args.options) _ refl refl c.requires.some c.run_event-ran.result told.0 ran.tells c.args.report.now
             c.in-Over.outcome c.in-Ok.outcome c.in-Over.is c.in-Ok.ensures.is c.in-Ok.ensures.counted;
       },
     )
@@ -31,7 +31,7 @@ returns-in-Err-clause-ended g c =
       record {
         answers = ran.answers;
         answered = record { answered = ran.answered; meets = ran.meets };
-        ran = over_starved (in_table p.names) (program_of p) (with_answers (history_of c.args.polls.now) ran.answers) (asked_options c.args.options) _ refl refl c.requires.some c.run_event-ran.result told.0 ran.tells c.args.report.now
+        ran = over_starved (in_table p.names) (program_of p) (with_answers (history_of c.args.polls.now c.args.options.section_steps) ran.answers) (asked_options c.args.options) _ refl refl c.requires.some c.run_event-ran.result told.0 ran.tells c.args.report.now
             c.in-Over.outcome c.in-Over.is;
       },
     )
@@ -46,7 +46,7 @@ returns-in-Steps-clause-ended g c =
       record {
         answers = ran.answers;
         answered = record { answered = ran.answered; meets = ran.meets };
-        ran = ended_steps (in_table p.names) (program_of p) (with_answers (history_of c.args.polls.now) ran.answers) (asked_options c.args.options) _ refl refl c.requires.some c.run_event-ran.result told.0 ran.tells c.args.report.now
+        ran = ended_steps (in_table p.names) (program_of p) (with_answers (history_of c.args.polls.now c.args.options.section_steps) ran.answers) (asked_options c.args.options) _ refl refl c.requires.some c.run_event-ran.result told.0 ran.tells c.args.report.now
             c.in-Steps.is;
       },
     )
@@ -61,7 +61,7 @@ returns-in-Full-clause-ended g c =
       record {
         answers = ran.answers;
         answered = record { answered = ran.answered; meets = ran.meets };
-        ran = ended_full (in_table p.names) (program_of p) (with_answers (history_of c.args.polls.now) ran.answers) (asked_options c.args.options) _ refl refl c.requires.some c.run_event-ran.result told.0 ran.tells c.args.report.now
+        ran = ended_full (in_table p.names) (program_of p) (with_answers (history_of c.args.polls.now c.args.options.section_steps) ran.answers) (asked_options c.args.options) _ refl refl c.requires.some c.run_event-ran.result told.0 ran.tells c.args.report.now
             c.in-Full.asked c.in-Full.is;
       },
     )
@@ -78,7 +78,7 @@ returns-in-WriteFault-clause-ended g c =
         answered = record { answered = ran.answered; meets = ran.meets };
         ran = (
           c.run_event-ran.ensures.cause c.in-WriteFault.is,
-          ended_unwritten (in_table p.names) (program_of p) (with_answers (history_of c.args.polls.now) ran.answers) (asked_options c.args.options) _ refl refl c.requires.some c.run_event-ran.result told.0 ran.tells c.args.report.now
+          ended_unwritten (in_table p.names) (program_of p) (with_answers (history_of c.args.polls.now c.args.options.section_steps) ran.answers) (asked_options c.args.options) _ refl refl c.requires.some c.run_event-ran.result told.0 ran.tells c.args.report.now
               c.in-WriteFault.is,
         );
       },
@@ -94,22 +94,16 @@ returns-in-Memory-clause-ended g c =
       record {
         answers = ran.answers;
         answered = record { answered = ran.answered; meets = ran.meets };
-        ran = ended_starved (in_table p.names) (program_of p) (with_answers (history_of c.args.polls.now) ran.answers) (asked_options c.args.options) _ refl refl c.requires.some c.run_event-ran.result told.0 ran.tells c.args.report.now
+        ran = ended_starved (in_table p.names) (program_of p) (with_answers (history_of c.args.polls.now c.args.options.section_steps) ran.answers) (asked_options c.args.options) _ refl refl c.requires.some c.run_event-ran.result told.0 ran.tells c.args.report.now
             c.in-Memory.is;
       },
     )
 
-pub returns-in-NoHost-clause-ended : goal.returns-in-NoHost-clause-ended
-returns-in-NoHost-clause-ended g c =
+-- all functions of the host are there
+pub unreachable-requires : goal.unreachable-requires
+unreachable-requires g c =
     let told = c.run_event-ran.ensures.told c.requires.hosts in
     let ran = told.2 in
-    let p = c.args.program.now.program in (
-      told.0,
-      told.1,
-      record {
-        answers = ran.answers;
-        answered = record { answered = ran.answered; meets = ran.meets };
-        ran = absurd (ended_hosted (in_table p.names) (program_of p) (with_answers (history_of c.args.polls.now) ran.answers) (asked_options c.args.options) _ refl refl c.requires.some c.run_event-ran.result told.0 ran.tells c.args.report.now
-            _ c.in-NoHost.is);
-      },
-    )
+    let p = c.args.program.now.program in
+    ended_hosted (in_table p.names) (program_of p) (with_answers (history_of c.args.polls.now c.args.options.section_steps) ran.answers) (asked_options c.args.options) _ refl refl c.requires.some
+    c.run_event-ran.result told.0 ran.tells c.args.report.now _ c.in-NoHost.is

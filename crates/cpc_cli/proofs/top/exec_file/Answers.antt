@@ -25,7 +25,7 @@ returns-in-Ok-clause-ended g c =
     let q = located c.in-Ok.program.program in
     let by_files = told_as _ (g.F.Shelf.files c.args.shelf.now) (g.F.Shelf.files c.taken.new.shelf) _ (bare q) options false new late unwritten ran.0 c.run_told.result c.taken.ensures.stays (sym (bare_program c.in-Ok.program.program)) ran.2 in
     let ended = told_earlier _ (g.F.Shelf.files c.args.shelf.now) (bare q) options false new late early unwritten ran.0 (λ name. rose_earlier _ _ _ (c.taken.ensures.later name)) c.run_told.result by_files in
-    let takes = exec_takes (g.F.Shelf.files c.args.shelf.now) c.args.file.now options q c.args.report.now new c.requires.none.no_run c.run_told.ensures.kept c.in-Ok.ensures.none c.in-Ok.ensures.accepted in
+    let takes = exec_takes (g.F.Shelf.files c.args.shelf.now) c.args.file.now options q c.args.report.now new c.requires.none.no_run c.run_told.ensures.kept c.in-Ok.ensures.accepted in
     (ran.0, ran.1, run_ended _ _ _ options false (by_exec c.args.file.now options) q early unwritten new ran.0 takes c.run_told.result ended)
 
 pub returns-in-Err-clause-ended : goal.returns-in-Err-clause-ended

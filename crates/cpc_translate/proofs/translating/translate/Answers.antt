@@ -2,7 +2,7 @@ use Rattle.std.proofs.Common.{subst, sym, ◌∙◌}
 use Rattle.cpc_tree.specs.Erase.{program_of}
 use Rattle.cpc_printer.specs.Style.{IsPrint}
 use Rattle.cpc_convert_event.specs.Converted.{converted}
-use Rattle.cpc_translate.proofs.Whole.{print_accepted, runs_same, runs_within, has_shape, has_no_leak, is_served}
+use Rattle.cpc_translate.proofs.Whole.{print_accepted, runs_same, runs_within, has_shape, has_no_leak}
 use Rattle.cpc_translate.proofs.translating.translate.Goals as goal
 
 pub read_again-requires : goal.read_again-requires
@@ -38,8 +38,3 @@ pub returns-in-Ok-read_again-clause-no_leak : goal.returns-in-Ok-read_again-clau
 returns-in-Ok-read_again-clause-no_leak c =
     let s = c.in_ok-source.ensures in
     has_no_leak c.args.text.now c.in_ok-source.source.program s.accepted c.converted_rests_with_held_frames.ensures.law (program_of c.in-Ok-read_again.read_back.program) (returns-in-Ok-read_again-clause-equal c)
-
-pub returns-in-Ok-read_again-clause-served : goal.returns-in-Ok-read_again-clause-served
-returns-in-Ok-read_again-clause-served c =
-    let s = c.in_ok-source.ensures in
-    is_served c.args.text.now c.in_ok-source.source.program s.accepted s.built (program_of c.in-Ok-read_again.read_back.program) (returns-in-Ok-read_again-clause-equal c)

@@ -1,3 +1,0 @@
-pub mod Nodes
-pub mod Named
-pub mod Served

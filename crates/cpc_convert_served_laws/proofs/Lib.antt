@@ -1,4 +1,0 @@
-pub mod Names
-pub mod Sources
-pub mod Lines
-pub mod Served
