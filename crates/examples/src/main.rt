@@ -29,11 +29,12 @@ const RUN: [&str; 12] = [
     "hosts.c",
 ];
 
-/// The examples that are read and checked, and have forms that no command runs yet.
-const CHECKED: [&str; 1] = ["server.c"];
-
 /// The examples that wait for what comes from outside, each with the history that tells it.
-const TOLD: [(&str, &str); 1] = [("echo.c", "echo.polls")];
+const TOLD: [(&str, &str); 3] = [
+    ("echo.c", "echo.polls"),
+    ("server.c", "server.polls"),
+    ("sorter.c", "sorter.polls"),
+];
 
 fn never(alloc: Global) -> Calls {
     Calls::new(Vec::new(alloc))
@@ -69,18 +70,13 @@ fn show(
     Ok(())
 }
 
-// Does what the command of this word does with one text.
-fn show_text(
-    rt: &HostRuntime,
-    hosts: &HostTable<StdHosts>,
-    word: &str,
-    name: &str,
-) -> anyhow::Result<()>
+// Runs a text.
+fn show_run(rt: &HostRuntime, hosts: &HostTable<StdHosts>, name: &str) -> anyhow::Result<()>
     requires { ⟦<HostTable<StdHosts> as Kept>⟧.keeps hosts.now }
 {
     let alloc = rt.alloc();
     let words = vec![in alloc;
-        String::from_str(alloc, word)?,
+        String::from_str(alloc, "run")?,
         String::from_str(alloc, name)?,
     ]?;
     let files = vec![in alloc; file(rt, name)?]?;
@@ -150,13 +146,10 @@ fn main(rt: HostRuntime) -> anyhow::Result<()> {
         return Ok(());
     };
     for name in RUN {
-        show_text(&rt, &hosts, "run", name)?;
+        show_run(&rt, &hosts, name)?;
     }
     for (name, history) in TOLD {
         show_told(&rt, &hosts, name, history)?;
-    }
-    for name in CHECKED {
-        show_text(&rt, &hosts, "check", name)?;
     }
     Ok(())
 }

@@ -14,7 +14,7 @@ use row::Row;
 use std::fs;
 
 /// The files of rows, each with the texts of one subject.
-const FILES: [&str; 24] = [
+const FILES: [&str; 25] = [
     "grammar.rows",
     "printed.rows",
     "rules.rows",
@@ -33,6 +33,7 @@ const FILES: [&str; 24] = [
     "control.rows",
     "threads.rows",
     "waits.rows",
+    "sections.rows",
     "exec.rows",
     "hosts.rows",
     "sample.rows",
