@@ -2,8 +2,8 @@
 # page.sh [--unproved]: gives the texts of docs/ERRORS.md and docs/LANGUAGE.md to the built program, and compares what it says with the
 # page. With --unproved it compiles the program without proofs, once, and runs that. Ends with status 1 where something does not hold.
 # In ERRORS.md a text stands in a block, or in the file that a line `The text is [FILE](..)` names; what the page says of it stands
-# below: `LINE`, for the words `run a.c`, or With `WORDS`: `LINE`. In LANGUAGE.md each block with a `main` is to be accepted, and one
-# that begins as a file of crates/examples/data is to be that file.
+# below: `LINE`, for the words `run a.c`, or With `WORDS`: `LINE`, or With `WORDS` and the history `POLL`: `LINE`, where the words name it h.
+# In LANGUAGE.md each block with a `main` is to be accepted, and one that begins as a file of crates/examples/data is to be that file.
 # shellcheck disable=SC2016  # backquotes are those of the page
 set -u
 top=$(cd "$(dirname "${BASH_SOURCE[0]}")/.." && pwd)
@@ -18,13 +18,20 @@ mkdir "$room/cases" || exit 126
 texts=0
 wrong=0
 
-# case_of TEXT WORDS SAID: a text in a file of its own, with its words (a.c is {}) and what the page says in two files beside it
+# case_of TEXT WORDS SAID [HISTORY]: a text in a file of its own, with its words (a.c is {}) and what the page says in two files beside it
+lent=()
 case_of() {
-  local name
+  local name words
   texts=$((texts + 1))
   name=$(printf 't%03d' "$texts")
+  words=${2//a.c/\{\}}
   printf %s "$1" >"$room/cases/$name"
-  tr ' ' '\n' <<<"${2//a.c/\{\}}" >"$room/cases/$name.args"
+  if [ -n "${4:-}" ]; then
+    words=${words/% h/ $name.h}
+    printf '%s\n' "$4" >"$room/$name.h"
+    lent+=(--data "$name.h=$room/$name.h")
+  fi
+  tr ' ' '\n' <<<"$words" >"$room/cases/$name.args"
   printf %s "$3" >"$room/$name.said"
 }
 
@@ -45,8 +52,12 @@ while IFS= read -r line; do
     below)
       [ -n "$line" ] || continue
       state=outside
-      IFS='`' read -r before first _ second _ <<<"$line"
-      if [ "$before" = 'With ' ]; then case_of "$text" "$first" "$second"; else case_of "$text" 'run a.c' "$first"; fi ;;
+      IFS='`' read -r before first between second _ third _ <<<"$line"
+      case $before$between in
+        'With  and the history ') case_of "$text" "$first" "$third" "$second" ;;
+        'With '*) case_of "$text" "$first" "$second" ;;
+        *) case_of "$text" 'run a.c' "$first" ;;
+      esac ;;
   esac
 done <"$top/docs/ERRORS.md"
 
@@ -74,7 +85,7 @@ done <"$top/docs/LANGUAGE.md"
 
 # what the program says of each: all of its output
 if [ "${1:-}" = --unproved ]; then
-  (cd "$top/crates/cpc" && rt try --cases "$room/cases" </dev/null) >"$room/all" 2>&1
+  (cd "$top/crates/cpc" && rt try "${lent[@]}" --cases "$room/cases" </dev/null) >"$room/all" 2>&1
   awk -v room="$room" '
     /^case=/ { file = room "/" substr($1, 6) ".told"; printf "%s", text >file; close(file); text = ""; next }
     /^== t[0-9]+$/ { next }
@@ -83,7 +94,8 @@ else
   for file in "$room"/cases/*.args; do
     name=$(basename "$file" .args)
     mapfile -t words <"$file"
-    "$cpc" "${words[@]//\{\}/$room/cases/$name}" >"$room/$name.told" 2>&1
+    words=("${words[@]//\{\}/$room/cases/$name}")
+    "$cpc" "${words[@]/#$name.h/$room/$name.h}" >"$room/$name.told" 2>&1
   done
 fi
 
