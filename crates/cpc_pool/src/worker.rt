@@ -13,6 +13,7 @@ use cpc_pool_jobs::{JobPass, Message, Receiver, Runner, take};
 use std::alloc::{AllocError, Global};
 use std::marker::PhantomData;
 use std::snapshot::Snapshot;
+use std::sync::atomic::{AtomicBool, Ordering};
 use std::sync::{Arc, Wait};
 use std::thread;
 use std::thread::Promise;
@@ -28,6 +29,8 @@ pub struct Crew<W: Runner, G: Gate> {
     pub dones: Arc<Dones<W>, Global>,
     /// Rings after each completion.
     pub bell: Arc<Bell, Global>,
+    /// Whether nobody asks for completions any more.
+    pub over: Arc<AtomicBool, Global>,
 }
 
 impl<W: Runner, G: Gate> Crew<W, G> {
@@ -40,6 +43,7 @@ impl<W: Runner, G: Gate> Crew<W, G> {
             gate: Arc::try_clone(&self.gate)?,
             dones: Arc::try_clone(&self.dones)?,
             bell: Arc::try_clone(&self.bell)?,
+            over: Arc::try_clone(&self.over)?,
         })
     }
 }
@@ -69,7 +73,36 @@ fn bring<W: Runner, R: Wait>(
     unreachable!()
 }
 
-/// Takes jobs and brings completions, each with the end of its own job, until it is told to stop.
+// Runs a job, and brings its completion. A job whose end nobody asks for any more is not run.
+fn work_on<W: Runner, G: Gate, R: Wait>(
+    rt: &R,
+    crew: &Crew<W, G>,
+    number: u64,
+    bringing: &mut DonePass<W>,
+    job: W::Job,
+)
+    requires role { PushesAt (arc_value crew.now.dones) number bringing.old }
+    requires meets { W.meets job }
+    ensures { PushesAt (arc_value crew.now.dones) number bringing.new }
+{
+    if crew.over.load(Ordering::SeqCst) {
+        return;
+    }
+    let at = W::number_of(&job);
+    crew.gate.before(at);
+    let end = crew.runner.run(&job);
+    crew.gate.after(at);
+    let done = Done {
+        worker: number,
+        job,
+        end,
+    };
+    bring(rt, &crew.dones, number, bringing, done);
+    crew.bell.ring(rt);
+}
+
+/// Takes jobs and brings completions, each with the end of its own job, until it is told to stop. Once the pool stops, jobs are taken
+/// and not run.
 pub fn work<W: Runner, G: Gate, R: Wait>(
     rt: &R,
     crew: &Crew<W, G>,
@@ -85,19 +118,7 @@ pub fn work<W: Runner, G: Gate, R: Wait>(
 {
     for _ in rt.forever() {
         match take(rt, jobs, &mut taking) {
-            Ok(Message::Work(job)) => {
-                let at = W::number_of(&job);
-                crew.gate.before(at);
-                let end = crew.runner.run(&job);
-                crew.gate.after(at);
-                let done = Done {
-                    worker: number,
-                    job,
-                    end,
-                };
-                bring(rt, &crew.dones, number, &mut bringing, done);
-                crew.bell.ring(rt);
-            }
+            Ok(Message::Work(job)) => work_on(rt, crew, number, &mut bringing, job),
             _ => return (taking, bringing),
         }
     }

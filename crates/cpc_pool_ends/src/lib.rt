@@ -4,11 +4,9 @@
 mod calls;
 mod done;
 mod rule;
-mod sections;
 mod views;
 
 pub use calls::{DoneOf, DonePass, DoneViewOf, Dones, begin, hire, pop, push, retire, settle};
 pub use done::Done;
 pub use rule::DoneRule;
-pub use sections::Sections;
 pub use views::{DoneKept, DoneView};

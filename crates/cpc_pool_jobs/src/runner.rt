@@ -1,5 +1,5 @@
 //! What a pool runs.
-ghost use Rattle.std.specs.Prelude.{ℕ, ◌≡◌};
+ghost use Rattle.std.specs.Prelude.{ℕ, ◌≡◌, IsTrue};
 
 /// Runs jobs of one kind, one at a time in each of several threads.
 ///
@@ -23,6 +23,10 @@ pub trait Runner: Drop {
     /// The number of a job.
     fn number_of(job: &Self::Job) -> u64
         ensures { result ≡ number job.now };
+
+    /// Whether two jobs ask for the same: then an end of the first is an end of the second.
+    fn is_same(first: &Self::Job, second: &Self::Job) -> bool
+        ensures { IsTrue result → (e : Self.End) → ends first.now e → ends second.now e };
 
     /// Runs a job.
     fn run(&self, job: &Self::Job) -> Self::End

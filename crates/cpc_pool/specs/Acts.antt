@@ -1,0 +1,33 @@
+-- What the acts of a pool come to.
+use Rattle.std.specs.Prelude.{◌≡◌, ◌⊎◌, ℕ, ◌<◌, List, [], ◌∷◌, ◌++◌, length, slice_index_or, Option, Some, MatchOption}
+use Rattle.crossbeam_queue.specs.Fifo.{Held}
+use Rattle.cpc_pool_jobs.specs.declared.message.Message.TheVariants as M
+use Rattle.cpc_pool_jobs.specs.declared.views.View.{View}
+use Rattle.cpc_pool_jobs.specs.Views.{after_send}
+use Rattle.cpc_pool_ends.specs.declared.done.Done.{Done}
+use Rattle.cpc_pool_ends.specs.declared.views.DoneView.{DoneView}
+use Rattle.cpc_pool_ends.specs.Views.{Arrives, Settled}
+
+-- the completion of a job that the pool ran itself
+abbrev pub ran : {J E : Type 0} → J → E → Done J E
+ran j e = record { worker = 0; job = j; end = e }
+
+-- the pool ran the job: its completion stands last in the pool's own list
+abbrev pub Ran : {J E : Type 0} → (J → E → Type 0) → J → List (Done J E) → List (Done J E) → Type 0
+Ran {J} {E} ends j own left = (e : E) × (left ≡ own ++ ran j e ∷ []) × ends j e
+
+-- A job was submitted. It was sent, or the pool ran it
+abbrev pub Submitted : {J E : Type 0} → (J → ℕ) → (J → E → Type 0) → J → List (Done J E) → List (Done J E) → View → View → Type 0
+Submitted {J} {E} number ends j own left v w =
+    ((w ≡ after_send number v (M.Work j)) × (left ≡ own))
+    ⊎ ((w ≡ v) × Ran ends j own left)
+
+-- What is accepted is the first of the pool's own list. Where that is empty it is the next of the queue, or nothing, and then the queue
+-- was empty at a moment of the call
+abbrev pub Accepted : {J E : Type 0} → (J → E → Type 0) → List (Done J E) → List (Done J E) → DoneView J E → DoneView J E → Option (Done J E) → Type 0
+Accepted ends (d ∷ ds) left v w r = (r ≡ Some d) × (left ≡ ds) × (w ≡ v)
+Accepted ends [] left v w r = (left ≡ []) × MatchOption r ((w ≡ v) × Held 0 (Settled v)) (λ d. Arrives ends v d w)
+
+-- among these completions, that at this place is of a job each of whose ends is an end of this one
+abbrev pub IsOf : {J E : Type 0} → (J → E → Type 0) → List (Done J E) → ℕ → J → Type 0
+IsOf {J} {E} ends dones at j = (at < length dones) × ((d : Done J E) (e : E) → ends (slice_index_or dones at d).job e → ends j e)

@@ -1,0 +1,211 @@
+//! The pool: starting workers, submitting, accepting, waiting and stopping.
+ghost use Rattle.std.specs.Prelude.{◌≡◌, ◌<◌, ◌≤◌, ◌+◌, ℕ, List, [], true, All, IfOk, IfSome, MatchResult, length, vec_len};
+ghost use Rattle.std.specs.List.{AllByRecursion};
+ghost use Rattle.std.specs.Arc.{arc_value};
+ghost use Rattle.crossbeam_channel.specs.Claims.{view as job_view, IsSeatAt};
+ghost use Rattle.crossbeam_channel.specs.Ends.{sends_on, receives_on};
+ghost use Rattle.crossbeam_queue.specs.Passes.{view as done_view, IsPassOf};
+ghost use Rattle.cpc_pool_jobs.specs.declared.message.Message.{Message};
+ghost use Rattle.cpc_pool_jobs.specs.Views.{submitter, Settled as JobsSettled};
+ghost use Rattle.cpc_pool_ends.specs.declared.done.Done.{Done};
+ghost use Rattle.cpc_pool_ends.specs.Views.{loops, Settled as DonesSettled};
+ghost use Rattle.cpc_pool.specs.Passes.{Submits, Pops};
+ghost use Rattle.cpc_pool.specs.Acts.{Ran, Submitted, Accepted};
+
+use super::bell::Bell;
+use super::completions::Completions;
+use super::gate::Gate;
+use super::staff::{Worker, join_all, start_all};
+use super::worker::Crew;
+use cpc_pool_ends::{Done, DoneOf, DonePass};
+use cpc_pool_jobs::{JobPass, Message, Runner, Sender, send, send_stop};
+use std::alloc::{AllocError, Global};
+use std::sync::atomic::{AtomicBool, Ordering};
+use std::sync::{Arc, Wait};
+use std::thread::Threads;
+
+// The most jobs that are out at once: sent to the workers, with a completion that was not accepted yet.
+const MOST_OUT: usize = 1024;
+
+// How many messages the channel has room for: the jobs that can be out, and a stop for each worker. So nobody who sends waits.
+const MESSAGES: usize = 1088;
+
+/// The workers, and the completions of the jobs that none of them ran. It is let go of by `stop` alone.
+pub struct Pool<W: Runner, G: Gate> {
+    /// The end of the channel that sends.
+    pub jobs: Sender<W>,
+    /// What the workers share.
+    pub crew: Crew<W, G>,
+    own: Completions<W>,
+    workers: Vec<Worker<W>>,
+    heard: u64,
+    out: usize,
+    pub ghost ours: { All (λ h. (receives_on h.promise.jobs.value ≡ sends_on jobs) × (arc_value h.promise.dones.value ≡ arc_value crew.dones)) workers.items },
+}
+
+// Runs a job in the caller's own thread.
+fn run_here<W: Runner>(own: &mut Completions<W>, runner: &W, job: W::Job)
+    requires room { length own.old.0 < own.old.1 }
+    requires meets { W.meets job }
+    ensures { Ran W.ends job own.old.0 own.new.0 }
+{
+    let end = runner.run(&job);
+    own.add(Done {
+        worker: 0,
+        job,
+        end,
+    });
+}
+
+impl<W, G> Pool<W, G>
+where
+    W: Runner + Send + Sync + 'static,
+    W::Job: Send + 'static,
+    W::End: Send + 'static,
+    G: Gate + Send + Sync + 'static,
+{
+    /// A pool with up to so many workers, which share the runner and the gate with the caller, and the passes of its submitter and of its
+    /// loop. There are fewer workers where threads cannot be made. An error is want of memory.
+    pub fn start<R: Threads + Wait + Copy + Send + 'static>(
+        rt: &R,
+        alloc: Global,
+        runner: Arc<W, Global>,
+        workers: u32,
+        gate: Arc<G, Global>,
+    ) -> Result<(Pool<W, G>, JobPass<W>, DonePass<W>), AllocError>
+        requires few { workers ≤ 64 }
+        ensures jobs { IfOk result (λ r. IsSeatAt (sends_on r.0.jobs) r.1 × (job_view r.1 ≡ submitter [] 0 workers [])) }
+        ensures dones { IfOk result (λ r. IsPassOf (arc_value r.0.crew.dones) r.2 × (done_view r.2 ≡ loops [] workers [])) }
+        ensures none { IfOk result (λ r. (r.0.own.0 ≡ []) × (vec_len r.0.workers ≤ workers)) }
+    {
+        let (sender, receiver, mut jobs) = cpc_pool_jobs::begin::<W>(alloc, MESSAGES)?;
+        let (queue, mut dones) = cpc_pool_ends::begin::<W>(alloc, MOST_OUT)?;
+        let crew = Crew {
+            runner,
+            gate,
+            dones: Arc::new(alloc, queue)?,
+            bell: Arc::new(alloc, Bell::new())?,
+            over: Arc::new(alloc, AtomicBool::new(false))?,
+        };
+        let started = start_all(
+            rt, alloc, &sender, &receiver, &crew, workers, &mut jobs, &mut dones,
+        )?;
+        let pool = Pool {
+            jobs: sender,
+            crew,
+            own: Completions::new(alloc),
+            workers: started,
+            heard: 0,
+            out: 0,
+        };
+        Ok((pool, jobs, dones))
+    }
+}
+
+impl<W: Runner, G: Gate> Pool<W, G> {
+    /// Sends a job, whose number is above those that were sent. Where there is no worker, or none that receives, or as many jobs are out
+    /// as the queue has room for, the pool runs it at once and keeps its completion. An error is want of memory: the job comes back, and nothing changed.
+    pub fn submit<R: Wait>(
+        &mut self,
+        rt: &R,
+        pass: &mut JobPass<W>,
+        job: W::Job,
+    ) -> Result<(), (W::Job, AllocError)>
+        requires seat { Submits (sends_on self.old.jobs) pass.old × ((job_view pass.old).stops ≡ 0) }
+        requires number { AllByRecursion (λ n. n < W.number job) (job_view pass.old).sent }
+        requires meets { W.meets job }
+        ensures seat { Submits (sends_on self.new.jobs) pass.new × ((job_view pass.new).stops ≡ 0) }
+        ensures same { (self.new.jobs ≡ self.old.jobs) × (self.new.crew ≡ self.old.crew) × (vec_len self.new.workers ≡ vec_len self.old.workers) }
+        ensures here { vec_len self.old.workers ≡ 0 → job_view pass.new ≡ job_view pass.old }
+        ensures submitted { MatchResult result (λ _. Submitted W.number W.ends job self.old.own.0 self.new.own.0 (job_view pass.old) (job_view pass.new)) (λ e. (e.0 ≡ job) × (self.new.own.0 ≡ self.old.own.0) × (job_view pass.new ≡ job_view pass.old)) }
+    {
+        if self.own.reserve().is_err() {
+            return Err((job, AllocError));
+        }
+        if self.workers.is_empty() || self.out >= MOST_OUT {
+            run_here(&mut self.own, &self.crew.runner, job);
+            return Ok(());
+        }
+        match send(rt, &self.jobs, pass, job) {
+            Err(Message::Work(job)) => {
+                run_here(&mut self.own, &self.crew.runner, job);
+                Ok(())
+            }
+            _ => {
+                self.out += 1;
+                Ok(())
+            }
+        }
+    }
+
+    /// Runs a job at once, whatever its number, and keeps its completion. An error is want of memory: the job comes back, and nothing
+    /// changed.
+    pub fn run(&mut self, job: W::Job) -> Result<(), (W::Job, AllocError)>
+        requires meets { W.meets job }
+        ensures same { (self.new.jobs ≡ self.old.jobs) × (self.new.crew ≡ self.old.crew) × (vec_len self.new.workers ≡ vec_len self.old.workers) }
+        ensures ran { MatchResult result (λ _. Ran W.ends job self.old.own.0 self.new.own.0) (λ e. (e.0 ≡ job) × (self.new.own.0 ≡ self.old.own.0)) }
+    {
+        if self.own.reserve().is_err() {
+            return Err((job, AllocError));
+        }
+        run_here(&mut self.own, &self.crew.runner, job);
+        Ok(())
+    }
+
+    /// A completion, if there is one: first of the jobs that the pool ran itself, in order of submission, and then as the workers
+    /// bring them. At `None` it had none of its own, and the queue was empty at a moment of the call.
+    pub fn accept<R: Wait>(&mut self, rt: &R, pass: &mut DonePass<W>) -> Option<DoneOf<W>>
+        requires seat { Pops (arc_value self.old.crew.dones) pass.old }
+        ensures seat { Pops (arc_value self.new.crew.dones) pass.new }
+        ensures same { (self.new.jobs ≡ self.old.jobs) × (self.new.crew ≡ self.old.crew) × (vec_len self.new.workers ≡ vec_len self.old.workers) }
+        ensures accepted { Accepted W.ends self.old.own.0 self.new.own.0 (done_view pass.old) (done_view pass.new) result }
+        ensures ends { IfSome result (λ d. W.ends d.job d.end) }
+    {
+        self.heard = self.crew.bell.heard(rt);
+        match self.own.next() {
+            Some(done) => Some(done),
+            None => {
+                let done = cpc_pool_ends::pop(rt, &self.crew.dones, pass)?;
+                self.out = self.out.saturating_sub(1);
+                Some(done)
+            }
+        }
+    }
+
+    /// Waits until a worker has brought a completion since `accept` last looked.
+    pub fn wait_one<R: Wait>(&self, rt: &R) {
+        self.crew.bell.wait_past(rt, self.heard);
+    }
+
+    /// Tells each worker to stop, and waits until all have ended: the list of each that was started is kept. A job that no worker has
+    /// begun is taken and not run, since nobody asks for its end. What they took and pushed is told with the passes.
+    pub fn stop<R: Threads + Wait>(
+        self,
+        rt: &R,
+        mut jobs: JobPass<W>,
+        mut dones: DonePass<W>,
+    ) -> (JobPass<W>, DonePass<W>)
+        requires jobs { Submits (sends_on self.jobs) jobs }
+        requires dones { Pops (arc_value self.crew.dones) dones }
+        ensures jobs { ((items : List (Message W.Job)) × JobsSettled W.number (job_view result.0) items) × ((job_view result.0).sent ≡ (job_view jobs).sent) }
+        ensures dones { ((items : List (Done W.Job W.End)) × DonesSettled (done_view result.1) items) × ((done_view result.1).popped ≡ (done_view dones).popped) }
+        ensures all { (length (job_view result.0).kept ≡ length (job_view jobs).kept + vec_len self.workers) × (length (done_view result.1).kept ≡ length (done_view dones).kept + vec_len self.workers) }
+    {
+        let Pool {
+            jobs: sender,
+            crew,
+            own: _,
+            workers,
+            heard: _,
+            out: _,
+        } = self;
+        crew.over.store(true, Ordering::SeqCst);
+        for _ in 0..workers.len() {
+            let _ = send_stop(rt, &sender, &mut jobs);
+        }
+        join_all(rt, &sender, &crew, workers, &mut jobs, &mut dones);
+        cpc_pool_jobs::settle(&sender, &mut jobs);
+        cpc_pool_ends::settle(&crew.dones, &mut dones);
+        (jobs, dones)
+    }
+}
