@@ -1,6 +1,6 @@
 -- An event that is told.
-use Rattle.std.proofs.Common.{◌≡◌, ℕ, true, cond, List, [], ◌∷◌, ◌++◌, length, Some, None, Result, Ok, Err, inl, inr, refl, sym, ap, subst, ◌∙◌, arith}
-use Rattle.std.specs.Prelude.{◌==◌}
+use Rattle.std.proofs.Common.{◌≡◌, ℕ, true, cond, List, [], ◌∷◌, ◌++◌, length, Option, Some, None, Result, Ok, Err, inl, inr, refl, sym, ap, subst, ◌∙◌, arith}
+use Rattle.std.specs.Prelude.{◌==◌, IsSome}
 use Rattle.std.specs.BTreeMap.{is_at}
 use Rattle.std.specs.Ordering.{nat_cmp}
 use Rattle.std.proofs.lemmas.List.{map-append}
@@ -12,6 +12,7 @@ use Rattle.cpc_num.specs.declared.kinds.Fault.{Fault}
 use Rattle.cpc_tree.specs.Erase.{Names}
 use Rattle.cpc_tree.specs.Lists.{holds_number}
 use Rattle.cpc_tree.specs.Points.{Point}
+use Rattle.cpc_tree.specs.declared.program.Program.{Program}
 use Rattle.cpc_store.specs.Store.{Store, Value}
 use Rattle.cpc_store.specs.declared.values.Value as V
 use Rattle.cpc_meaning.specs.Agenda.{completed, not_out}
@@ -19,8 +20,10 @@ use Rattle.cpc_meaning.specs.Copies as C
 use Rattle.cpc_meaning.specs.Plain.{Form}
 use Rattle.cpc_meaning.specs.Section as M
 use Rattle.cpc_eval_values.specs.Shown.{value_of, values_of}
+use Rattle.cpc_native_sections.specs.Ends.{IsEndOf}
+use Rattle.cpc_run_sections.specs.Ends.{MayEnd}
 use Rattle.cpc_sections.specs.Backs.{CollectsAs, one_collected}
-use Rattle.cpc_sections.specs.Jobs.{job_of, end_of, EndsAs}
+use Rattle.cpc_sections.specs.Jobs.{job_of, end_of, EndsAs, IsLawfulEnd}
 use Rattle.cpc_sections.specs.declared.job.Job.{Job}
 use Rattle.cpc_sections.specs.declared.job.SectionEnd.{SectionEnd}
 use Rattle.cpc_run_jobs.specs.Held.{IsJob, AreHeld, left_out}
@@ -29,6 +32,15 @@ use Rattle.cpc_run_jobs.specs.Under.{under}
 use Rattle.cpc_run_jobs.proofs.Collecting.{collects_through, behind_both, behind_more, behind_all, behind_failed, ended_so}
 use Rattle.cpc_run_jobs.proofs.Held.{held_taken}
 use Rattle.cpc_run_jobs.proofs.Numbered.{bool_cases}
+
+-- the end of a section of this program
+pub end_is : (o : Option Program) (bound : ℕ) (job : Job) (end : SectionEnd) (p : Program) → o ≡ Some p → MayEnd o bound job (Ok end) → IsEndOf p bound job end
+end_is o bound job end p e h = subst (λ x. MayEnd x bound job (Ok end)) e h
+
+-- it is lawful, whatever program that is
+pub end_lawful : (o : Option Program) (bound : ℕ) (job : Job) (end : SectionEnd) → IsSome o → MayEnd o bound job (Ok end) → IsLawfulEnd end
+end_lawful (Some p) bound job end some h = h.lawful
+end_lawful None bound job end some h = absurd (cc some)
 
 -- the first of these is out, and the others are without it
 first_out : (n : ℕ) (ns out : List ℕ) → not_out (n ∷ ns) out ≡ None → (holds_number out n ≡ true) × (not_out ns (without (λ m. m == n) out) ≡ None)

@@ -1,10 +1,11 @@
 -- What runs the jobs, and the jobs that it holds against those of the definition.
-use Rattle.std.specs.Prelude.{◌≡◌, ℕ, suc, List, [], ◌∷◌, ◌++◌, map, reverse, Result, Ok, Err}
+use Rattle.std.specs.Prelude.{◌≡◌, ℕ, suc, List, [], ◌∷◌, ◌++◌, map, reverse, Option, Some, Result, Ok, Err}
 use Rattle.cpc_base.specs.declared.stop.Stop.{Stop}
 use Rattle.cpc_base.specs.declared.stop.Stop.TheVariants.{Memory, Fault as Faulted}
 use Rattle.cpc_num.specs.declared.kinds.Fault.{Fault}
 use Rattle.cpc_tree.specs.Erase.{Names, item_of}
 use Rattle.cpc_tree.specs.Syntax.{Program}
+use Rattle.cpc_tree.specs.declared.program.Program as GProgram
 use Rattle.cpc_store.specs.Store.{Value}
 use Rattle.cpc_meaning.specs.Answer.{Answer, Gives, Faults, NoAnswer}
 use Rattle.cpc_meaning.specs.Section as M
@@ -26,8 +27,14 @@ pub record Serves (names : Names) (j : Jobs) : Type 0 where
 abbrev pub Holds : Names → Jobs → List M.Job → ℕ → List ℕ → Type 0
 Holds names j jobs made out = AreHeld names j.out jobs made out
 
+-- sections of this program, with this bound on the steps of each, are sections of the jobs
+pub record IsAssigned (p : Option GProgram.Program) (bound : ℕ) (j : Jobs) : Type 0 where
+  pub program : p ≡ Some j.program.now
+  pub steps : bound ≡ j.bound
+
 -- all but what is held is as it was
 pub record KeepsJobs (old new : Jobs) : Type 0 where
+  pub program : new.program.now ≡ old.program.now
   pub items : (names : Names) → items_of names new ≡ items_of names old
   pub serves : (names : Names) → Serves names old → Serves names new
   pub bound : new.bound ≡ old.bound

@@ -1,7 +1,8 @@
-//! Sections that a poll tells: each is run, and its cells go back.
-ghost use Rattle.std.specs.Prelude.{◌≡◌, ℕ, ◌∷◌, List, None, IfOk, map};
+//! Sections that a poll tells: the end of each is asked for, and its cells go back.
+ghost use Rattle.std.specs.Prelude.{◌≡◌, ℕ, ◌∷◌, List, None, Some, IsSome, IfOk, map};
 ghost use Rattle.cpc_base.specs.declared.poll.Event.{Event};
 ghost use Rattle.cpc_tree.specs.Erase.{Names, item_of};
+ghost use Rattle.cpc_tree.specs.declared.program.Program.{Program};
 ghost use Rattle.cpc_meaning.specs.Agenda as A;
 ghost use Rattle.cpc_meaning.specs.Copies as C;
 ghost use Rattle.cpc_meaning.specs.Section as M;
@@ -14,28 +15,26 @@ ghost use Rattle.cpc_run_jobs.specs.Telling.{Reached, ReachedNext};
 
 use crate::out::Out;
 use cpc_base::{Event, Name, NoMemory};
-use cpc_native_sections::run_section;
 use cpc_num::Fault;
+use cpc_run_sections::Sections;
 use cpc_sections::{Collected, Finished, collect_one};
 use cpc_store::{Store, Value};
-use cpc_tree::program::Program;
 use std::alloc::Global;
 
-// An event is told. The section that it names is taken out and run, its cells go back, and its value is put behind the others; or
-// its fault is handed out, or that of the cells, with the function in which it came.
-fn told(
-    alloc: Global,
-    program: &Program,
-    bound: u64,
+// An event is told. The section that it names is taken out, its cells go back once it is over, and its value is put behind the
+// others; or its fault is handed out, or that of the cells, with the function in which it came.
+fn told<S: Sections>(
     out: &mut Out,
     event: Event,
     store: &mut Store,
     values: &mut Vec<Value>,
+    sections: &mut S,
 ) -> Result<Option<(Fault, Name)>, NoMemory>
-    ensures { IfOk result (λ failed. let items = program.now.items.items in (names : Names) → Runs names program.now.names (map (item_of names) items)
+    requires { IsSome S.program }
+    ensures { IfOk result (λ failed. (p : Program) → S.program ≡ Some p → let items = p.items.items in (names : Names) → Runs names p.names (map (item_of names) items)
         → (jobs : List M.Job) (made : ℕ) (whole : C.Collected) (last : List ℕ) (rest : List Event)
-        → Reached names (trees (map (item_of names) items)) bound jobs made whole last out.old (values_of names values.old.items) (store_of names store.old) (event ∷ rest)
-        → ReachedNext names failed whole (Reached names (trees (map (item_of names) items)) bound jobs made whole last out.new (values_of names values.new.items) (store_of names store.new) rest)) }
+        → Reached names (trees (map (item_of names) items)) S.bound jobs made whole last out.old (values_of names values.old.items) (store_of names store.old) (event ∷ rest)
+        → ReachedNext names failed whole (Reached names (trees (map (item_of names) items)) S.bound jobs made whole last out.new (values_of names values.new.items) (store_of names store.new) rest)) }
 {
     let Event::Done(number) = event else {
         return Ok(None);
@@ -43,7 +42,7 @@ fn told(
     let Some(job) = out.take(number) else {
         return Ok(None);
     };
-    let end = run_section(alloc, program, &job, bound)?;
+    let end = sections.finish(&job)?;
     match collect_one(store, &Finished { job, end }) {
         Ok(value) => {
             values.push(value)?;
@@ -57,34 +56,26 @@ fn told(
 /// the first fault, of a section, or of the cells that it gave back. After a fault the cells of those before it were written. What
 /// an event names that is not out is passed over.
 ///
-/// `NoMemory` is want of memory; then some of the cells were written.
-pub(crate) fn all_told(
+/// `NoMemory` is want of memory, of whoever ran a section too; then some of the cells were written.
+pub(crate) fn all_told<S: Sections>(
     alloc: Global,
-    program: &Program,
-    bound: u64,
     out: &mut Out,
     events: &[Event],
     store: &mut Store,
+    sections: &mut S,
 ) -> Result<Collected, NoMemory>
-    ensures collected { IfOk result (λ told. let items = program.now.items.items in (names : Names) → Runs names program.now.names (map (item_of names) items)
+    requires { IsSome S.program }
+    ensures collected { IfOk result (λ told. (p : Program) → S.program ≡ Some p → let items = p.items.items in (names : Names) → Runs names p.names (map (item_of names) items)
         → (jobs : List M.Job) (made : ℕ) (outs : List ℕ) → AreHeld names out.old jobs made outs → A.not_out (A.completed events.now) outs ≡ None
-        → CollectsAs (collected_of names (store_of names store.new) told) (C.collect (trees (map (item_of names) items)) bound jobs (A.completed events.now) (store_of names store.old))) }
-    ensures holds { IfOk result (λ told. let items = program.now.items.items in (names : Names) → Runs names program.now.names (map (item_of names) items)
+        → CollectsAs (collected_of names (store_of names store.new) told) (C.collect (trees (map (item_of names) items)) S.bound jobs (A.completed events.now) (store_of names store.old))) }
+    ensures holds { IfOk result (λ told. (p : Program) → S.program ≡ Some p → let items = p.items.items in (names : Names) → Runs names p.names (map (item_of names) items)
         → (jobs : List M.Job) (made : ℕ) (outs : List ℕ) → AreHeld names out.old jobs made outs → A.not_out (A.completed events.now) outs ≡ None
         → IfAllGave told (AreHeld names out.new jobs made (left_out (A.completed events.now) outs))) }
 {
     let mut values = Vec::new(alloc);
     let mut rest = events;
     'events: while let Some((event, tail)) = rest.split_first() {
-        if let Some((fault, function)) = told(
-            alloc,
-            program,
-            bound,
-            out,
-            *event,
-            store,
-            &mut values,
-        )? {
+        if let Some((fault, function)) = told(out, *event, store, &mut values, sections)? {
             return Ok(Collected::OneFailed(fault, function));
         }
         rest = tail;

@@ -1,8 +1,8 @@
 //! The sections that were submitted and that no poll has told.
-ghost use Rattle.std.specs.Prelude.{◌≡◌, ℕ, List, [], Some, None, IfOk, map};
+ghost use Rattle.std.specs.Prelude.{◌≡◌, ℕ, List, [], Some, None, OnErr, IfOk, map};
 ghost use Rattle.std.specs.List.{All};
 ghost use Rattle.cpc_tree.specs.Erase.{Names, item_of};
-ghost use Rattle.cpc_tree.specs.Syntax as S;
+ghost use Rattle.cpc_tree.specs.Syntax as X;
 ghost use Rattle.cpc_tree.specs.Typing.{function_named};
 ghost use Rattle.cpc_store.specs.Seen.{seen, IsLawful};
 ghost use Rattle.cpc_meaning.specs.Agenda as A;
@@ -12,7 +12,8 @@ ghost use Rattle.cpc_meaning.specs.Trees.{trees};
 ghost use Rattle.cpc_eval_values.specs.Shown.{value_of, values_of, store_of};
 ghost use Rattle.cpc_native.specs.Runs.{Runs};
 ghost use Rattle.cpc_sections.specs.Backs.{CollectsAs, collected_of};
-ghost use Rattle.cpc_run_jobs.specs.Holding.{items_of, Serves, Holds, KeepsJobs, SubmitsAs, IfAllGave, left_out};
+ghost use Rattle.cpc_sections.specs.Jobs.{IsLawfulJob, job_of};
+ghost use Rattle.cpc_run_jobs.specs.Holding.{items_of, Serves, Holds, IsAssigned, KeepsJobs, SubmitsAs, IfAllGave, left_out};
 
 use crate::ends::all_told;
 use crate::out::Out;
@@ -20,14 +21,35 @@ use cpc_base::{Event, Name, NoMemory, Stop};
 use cpc_native_sections::copy_of;
 use cpc_num::Fault;
 use cpc_run_globals::Layouts;
+use cpc_run_sections::Sections;
 use cpc_sections::{Collected, Job};
 use cpc_store::{Store, Value};
 use cpc_tree::program::Program;
 use std::alloc::Global;
 
+// The same job once more. `NoMemory` is want of memory.
+fn copied(alloc: Global, job: &Job) -> Result<Job, NoMemory>
+    requires { IsLawfulJob job.now }
+    ensures lawful { IfOk result IsLawfulJob }
+    ensures same { IfOk result (λ copy. (names : Names) → job_of names copy ≡ job_of names job.now) }
+{
+    let mut args = Vec::new(alloc);
+    args.extend_from_slice(job.args.as_slice())?;
+    let mut cells = Vec::new(alloc);
+    cells.extend_from_slice(job.cells.as_slice())?;
+    Ok(Job {
+        number: job.number,
+        function: job.function,
+        args,
+        cells,
+        pointer: job.pointer,
+    })
+}
+
 /// The sections of a program that were submitted and that no poll has told.
 ///
-/// A section does nothing until a poll tells it: its value does not depend on when it runs.
+/// Of each a copy is kept here, by its number. Whoever runs it may do so at any time from its submission on: its value does not
+/// depend on when.
 #[derive(Drop)]
 pub struct Jobs<'p> {
     program: &'p Program,
@@ -43,6 +65,7 @@ impl<'p> Jobs<'p> {
     pub fn new(alloc: Global, program: &'p Program, bound: u64) -> Result<Jobs<'p>, NoMemory>
         ensures items { IfOk result (λ j. (names : Names) → items_of names j ≡ map (item_of names) program.now.items.items) }
         ensures serves { IfOk result (λ j. (names : Names) → Runs names program.now.names (map (item_of names) program.now.items.items) → Serves names j) }
+        ensures program { IfOk result (λ j. j.program.now ≡ program.now) }
         ensures bound { IfOk result (λ j. j.bound ≡ bound) }
         ensures holds { IfOk result (λ j. (names : Names) → Holds names j [] 0 []) }
     {
@@ -57,9 +80,11 @@ impl<'p> Jobs<'p> {
     /// The section of a number is submitted: a call of a function with a pointer, whose cells are copied, and other arguments. The
     /// number is that of no section that was submitted before.
     ///
-    /// - `Memory`: want of memory.
+    /// After an error no section is out that was not before.
+    ///
+    /// - `Memory`: want of memory, here or of whoever runs the sections.
     /// - `Fault`: of a cell that could not be copied, as `copy_of` has it.
-    pub fn submit(
+    pub fn submit<S: Sections>(
         &mut self,
         alloc: Global,
         number: u64,
@@ -67,40 +92,47 @@ impl<'p> Jobs<'p> {
         pointer: Value,
         arguments: &[Value],
         store: &Store,
+        sections: &mut S,
     ) -> Result<(), Stop<Fault>>
         requires pointer { IsLawful (seen pointer) }
         requires arguments { All (λ v. IsLawful (seen v)) arguments.now }
         ensures submitted { (names : Names) → Serves names self.old → (jobs : List M.Job) (outs : List ℕ) → Holds names self.old jobs number outs
-            → (g : S.Function) → function_named (items_of names self.old) (names function) ≡ Some g
+            → (g : X.Function) → function_named (items_of names self.old) (names function) ≡ Some g
             → SubmitsAs names self.new result jobs number outs
             (λ cells. record { number = number; function = names function; arguments = values_of names arguments.now; cells = cells; pointer = value_of names pointer })
             (C.copy_of (items_of names self.old) g (value_of names pointer) (store_of names store.now)) }
+        ensures left { OnErr result (self.new ≡ self.old) }
         ensures keeps { KeepsJobs self.old self.new }
     {
         let cells = copy_of(alloc, self.program, &self.layouts, function, pointer, store)?;
         let mut args = Vec::new(alloc);
         args.extend_from_slice(arguments)?;
-        self.out.put(Job {
+        let job = Job {
             number,
             function,
             args,
             cells,
             pointer,
-        })?;
+        };
+        sections.submit(copied(alloc, &job)?)?;
+        self.out.put(job)?;
         Ok(())
     }
 
-    /// What the sections come to that these events name, in this order: each is run, and is out no more. Their values, once the cells
-    /// of each went back; or the first fault, of a section, or of the cells that it gave back. After a fault the cells of those before
-    /// it were written. What an event names that is not out is passed over.
+    /// What the sections come to that these events name, in this order, by whoever runs the sections of this program: the end of each
+    /// is waited for, and it is out no more. Their values, once the cells of each went back; or the first fault, of a section, or of
+    /// the cells that it gave back. After a fault the cells of those before it were written. What an event names that is not out is
+    /// passed over.
     ///
-    /// `NoMemory` is want of memory; then some of the cells were written.
-    pub fn finish(
+    /// `NoMemory` is want of memory, here or of whoever ran a section; then some of the cells were written.
+    pub fn finish<S: Sections>(
         &mut self,
         alloc: Global,
         events: &[Event],
         store: &mut Store,
+        sections: &mut S,
     ) -> Result<Collected, NoMemory>
+        requires { IsAssigned S.program S.bound self.old }
         ensures collected { IfOk result (λ told. (names : Names) → Serves names self.old → (jobs : List M.Job) (made : ℕ) (outs : List ℕ) → Holds names self.old jobs made outs
             → A.not_out (A.completed events.now) outs ≡ None
             → CollectsAs (collected_of names (store_of names store.new) told) (C.collect (trees (items_of names self.old)) self.old.bound jobs (A.completed events.now) (store_of names store.old))) }
@@ -109,13 +141,6 @@ impl<'p> Jobs<'p> {
             → IfAllGave told (Holds names self.new jobs made (left_out (A.completed events.now) outs))) }
         ensures keeps { KeepsJobs self.old self.new }
     {
-        all_told(
-            alloc,
-            self.program,
-            self.bound,
-            &mut self.out,
-            events,
-            store,
-        )
+        all_told(alloc, &mut self.out, events, store, sections)
     }
 }
