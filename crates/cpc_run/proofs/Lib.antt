@@ -20,3 +20,5 @@ pub mod Pieces
 pub mod Ends
 pub mod Bars
 pub mod Shorts
+pub mod Lawful
+pub mod Takes

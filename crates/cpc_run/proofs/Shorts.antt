@@ -1,5 +1,6 @@
 -- The live cells of the next state, where the step is made and where it is not.
 use Rattle.std.proofs.Common.{◌≡◌, ℕ, ◌+◌, ◌-◌, ◌<◌, ◌≤◌, ◌^◌, min, Bool, true, false, List, [], ◌∷◌, Option, Some, None, Result, Ok, Err, IfErr, OnOk, refl, sym, ap, subst, ◌∙◌, arith}
+use Rattle.std.specs.Result.{IsErrAnd}
 use Rattle.cpc_base.specs.Bytes.{Text}
 use Rattle.cpc_tree.specs.Lists.{is_empty}
 use Rattle.cpc_tree.specs.Trace as T
@@ -176,6 +177,10 @@ by_more cap cells (W.Beyond told) before after above le h =
 pub err_more : {A E : Type 0} (P Q : E → Type 0) (r : Result A E) → ((e : E) → P e → Q e) → IfErr r P → IfErr r Q
 err_more P Q (Ok x) f h = tt
 err_more P Q (Err e) f h = f e h
+
+pub err_is : {A E : Type 0} (P : E → Type 0) (r : Result A E) (e : E) → IsErrAnd r (λ other. other ≡ e) → P e → IfErr r P
+err_is P (Ok x) e is h = absurd is
+err_is P (Err other) e is h = subst P (sym is) h
 
 pub ok_more : {A E : Type 0} (P Q : Type 0) (r : Result A E) → (P → Q) → OnOk r P → OnOk r Q
 ok_more P Q (Ok x) f h = f h

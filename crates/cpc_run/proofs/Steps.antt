@@ -1,5 +1,5 @@
 -- A step is what runs, or what is taken.
-use Rattle.std.proofs.Common.{◌≡◌, ℕ, true, false, List, [], ◌∷◌, Option, Some, None, Result, Ok, Err, IfOk, refl, sym, ap, subst, ◌∙◌}
+use Rattle.std.proofs.Common.{◌≡◌, ℕ, true, false, List, [], ◌∷◌, Option, Some, None, Result, Ok, Err, refl, sym, ap, subst, ◌∙◌}
 use Rattle.cpc_base.specs.Bytes.{Text}
 use Rattle.cpc_base.specs.declared.names.Name.{Name}
 use Rattle.cpc_base.specs.declared.stop.NoMemory.{NoMemory}
@@ -29,13 +29,11 @@ use Rattle.cpc_run.specs.declared.items.Item.{Item}
 use Rattle.cpc_run.specs.declared.looped.Loop.{Loop}
 use Rattle.cpc_run.specs.declared.outcome.Outcome.{Outcome}
 use Rattle.cpc_run.specs.declared.outcome.Outcome.TheVariants as O
-use Rattle.cpc_run.specs.declared.short.Short.{Short}
-use Rattle.cpc_run.specs.declared.step.Step.{Step}
 use Rattle.cpc_run.specs.declared.step.Step.TheVariants as X
 use Rattle.cpc_run.specs.Shorts.{Counts}
 use Rattle.cpc_run.specs.Code.{items_in, store_in, stack_in, Same}
 use Rattle.cpc_run.specs.Shown.{shown}
-use Rattle.cpc_run.specs.States.{States, IsCallback, HasLists, Stands, Came, Did, DidTurn, callback_of, lists_in, settles, where_running, program_in}
+use Rattle.cpc_run.specs.States.{States, IsCallback, HasLists, Stands, Came, Did, CameTo, callback_of, lists_in, settles, where_running, program_in}
 use Rattle.cpc_run.proofs.Asks.{same_agenda}
 
 -- where no rule fits nothing is said
@@ -43,25 +41,17 @@ pub nothing : {E : Type 0} (names : Names) (r : Result (Option Outcome) E) (new 
 nothing names (Ok r) new printed s = tt
 nothing names (Err e) new printed s = tt
 
--- the same where nothing ran
-no_turn : {E : Type 0} (names : Names) (r : Result Step E) (new : Loop) (printed : Text) (s : States) → DidTurn names r new printed s None
-no_turn names (Ok r) new printed s = tt
-no_turn names (Err e) new printed s = tt
-
 -- ---- a callback
 
-pub calls_with : (names : Names) (r : Result Step Short) (l new : Loop) (printed : Text) (s : States) (f : Text) (pointer v w : S.Value)
-    → ((x : S.Value) → assigned (TyInt Int) v ≡ Gives x → w ≡ x)
-    → DidTurn names r new printed s (settles names l s (runs (trees (program_in names l)) f (pointer ∷ w ∷ []) s))
-    → DidTurn names r new printed s (settles names l s (starts_callback (trees (program_in names l)) (CallWith f pointer) v s))
-calls_with names r l new printed s f pointer S.Unset w e h =
-    subst (λ x. DidTurn names r new printed s (settles names l s (runs (trees (program_in names l)) f (pointer ∷ x ∷ []) s))) (e S.Unset refl) h
-calls_with names r l new printed s f pointer (S.Whole kind z) w e h =
-    subst (λ x. DidTurn names r new printed s (settles names l s (runs (trees (program_in names l)) f (pointer ∷ x ∷ []) s))) (e _ refl) h
-calls_with names r l new printed s f pointer S.Null w e h = no_turn names r new printed s
-calls_with names r l new printed s f pointer (S.At c n k) w e h = no_turn names r new printed s
-calls_with names r l new printed s f pointer (S.Code g) w e h = no_turn names r new printed s
-calls_with names r l new printed s f pointer (S.Cond n) w e h = no_turn names r new printed s
+pub calls_with : (names : Names) (l new : Loop) (printed : Text) (s : States) (f : Text) (pointer v w : S.Value) → ((x : S.Value) → assigned (TyInt Int) v ≡ Gives x → w ≡ x)
+    → CameTo names X.On new printed s (settles names l s (runs (trees (program_in names l)) f (pointer ∷ w ∷ []) s))
+    → CameTo names X.On new printed s (settles names l s (starts_callback (trees (program_in names l)) (CallWith f pointer) v s))
+calls_with names l new printed s f pointer S.Unset w e h = subst (λ x. CameTo names X.On new printed s (settles names l s (runs (trees (program_in names l)) f (pointer ∷ x ∷ []) s))) (e S.Unset refl) h
+calls_with names l new printed s f pointer (S.Whole kind z) w e h = subst (λ x. CameTo names X.On new printed s (settles names l s (runs (trees (program_in names l)) f (pointer ∷ x ∷ []) s))) (e _ refl) h
+calls_with names l new printed s f pointer S.Null w e h = tt
+calls_with names l new printed s f pointer (S.At c n k) w e h = tt
+calls_with names l new printed s f pointer (S.Code g) w e h = tt
+calls_with names l new printed s f pointer (S.Cond n) w e h = tt
 
 -- ---- what the code asks for
 
@@ -110,15 +100,11 @@ code_step_is names l s running = let m = callbacks (program_in names l) in sym (
 
 -- ---- what is taken
 
--- a step that goes on, or is not made, does so from either state, where as many cells are live
-from_either : (names : Names) (r : Result Step Short) (l new : Loop) (printed : Text) (s t : States) (a : Answer States) → live_cells t ≡ live_cells s → IfOk r (λ x. x ≡ X.On)
-    → DidTurn names r new printed t (settles names l t a) → DidTurn names r new printed s (settles names l s a)
-from_either names (Err e) l new printed s t a live on h = tt
-from_either names (Ok (X.Over o)) l new printed s t a live on h = absurd (cc on)
-from_either names (Ok (X.Broke fault f)) l new printed s t a live on h = absurd (cc on)
-from_either names (Ok X.On) l new printed s t NoAnswer live on h = tt
-from_either names (Ok X.On) l new printed s t (Gives u) live on h = h
-from_either names (Ok X.On) l new printed s t (Faults fault) live on h = absurd (let going = h.going in cc)
+-- a step that goes on does so from either state
+from_either : (names : Names) (l new : Loop) (printed : Text) (s t : States) (a : Answer States) → CameTo names X.On new printed t (settles names l t a) → CameTo names X.On new printed s (settles names l s a)
+from_either names l new printed s t NoAnswer h = tt
+from_either names l new printed s t (Gives u) h = h
+from_either names l new printed s t (Faults fault) h = absurd (let going = h.going in cc)
 
 -- the live cells are the same from either state
 counts_either : (P : ℕ → Type 0) (names : Names) (l : Loop) (s t : States) (a : Answer States) → live_cells t ≡ live_cells s → Counts P (settles names l t a) → Counts P (settles names l s a)
@@ -199,15 +185,14 @@ module _ (names : Names) (l mid : Loop) (before : Text) (s : States) (item : Ite
       let m = callbacks (program_in names l) in
       ap (λ o. settled m s (step_running m s o)) (h.running ∙ ap (λ b. where_running b (stack_in names l.machine)) idle) ∙ ap (λ r. settled m s (schedules m s r)) f.is
 
-  pub taken : (r : Result Step Short) (new : Loop) (printed : Text) → Stands names l before s → l.running ≡ false → mid.machine ≡ l.machine → mid.running ≡ false → mid.trace ≡ l.trace → mid.turns.polls.now ≡ l.turns.polls.now → mid.jobs ≡ l.jobs → Taken
-      → IfOk r (λ x. x ≡ X.On)
-      → ((t : States) → Stands names mid before t → DidTurn names r new printed t (settles names mid t (begins mid t)))
-      → DidTurn names r new printed s (try_step (callbacks (program_in names l)) s)
-  taken r new printed h idle same still trace polls jobs e on start =
+  pub taken : (new : Loop) (printed : Text) → Stands names l before s → l.running ≡ false → mid.machine ≡ l.machine → mid.running ≡ false → mid.trace ≡ l.trace → mid.turns.polls.now ≡ l.turns.polls.now → mid.jobs ≡ l.jobs → Taken
+      → ((t : States) → Stands names mid before t → CameTo names X.On new printed t (settles names mid t (begins mid t)))
+      → CameTo names X.On new printed s (try_step (callbacks (program_in names l)) s)
+  taken new printed h idle same still trace polls jobs e start =
       let f = first h.lists e polls jobs in
       let rest = without_it f in
-      let begun = subst (λ x. DidTurn names r new printed rest (settled (callbacks (items_in names x)) rest (starts_callback (trees (items_in names x)) (callback_of names item) (value_of names v) rest))) same (start rest (rest_stands h idle same still trace f)) in
-      subst (λ o. DidTurn names r new printed s o) (sym (step_is h idle f)) (from_either names r l new printed s rest (begins l rest) refl on begun)
+      let begun = subst (λ x. CameTo names X.On new printed rest (settled (callbacks (items_in names x)) rest (starts_callback (trees (items_in names x)) (callback_of names item) (value_of names v) rest))) same (start rest (rest_stands h idle same still trace f)) in
+      subst (λ o. CameTo names X.On new printed s o) (sym (step_is h idle f)) (from_either names l new printed s rest (begins l rest) begun)
 
   -- and so are its live cells
   pub taken_counts : (P : ℕ → Type 0) → Stands names l before s → l.running ≡ false → mid.machine ≡ l.machine → mid.running ≡ false → mid.trace ≡ l.trace → mid.turns.polls.now ≡ l.turns.polls.now → mid.jobs ≡ l.jobs → Taken

@@ -8,3 +8,4 @@ pub mod Shown
 pub mod States
 pub mod Reports
 pub mod Shorts
+pub mod Taken

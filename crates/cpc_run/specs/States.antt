@@ -6,6 +6,7 @@ use Rattle.cpc_tree.specs.Erase.{Names}
 use Rattle.cpc_tree.specs.Points.{Point}
 use Rattle.cpc_tree.specs.Syntax.{Program}
 use Rattle.cpc_tree.specs.Trace as T
+use Rattle.cpc_tree.specs.declared.program.Program as GProgram
 use Rattle.cpc_meaning.specs.Agenda as A
 use Rattle.cpc_meaning.specs.Answer.{Answer}
 use Rattle.cpc_meaning.specs.Events.{Callback, CallMain, CallWith, callbacks}
@@ -22,7 +23,7 @@ use Rattle.cpc_agenda.specs.Lists.{lists_of}
 use Rattle.cpc_agenda_turns.specs.declared.turns.Turns.{Turns}
 use Rattle.cpc_num.specs.declared.kinds.Fault.{Fault}
 use Rattle.cpc_run_jobs.specs.declared.jobs.Jobs.{Jobs}
-use Rattle.cpc_run_jobs.specs.Holding.{Holds, Serves, items_of as items_of_jobs}
+use Rattle.cpc_run_jobs.specs.Holding.{Holds, Serves, IsAssigned, items_of as items_of_jobs}
 use Rattle.cpc_run.specs.declared.items.Item.{Item}
 use Rattle.cpc_run.specs.declared.items.Item.TheVariants as I
 use Rattle.cpc_run.specs.declared.looped.Loop.{Loop}
@@ -38,7 +39,7 @@ use Rattle.cpc_run.specs.Shown.{shown}
 -- what the loop takes up
 abbrev pub callback_of : Names → Item → Callback
 callback_of names I.Main = CallMain
-callback_of names (I.With f pointer) = CallWith (names f) (value_of names pointer)
+callback_of names (I.With c) = CallWith (names c.function) (value_of names c.pointer)
 
 -- an item of the code is this one of the definitions
 abbrev pub IsCallback : Names → Item → Callback → Type 0
@@ -107,10 +108,11 @@ pub record IsSteady (l : Loop) : Type 0 where
   pub counted : length l.turns.polls.now ≤ l.polls
   pub numbered : l.polls < 2 ^ 64
 
--- the program, the name of `main`, what is shown and the number of all polls stay
+-- the program, the name of `main`, whose sections they are, what is shown and the number of all polls stay
 pub record Keeps (old new : Loop) : Type 0 where
   pub program : (names : Names) → program_in names new ≡ program_in names old
   pub runs : (names : Names) → Fits names old → Fits names new
+  pub assigned : (p : Option GProgram.Program) (bound : ℕ) → IsAssigned p bound old.jobs → IsAssigned p bound new.jobs
   pub trace : new.trace ≡ old.trace
   pub polls : new.polls ≡ old.polls
 

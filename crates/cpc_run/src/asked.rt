@@ -1,11 +1,13 @@
 //! What the running code asks of the loop, acted on and answered in the step that asks.
-ghost use Rattle.std.specs.Prelude.{◌≡◌, ◌++◌, List, ℤ, IfOk, true, map, [], ◌∷◌};
+ghost use Rattle.std.specs.Prelude.{◌≡◌, ◌++◌, List, ℤ, IfOk, Some, true, map, [], ◌∷◌};
 ghost use Rattle.std.specs.List.{All};
 ghost use Rattle.cpc_base.specs.Bytes.{Text};
 ghost use Rattle.cpc_check_rules.specs.Apart.{Spells};
 ghost use Rattle.cpc_tree.specs.Erase.{Names as Spelling};
 ghost use Rattle.cpc_tree.specs.Primitives as Q;
+ghost use Rattle.cpc_native_acts.specs.Taken.{IsAskedWith, IsCalledWith};
 ghost use Rattle.cpc_native_builtins.specs.Builtins.{primitive_of};
+ghost use Rattle.cpc_native_builtins.specs.Served.{is_served, IsServedCall};
 ghost use Rattle.cpc_store.specs.Seen.{seen, IsLawful};
 ghost use Rattle.cpc_meaning.specs.Events.{callbacks};
 ghost use Rattle.cpc_meaning.specs.Machine.{asked_by, primitive, prints, byte_of};
@@ -14,7 +16,7 @@ ghost use Rattle.cpc_eval_values.specs.Shown.{value_of, values_of};
 ghost use Rattle.cpc_meaning_pointer_laws.specs.Made.{IsMadeCode};
 ghost use Rattle.cpc_run.specs.Code.{stack_in};
 ghost use Rattle.cpc_native.specs.Stacks.{request_of};
-ghost use Rattle.cpc_run.specs.States.{States, Fits, IsSteady, GoesSteady, Keeps, Did, Acted, settles, program_in};
+ghost use Rattle.cpc_run.specs.States.{States, Came, Fits, IsSteady, GoesSteady, Keeps, Did, Acted, settles, program_in};
 ghost use Rattle.cpc_run.specs.Answers.{CameAnswered};
 
 use crate::looped::Loop;
@@ -24,6 +26,7 @@ use cpc_base::{Name, Names, NoMemory};
 use cpc_hosts::{HostRule, HostTable, Kept};
 use cpc_native::Request;
 use cpc_native_builtins::{Builtin, Call};
+use cpc_run_sections::Sections;
 use cpc_store::{Class, Value};
 use std::alloc::{AllocError, Global};
 
@@ -77,6 +80,7 @@ impl<'p> Loop<'p> {
     ) -> Result<Option<Outcome>, NoMemory>
         requires steady { IsSteady self.old }
         requires running { self.old.running ≡ true }
+        requires takes { IsAskedWith Q.Puts request.now.args.items }
         ensures keeps { Keeps self.old self.new }
         ensures steady { GoesSteady result self.new }
         ensures did { (names : Spelling) → Fits names self.old → (sent : Text) (s : States) → Acted names self.old request.now.function (sent ++ pending.old.items) s s
@@ -95,6 +99,7 @@ impl<'p> Loop<'p> {
     ) -> Result<Option<Outcome>, NoMemory>
         requires steady { IsSteady self.old }
         requires running { self.old.running ≡ true }
+        requires takes { IsAskedWith Q.Putc request.now.args.items }
         ensures keeps { Keeps self.old self.new }
         ensures steady { GoesSteady result self.new }
         ensures did { (names : Spelling) → Fits names self.old → (sent : Text) (s : States) → Acted names self.old request.now.function (sent ++ pending.old.items) s s
@@ -102,7 +107,7 @@ impl<'p> Loop<'p> {
     {
         match request.args.as_slice() {
             [value] => self.puts_byte(alloc, *value, request.function, pending),
-            _ => Err(NoMemory),
+            _ => unreachable!(),
         }
     }
 
@@ -133,42 +138,79 @@ impl<'p> Loop<'p> {
     ) -> Result<Option<Outcome>, NoMemory>
         requires steady { IsSteady self.old }
         requires running { self.old.running ≡ true }
+        requires takes { IsAskedWith Q.Print request.now.args.items }
         ensures keeps { Keeps self.old self.new }
         ensures steady { GoesSteady result self.new }
         ensures did { (names : Spelling) → Fits names self.old → (sent : Text) (s : States) → Acted names self.old request.now.function (sent ++ pending.old.items) s s
             → Did names result self.new (sent ++ pending.new.items) s (settles names self.old s (primitive (callbacks (program_in names self.old)) Q.Print (values_of names request.now.args.items) (stack_in names self.old.machine) s)) }
     {
         match request.args.as_slice() {
-            [Value::Int(_, number)] => {
-                let line = format!(in alloc; "{number}\n")?;
-                self.prints(alloc, request.function, line.as_bytes(), pending)
-            }
-            _ => Err(NoMemory),
+            [value] => self.prints_number(alloc, *value, request.function, pending),
+            _ => unreachable!(),
         }
+    }
+
+    // The number of a value on a line.
+    fn prints_number(
+        &mut self,
+        alloc: Global,
+        value: Value,
+        function: Name,
+        pending: &mut Vec<u8>,
+    ) -> Result<Option<Outcome>, NoMemory>
+        requires steady { IsSteady self.old }
+        requires running { self.old.running ≡ true }
+        requires takes { IsAskedWith Q.Print (value ∷ []) }
+        ensures keeps { Keeps self.old self.new }
+        ensures steady { GoesSteady result self.new }
+        ensures did { (names : Spelling) → Fits names self.old → (sent : Text) (s : States) → Acted names self.old function (sent ++ pending.old.items) s s
+            → Did names result self.new (sent ++ pending.new.items) s (settles names self.old s (primitive (callbacks (program_in names self.old)) Q.Print (value_of names value ∷ []) (stack_in names self.old.machine) s)) }
+    {
+        let Value::Int(_, number) = value else {
+            unreachable!();
+        };
+        let line = format!(in alloc; "{number}\n")?;
+        self.prints(alloc, function, line.as_bytes(), pending)
     }
 
     // The run is left with a number.
-    fn exits(&self, request: &Request) -> Result<Option<Outcome>, NoMemory>
-        ensures did { (names : Spelling) (new : Loop) (printed : Text) (s : States)
-            → Did names result new printed s (settles names self.now s (primitive (callbacks (program_in names self.now)) Q.Exit (values_of names request.now.args.items) (stack_in names self.now.machine) s)) }
+    fn exits(&self, request: &Request) -> Outcome
+        requires { IsAskedWith Q.Exit request.now.args.items }
+        ensures { (names : Spelling) (new : Loop) (printed : Text) (s : States)
+            → Came names (Some result) new printed s (settles names self.now s (primitive (callbacks (program_in names self.now)) Q.Exit (values_of names request.now.args.items) (stack_in names self.now.machine) s)) }
     {
         match request.args.as_slice() {
-            [Value::Int(_, number)] => Ok(Some(Outcome::Exited(*number))),
-            _ => Err(NoMemory),
+            [value] => self.exits_with(*value),
+            _ => unreachable!(),
         }
     }
 
+    // The run is left with the number of a value.
+    fn exits_with(&self, value: Value) -> Outcome
+        requires { IsAskedWith Q.Exit (value ∷ []) }
+        ensures { (names : Spelling) (new : Loop) (printed : Text) (s : States)
+            → Came names (Some result) new printed s (settles names self.now s (primitive (callbacks (program_in names self.now)) Q.Exit (value_of names value ∷ []) (stack_in names self.now.machine) s)) }
+    {
+        let Value::Int(_, number) = value else {
+            unreachable!();
+        };
+        Outcome::Exited(number)
+    }
+
     // A primitive is acted on and answered; or the run is over. What goes out is put behind `pending`.
-    fn calls_builtin(
+    fn calls_builtin<S: Sections>(
         &mut self,
         alloc: Global,
         table: &Names,
         builtin: Builtin,
         request: &Request,
+        sections: &mut S,
         pending: &mut Vec<u8>,
     ) -> Result<Option<Outcome>, NoMemory>
         requires steady { IsSteady self.old }
         requires running { self.old.running ≡ true }
+        requires served { is_served (primitive_of builtin) ≡ true }
+        requires takes { IsAskedWith (primitive_of builtin) request.now.args.items }
         requires lawful { All (λ v. IsLawful (seen v)) request.now.args.items }
         ensures keeps { Keeps self.old self.new }
         ensures steady { GoesSteady result self.new }
@@ -184,7 +226,7 @@ impl<'p> Loop<'p> {
             Builtin::CondFree => self.frees_condition(alloc, request),
             Builtin::Signal => self.signals(alloc, request),
             Builtin::SignalAll => self.signals_all(alloc, request),
-            Builtin::Exit => self.exits(request),
+            Builtin::Exit => Ok(Some(self.exits(request))),
             Builtin::Malloc => self.allocates(alloc, Class::Heap, request),
             Builtin::Free => self.frees(alloc, Class::Heap, request),
             Builtin::RtFrame => self.allocates(alloc, Class::Frame, request),
@@ -195,23 +237,26 @@ impl<'p> Loop<'p> {
             Builtin::RtWait => self.waits(alloc, request, pending),
             Builtin::RtSleep => self.sleeps(alloc, request, pending),
             Builtin::RtIo => self.awaits(alloc, request, pending),
-            Builtin::RtDetach => self.detaches(alloc, table, request, pending),
-            // Primitives of threads, for which no code of an event program asks; of them nothing is said.
-            Builtin::Yield | Builtin::Sleep | Builtin::IoWait | Builtin::Wait => Err(NoMemory),
+            Builtin::RtDetach => self.detaches(alloc, table, request, sections, pending),
+            // Primitives of threads, for which no code of an event program asks.
+            Builtin::Yield | Builtin::Sleep | Builtin::IoWait | Builtin::Wait => unreachable!(),
         }
     }
 
     /// A request of the running code is acted on and answered; or the run is over. What goes out is put behind `pending`.
-    pub(crate) fn asked<R: HostRule>(
+    pub(crate) fn asked<R: HostRule, S: Sections>(
         &mut self,
         alloc: Global,
         table: &Names,
         hosts: &HostTable<R>,
         request: &Request,
+        sections: &mut S,
         pending: &mut Vec<u8>,
     ) -> Result<Option<Outcome>, NoMemory>
         requires steady { IsSteady self.old }
         requires running { self.old.running ≡ true }
+        requires served { IsServedCall request.now.call }
+        requires takes { IsCalledWith request.now.call request.now.args.items }
         requires lawful { All (λ v. IsLawful (seen v)) request.now.args.items }
         requires rule { ⟦<HostTable<R> as Kept>⟧.keeps hosts.now }
         ensures keeps { Keeps self.old self.new }
@@ -221,7 +266,9 @@ impl<'p> Loop<'p> {
             → CameAnswered names R.answers said rest r self.new (sent ++ pending.new.items) s (settles names self.old s (asked_by (callbacks (program_in names self.old)) (stack_in names self.old.machine) s (request_of names request.now).asked (request_of names request.now).arguments)))) }
     {
         match request.call {
-            Call::Builtin(builtin) => self.calls_builtin(alloc, table, builtin, request, pending),
+            Call::Builtin(builtin) => {
+                self.calls_builtin(alloc, table, builtin, request, sections, pending)
+            }
             Call::Host(name) => self.calls_host(alloc, table, hosts, name, request, pending),
         }
     }

@@ -16,7 +16,7 @@ ghost use Rattle.cpc_meaning.specs.Trees.{trees};
 ghost use Rattle.cpc_store.specs.Seen.{seen, result_with, IsLawful};
 ghost use Rattle.cpc_store.specs.Store as S;
 ghost use Rattle.cpc_eval_values.specs.Shown.{value_of, values_of, store_of};
-ghost use Rattle.cpc_native.specs.Well.{IsLawfulStep};
+ghost use Rattle.cpc_native.specs.Well.{IsLawfulStep, AsksServed, AsksTaken};
 ghost use Rattle.cpc_eval_index.specs.Indexed.{program_items};
 ghost use Rattle.cpc_run.specs.Code.{items_in, store_in, stack_in, IsIdle, IsWell, Runs, StepIs, AnswerIs, AskedIn, EndsIdle, Given};
 
@@ -80,6 +80,8 @@ impl<'p> Code<'p> {
         ensures lawful { IfOk result (λ stepped. IsLawfulStep stepped) }
         ensures idle { IfOk result (λ stepped. EndsIdle stepped self.new) }
         ensures asked { IfOk result (λ stepped. (names : Spelling) → AskedIn names self.old self.new stepped) }
+        ensures served { IfOk result (λ stepped. (names : Spelling) → Runs names self.old → AsksServed stepped) }
+        ensures takes { IfOk result (λ stepped. AsksTaken stepped) }
         ensures did { (names : Spelling) → Runs names self.old → StepIs names self.new result (P.plain (trees (items_in names self.old)) (store_in names self.old) (stack_in names self.old)) }
     {
         self.machine.step(alloc)

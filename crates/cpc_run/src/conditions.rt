@@ -6,6 +6,7 @@ ghost use Rattle.cpc_tree.specs.Primitives as R;
 ghost use Rattle.cpc_meaning.specs.Events.{callbacks};
 ghost use Rattle.cpc_meaning.specs.Machine.{primitive};
 ghost use Rattle.cpc_eval_values.specs.Shown.{value_of, values_of};
+ghost use Rattle.cpc_native_acts.specs.Taken.{IsAskedWith};
 ghost use Rattle.cpc_run.specs.Code.{stack_in};
 ghost use Rattle.cpc_run.specs.States.{States, Fits, IsSteady, GoesSteady, Keeps, Did, Acted, settles, program_in};
 
@@ -26,6 +27,7 @@ impl<'p> Loop<'p> {
     ) -> Result<Option<Outcome>, NoMemory>
         requires steady { IsSteady self.old }
         requires running { self.old.running ≡ true }
+        requires takes { IsAskedWith R.Now request.now.args.items }
         ensures keeps { Keeps self.old self.new }
         ensures steady { GoesSteady result self.new }
         ensures did { (names : Names) → Fits names self.old → (printed : Text) (s : States) → Acted names self.old request.now.function printed s s
@@ -33,7 +35,7 @@ impl<'p> Loop<'p> {
     {
         match request.args.as_slice() {
             [] => self.replies_time(alloc, request.function),
-            _ => Err(NoMemory),
+            _ => unreachable!(),
         }
     }
 
@@ -47,6 +49,7 @@ impl<'p> Loop<'p> {
             → Did names result self.new printed s (settles names self.old s (primitive (callbacks (program_in names self.old)) R.Now [] (stack_in names self.old.machine) s)) }
     {
         let time = Value::Int(Kind::Long, self.turns.agenda.now() as i128);
+        // The clock is at most 2^53; no clause of the agenda says so.
         if !time.is_lawful() {
             return Err(NoMemory);
         }
@@ -61,6 +64,7 @@ impl<'p> Loop<'p> {
     ) -> Result<Option<Outcome>, NoMemory>
         requires steady { IsSteady self.old }
         requires running { self.old.running ≡ true }
+        requires takes { IsAskedWith R.CondNew request.now.args.items }
         ensures keeps { Keeps self.old self.new }
         ensures steady { GoesSteady result self.new }
         ensures did { (names : Names) → Fits names self.old → (printed : Text) (s : States) → Acted names self.old request.now.function printed s s
@@ -68,7 +72,7 @@ impl<'p> Loop<'p> {
     {
         match request.args.as_slice() {
             [] => self.replies_condition(alloc, request.function),
-            _ => Err(NoMemory),
+            _ => unreachable!(),
         }
     }
 
@@ -100,6 +104,7 @@ impl<'p> Loop<'p> {
     ) -> Result<Option<Outcome>, NoMemory>
         requires steady { IsSteady self.old }
         requires running { self.old.running ≡ true }
+        requires takes { IsAskedWith R.CondFree request.now.args.items }
         ensures keeps { Keeps self.old self.new }
         ensures steady { GoesSteady result self.new }
         ensures did { (names : Names) → Fits names self.old → (printed : Text) (s : States) → Acted names self.old request.now.function printed s s
@@ -107,7 +112,7 @@ impl<'p> Loop<'p> {
     {
         match request.args.as_slice() {
             [cond] => self.frees_cond(alloc, *cond, request.function),
-            _ => Err(NoMemory),
+            _ => unreachable!(),
         }
     }
 
@@ -120,13 +125,14 @@ impl<'p> Loop<'p> {
     ) -> Result<Option<Outcome>, NoMemory>
         requires steady { IsSteady self.old }
         requires running { self.old.running ≡ true }
+        requires takes { IsAskedWith R.CondFree (cond ∷ []) }
         ensures keeps { Keeps self.old self.new }
         ensures steady { GoesSteady result self.new }
         ensures did { (names : Names) → Fits names self.old → (printed : Text) (s : States) → Acted names self.old function printed s s
             → Did names result self.new printed s (settles names self.old s (primitive (callbacks (program_in names self.old)) R.CondFree (value_of names cond ∷ []) (stack_in names self.old.machine) s)) }
     {
         let Value::Cond(number) = cond else {
-            return Err(NoMemory);
+            unreachable!();
         };
         match self.turns.agenda.cond_free(number) {
             Ok(()) => self.reply(alloc, function, Value::Unset),
@@ -142,6 +148,7 @@ impl<'p> Loop<'p> {
     ) -> Result<Option<Outcome>, NoMemory>
         requires steady { IsSteady self.old }
         requires running { self.old.running ≡ true }
+        requires takes { IsAskedWith R.Signal request.now.args.items }
         ensures keeps { Keeps self.old self.new }
         ensures steady { GoesSteady result self.new }
         ensures did { (names : Names) → Fits names self.old → (printed : Text) (s : States) → Acted names self.old request.now.function printed s s
@@ -149,7 +156,7 @@ impl<'p> Loop<'p> {
     {
         match request.args.as_slice() {
             [cond] => self.signals_cond(alloc, *cond, request.function),
-            _ => Err(NoMemory),
+            _ => unreachable!(),
         }
     }
 
@@ -162,13 +169,14 @@ impl<'p> Loop<'p> {
     ) -> Result<Option<Outcome>, NoMemory>
         requires steady { IsSteady self.old }
         requires running { self.old.running ≡ true }
+        requires takes { IsAskedWith R.Signal (cond ∷ []) }
         ensures keeps { Keeps self.old self.new }
         ensures steady { GoesSteady result self.new }
         ensures did { (names : Names) → Fits names self.old → (printed : Text) (s : States) → Acted names self.old function printed s s
             → Did names result self.new printed s (settles names self.old s (primitive (callbacks (program_in names self.old)) R.Signal (value_of names cond ∷ []) (stack_in names self.old.machine) s)) }
     {
         let Value::Cond(number) = cond else {
-            return Err(NoMemory);
+            unreachable!();
         };
         match self.turns.agenda.signal(number) {
             Ok(()) => self.reply(alloc, function, Value::Unset),
@@ -185,6 +193,7 @@ impl<'p> Loop<'p> {
     ) -> Result<Option<Outcome>, NoMemory>
         requires steady { IsSteady self.old }
         requires running { self.old.running ≡ true }
+        requires takes { IsAskedWith R.SignalAll request.now.args.items }
         ensures keeps { Keeps self.old self.new }
         ensures steady { GoesSteady result self.new }
         ensures did { (names : Names) → Fits names self.old → (printed : Text) (s : States) → Acted names self.old request.now.function printed s s
@@ -192,7 +201,7 @@ impl<'p> Loop<'p> {
     {
         match request.args.as_slice() {
             [cond] => self.signals_each(alloc, *cond, request.function),
-            _ => Err(NoMemory),
+            _ => unreachable!(),
         }
     }
 
@@ -205,13 +214,14 @@ impl<'p> Loop<'p> {
     ) -> Result<Option<Outcome>, NoMemory>
         requires steady { IsSteady self.old }
         requires running { self.old.running ≡ true }
+        requires takes { IsAskedWith R.SignalAll (cond ∷ []) }
         ensures keeps { Keeps self.old self.new }
         ensures steady { GoesSteady result self.new }
         ensures did { (names : Names) → Fits names self.old → (printed : Text) (s : States) → Acted names self.old function printed s s
             → Did names result self.new printed s (settles names self.old s (primitive (callbacks (program_in names self.old)) R.SignalAll (value_of names cond ∷ []) (stack_in names self.old.machine) s)) }
     {
         let Value::Cond(number) = cond else {
-            return Err(NoMemory);
+            unreachable!();
         };
         match self.turns.agenda.signal_all(number) {
             Ok(()) => self.reply(alloc, function, Value::Unset),

@@ -1,5 +1,6 @@
 //! Functions of the host: the first that a table has not, and calls of them.
 ghost use Rattle.std.specs.Prelude.{◌≡◌, ◌++◌, List, ℤ, IfOk, true, option_map};
+ghost use Rattle.std.specs.List.{All};
 ghost use Rattle.cpc_base.specs.Bytes.{Text};
 ghost use Rattle.cpc_check_rules.specs.Apart.{Spells};
 ghost use Rattle.cpc_tree.specs.Erase.{Names as Spelling, in_table, item_of, program_of};
@@ -7,7 +8,10 @@ ghost use Rattle.cpc_meaning.specs.Answer.{Gives};
 ghost use Rattle.cpc_meaning.specs.Machine as M;
 ghost use Rattle.cpc_meaning.specs.Trees.{trees};
 ghost use Rattle.cpc_eval_values.specs.Shown.{values_of};
+ghost use Rattle.cpc_native_acts.specs.Taken.{IsLong};
+ghost use Rattle.cpc_store.specs.Seen.{seen, IsLawful};
 ghost use Rattle.cpc_run.specs.Code.{stack_in};
+ghost use Rattle.cpc_run.specs.Taken.{IsNumber};
 ghost use Rattle.cpc_run.specs.Hosts as H;
 ghost use Rattle.cpc_run.specs.States.{States, Fits, IsSteady, GoesSteady, Keeps, Acted, settles, program_in};
 ghost use Rattle.cpc_run.specs.Answers.{CameAnswered};
@@ -71,14 +75,12 @@ pub fn missing_host<R: HostRule>(program: &Program, hosts: &HostTable<R>) -> Opt
 
 // The numbers of values of long.
 fn longs(alloc: Global, values: &[Value]) -> Result<Vec<i64>, NoMemory>
+    requires { All (λ v. IsNumber (seen v)) values.now }
     ensures { IfOk result (λ numbers. (names : Spelling) → M.ints_of (values_of names values.now) ≡ Gives numbers.items) }
 {
     let mut numbers = Vec::new(alloc);
     for value in values {
-        let Some(number) = long(*value) else {
-            return Err(NoMemory);
-        };
-        numbers.push(number)?;
+        numbers.push(long(*value))?;
     }
     Ok(numbers)
 }
@@ -96,6 +98,8 @@ impl<'p> Loop<'p> {
     ) -> Result<Option<Outcome>, NoMemory>
         requires steady { IsSteady self.old }
         requires running { self.old.running ≡ true }
+        requires takes { All IsLong request.now.args.items }
+        requires lawful { All (λ v. IsLawful (seen v)) request.now.args.items }
         requires rule { ⟦<HostTable<R> as Kept>⟧.keeps hosts.now }
         ensures keeps { Keeps self.old self.new }
         ensures steady { GoesSteady result self.new }
@@ -104,6 +108,7 @@ impl<'p> Loop<'p> {
             → CameAnswered names R.answers said rest r self.new (sent ++ pending.new.items) s (settles names self.old s (M.host_call (trees (program_in names self.old)) (names name) (values_of names request.now.args.items) (stack_in names self.old.machine) s)))) }
     {
         let numbers = longs(alloc, request.args.as_slice())?;
+        // Each name of the code is in the table; no clause of the code says so.
         let Some(text) = table.text(name) else {
             return Err(NoMemory);
         };

@@ -1,5 +1,5 @@
 //! What the loop takes up: the call of `main`, and callbacks.
-ghost use Rattle.std.specs.Prelude.{◌≡◌};
+ghost use Rattle.std.specs.Prelude.{◌≡◌, true};
 ghost use Rattle.cpc_tree.specs.Erase.{Names};
 ghost use Rattle.cpc_num.specs.declared.kinds.Kind.TheVariants.{Int};
 ghost use Rattle.cpc_tree.specs.Syntax.{TyInt};
@@ -8,10 +8,31 @@ ghost use Rattle.cpc_store.specs.Store as S;
 ghost use Rattle.cpc_meaning.specs.Answer.{Gives};
 ghost use Rattle.cpc_meaning.specs.Eval.{assigned};
 ghost use Rattle.cpc_eval_values.specs.Shown.{value_of};
+ghost use Rattle.cpc_run.specs.Taken.{is_lawful};
 
 use cpc_base::Name;
 use cpc_num::{Kind, convert};
 use cpc_store::Value;
+
+/// A function with its pointer, which is lawful.
+#[derive(Clone, Copy, Debug)]
+pub(crate) struct Callback {
+    pub function: Name,
+    pub pointer: Value,
+    ghost lawful: { is_lawful (seen pointer) ≡ true },
+}
+
+impl Callback {
+    /// Of these.
+    #[tactic(auto, using(crate::proofs::Lawful::lawful_passes))]
+    pub(crate) fn of(function: Name, pointer: Value) -> Callback
+        requires { IsLawful (seen pointer) }
+        ensures function { result.function ≡ function }
+        ensures pointer { result.pointer ≡ pointer }
+    {
+        Callback { function, pointer }
+    }
+}
 
 /// What the loop takes up.
 #[derive(Clone, Copy, Debug)]
@@ -19,7 +40,7 @@ pub(crate) enum Item {
     /// The call of `main` at the start.
     Main,
     /// A function with its pointer.
-    With(Name, Value),
+    With(Callback),
 }
 
 /// The result of a wait as a callback gets it, an int.

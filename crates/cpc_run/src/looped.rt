@@ -9,11 +9,12 @@ ghost use Rattle.cpc_meaning.specs.Events.{starts_callback, callbacks};
 ghost use Rattle.cpc_meaning.specs.Machine.{turns, runs, try_step, code_step, reply};
 ghost use Rattle.cpc_meaning.specs.Trees.{trees};
 ghost use Rattle.cpc_eval_values.specs.Shown.{value_of, values_of};
+ghost use Rattle.cpc_run_jobs.specs.Holding.{IsAssigned};
 ghost use Rattle.cpc_run.specs.Answers.{CameAnswered};
 ghost use Rattle.cpc_run.specs.Code.{stack_in};
 ghost use Rattle.cpc_run.specs.Shorts.{Counts, IsBeyond};
 ghost use Rattle.cpc_run.specs.declared.step.Step.TheVariants.{On};
-ghost use Rattle.cpc_run.specs.States.{States, Stands, Within, Fits, IsSteady, GoesSteady, TurnsSteady, CountsPolls, Keeps, Did, DidTurn, Acted, settles, program_in, callback_of, lists_in};
+ghost use Rattle.cpc_run.specs.States.{States, Stands, Within, Fits, IsSteady, GoesSteady, TurnsSteady, CountsPolls, Keeps, Did, CameTo, DidTurn, Acted, settles, program_in, callback_of, lists_in};
 
 use crate::code::Code;
 use crate::items::{Item, waited_for};
@@ -25,6 +26,7 @@ use cpc_base::{Name, Names, NoMemory, Stop};
 use cpc_hosts::{HostRule, HostTable, Kept};
 use cpc_native::Stepped;
 use cpc_run_jobs::Jobs;
+use cpc_run_sections::Sections;
 use cpc_store::Value;
 use std::alloc::Global;
 
@@ -73,9 +75,15 @@ impl<'p> Loop<'p> {
 
     // Nothing runs and the round is over: the run ends, or what is ready becomes the round, before which the next poll is taken
     // where something is outstanding. What goes out for the poll is put behind `pending`.
-    fn turn(&mut self, alloc: Global, pending: &mut Vec<u8>) -> Result<Step, NoMemory>
+    fn turn<S: Sections>(
+        &mut self,
+        alloc: Global,
+        sections: &mut S,
+        pending: &mut Vec<u8>,
+    ) -> Result<Step, NoMemory>
         requires steady { IsSteady self.old }
         requires idle { self.old.running ≡ false }
+        requires assigned { IsAssigned S.program S.bound self.old.jobs }
         requires round { (names : Spelling) → (lists_in names self.old).round ≡ [] }
         ensures keeps { Keeps self.old self.new }
         ensures steady { TurnsSteady result self.new }
@@ -85,7 +93,7 @@ impl<'p> Loop<'p> {
     {
         match self.turns.turn(alloc)? {
             Turned::Round => Ok(Step::On),
-            Turned::Poll(told) => self.polls(alloc, told, pending),
+            Turned::Poll(told) => self.polls(alloc, told, sections, pending),
             Turned::Ended(waiters) => Ok(Step::Over(Outcome::Ended(waiters))),
             Turned::HistoryEnded => Ok(Step::Over(Outcome::HistoryEnded)),
             Turned::BadHistory(section) => Ok(Step::Over(Outcome::BadHistory(section))),
@@ -93,29 +101,26 @@ impl<'p> Loop<'p> {
     }
 
     // Nothing runs: an item that was the first of the round is taken.
-    fn take(&mut self, alloc: Global, item: Item, waited: Value, cap: u64) -> Result<Step, Short>
+    #[tactic(auto, using(crate::proofs::Lawful::passed_lawful))]
+    fn take(&mut self, alloc: Global, item: Item, waited: Value, cap: u64) -> Result<(), Short>
         requires steady { IsSteady self.old }
         requires idle { self.old.running ≡ false }
         requires cap { cap < 2 ^ 62 }
         ensures keeps { Keeps self.old self.new }
-        ensures steady { TurnsSteady result self.new }
-        ensures on { IfOk result (λ step. step ≡ On) }
+        ensures steady { OnOk result (IsSteady self.new) }
         ensures short { IfErr result (λ short. (names : Spelling) → Fits names self.old → (sent : Text) (s : States) → Stands names self.old sent s → Counts (IsBeyond cap short) (settles names self.old s (starts_callback (trees (program_in names self.old)) (callback_of names item) (value_of names waited) s))) }
         ensures capped { OnOk result ((names : Spelling) → Fits names self.old → (sent : Text) (s : States) → Stands names self.old sent s → Counts (λ cells. cells ≤ cap) (settles names self.old s (starts_callback (trees (program_in names self.old)) (callback_of names item) (value_of names waited) s))) }
-        ensures did { (names : Spelling) → Fits names self.old → (printed : Text) (s : States) → Stands names self.old printed s
-            → DidTurn names result self.new printed s (settles names self.old s (starts_callback (trees (program_in names self.old)) (callback_of names item) (value_of names waited) s)) }
+        ensures did { OnOk result ((names : Spelling) → Fits names self.old → (printed : Text) (s : States) → Stands names self.old printed s
+            → CameTo names On self.new printed s (settles names self.old s (starts_callback (trees (program_in names self.old)) (callback_of names item) (value_of names waited) s))) }
     {
         match item {
             Item::Main => {
                 let main = self.main;
                 self.starts(alloc, main, &[], cap)
             }
-            Item::With(function, pointer) => {
-                // What a callback was made ready with is lawful.
-                if !pointer.is_lawful() {
-                    return Err(Short::Memory);
-                }
-                self.starts(alloc, function, &[pointer, waited_for(waited)], cap)
+            Item::With(callback) => {
+                let arguments = [callback.pointer, waited_for(waited)];
+                self.starts(alloc, callback.function, &arguments, cap)
             }
         }
     }
@@ -127,40 +132,41 @@ impl<'p> Loop<'p> {
         function: Name,
         arguments: &[Value],
         cap: u64,
-    ) -> Result<Step, Short>
+    ) -> Result<(), Short>
         requires steady { IsSteady self.old }
         requires idle { self.old.running ≡ false }
         requires lawful { All (λ v. IsLawful (seen v)) arguments.now }
         requires cap { cap < 2 ^ 62 }
-        ensures on { IfOk result (λ step. step ≡ On) }
         ensures keeps { Keeps self.old self.new }
-        ensures steady { TurnsSteady result self.new }
+        ensures steady { OnOk result (IsSteady self.new) }
         ensures short { IfErr result (λ short. (names : Spelling) → Fits names self.old → (sent : Text) (s : States) → Stands names self.old sent s → Counts (IsBeyond cap short) (settles names self.old s (runs (trees (program_in names self.old)) (names function) (values_of names arguments.now) s))) }
         ensures capped { OnOk result ((names : Spelling) → Fits names self.old → (sent : Text) (s : States) → Stands names self.old sent s → Counts (λ cells. cells ≤ cap) (settles names self.old s (runs (trees (program_in names self.old)) (names function) (values_of names arguments.now) s))) }
-        ensures did { (names : Spelling) → Fits names self.old → (printed : Text) (s : States) → Stands names self.old printed s
-            → DidTurn names result self.new printed s (settles names self.old s (runs (trees (program_in names self.old)) (names function) (values_of names arguments.now) s)) }
+        ensures did { OnOk result ((names : Spelling) → Fits names self.old → (printed : Text) (s : States) → Stands names self.old printed s
+            → CameTo names On self.new printed s (settles names self.old s (runs (trees (program_in names self.old)) (names function) (values_of names arguments.now) s))) }
     {
         if let Some(short) = above(self.machine.cells_with(function), cap) {
             return Err(short);
         }
         self.machine.call(alloc, function, arguments)?;
         self.running = true;
-        Ok(Step::On)
+        Ok(())
     }
 
     /// A step of the running code, with what it asks for, unless it would leave more live cells than the cap, which is told as
     /// short. What goes out is put behind `pending`. The answers that hosts give in it are those of its marks: one that cannot
     /// arrive leaves none.
-    pub(crate) fn goes_on<R: HostRule>(
+    pub(crate) fn goes_on<R: HostRule, S: Sections>(
         &mut self,
         alloc: Global,
         table: &Names,
         hosts: &HostTable<R>,
+        sections: &mut S,
         pending: &mut Vec<u8>,
         cap: u64,
     ) -> Result<Option<Outcome>, Short>
         requires steady { IsSteady self.old }
         requires running { self.old.running ≡ true }
+        requires fits { (names : Spelling) × Fits names self.old }
         requires rule { ⟦<HostTable<R> as Kept>⟧.keeps hosts.now }
         requires cap { cap < 2 ^ 62 }
         ensures keeps { Keeps self.old self.new }
@@ -180,21 +186,25 @@ impl<'p> Loop<'p> {
                 self.running = false;
                 Ok(None)
             }
-            Stepped::Asked(request) => Ok(self.asked(alloc, table, hosts, &request, pending)?),
+            Stepped::Asked(request) => {
+                Ok(self.asked(alloc, table, hosts, &request, sections, pending)?)
+            }
             Stepped::Faulted(fault, function) => Ok(Some(Outcome::Failed(fault, function))),
         }
     }
 
     /// Nothing runs: the next of the round is taken, or the loop turns. What goes out is put behind `pending`. A step that would
     /// leave more live cells than the cap is not made, and told as short.
-    pub(crate) fn schedules(
+    pub(crate) fn schedules<S: Sections>(
         &mut self,
         alloc: Global,
+        sections: &mut S,
         pending: &mut Vec<u8>,
         cap: u64,
     ) -> Result<Step, Short>
         requires steady { IsSteady self.old }
         requires idle { self.old.running ≡ false }
+        requires assigned { IsAssigned S.program S.bound self.old.jobs }
         requires cap { cap < 2 ^ 62 }
         ensures keeps { Keeps self.old self.new }
         ensures steady { TurnsSteady result self.new }
@@ -205,8 +215,11 @@ impl<'p> Loop<'p> {
             → DidTurn names result self.new (sent ++ pending.new.items) s (try_step (callbacks (program_in names self.old)) s) }
     {
         match self.turns.agenda.next() {
-            Some((item, waited)) => self.take(alloc, item, waited, cap),
-            None => Ok(self.turn(alloc, pending)?),
+            Some((item, waited)) => {
+                self.take(alloc, item, waited, cap)?;
+                Ok(Step::On)
+            }
+            None => Ok(self.turn(alloc, sections, pending)?),
         }
     }
 }

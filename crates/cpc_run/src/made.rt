@@ -6,6 +6,7 @@ ghost use Rattle.cpc_tree.specs.Erase.{Names as Spelling};
 ghost use Rattle.cpc_meaning.specs.Events.{callbacks};
 ghost use Rattle.cpc_meaning.specs.Machine.{try_step};
 ghost use Rattle.cpc_meaning.specs.Runs.{live_cells};
+ghost use Rattle.cpc_run_jobs.specs.Holding.{IsAssigned};
 ghost use Rattle.cpc_run.specs.Answers.{MadeAnswered};
 ghost use Rattle.cpc_run.specs.States.{States, Stands, Within, Fits, IsSteady, Keeps, program_in};
 ghost use Rattle.cpc_run.specs.Reports.{MadeSo, MadePolls, MadeSteady};
@@ -17,6 +18,7 @@ use crate::step::Step;
 use cpc_base::{Name, Names, NoMemory};
 use cpc_hosts::{HostRule, HostTable, Kept};
 use cpc_num::Fault;
+use cpc_run_sections::Sections;
 use std::alloc::Global;
 
 // How many bytes wait before they are written, where no poll is taken.
@@ -61,15 +63,18 @@ impl<'p> Loop<'p> {
     }
 
     /// A step of the run, unless it would leave too many cells. What it puts out is put behind `pending`.
-    pub(crate) fn make<R: HostRule>(
+    pub(crate) fn make<R: HostRule, S: Sections>(
         &mut self,
         alloc: Global,
         table: &Names,
         hosts: &HostTable<R>,
+        sections: &mut S,
         pending: &mut Vec<u8>,
         cap: u64,
     ) -> Result<Made, NoMemory>
         requires steady { IsSteady self.old }
+        requires fits { (names : Spelling) × Fits names self.old }
+        requires assigned { IsAssigned S.program S.bound self.old.jobs }
         requires rule { ⟦<HostTable<R> as Kept>⟧.keeps hosts.now }
         requires cap { cap < 2 ^ 62 }
         ensures keeps { Keeps self.old self.new }
@@ -80,22 +85,24 @@ impl<'p> Loop<'p> {
             → MadeSo names cap (Ok m) self.new (sent ++ pending.old.items) (sent ++ pending.new.items) s (try_step (callbacks (program_in names self.old)) s) × MadeAnswered R.answers said rest m s (try_step (callbacks (program_in names self.old)) s))) }
     {
         if self.running {
-            return self.runs(alloc, table, hosts, pending, cap);
+            return self.runs(alloc, table, hosts, sections, pending, cap);
         }
-        self.idles(alloc, pending, cap)
+        self.idles(alloc, sections, pending, cap)
     }
 
     // A step of the running code.
-    fn runs<R: HostRule>(
+    fn runs<R: HostRule, S: Sections>(
         &mut self,
         alloc: Global,
         table: &Names,
         hosts: &HostTable<R>,
+        sections: &mut S,
         pending: &mut Vec<u8>,
         cap: u64,
     ) -> Result<Made, NoMemory>
         requires steady { IsSteady self.old }
         requires running { self.old.running ≡ true }
+        requires fits { (names : Spelling) × Fits names self.old }
         requires rule { ⟦<HostTable<R> as Kept>⟧.keeps hosts.now }
         requires cap { cap < 2 ^ 62 }
         ensures keeps { Keeps self.old self.new }
@@ -106,7 +113,7 @@ impl<'p> Loop<'p> {
             → MadeSo names cap (Ok m) self.new (sent ++ pending.old.items) (sent ++ pending.new.items) s (try_step (callbacks (program_in names self.old)) s) × MadeAnswered R.answers said rest m s (try_step (callbacks (program_in names self.old)) s))) }
     {
         let mut text = Vec::new(alloc);
-        match self.goes_on(alloc, table, hosts, &mut text, cap) {
+        match self.goes_on(alloc, table, hosts, sections, &mut text, cap) {
             // What a step put out that fails does not go out.
             Ok(Some(outcome)) => Ok(Made::Over(outcome)),
             Ok(None) => {
@@ -119,9 +126,16 @@ impl<'p> Loop<'p> {
     }
 
     // A step where nothing runs.
-    fn idles(&mut self, alloc: Global, pending: &mut Vec<u8>, cap: u64) -> Result<Made, NoMemory>
+    fn idles<S: Sections>(
+        &mut self,
+        alloc: Global,
+        sections: &mut S,
+        pending: &mut Vec<u8>,
+        cap: u64,
+    ) -> Result<Made, NoMemory>
         requires steady { IsSteady self.old }
         requires idle { self.old.running ≡ false }
+        requires assigned { IsAssigned S.program S.bound self.old.jobs }
         requires cap { cap < 2 ^ 62 }
         ensures keeps { Keeps self.old self.new }
         ensures steady { MadeSteady result self.new }
@@ -130,7 +144,7 @@ impl<'p> Loop<'p> {
             → MadeSo names cap (Ok m) self.new (sent ++ pending.old.items) (sent ++ pending.new.items) s (try_step (callbacks (program_in names self.old)) s)) }
     {
         let mut text = Vec::new(alloc);
-        match self.schedules(alloc, &mut text, cap) {
+        match self.schedules(alloc, sections, &mut text, cap) {
             Ok(Step::Over(outcome)) => Ok(Made::Over(outcome)),
             Ok(Step::Broke(fault, function)) => {
                 pending.extend_from_slice(text.as_slice())?;

@@ -1,8 +1,9 @@
 //! Blocks that the running code asks for, and frees.
-ghost use Rattle.std.specs.Prelude.{◌≡◌, ◌++◌, None, Some, OnOk, true, [], ◌∷◌};
+ghost use Rattle.std.specs.Prelude.{◌≡◌, ◌++◌, None, Some, OnOk, true, [], ◌∷◌, length};
 ghost use Rattle.std.specs.List.{All};
 ghost use Rattle.cpc_base.specs.Bytes.{Text};
 ghost use Rattle.cpc_tree.specs.Erase.{Names};
+ghost use Rattle.cpc_tree.specs.Primitives as R;
 ghost use Rattle.cpc_store.specs.Seen.{seen, IsLawful};
 ghost use Rattle.cpc_store.specs.Store.{alloc as made_block, unset_cells};
 ghost use Rattle.cpc_store.specs.declared.values.Class.TheVariants.{Static};
@@ -11,7 +12,9 @@ ghost use Rattle.cpc_meaning.specs.Section.{allocated, freed};
 ghost use Rattle.cpc_meaning.specs.Trees.{trees};
 ghost use Rattle.cpc_eval_values.specs.Shown.{value_of, values_of};
 ghost use Rattle.cpc_meaning_pointer_laws.specs.Made.{IsMadeCode};
+ghost use Rattle.cpc_native_acts.specs.Taken.{IsTaken};
 ghost use Rattle.cpc_run.specs.Code.{stack_in};
+ghost use Rattle.cpc_run.specs.Taken.{IsNumber};
 ghost use Rattle.cpc_run.specs.States.{States, Stands, Fits, IsSteady, GoesSteady, Keeps, Did, Acted, settles, program_in};
 
 use crate::looped::Loop;
@@ -37,6 +40,8 @@ impl<'p> Loop<'p> {
     ) -> Result<Option<Outcome>, NoMemory>
         requires steady { IsSteady self.old }
         requires running { self.old.running ≡ true }
+        requires takes { IsTaken (R.long ∷ []) request.now.args.items }
+        requires lawful { All (λ v. IsLawful (seen v)) request.now.args.items }
         requires class { ¬ (class ≡ Static) }
         ensures keeps { Keeps self.old self.new }
         ensures steady { GoesSteady result self.new }
@@ -45,7 +50,7 @@ impl<'p> Loop<'p> {
     {
         match request.args.as_slice() {
             [count] => self.allocates_cells(alloc, class, *count, request.function),
-            _ => Err(NoMemory),
+            _ => unreachable!(),
         }
     }
 
@@ -60,6 +65,7 @@ impl<'p> Loop<'p> {
     ) -> Result<Option<Outcome>, NoMemory>
         requires steady { IsSteady self.old }
         requires running { self.old.running ≡ true }
+        requires count { IsNumber (seen count) }
         requires class { ¬ (class ≡ Static) }
         ensures keeps { Keeps self.old self.new }
         ensures steady { GoesSteady result self.new }
@@ -67,13 +73,10 @@ impl<'p> Loop<'p> {
             → Did names result self.new printed s (settles names self.old s (replies (trees (program_in names self.old)) (stack_in names self.old.machine) (allocated class (value_of names count) s.store) s)) }
     {
         let Value::Int(_, count) = count else {
-            return Err(NoMemory);
+            unreachable!();
         };
         if count < 0 {
             return Ok(Some(Outcome::Failed(Fault::Length, function)));
-        }
-        if count > u64::MAX as i128 {
-            return Err(NoMemory);
         }
         let number = self.machine.made(class);
         let pointer = Value::At(Block { class, number }, 0);
@@ -111,6 +114,7 @@ impl<'p> Loop<'p> {
     ) -> Result<Option<Outcome>, NoMemory>
         requires steady { IsSteady self.old }
         requires running { self.old.running ≡ true }
+        requires takes { length request.now.args.items ≡ 1 }
         requires lawful { All (λ v. IsLawful (seen v)) request.now.args.items }
         ensures keeps { Keeps self.old self.new }
         ensures steady { GoesSteady result self.new }
@@ -119,7 +123,7 @@ impl<'p> Loop<'p> {
     {
         match request.args.as_slice() {
             [what] => self.frees_block(alloc, class, *what, request.function),
-            _ => Err(NoMemory),
+            _ => unreachable!(),
         }
     }
 

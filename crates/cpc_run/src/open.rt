@@ -4,6 +4,7 @@ ghost use Rattle.cpc_tree.specs.Erase.{Names as Spelling};
 ghost use Rattle.cpc_meaning.specs.History.{polls_fit};
 ghost use Rattle.cpc_history_marks.specs.Views.{told_of};
 ghost use Rattle.cpc_meaning.specs.Start.{main_name};
+ghost use Rattle.cpc_run_jobs.specs.Holding.{IsAssigned};
 ghost use Rattle.cpc_run.specs.Code.{Given};
 ghost use Rattle.cpc_run.specs.States.{IsSteady};
 ghost use Rattle.cpc_run.specs.Reports.{Opened, history_of};
@@ -59,6 +60,7 @@ impl<'p> Loop<'p> {
         requires polls { polls_fit (map told_of polls.now) ≡ true }
         ensures steady { IfOk result (λ l. IsSteady l) }
         ensures trace { IfOk result (λ l. l.trace ≡ trace) }
+        ensures assigned { IfOk result (λ l. IsAssigned (Some program.now) section_steps l.jobs) }
         ensures opened { IfOk result (λ l. (names : Spelling) → Given names program.now → Opened names program.now (history_of polls.now section_steps) l) }
     {
         let Some(main) = main_of(program) else {

@@ -10,8 +10,9 @@ ghost use Rattle.cpc_meaning.specs.History.{History, polls_fit};
 ghost use Rattle.cpc_history_marks.specs.Views.{told_of};
 ghost use Rattle.cpc_meaning.specs.Runs.{live_cells};
 ghost use Rattle.cpc_tree.specs.Syntax.{Program as Bare};
+ghost use Rattle.cpc_run_jobs.specs.Holding.{IsAssigned};
 ghost use Rattle.cpc_run.specs.Hosts.{missing_of, with_answers};
-ghost use Rattle.cpc_run.specs.States.{IsSteady};
+ghost use Rattle.cpc_run.specs.States.{IsSteady, Fits};
 ghost use Rattle.cpc_run.specs.Reports.{Wrote, IsPrefix, Tells, Ran, IsMissing, Drained, EndsSo, Begins, NeverStuck, history_of, run_of};
 ghost use Rattle.cpc_run.specs.Code.{Given};
 ghost use Rattle.cpc_run.specs.declared.outcome.Ended.TheVariants.{WriteFault as IsWriteFault};
@@ -30,6 +31,7 @@ use cpc_history_marks::Told;
 use cpc_hosts::{HostRule, HostTable, Kept};
 use cpc_native_laws::{checked_has_numbers, is_spelled};
 use cpc_run_globals::global_cells;
+use cpc_run_sections::Sections;
 use cpc_tree::program::Program;
 use std::alloc::Global;
 
@@ -108,16 +110,19 @@ fn told<O: Sink>(
 
 // Steps of a run, from its first state, which has so many live cells. All that was put out is written before a step that may
 // take a poll.
-fn run_on<O: Sink, R: HostRule>(
+fn run_on<O: Sink, R: HostRule, S: Sections>(
     alloc: Global,
     run: &mut Loop<'_>,
     table: &Names,
     hosts: &HostTable<R>,
     limits: Limits,
     first: u64,
+    sections: &mut S,
     out: &mut O,
 ) -> RunReport
     requires steady { IsSteady run.old }
+    requires fits { (names : Spelling) × Fits names run.old }
+    requires assigned { IsAssigned S.program S.bound run.old.jobs }
     requires rule { ⟦<HostTable<R> as Kept>⟧.keeps hosts.now }
     requires cap { limits.cells < 2 ^ 62 }
     requires within { first ≤ limits.cells }
@@ -131,7 +136,7 @@ fn run_on<O: Sink, R: HostRule>(
     let mut cells = first;
     let mut polls = run.taken();
     'steps: while steps < limits.steps {
-        let left = match run.make(alloc, table, hosts, &mut pending, limits.cells) {
+        let left = match run.make(alloc, table, hosts, sections, &mut pending, limits.cells) {
             Ok(Made::On(left)) => left,
             Ok(Made::Over(outcome)) => {
                 let due = report(Ended::Over(outcome), steps + 1, cells, polls);
@@ -172,17 +177,20 @@ fn first_cells(alloc: Global, program: &Program) -> Result<u64, NoMemory>
 }
 
 // Runs a program that is never stuck from its first state, which has so many live cells, by whatever texts tell its names.
-fn run_from<O: Sink, R: HostRule>(
+fn run_from<O: Sink, R: HostRule, S: Sections>(
     alloc: Global,
     program: &Program,
     limits: Limits,
     first: u64,
     polls: &[Told],
     hosts: &HostTable<R>,
+    sections: &mut S,
     trace: bool,
     out: &mut O,
 ) -> RunReport
     requires given { (names : Spelling) × Given names program.now }
+    requires program { S.program ≡ Some program.now }
+    requires bound { S.bound ≡ limits.section_steps }
     requires never_stuck { (h : History) → NeverStuck (program_of program.now) h }
     requires rule { ⟦<HostTable<R> as Kept>⟧.keeps hosts.now }
     requires cap { limits.cells < 2 ^ 62 }
@@ -197,7 +205,16 @@ fn run_from<O: Sink, R: HostRule>(
         Ok(run) => run,
         Err(NoMemory) => return STARVED,
     };
-    run_on(alloc, &mut run, &program.names, hosts, limits, first, out)
+    run_on(
+        alloc,
+        &mut run,
+        &program.names,
+        hosts,
+        limits,
+        first,
+        sections,
+        out,
+    )
 }
 
 // The report of a run whose first state has too many live cells: it is left there.
@@ -219,16 +236,19 @@ fn left_at_first<O: Sink>(
 }
 
 // Runs a program that is never stuck, by whatever texts tell its names.
-fn run_program<O: Sink, R: HostRule>(
+fn run_program<O: Sink, R: HostRule, S: Sections>(
     alloc: Global,
     program: &Program,
     limits: Limits,
     polls: &[Told],
     hosts: &HostTable<R>,
+    sections: &mut S,
     trace: bool,
     out: &mut O,
 ) -> RunReport
     requires given { (names : Spelling) × Given names program.now }
+    requires program { S.program ≡ Some program.now }
+    requires bound { S.bound ≡ limits.section_steps }
     requires never_stuck { (h : History) → NeverStuck (program_of program.now) h }
     requires rule { ⟦<HostTable<R> as Kept>⟧.keeps hosts.now }
     requires cap { limits.cells < 2 ^ 62 }
@@ -244,7 +264,9 @@ fn run_program<O: Sink, R: HostRule>(
     if first > limits.cells {
         return left_at_first(alloc, program, first, trace, out);
     }
-    run_from(alloc, program, limits, first, polls, hosts, trace, out)
+    run_from(
+        alloc, program, limits, first, polls, hosts, sections, trace, out,
+    )
 }
 
 /// Runs an event program over a history of polls within the limits of a history, with the functions of a table of hosts, and
@@ -261,19 +283,24 @@ fn run_program<O: Sink, R: HostRule>(
 /// what the run put out. A step that would leave more cells than the cap is told before it is made, so that it takes no
 /// memory, whatever the size of a block or of a call. A poll that is refused is not taken.
 ///
-/// A section runs at the poll that tells it, on its own copy of the cells, with at most `limits.section_steps` steps, which are none of
-/// the run's. A fault of one ends the run in its function; the poll counts as taken and shows in a trace, and no cell goes back.
-pub fn run_event<O: Sink, R: HostRule>(
+/// A section is run by `sections`, on its own copy of the cells, with at most `limits.section_steps` steps, which are none of the
+/// run's. It runs beside the loop, or at any time from the step that submits it to the poll that tells it, where it is waited for;
+/// what it comes to does not depend on when. A fault of one ends the run in its function at that poll, which counts as taken and
+/// shows in a trace, and no cell goes back. `NoMemory` of one ends the run there too, with `Ended::Memory`.
+pub fn run_event<O: Sink, R: HostRule, S: Sections>(
     alloc: Global,
     program: &Checked,
     polls: &[Told],
     hosts: &HostTable<R>,
     limits: Limits,
+    sections: &mut S,
     trace: bool,
     out: &mut O,
 ) -> RunReport
     requires dialect { program.now.dialect ≡ Event }
     requires cap { limits.cells < 2 ^ 62 }
+    requires program { S.program ≡ Some program.now.program }
+    requires bound { S.bound ≡ limits.section_steps }
     requires polls { polls_fit (map told_of polls.now) ≡ true }
     requires rule { ⟦<HostTable<R> as Kept>⟧.keeps hosts.now }
     ensures missing { (x : Text) → missing_of (⟦<HostTable<R> as Kept>⟧.names hosts.now) (program_of program.now.program) ≡ Some x → IsMissing (in_table program.now.program.names) x result × (O.taken out.new ≡ O.taken out.old) }
@@ -288,5 +315,14 @@ pub fn run_event<O: Sink, R: HostRule>(
     checked_has_numbers(program);
     accepted_callbacks_never_stuck();
     accepted_are_served();
-    run_program(alloc, &program.program, limits, polls, hosts, trace, out)
+    run_program(
+        alloc,
+        &program.program,
+        limits,
+        polls,
+        hosts,
+        sections,
+        trace,
+        out,
+    )
 }

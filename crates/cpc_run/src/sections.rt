@@ -14,11 +14,13 @@ ghost use Rattle.cpc_meaning.specs.Trees.{trees};
 ghost use Rattle.cpc_agenda_turns.specs.Laws.{turned};
 ghost use Rattle.cpc_agenda_turns.specs.Turns as N;
 ghost use Rattle.cpc_eval_values.specs.Shown.{value_of, values_of};
+ghost use Rattle.cpc_native_acts.specs.Taken.{IsAskedWith};
+ghost use Rattle.cpc_run_jobs.specs.Holding.{IsAssigned};
 ghost use Rattle.cpc_run.specs.Code.{stack_in};
 ghost use Rattle.cpc_run.specs.Sections.{submitted};
 ghost use Rattle.cpc_run.specs.States.{States, Stands, Fits, IsSteady, GoesSteady, TurnsSteady, CountsPolls, Keeps, Did, DidTurn, Acted, settles, program_in, callback_of, lists_in, polls_in};
 
-use crate::items::Item;
+use crate::items::{Callback, Item};
 use crate::looped::Loop;
 use crate::outcome::Outcome;
 use crate::shown::{put_poll, put_section};
@@ -26,6 +28,7 @@ use crate::step::Step;
 use cpc_base::{Name, Names, NoMemory, Stop};
 use cpc_history_marks::Told;
 use cpc_native::Request;
+use cpc_run_sections::Sections;
 use cpc_sections::Collected;
 use cpc_store::{Store, Value};
 use std::alloc::Global;
@@ -46,15 +49,17 @@ fn parted(values: &[Value]) -> (Value, &[Value])
 
 impl<'p> Loop<'p> {
     /// A section is submitted, whose callback waits until a poll tells it.
-    pub(crate) fn detaches(
+    pub(crate) fn detaches<S: Sections>(
         &mut self,
         alloc: Global,
         table: &Names,
         request: &Request,
+        sections: &mut S,
         pending: &mut Vec<u8>,
     ) -> Result<Option<Outcome>, NoMemory>
         requires steady { IsSteady self.old }
         requires running { self.old.running ≡ true }
+        requires takes { IsAskedWith R.RtDetach request.now.args.items }
         requires lawful { All (λ v. IsLawful (seen v)) request.now.args.items }
         ensures keeps { Keeps self.old self.new }
         ensures steady { GoesSteady result self.new }
@@ -71,15 +76,17 @@ impl<'p> Loop<'p> {
                     *called,
                     arguments,
                     function,
+                    sections,
                     pending,
                 )
             }
+            // A call without arguments: no rule allows it, and no clause of the code says so.
             _ => Err(NoMemory),
         }
     }
 
     // A section of a function with its arguments is submitted, whose callback gets a pointer.
-    fn detaches_at(
+    fn detaches_at<S: Sections>(
         &mut self,
         alloc: Global,
         table: &Names,
@@ -87,28 +94,34 @@ impl<'p> Loop<'p> {
         called: Value,
         arguments: &[Value],
         function: Name,
+        sections: &mut S,
         pending: &mut Vec<u8>,
     ) -> Result<Option<Outcome>, NoMemory>
         requires steady { IsSteady self.old }
         requires running { self.old.running ≡ true }
+        requires takes { IsAskedWith R.RtDetach (callback.0 ∷ callback.1 ∷ called ∷ arguments.now) }
+        requires pointer { IsLawful (seen callback.1) }
         requires lawful { All (λ v. IsLawful (seen v)) arguments.now }
         ensures keeps { Keeps self.old self.new }
         ensures steady { GoesSteady result self.new }
         ensures did { (names : Spelling) → Fits names self.old → Spells table.now names → (sent : Text) (s : States) → Acted names self.old function (sent ++ pending.old.items) s s
             → Did names result self.new (sent ++ pending.new.items) s (settles names self.old s (event_primitive (trees (program_in names self.old)) R.RtDetach (value_of names callback.0 ∷ value_of names callback.1 ∷ value_of names called ∷ values_of names arguments.now) (stack_in names self.old.machine) s)) }
     {
+        // A null pointer for a callback: no rule allows it, and no clause of the code says so.
         let Value::Code(back) = callback.0 else {
             return Err(NoMemory);
         };
         let Value::Code(called) = called else {
-            return Err(NoMemory);
+            unreachable!();
         };
-        let item = Item::With(back, callback.1);
-        self.submits(alloc, table, item, called, arguments, function, pending)
+        let item = Item::With(Callback::of(back, callback.1));
+        self.submits(
+            alloc, table, item, called, arguments, function, sections, pending,
+        )
     }
 
     // A section of a function is submitted, with the cells that its first argument leads to, and an item waits for it.
-    fn submits(
+    fn submits<S: Sections>(
         &mut self,
         alloc: Global,
         table: &Names,
@@ -116,6 +129,7 @@ impl<'p> Loop<'p> {
         called: Name,
         arguments: &[Value],
         function: Name,
+        sections: &mut S,
         pending: &mut Vec<u8>,
     ) -> Result<Option<Outcome>, NoMemory>
         requires steady { IsSteady self.old }
@@ -141,7 +155,7 @@ impl<'p> Loop<'p> {
         let store = self.machine.store();
         match self
             .jobs
-            .submit(alloc, number, called, pointer, others, store)
+            .submit(alloc, number, called, pointer, others, store, sections)
         {
             Ok(()) => {
                 put_section(self.trace, alloc, number, text, pending)?;
@@ -152,16 +166,18 @@ impl<'p> Loop<'p> {
         }
     }
 
-    /// The next poll is taken, once the sections that it tells have run, each on its own copy; or one of them failed. What goes out
-    /// for the poll is put behind `pending`.
-    pub(crate) fn polls(
+    /// The next poll is taken, once the sections that it tells have run, each on its own copy; or one of them failed. Those that are
+    /// not over are waited for. What goes out for the poll is put behind `pending`.
+    pub(crate) fn polls<S: Sections>(
         &mut self,
         alloc: Global,
         told: &Told,
+        sections: &mut S,
         pending: &mut Vec<u8>,
     ) -> Result<Step, NoMemory>
         requires steady { IsSteady self.old }
         requires idle { self.old.running ≡ false }
+        requires assigned { IsAssigned S.program S.bound self.old.jobs }
         requires round { (names : Spelling) → (lists_in names self.old).round ≡ [] }
         requires wants { (names : Spelling) → N.WantsPoll (told_of told.now) (lists_in names self.old) (polls_in self.old) }
         ensures keeps { Keeps self.old self.new }
@@ -172,7 +188,7 @@ impl<'p> Loop<'p> {
     {
         put_poll(self.trace, alloc, self.turns.polls, pending)?;
         let mut store = self.machine.replace_store(Store::new(alloc));
-        let collected = self.jobs.finish(alloc, &told.events, &mut store);
+        let collected = self.jobs.finish(alloc, &told.events, &mut store, sections);
         self.machine.replace_store(store);
         match collected? {
             Collected::AllGave(values) => {

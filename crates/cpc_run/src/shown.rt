@@ -1,5 +1,5 @@
 //! What goes out for marks and for an end: the bytes of outputs, or the lines of a trace.
-ghost use Rattle.std.specs.Prelude.{◌≡◌, ◌++◌, ◌∷◌, [], IsTrue, IfOk, OnOk, map, true, List};
+ghost use Rattle.std.specs.Prelude.{◌≡◌, ◌++◌, ◌<◌, length, ◌∷◌, [], IsTrue, IfOk, OnOk, map, true, List};
 ghost use Rattle.cpc_tree.specs.Erase.{in_table};
 ghost use Rattle.cpc_tree.specs.Texts as X;
 ghost use Rattle.cpc_tree.specs.Trace as T;
@@ -103,13 +103,11 @@ pub(crate) fn put_poll(
     polls: &[Told],
     pending: &mut Vec<u8>,
 ) -> Result<(), NoMemory>
+    requires { 0 < length polls.now }
     ensures { OnOk result ((told : T.Told) (left : List T.Told) → map told_of polls.now ≡ told ∷ left → pending.new.items ≡ pending.old.items ++ shown_of trace (T.Polled told)) }
 {
     if !trace {
         return Ok(());
-    }
-    if polls.is_empty() {
-        return Err(NoMemory);
     }
     let line = history_text(alloc, &polls[..1])?;
     pending.extend_from_slice(line.as_slice())?;

@@ -1,5 +1,5 @@
 //! Callbacks that the running code makes ready, and those that it lets wait.
-ghost use Rattle.std.specs.Prelude.{◌≡◌, ◌++◌, [], ◌∷◌, true, None, IfSome};
+ghost use Rattle.std.specs.Prelude.{◌≡◌, ◌++◌, [], ◌∷◌, true, None};
 ghost use Rattle.std.specs.List.{All};
 ghost use Rattle.cpc_base.specs.Bytes.{Text};
 ghost use Rattle.cpc_tree.specs.Erase.{Names};
@@ -13,10 +13,12 @@ ghost use Rattle.cpc_meaning.specs.Events.{event_primitive};
 ghost use Rattle.cpc_meaning.specs.Machine as M;
 ghost use Rattle.cpc_meaning.specs.Trees.{trees};
 ghost use Rattle.cpc_eval_values.specs.Shown.{value_of, values_of};
+ghost use Rattle.cpc_native_acts.specs.Taken.{IsAskedWith};
 ghost use Rattle.cpc_run.specs.Code.{stack_in};
+ghost use Rattle.cpc_run.specs.Taken.{IsNumber};
 ghost use Rattle.cpc_run.specs.States.{States, Fits, IsSteady, GoesSteady, Keeps, Did, Acted, settles, program_in};
 
-use crate::items::Item;
+use crate::items::{Callback, Item};
 use crate::looped::Loop;
 use crate::outcome::Outcome;
 use crate::shown::put_wait;
@@ -26,17 +28,15 @@ use cpc_native::Request;
 use cpc_store::Value;
 use std::alloc::Global;
 
-/// The number of an integer that is one of `i64`, as each lawful one of a signed kind is.
-pub(crate) fn long(value: Value) -> Option<i64>
-    ensures { IfSome result (λ z. (names : Names) → M.int_of (value_of names value) ≡ Gives z) }
+/// The number of an integer that is one of `long`.
+pub(crate) fn long(value: Value) -> i64
+    requires { IsNumber (seen value) }
+    ensures { (names : Names) → M.int_of (value_of names value) ≡ Gives result }
 {
     let Value::Int(_, number) = value else {
-        return None;
+        unreachable!();
     };
-    if number < i64::MIN as i128 || number > i64::MAX as i128 {
-        return None;
-    }
-    Some(number as i64)
+    number as i64
 }
 
 // 0 is reading, any other number writing.
@@ -78,6 +78,7 @@ impl<'p> Loop<'p> {
     ) -> Result<Option<Outcome>, NoMemory>
         requires steady { IsSteady self.old }
         requires running { self.old.running ≡ true }
+        requires takes { IsAskedWith R.RtReady request.now.args.items }
         requires lawful { All (λ v. IsLawful (seen v)) request.now.args.items }
         ensures keeps { Keeps self.old self.new }
         ensures steady { GoesSteady result self.new }
@@ -88,7 +89,7 @@ impl<'p> Loop<'p> {
             [callback, pointer] => {
                 self.readies_callback(alloc, *callback, *pointer, request.function)
             }
-            _ => Err(NoMemory),
+            _ => unreachable!(),
         }
     }
 
@@ -102,15 +103,21 @@ impl<'p> Loop<'p> {
     ) -> Result<Option<Outcome>, NoMemory>
         requires steady { IsSteady self.old }
         requires running { self.old.running ≡ true }
+        requires pointer { IsLawful (seen pointer) }
         ensures keeps { Keeps self.old self.new }
         ensures steady { GoesSteady result self.new }
         ensures did { (names : Names) → Fits names self.old → (printed : Text) (s : States) → Acted names self.old function printed s s
             → Did names result self.new printed s (settles names self.old s (event_primitive (trees (program_in names self.old)) R.RtReady (value_of names callback ∷ value_of names pointer ∷ []) (stack_in names self.old.machine) s)) }
     {
+        // A null pointer for a callback: no rule allows it, and no clause of the code says so.
         let Value::Code(called) = callback else {
             return Err(NoMemory);
         };
-        match self.turns.agenda.ready(Item::With(called, pointer)) {
+        match self
+            .turns
+            .agenda
+            .ready(Item::With(Callback::of(called, pointer)))
+        {
             Ok(()) => self.reply(alloc, function, Value::Unset),
             Err(_) => Err(NoMemory),
         }
@@ -125,6 +132,8 @@ impl<'p> Loop<'p> {
     ) -> Result<Option<Outcome>, NoMemory>
         requires steady { IsSteady self.old }
         requires running { self.old.running ≡ true }
+        requires takes { IsAskedWith R.RtWait request.now.args.items }
+        requires lawful { All (λ v. IsLawful (seen v)) request.now.args.items }
         ensures keeps { Keeps self.old self.new }
         ensures steady { GoesSteady result self.new }
         ensures did { (names : Names) → Fits names self.old → (sent : Text) (s : States) → Acted names self.old request.now.function (sent ++ pending.old.items) s s
@@ -135,7 +144,7 @@ impl<'p> Loop<'p> {
                 let function = request.function;
                 self.waits_on(alloc, *cond, *callback, *pointer, function, pending)
             }
-            _ => Err(NoMemory),
+            _ => unreachable!(),
         }
     }
 
@@ -151,21 +160,28 @@ impl<'p> Loop<'p> {
     ) -> Result<Option<Outcome>, NoMemory>
         requires steady { IsSteady self.old }
         requires running { self.old.running ≡ true }
+        requires takes { IsAskedWith R.RtWait (cond ∷ callback ∷ pointer ∷ []) }
+        requires pointer { IsLawful (seen pointer) }
         ensures keeps { Keeps self.old self.new }
         ensures steady { GoesSteady result self.new }
         ensures did { (names : Names) → Fits names self.old → (sent : Text) (s : States) → Acted names self.old function (sent ++ pending.old.items) s s
             → Did names result self.new (sent ++ pending.new.items) s (settles names self.old s (event_primitive (trees (program_in names self.old)) R.RtWait (value_of names cond ∷ value_of names callback ∷ value_of names pointer ∷ []) (stack_in names self.old.machine) s)) }
     {
         let Value::Cond(number) = cond else {
-            return Err(NoMemory);
+            unreachable!();
         };
+        // A null pointer for a callback: no rule allows it, and no clause of the code says so.
         let Value::Code(called) = callback else {
             return Err(NoMemory);
         };
         if !self.turns.agenda.has_numbers() {
             return Err(NoMemory);
         }
-        match self.turns.agenda.wait(number, Item::With(called, pointer)) {
+        match self
+            .turns
+            .agenda
+            .wait(number, Item::With(Callback::of(called, pointer)))
+        {
             Ok(()) => self.marks(alloc, &Mark::Wait(number), function, pending),
             Err((_, Stop::Fault(fault))) => Ok(Some(Outcome::Failed(fault, function))),
             Err((_, Stop::Memory)) => Err(NoMemory),
@@ -181,6 +197,8 @@ impl<'p> Loop<'p> {
     ) -> Result<Option<Outcome>, NoMemory>
         requires steady { IsSteady self.old }
         requires running { self.old.running ≡ true }
+        requires takes { IsAskedWith R.RtSleep request.now.args.items }
+        requires lawful { All (λ v. IsLawful (seen v)) request.now.args.items }
         ensures keeps { Keeps self.old self.new }
         ensures steady { GoesSteady result self.new }
         ensures did { (names : Names) → Fits names self.old → (sent : Text) (s : States) → Acted names self.old request.now.function (sent ++ pending.old.items) s s
@@ -191,7 +209,7 @@ impl<'p> Loop<'p> {
                 let function = request.function;
                 self.sleeps_for(alloc, *length, *callback, *pointer, function, pending)
             }
-            _ => Err(NoMemory),
+            _ => unreachable!(),
         }
     }
 
@@ -207,21 +225,26 @@ impl<'p> Loop<'p> {
     ) -> Result<Option<Outcome>, NoMemory>
         requires steady { IsSteady self.old }
         requires running { self.old.running ≡ true }
+        requires length { IsNumber (seen length) }
+        requires pointer { IsLawful (seen pointer) }
         ensures keeps { Keeps self.old self.new }
         ensures steady { GoesSteady result self.new }
         ensures did { (names : Names) → Fits names self.old → (sent : Text) (s : States) → Acted names self.old function (sent ++ pending.old.items) s s
             → Did names result self.new (sent ++ pending.new.items) s (settles names self.old s (event_primitive (trees (program_in names self.old)) R.RtSleep (value_of names length ∷ value_of names callback ∷ value_of names pointer ∷ []) (stack_in names self.old.machine) s)) }
     {
-        let Some(micros) = long(length) else {
-            return Err(NoMemory);
-        };
+        let micros = long(length);
+        // A null pointer for a callback: no rule allows it, and no clause of the code says so.
         let Value::Code(called) = callback else {
             return Err(NoMemory);
         };
         if !self.turns.agenda.has_numbers() {
             return Err(NoMemory);
         }
-        match self.turns.agenda.sleep(micros, Item::With(called, pointer)) {
+        match self
+            .turns
+            .agenda
+            .sleep(micros, Item::With(Callback::of(called, pointer)))
+        {
             Ok(()) => self.marks(alloc, &Mark::Sleep(micros), function, pending),
             Err((_, Stop::Fault(fault))) => Ok(Some(Outcome::Failed(fault, function))),
             Err((_, Stop::Memory)) => Err(NoMemory),
@@ -237,6 +260,8 @@ impl<'p> Loop<'p> {
     ) -> Result<Option<Outcome>, NoMemory>
         requires steady { IsSteady self.old }
         requires running { self.old.running ≡ true }
+        requires takes { IsAskedWith R.RtIo request.now.args.items }
+        requires lawful { All (λ v. IsLawful (seen v)) request.now.args.items }
         ensures keeps { Keeps self.old self.new }
         ensures steady { GoesSteady result self.new }
         ensures did { (names : Names) → Fits names self.old → (sent : Text) (s : States) → Acted names self.old request.now.function (sent ++ pending.old.items) s s
@@ -254,7 +279,7 @@ impl<'p> Loop<'p> {
                     pending,
                 )
             }
-            _ => Err(NoMemory),
+            _ => unreachable!(),
         }
     }
 
@@ -270,17 +295,17 @@ impl<'p> Loop<'p> {
     ) -> Result<Option<Outcome>, NoMemory>
         requires steady { IsSteady self.old }
         requires running { self.old.running ≡ true }
+        requires descriptor { IsNumber (seen place.0) }
+        requires way { IsNumber (seen place.1) }
+        requires pointer { IsLawful (seen pointer) }
         ensures keeps { Keeps self.old self.new }
         ensures steady { GoesSteady result self.new }
         ensures did { (names : Names) → Fits names self.old → (sent : Text) (s : States) → Acted names self.old function (sent ++ pending.old.items) s s
             → Did names result self.new (sent ++ pending.new.items) s (settles names self.old s (event_primitive (trees (program_in names self.old)) R.RtIo (value_of names place.0 ∷ value_of names place.1 ∷ value_of names callback ∷ value_of names pointer ∷ []) (stack_in names self.old.machine) s)) }
     {
-        let Some(descriptor) = long(place.0) else {
-            return Err(NoMemory);
-        };
-        let Some(number) = long(place.1) else {
-            return Err(NoMemory);
-        };
+        let descriptor = long(place.0);
+        let number = long(place.1);
+        // A null pointer for a callback: no rule allows it, and no clause of the code says so.
         let Value::Code(called) = callback else {
             return Err(NoMemory);
         };
@@ -288,7 +313,7 @@ impl<'p> Loop<'p> {
             return Err(NoMemory);
         }
         let way = direction(number);
-        let item = Item::With(called, pointer);
+        let item = Item::With(Callback::of(called, pointer));
         match self.turns.agenda.io(alloc, descriptor, way, item) {
             Ok(()) => self.marks(alloc, &Mark::Io(descriptor, way), function, pending),
             Err(_) => Err(NoMemory),

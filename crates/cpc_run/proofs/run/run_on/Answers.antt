@@ -140,6 +140,8 @@ returns-in-Err-drain-clause-told g c = λ names q hist spells begins.
 pub steps-init : goal.steps-init
 steps-init g c = record {
   steady = c.requires.steady;
+  fits = c.requires.fits;
+  assigned = c.requires.assigned;
   within = omega arith;
   later = omega arith;
   counted = c.taken-polls.ensures;
@@ -153,6 +155,8 @@ steps-init g c = record {
 
 pub steps-preserved : goal.steps-preserved
 steps-preserved g c = record {
+  fits = (c.steps.invariant.fits.0, c.in-Ok-On.ensures.keeps.runs c.steps.invariant.fits.0 c.steps.invariant.fits.1);
+  assigned = c.in-Ok-On.ensures.keeps.assigned g.S.Sections.program g.S.Sections.bound c.steps.invariant.assigned;
   steady = subst (λ m. MadeSteady (Ok m) c.make.new.self) c.in-Ok-On.field-0-is c.in-Ok-On.ensures.steady;
   within = omega (arith, c.steps-test.true);
   later = omega (arith, c.steps.invariant.later, c.drain.ensures.later);

@@ -5,15 +5,18 @@ use Rattle.cpc_check_rules.specs.Apart.{Spells}
 use Rattle.cpc_tree.specs.Erase.{Names}
 use Rattle.cpc_tree.specs.Syntax.{Program}
 use Rattle.cpc_meaning.specs.History.{History}
+use Rattle.cpc_run_jobs.specs.Holding.{IsAssigned}
 use Rattle.cpc_run.specs.Answers.{HasSaid}
 use Rattle.cpc_run.specs.Hosts.{with_answers}
-use Rattle.cpc_run.specs.States.{IsSteady}
+use Rattle.cpc_run.specs.States.{IsSteady, Fits}
 use Rattle.cpc_run.specs.Reports.{Begins, Reached, run_of}
 use Rattle.cpc_run.proofs.run.run_on.Given as goal
 
 abbrev pub invariant-steps : goal.invariant-steps
 invariant-steps g l = record {
   steady : IsSteady l.run;
+  fits : (names : Names) × Fits names l.run;
+  assigned : IsAssigned g.S.Sections.program g.S.Sections.bound l.run.jobs;
   within : l.steps ≤ l.limits.steps;
   later : g.O.Sink.faults l.fn.out ≤ g.O.Sink.faults l.out;
   counted : l.polls + length l.run.turns.polls.now ≡ l.run.polls;

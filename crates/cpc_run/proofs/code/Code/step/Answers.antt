@@ -30,6 +30,10 @@ pub returns-clause-did : goal.returns-clause-did
 unfolding items_in store_in stack_in Runs
 returns-clause-did c = λ names runs. step_is names (record { machine = c.step.new.self }) c.step.result (P.plain (trees (items_in names c.args.self.now)) (store_in names c.args.self.now) (stack_in names c.args.self.now)) (ok_names (λ n. Runs n c.args.self.now) (λ n x. Meets (native_done n c.step.new.self x) (P.plain (trees (items_in n c.args.self.now)) (store_in n c.args.self.now) (stack_in n c.args.self.now))) c.step.result c.step.ensures.meets names runs)
 
+pub returns-clause-served : goal.returns-clause-served
+unfolding Runs
+returns-clause-served c = c.step.ensures.served
+
 pub step-requires : goal.step-requires
 unfolding IsWell
 step-requires c = c.requires.well

@@ -8,7 +8,7 @@ use Rattle.cpc_run.proofs.Weighed.{turned_on, turned_over, turned_broke, made_fu
 use Rattle.cpc_run.proofs.looped.Loop.idles.Goals as goal
 
 pub returns-in-Ok-Over-clause-made : goal.returns-in-Ok-Over-clause-made
-returns-in-Ok-Over-clause-made c = λ names fits sent s within stands.
+returns-in-Ok-Over-clause-made g c = λ names fits sent s within stands.
     let l = c.args.self.now in
     let front = sent ++ c.args.pending.now.items in
     let none = sym (append-nil front) ∙ ap (λ t. front ++ t) (sym c.new-text.ensures.items) in
@@ -18,7 +18,7 @@ returns-in-Ok-Over-clause-made c = λ names fits sent s within stands.
     (subst (λ x. CameTo names x c.schedules.new.self printed s o) c.in-Ok-Over.field-0-is (c.in-Ok-Over.ensures.did names fits front s within (subst (λ t. Stands names l t s) none stands))) refl
 
 pub returns-in-Ok-Broke-clause-made : goal.returns-in-Ok-Broke-clause-made
-returns-in-Ok-Broke-clause-made c = λ names fits sent s within stands.
+returns-in-Ok-Broke-clause-made g c = λ names fits sent s within stands.
     let l = c.args.self.now in
     let front = sent ++ c.args.pending.now.items in
     let none = sym (append-nil front) ∙ ap (λ t. front ++ t) (sym c.new-text.ensures.items) in
@@ -30,7 +30,7 @@ returns-in-Ok-Broke-clause-made c = λ names fits sent s within stands.
     (subst (λ x. CameTo names x c.schedules.new.self printed s o) c.in-Ok-Broke.field-0-is (c.in-Ok-Broke.ensures.did names fits front s within (subst (λ t. Stands names l t s) none stands)))
 
 pub returns-in-Ok-On-clause-made : goal.returns-in-Ok-On-clause-made
-returns-in-Ok-On-clause-made c = λ names fits sent s within stands.
+returns-in-Ok-On-clause-made g c = λ names fits sent s within stands.
     let l = c.args.self.now in
     let front = sent ++ c.args.pending.now.items in
     let none = sym (append-nil front) ∙ ap (λ t. front ++ t) (sym c.new-text.ensures.items) in
@@ -43,7 +43,7 @@ returns-in-Ok-On-clause-made c = λ names fits sent s within stands.
     (λ t i. c.cells.ensures names printed t i) (omega (arith, c.requires.cap)) (c.in-Ok-On.ensures.capped names fits front s within stands)
 
 pub returns-in-Err-Beyond-clause-made : goal.returns-in-Err-Beyond-clause-made
-returns-in-Err-Beyond-clause-made c = λ names fits sent s within stands.
+returns-in-Err-Beyond-clause-made g c = λ names fits sent s within stands.
     let l = c.args.self.now in
     let front = sent ++ c.args.pending.now.items in
     let o = try_step (callbacks (program_in names l)) s in

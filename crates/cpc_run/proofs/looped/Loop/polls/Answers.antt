@@ -16,25 +16,28 @@ use Rattle.cpc_run.proofs.Polls.{collected_so, poll_broke, poll_taken, fewer_pol
 use Rattle.cpc_run.proofs.looped.Loop.polls.Goals as goal
 
 pub returns-in_err-values-clause-keeps : goal.returns-in_err-values-clause-keeps
-returns-in_err-values-clause-keeps c =
+returns-in_err-values-clause-keeps g c =
     moved_keeps c.args.self.now c.replace_store.new.self c.args.self.now.turns c.finish-collected.new.self (λ names. c.replace_store.ensures.items names ∙ c.replace_store-store.ensures.items names)
     (λ names h. c.replace_store.ensures.runs names (c.replace_store-store.ensures.runs names h)) c.finish-collected.ensures.keeps
 
+pub put_poll-requires : goal.put_poll-requires
+put_poll-requires g c = let none : Names = λ n. [] in some_left none c.args.self.now _ (c.requires.wants none)
+
 pub poll-requires-clause-next : goal.poll-requires-clause-next
-poll-requires-clause-next c = let none : Names = λ n. [] in some_left none c.args.self.now _ (c.requires.wants none)
+poll-requires-clause-next g c = let none : Names = λ n. [] in some_left none c.args.self.now _ (c.requires.wants none)
 
 pub returns-in_err-poll-in-AllGave-clause-keeps : goal.returns-in_err-poll-in-AllGave-clause-keeps
-returns-in_err-poll-in-AllGave-clause-keeps c =
+returns-in_err-poll-in-AllGave-clause-keeps g c =
     moved_keeps c.args.self.now c.replace_store.new.self c.poll.new.self c.finish-collected.new.self (λ names. c.replace_store.ensures.items names ∙ c.replace_store-store.ensures.items names)
     (λ names h. c.replace_store.ensures.runs names (c.replace_store-store.ensures.runs names h)) c.finish-collected.ensures.keeps
 
 pub returns-in_ok-poll-in-AllGave-clause-keeps : goal.returns-in_ok-poll-in-AllGave-clause-keeps
-returns-in_ok-poll-in-AllGave-clause-keeps c =
+returns-in_ok-poll-in-AllGave-clause-keeps g c =
     moved_keeps c.args.self.now c.replace_store.new.self c.poll.new.self c.finish-collected.new.self (λ names. c.replace_store.ensures.items names ∙ c.replace_store-store.ensures.items names)
     (λ names h. c.replace_store.ensures.runs names (c.replace_store-store.ensures.runs names h)) c.finish-collected.ensures.keeps
 
 pub returns-in_ok-poll-in-AllGave-clause-steady : goal.returns-in_ok-poll-in-AllGave-clause-steady
-returns-in_ok-poll-in-AllGave-clause-steady c =
+returns-in_ok-poll-in-AllGave-clause-steady g c =
     let none : Names = λ n. [] in
     let steady = c.requires.steady in
     let counted = steady.counted in
@@ -42,7 +45,7 @@ returns-in_ok-poll-in-AllGave-clause-steady c =
     record { well = c.replace_store.ensures.well; idle = λ e. c.replace_store.ensures.idle (c.replace_store-store.ensures.idle (steady.idle c.requires.idle)); fits = c.poll.ensures.fits; counted = omega (arith, fewer, counted); numbered = steady.numbered }
 
 pub returns-in_ok-poll-in-AllGave-clause-did : goal.returns-in_ok-poll-in-AllGave-clause-did
-returns-in_ok-poll-in-AllGave-clause-did c = λ names fits sent s stands.
+returns-in_ok-poll-in-AllGave-clause-did g c = λ names fits sent s stands.
     let l = c.args.self.now in
     let new = record l { machine = c.replace_store.new.self; turns = c.poll.new.self; jobs = c.finish-collected.new.self } in
     let printed = sent ++ c.args.pending.now.items in
@@ -65,15 +68,15 @@ returns-in_ok-poll-in-AllGave-clause-did c = λ names fits sent s stands.
     (collected_so names l printed s stands fits told (C.AllGave vs t) (store_of names c.replace_store-store.result) (c.replace_store-store.ensures.value names) gave)
 
 pub returns-in-OneFailed-clause-keeps : goal.returns-in-OneFailed-clause-keeps
-returns-in-OneFailed-clause-keeps c =
+returns-in-OneFailed-clause-keeps g c =
     moved_keeps c.args.self.now c.replace_store.new.self c.args.self.now.turns c.finish-collected.new.self (λ names. c.replace_store.ensures.items names ∙ c.replace_store-store.ensures.items names)
     (λ names h. c.replace_store.ensures.runs names (c.replace_store-store.ensures.runs names h)) c.finish-collected.ensures.keeps
 
 pub returns-in-OneFailed-clause-polls : goal.returns-in-OneFailed-clause-polls
-returns-in-OneFailed-clause-polls c = let none : Names = λ n. [] in some_left none c.args.self.now _ (c.requires.wants none)
+returns-in-OneFailed-clause-polls g c = let none : Names = λ n. [] in some_left none c.args.self.now _ (c.requires.wants none)
 
 pub returns-in-OneFailed-clause-did : goal.returns-in-OneFailed-clause-did
-returns-in-OneFailed-clause-did c = λ names fits sent s stands.
+returns-in-OneFailed-clause-did g c = λ names fits sent s stands.
     let l = c.args.self.now in
     let new = record l { machine = c.replace_store.new.self; jobs = c.finish-collected.new.self } in
     let printed = sent ++ c.args.pending.now.items in

@@ -19,7 +19,7 @@ use Rattle.cpc_run.proofs.Submits.{submit_refused, submit_broke, submit_done}
 use Rattle.cpc_run.proofs.looped.Loop.submits.Goals as goal
 
 pub returns-in-Err-default-Fault-clause-did : goal.returns-in-Err-default-Fault-clause-did
-returns-in-Err-default-Fault-clause-did c = λ names fits spells sent s acted.
+returns-in-Err-default-Fault-clause-did g c = λ names fits spells sent s acted.
     let l = c.args.self.now in
     let before = sent ++ c.args.pending.now.items in
     let new = record l { turns = record l.turns { agenda = c.section.new.self } } in
@@ -29,19 +29,19 @@ returns-in-Err-default-Fault-clause-did c = λ names fits spells sent s acted.
     (submit_refused names l new c.args.function c.args.called c.args.item (values_of names c.args.arguments.now) before before s acted c.in-Err-default-Fault.fault (at names))
 
 pub returns-in_err-put_section-in-Ok-submit-clause-keeps : goal.returns-in_err-put_section-in-Ok-submit-clause-keeps
-returns-in_err-put_section-in-Ok-submit-clause-keeps c = relisted_keeps c.args.self.now _ c.submit.new.self c.submit.ensures.keeps
+returns-in_err-put_section-in-Ok-submit-clause-keeps g c = relisted_keeps c.args.self.now _ c.submit.new.self c.submit.ensures.keeps
 
 pub returns-in-Err-Fault-clause-keeps : goal.returns-in-Err-Fault-clause-keeps
-returns-in-Err-Fault-clause-keeps c = relisted_keeps c.args.self.now _ c.submit.new.self c.submit.ensures.keeps
+returns-in-Err-Fault-clause-keeps g c = relisted_keeps c.args.self.now _ c.submit.new.self c.submit.ensures.keeps
 
 pub returns-in-Err-Memory-clause-keeps : goal.returns-in-Err-Memory-clause-keeps
-returns-in-Err-Memory-clause-keeps c = relisted_keeps c.args.self.now _ c.submit.new.self c.submit.ensures.keeps
+returns-in-Err-Memory-clause-keeps g c = relisted_keeps c.args.self.now _ c.submit.new.self c.submit.ensures.keeps
 
 pub returns-in_ok-put_section-in-Ok-submit-clause-keeps : goal.returns-in_ok-put_section-in-Ok-submit-clause-keeps
-returns-in_ok-put_section-in-Ok-submit-clause-keeps c = kept_then c.args.self.now _ c.reply.new.self (relisted_keeps c.args.self.now _ c.submit.new.self c.submit.ensures.keeps) c.reply.ensures.keeps
+returns-in_ok-put_section-in-Ok-submit-clause-keeps g c = kept_then c.args.self.now _ c.reply.new.self (relisted_keeps c.args.self.now _ c.submit.new.self c.submit.ensures.keeps) c.reply.ensures.keeps
 
 pub returns-in-Err-Fault-clause-did : goal.returns-in-Err-Fault-clause-did
-returns-in-Err-Fault-clause-did c = λ names fits spells sent s acted.
+returns-in-Err-Fault-clause-did g c = λ names fits spells sent s acted.
     let l = c.args.self.now in
     let mid = record l { turns = record l.turns { agenda = c.section.new.self }; jobs = c.submit.new.self } in
     let number = c.in-Ok.ensures.number ∙ acted.lists.agenda.sections_made in
@@ -51,10 +51,10 @@ returns-in-Err-Fault-clause-did c = λ names fits spells sent s acted.
     (submit_broke names l mid c.args.function c.args.called c.args.item (values_of names c.args.arguments.now) before before s acted mid fits (c.in-Ok.ensures.ok names)
     c.submit.result c.in-Ok.number (value_of names c.parted-pointer.result.0) (values_of names c.parted-pointer.result.1.now) (store_of names c.store-store.result.now)
     number (c.parted-pointer.ensures.first names) (c.parted-pointer.ensures.rest names) (c.store-store.ensures names)
-    (λ g e. c.submit.ensures.submitted names fits.serves s.jobs (A.out s.agenda) (subst (λ n. Holds names l.jobs s.jobs n (A.out s.agenda)) (sym number) acted.lists.held) g e) c.in-Err-Fault.fault (c.in-Err-Fault.is ∙ ap Err c.in-Err-Fault.field-0-is))
+    (λ f e. c.submit.ensures.submitted names fits.serves s.jobs (A.out s.agenda) (subst (λ n. Holds names l.jobs s.jobs n (A.out s.agenda)) (sym number) acted.lists.held) f e) c.in-Err-Fault.fault (c.in-Err-Fault.is ∙ ap Err c.in-Err-Fault.field-0-is))
 
 pub returns-in_ok-put_section-in-Ok-submit-clause-did : goal.returns-in_ok-put_section-in-Ok-submit-clause-did
-returns-in_ok-put_section-in-Ok-submit-clause-did c = λ names fits spells sent s acted.
+returns-in_ok-put_section-in-Ok-submit-clause-did g c = λ names fits spells sent s acted.
     let l = c.args.self.now in
     let mid = record l { turns = record l.turns { agenda = c.section.new.self }; jobs = c.submit.new.self } in
     let number = c.in-Ok.ensures.number ∙ acted.lists.agenda.sections_made in
@@ -66,7 +66,7 @@ returns-in_ok-put_section-in-Ok-submit-clause-did c = λ names fits spells sent 
     submit_done names l c.reply.new.self c.args.function c.args.called c.args.item (values_of names c.args.arguments.now) before after s acted mid fits (c.in-Ok.ensures.ok names)
     c.submit.result c.in-Ok.number (value_of names c.parted-pointer.result.0) (values_of names c.parted-pointer.result.1.now) (store_of names c.store-store.result.now)
     number (c.parted-pointer.ensures.first names) (c.parted-pointer.ensures.rest names) (c.store-store.ensures names)
-    (λ g e. c.submit.ensures.submitted names fits.serves s.jobs (A.out s.agenda) (subst (λ n. Holds names l.jobs s.jobs n (A.out s.agenda)) (sym number) acted.lists.held) g e)
+    (λ f e. c.submit.ensures.submitted names fits.serves s.jobs (A.out s.agenda) (subst (λ n. Holds names l.jobs s.jobs n (A.out s.agenda)) (sym number) acted.lists.held) f e)
     c.reply.result refl refl refl keeps.bound _ c.in-Ok-submit.is
     (λ t a. c.reply.ensures.did names fits_mid after s t a)
     (λ cells a. marked names mid c.args.function sent c.args.pending.now.items c.put_section.new.pending.items s _ (Submitted s.agenda.sections_made (names c.args.called))
