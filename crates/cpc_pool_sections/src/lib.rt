@@ -1,0 +1,10 @@
+//! A pool whose workers run the sections of one program.
+#![tactic(auto)]
+
+mod runner;
+mod same;
+mod workers;
+
+pub use runner::Sectioner;
+pub use same::is_same;
+pub use workers::{Workers, start};
