@@ -9,10 +9,13 @@ ghost use Rattle.cpc_hosts.specs.Standard.{standard_answer};
 use cpc_base::{NoMemory, Sink, write_all};
 use cpc_cli::cpc_main;
 use cpc_hosts::{Answer, abs_diff, clamp, greatest, least, sign, standard_hosts};
+use cpc_pool::NoGate;
 use real::{RealShelf, RealSink};
 use std::env;
 use std::io::ErrorKind;
 use std::process::ExitCode;
+use std::sync::{Arc, Wait};
+use std::thread::Threads;
 
 // The words after the program's name. Where one of them is no text, there are none: no command line has no words.
 fn words(rt: &HostRuntime) -> Result<Vec<String>, NoMemory> {
@@ -25,8 +28,17 @@ fn words(rt: &HostRuntime) -> Result<Vec<String>, NoMemory> {
     }
 }
 
-// Makes the call of these words, with the functions of the host that every run has, and gives its status.
-fn called<E: Sink>(rt: &HostRuntime, words: &[String], err: &mut E) -> Result<u8, NoMemory> {
+// Makes the call of these words, with the functions of the host that every run has, and gives its status. `threads` is the handle by
+// which workers are started.
+fn called<E: Sink, T>(
+    threads: T,
+    rt: &HostRuntime,
+    words: &[String],
+    err: &mut E,
+) -> Result<u8, NoMemory>
+where
+    T: Threads + Wait + Copy + Send + 'static,
+{
     let alloc = rt.alloc();
     let abs_diff_by: Answer = Box::new(
         alloc,
@@ -66,14 +78,17 @@ fn called<E: Sink>(rt: &HostRuntime, words: &[String], err: &mut E) -> Result<u8
     let hosts = standard_hosts(alloc, abs_diff_by, least_by, greatest_by, clamp_by, sign_by)?;
     let mut shelf = RealShelf::new(rt);
     let mut out = RealSink::new(rt.stdout());
-    let report = cpc_main(alloc, words, &mut shelf, &mut out, err, &hosts);
+    let gate = Arc::new(alloc, NoGate)?;
+    let report = cpc_main(
+        threads, alloc, words, &mut shelf, &mut out, err, &hosts, &gate,
+    );
     Ok(report.status)
 }
 
 fn main(rt: HostRuntime) -> ExitCode {
     let mut err = RealSink::new(rt.stderr());
     let called = match words(&rt) {
-        Ok(words) => called(&rt, words.as_slice(), &mut err),
+        Ok(words) => called(rt, &rt, words.as_slice(), &mut err),
         Err(NoMemory) => Err(NoMemory),
     };
     let status = match called {

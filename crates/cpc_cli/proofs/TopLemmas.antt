@@ -115,9 +115,10 @@ told_as host told files p q options text report unread unwritten out end e f ran
     subst (λ t. RanTold host t q options text report unread unwritten out end) e (subst (λ x. RanTold host files x options text report unread unwritten out end) f ran)
 
 -- and by the same polls
-pub told_polls : (host : Host) (q : Program) (options : Options) (text : Bool) (report : Report) (unwritten : Type 0) (out : Text) (end : End) (xs ys : List Told) → xs ≡ ys
-    → RanAnswered host q (map told_of xs) options text report unwritten out end → RanAnswered host q (map told_of ys) options text report unwritten out end
-told_polls host q options text report unwritten out end xs ys e ran = subst (λ polls. RanAnswered host q (map told_of polls) options text report unwritten out end) e ran
+pub told_polls : (host : Host) (p q : Program) (options : Options) (text : Bool) (report : Report) (unwritten : Type 0) (out : Text) (end : End) (xs ys : List Told) → p ≡ q → xs ≡ ys
+    → RanAnswered host p (map told_of xs) options text report unwritten out end → RanAnswered host q (map told_of ys) options text report unwritten out end
+told_polls host p q options text report unwritten out end xs ys f e ran = subst (λ polls. RanAnswered host q (map told_of polls) options text report unwritten out end) e
+    (subst (λ x. RanAnswered host x (map told_of xs) options text report unwritten out end) f ran)
 
 does_so : (host : Host) (told : Option Files) (report : Report) (out : Text) (outcome : Outcome) {command : Command} {options : Options} {text : Bool} → IsRun command options text
     → Runs host told command options text report out outcome → Does host told command report out outcome

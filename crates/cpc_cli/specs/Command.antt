@@ -75,9 +75,9 @@ pub data IsRun : Command → Options → (text : Bool) → Type 0 where
   by_run : (file : Text) (options : Options) (text : Bool) → IsRun (Run file options text) options text
   by_exec : (file : Text) (options : Options) → IsRun (Exec file options) options false
 
--- the options of a sample's run
+-- the options of a sample's run: those of words that give none, but no workers
 abbrev pub sample_options : Options
-sample_options = defaults
+sample_options = record defaults { workers = 0 }
 
 abbrev pub length_line : (bytes : ℕ) → Text
 length_line bytes = codes "bytes " ++ (decimal bytes ++ codes "\n")

@@ -1,4 +1,5 @@
 //! A run of an event program, by the history that the words name, with the functions of a host.
+ghost use Rattle.std.specs.Arc.{arc_value};
 ghost use Rattle.std.specs.Prelude.{◌≡◌, ◌≤◌, ◌<◌, ◌^◌, IfOk, IsErrOf, MatchResult, Option, None, Some, [], map, option_map, false, true};
 ghost use Rattle.cpc_base.specs.Bytes.{Text};
 ghost use Rattle.cpc_base.specs.Outside.{Rose};
@@ -10,7 +11,7 @@ ghost use Rattle.cpc_run.specs.Outcomes.{outcome_of as run_outcome_of};
 ghost use Rattle.cpc_run.specs.Hosts.{missing_of};
 ghost use Rattle.cpc_run.specs.Reports.{IsPrefix, Wrote};
 ghost use Rattle.cpc_cli_command.specs.Commands.{asked_options};
-ghost use Rattle.cpc_cli_command.specs.Number.{most_cells};
+ghost use Rattle.cpc_cli_command.specs.Number.{most_cells, most_workers};
 ghost use Rattle.cpc_cli.specs.declared.answer.End.{End};
 ghost use Rattle.cpc_cli.specs.Command.{host_of, length_line};
 ghost use Rattle.cpc_cli.specs.Counted.{IsCounted};
@@ -24,8 +25,12 @@ use cpc_cli_command::Options;
 use cpc_history::read_history;
 use cpc_history_marks::Told;
 use cpc_hosts::{HostRule, HostTable, Kept};
-use cpc_run::{Ended, Limits, Outcome as RunOutcome, before_bars, missing_host, run_event};
+use cpc_pool::Gate;
+use cpc_run::{Ended, Limits, Outcome as RunOutcome, before_bars, missing_host};
+use cpc_run_workers::run_with_workers;
 use std::alloc::Global;
+use std::sync::{Arc, Wait};
+use std::thread::Threads;
 
 // Reads the polls of a history's file.
 fn read_polls<F: Shelf>(alloc: Global, name: &str, shelf: &mut F) -> Result<Vec<Told>, End>
@@ -109,23 +114,29 @@ fn over(alloc: Global, outcome: RunOutcome, polls: u64, names: &Names) -> Result
 }
 
 // Runs an event program that is told these polls, with nothing before its text.
-fn run_bare<O: Sink, R: HostRule>(
+fn run_bare<O: Sink, R: HostRule, G, T>(
+    rt: T,
     alloc: Global,
-    program: &Checked,
+    program: &Arc<Checked, Global>,
     polls: &[Told],
     hosts: &HostTable<R>,
     options: Options<'_>,
+    gate: &Arc<G, Global>,
     out: &mut O,
     report: &mut Report,
 ) -> End
-    requires dialect { program.now.dialect ≡ D.Event }
+where
+    G: Gate + Send + Sync + 'static,
+    T: Threads + Wait + Copy + Send + 'static,
+    requires dialect { (arc_value program.now).dialect ≡ D.Event }
     requires some { 1 ≤ options.steps }
     requires room { options.cells ≤ most_cells }
+    requires few { options.workers ≤ most_workers }
     requires polls { polls_fit (map told_of polls.now) ≡ true }
     requires rule { ⟦<HostTable<R> as Kept>⟧.keeps hosts.now }
-    requires hosts { HasHosts (⟦<HostTable<R> as Kept>⟧.names hosts.now) (program_of program.now.program) }
+    requires hosts { HasHosts (⟦<HostTable<R> as Kept>⟧.names hosts.now) (program_of (arc_value program.now).program) }
     ensures ended { Wrote (O.taken out.old) (O.taken out.new) (λ o. RanAnswered (host_of (⟦<HostTable<R> as Kept>⟧.names hosts.now) R.answers)
-        (program_of program.now.program) (map told_of polls.now) (asked_options options.entry) false report.new (Rose (O.faults out.old) (O.faults out.new)) o result) }
+        (program_of (arc_value program.now).program) (map told_of polls.now) (asked_options options.entry) false report.new (Rose (O.faults out.old) (O.faults out.new)) o result) }
     ensures kept { report.new.printed ≡ report.old.printed }
     ensures later { O.faults out.old ≤ O.faults out.new }
 {
@@ -135,7 +146,18 @@ fn run_bare<O: Sink, R: HostRule>(
         cells: options.cells,
         section_steps: options.section_steps,
     };
-    let ran = run_event(alloc, program, polls, hosts, limits, options.trace, out);
+    let ran = run_with_workers(
+        rt,
+        alloc,
+        program,
+        polls,
+        hosts,
+        limits,
+        options.workers,
+        gate,
+        options.trace,
+        out,
+    );
     report.steps = ran.steps;
     report.cells = ran.cells;
     match ran.ended {
@@ -152,30 +174,36 @@ fn run_bare<O: Sink, R: HostRule>(
 }
 
 // Runs an event program that is told these polls, and writes what goes before its text.
-fn run_back<O: Sink, R: HostRule>(
+fn run_back<O: Sink, R: HostRule, G, T>(
+    rt: T,
     alloc: Global,
-    program: &Checked,
+    program: &Arc<Checked, Global>,
     polls: &[Told],
     hosts: &HostTable<R>,
     options: Options<'_>,
     text: bool,
+    gate: &Arc<G, Global>,
     out: &mut O,
     report: &mut Report,
 ) -> End
-    requires dialect { program.now.dialect ≡ D.Event }
+where
+    G: Gate + Send + Sync + 'static,
+    T: Threads + Wait + Copy + Send + 'static,
+    requires dialect { (arc_value program.now).dialect ≡ D.Event }
     requires some { 1 ≤ options.steps }
     requires room { options.cells ≤ most_cells }
+    requires few { options.workers ≤ most_workers }
     requires polls { polls_fit (map told_of polls.now) ≡ true }
     requires rule { ⟦<HostTable<R> as Kept>⟧.keeps hosts.now }
-    requires hosts { HasHosts (⟦<HostTable<R> as Kept>⟧.names hosts.now) (program_of program.now.program) }
+    requires hosts { HasHosts (⟦<HostTable<R> as Kept>⟧.names hosts.now) (program_of (arc_value program.now).program) }
     requires fresh { NoSteps report.old }
     ensures ended { Wrote (O.taken out.old) (O.taken out.new) (λ o. RanAnswered (host_of (⟦<HostTable<R> as Kept>⟧.names hosts.now) R.answers)
-        (program_of program.now.program) (map told_of polls.now) (asked_options options.entry) text report.new (Rose (O.faults out.old) (O.faults out.new)) o result) }
+        (program_of (arc_value program.now).program) (map told_of polls.now) (asked_options options.entry) text report.new (Rose (O.faults out.old) (O.faults out.new)) o result) }
     ensures kept { report.new.printed ≡ report.old.printed }
     ensures later { O.faults out.old ≤ O.faults out.new }
 {
     match write_heading(text, report.printed.as_slice(), out) {
-        Ok(()) => run_bare(alloc, program, polls, hosts, options, out, report),
+        Ok(()) => run_bare(rt, alloc, program, polls, hosts, options, gate, out, report),
         Err(Failed) => End::Unwritten,
     }
 }
@@ -191,24 +219,30 @@ fn lacks(alloc: Global, names: &Names, name: Name) -> End
 }
 
 /// Looks for the functions of the host that an event program declares, reads the history that is named, and runs the program
-/// by it.
-pub(crate) fn run_told<F: Shelf, O: Sink, R: HostRule>(
+/// by it, with workers for its sections.
+pub(crate) fn run_told<F: Shelf, O: Sink, R: HostRule, G, T>(
+    rt: T,
     alloc: Global,
-    program: &Checked,
+    program: Checked,
     options: Options<'_>,
     text: bool,
     shelf: &mut F,
     hosts: &HostTable<R>,
+    gate: &Arc<G, Global>,
     out: &mut O,
     report: &mut Report,
 ) -> End
-    requires dialect { program.now.dialect ≡ D.Event }
+where
+    G: Gate + Send + Sync + 'static,
+    T: Threads + Wait + Copy + Send + 'static,
+    requires dialect { program.dialect ≡ D.Event }
     requires some { 1 ≤ options.steps }
     requires room { options.cells ≤ most_cells }
+    requires few { options.workers ≤ most_workers }
     requires fresh { NoSteps report.old }
     requires rule { ⟦<HostTable<R> as Kept>⟧.keeps hosts.now }
     ensures ended { Wrote (O.taken out.old) (O.taken out.new) (λ o. RanTold (host_of (⟦<HostTable<R> as Kept>⟧.names hosts.now) R.answers)
-        (F.files shelf.old) (program_of program.now.program) (asked_options options.entry) text report.new
+        (F.files shelf.old) (program_of program.program) (asked_options options.entry) text report.new
         (λ name. Rose (F.faults shelf.old name) (F.faults shelf.new name)) (Rose (O.faults out.old) (O.faults out.new)) o result) }
     ensures kept { report.new.printed ≡ report.old.printed }
     ensures later { O.faults out.old ≤ O.faults out.new }
@@ -217,18 +251,24 @@ pub(crate) fn run_told<F: Shelf, O: Sink, R: HostRule>(
     if let Some(name) = missing_host(&program.program, hosts) {
         return lacks(alloc, &program.program.names, name);
     }
-    match polls_of(alloc, options.history, shelf) {
-        Ok(polls) => run_back(
+    let polls = match polls_of(alloc, options.history, shelf) {
+        Ok(polls) => polls,
+        Err(end) => return end,
+    };
+    match Arc::new(alloc, program) {
+        Ok(shared) => run_back(
+            rt,
             alloc,
-            program,
+            &shared,
             polls.as_slice(),
             hosts,
             options,
             text,
+            gate,
             out,
             report,
         ),
-        Err(end) => end,
+        Err(_) => End::Memory,
     }
 }
 

@@ -4,11 +4,10 @@ ghost use Rattle.cpc_base.specs.Bytes.{Text};
 ghost use Rattle.cpc_base.specs.Outside.{Rose, WhereTold};
 ghost use Rattle.cpc_run.specs.Reports.{Wrote};
 ghost use Rattle.cpc_cli_command.specs.Commands.{Check, Exec, Run, Sample, Translate, asked, asked_options, command_of};
-ghost use Rattle.cpc_cli_command.specs.Number.{most_cells};
-ghost use Rattle.cpc_cli_command.specs.Usage.{defaults};
+ghost use Rattle.cpc_cli_command.specs.Number.{most_cells, most_workers};
 ghost use Rattle.cpc_cli_command.specs.Usage.{IsBounded};
 ghost use Rattle.cpc_cli.specs.Answer.{Answer, EndedIn, IsEnd, Nothing, line_of, rises};
-ghost use Rattle.cpc_cli.specs.Command.{Asks, host_of, labels_in, labels_of, named, no_host};
+ghost use Rattle.cpc_cli.specs.Command.{Asks, host_of, labels_in, labels_of, named, no_host, sample_options as options_of_samples};
 ghost use Rattle.cpc_cli.specs.Exact.{Gives, NoneRose};
 ghost use Rattle.cpc_cli.specs.Inputs.{labels};
 
@@ -20,54 +19,73 @@ use cpc_cli_command::{
     Command, DEFAULT_CELLS, DEFAULT_SECTION_STEPS, DEFAULT_STEPS, Options, Usage, read_words,
 };
 use cpc_hosts::{HostRule, HostTable, Kept};
+use cpc_pool::Gate;
 use cpc_sample::sample;
 use std::alloc::Global;
+use std::sync::{Arc, Wait};
+use std::thread::Threads;
 
 // Translates the text of a file, and runs what was made.
-fn run_file<F: Shelf, O: Sink, R: HostRule>(
+fn run_file<F: Shelf, O: Sink, R: HostRule, G, T>(
+    rt: T,
     alloc: Global,
     file: &str,
     options: Options<'_>,
     text: bool,
     shelf: &mut F,
     hosts: &HostTable<R>,
+    gate: &Arc<G, Global>,
     out: &mut O,
     report: &mut Report,
 ) -> End
+where
+    G: Gate + Send + Sync + 'static,
+    T: Threads + Wait + Copy + Send + 'static,
     requires none { Nothing report.old [] }
     requires some { 1 ≤ options.steps }
     requires room { options.cells ≤ most_cells }
+    requires few { options.workers ≤ most_workers }
     requires rule { ⟦<HostTable<R> as Kept>⟧.keeps hosts.now }
     ensures ended { Wrote (O.taken out.old) (O.taken out.new) (λ o. EndedIn (host_of (⟦<HostTable<R> as Kept>⟧.names hosts.now) R.answers) (F.files shelf.old) (Run file.now (asked_options options.entry) text)
         (λ name. Rose (F.faults shelf.old name) (F.faults shelf.new name)) (Rose (O.faults out.old) (O.faults out.new)) report.new o result) }
     ensures stays { F.files shelf.new ≡ F.files shelf.old }
 {
     match translated(alloc, file, shelf, report) {
-        Ok(program) => run_told(alloc, &program, options, text, shelf, hosts, out, report),
+        Ok(program) => run_told(
+            rt, alloc, program, options, text, shelf, hosts, gate, out, report,
+        ),
         Err(end) => end,
     }
 }
 
 // Runs the text of a file, which is one of events.
-fn exec_file<F: Shelf, O: Sink, R: HostRule>(
+fn exec_file<F: Shelf, O: Sink, R: HostRule, G, T>(
+    rt: T,
     alloc: Global,
     file: &str,
     options: Options<'_>,
     shelf: &mut F,
     hosts: &HostTable<R>,
+    gate: &Arc<G, Global>,
     out: &mut O,
     report: &mut Report,
 ) -> End
+where
+    G: Gate + Send + Sync + 'static,
+    T: Threads + Wait + Copy + Send + 'static,
     requires none { Nothing report.old [] }
     requires some { 1 ≤ options.steps }
     requires room { options.cells ≤ most_cells }
+    requires few { options.workers ≤ most_workers }
     requires rule { ⟦<HostTable<R> as Kept>⟧.keeps hosts.now }
     ensures ended { Wrote (O.taken out.old) (O.taken out.new) (λ o. EndedIn (host_of (⟦<HostTable<R> as Kept>⟧.names hosts.now) R.answers) (F.files shelf.old) (Exec file.now (asked_options options.entry))
         (λ name. Rose (F.faults shelf.old name) (F.faults shelf.new name)) (Rose (O.faults out.old) (O.faults out.new)) report.new o result) }
     ensures stays { F.files shelf.new ≡ F.files shelf.old }
 {
     match taken(alloc, file, shelf) {
-        Ok(program) => run_told(alloc, &program, options, false, shelf, hosts, out, report),
+        Ok(program) => run_told(
+            rt, alloc, program, options, false, shelf, hosts, gate, out, report,
+        ),
         Err(end) => end,
     }
 }
@@ -116,28 +134,34 @@ fn check_file<F: Shelf, O: Sink>(
     }
 }
 
-// The options of a sample's run.
+// The options of a sample's run, which has no workers.
 fn sample_options<'a>() -> Options<'a>
-    ensures { asked_options result ≡ defaults }
+    ensures { asked_options result ≡ options_of_samples }
 {
     Options {
         history: None,
         steps: DEFAULT_STEPS,
         cells: DEFAULT_CELLS,
         section_steps: DEFAULT_SECTION_STEPS,
+        workers: 0,
         trace: false,
     }
 }
 
 // Makes the sample text of a number, translates it, runs what was made, and tells the length of the text.
-fn run_sample<F: Shelf, O: Sink, R: HostRule>(
+fn run_sample<F: Shelf, O: Sink, R: HostRule, G, T>(
+    rt: T,
     alloc: Global,
     number: u32,
     shelf: &mut F,
     hosts: &HostTable<R>,
+    gate: &Arc<G, Global>,
     out: &mut O,
     report: &mut Report,
 ) -> End
+where
+    G: Gate + Send + Sync + 'static,
+    T: Threads + Wait + Copy + Send + 'static,
     requires none { Nothing report.old [] }
     requires rule { ⟦<HostTable<R> as Kept>⟧.keeps hosts.now }
     ensures ended { Wrote (O.taken out.old) (O.taken out.new) (λ o. EndedIn (host_of (⟦<HostTable<R> as Kept>⟧.names hosts.now) R.answers) (F.files shelf.old) (Sample number)
@@ -154,12 +178,14 @@ fn run_sample<F: Shelf, O: Sink, R: HostRule>(
         Err(end) => return end,
     };
     match run_told(
+        rt,
         alloc,
-        &program,
+        program,
         sample_options(),
         false,
         shelf,
         hosts,
+        gate,
         out,
         report,
     ) {
@@ -169,14 +195,19 @@ fn run_sample<F: Shelf, O: Sink, R: HostRule>(
 }
 
 // Does what a command asks for.
-fn perform<F: Shelf, O: Sink, R: HostRule>(
+fn perform<F: Shelf, O: Sink, R: HostRule, G, T>(
+    rt: T,
     alloc: Global,
     command: Command,
     shelf: &mut F,
     hosts: &HostTable<R>,
+    gate: &Arc<G, Global>,
     out: &mut O,
     report: &mut Report,
 ) -> End
+where
+    G: Gate + Send + Sync + 'static,
+    T: Threads + Wait + Copy + Send + 'static,
     requires none { Nothing report.old [] }
     requires bounded { IsBounded (asked command) }
     requires rule { ⟦<HostTable<R> as Kept>⟧.keeps hosts.now }
@@ -191,11 +222,15 @@ fn perform<F: Shelf, O: Sink, R: HostRule>(
             file,
             options,
             text,
-        } => run_file(alloc, file, options, text, shelf, hosts, out, report),
-        Command::Exec { file, options } => exec_file(
-            alloc, file, options, shelf, hosts, out, report,
+        } => run_file(
+            rt, alloc, file, options, text, shelf, hosts, gate, out, report,
         ),
-        Command::Sample { number } => run_sample(alloc, number, shelf, hosts, out, report),
+        Command::Exec { file, options } => exec_file(
+            rt, alloc, file, options, shelf, hosts, gate, out, report,
+        ),
+        Command::Sample { number } => run_sample(
+            rt, alloc, number, shelf, hosts, gate, out, report,
+        ),
     }
 }
 
@@ -247,14 +282,19 @@ fn no_inputs<'a>() -> Inputs<'a> {
 }
 
 // Does what the words ask for, and gives the files that they name.
-fn follow<'a, F: Shelf, O: Sink, R: HostRule>(
+fn follow<'a, F: Shelf, O: Sink, R: HostRule, G, T>(
+    rt: T,
     alloc: Global,
     words: &'a [String],
     shelf: &mut F,
     hosts: &HostTable<R>,
+    gate: &Arc<G, Global>,
     out: &mut O,
     report: &mut Report,
 ) -> (Inputs<'a>, End)
+where
+    G: Gate + Send + Sync + 'static,
+    T: Threads + Wait + Copy + Send + 'static,
     requires none { Nothing report.old [] }
     requires rule { ⟦<HostTable<R> as Kept>⟧.keeps hosts.now }
     ensures ended { Wrote (O.taken out.old) (O.taken out.new) (λ o. IsEnd (map string_bytes words.now) (host_of (⟦<HostTable<R> as Kept>⟧.names hosts.now) R.answers) (F.files shelf.old)
@@ -265,7 +305,7 @@ fn follow<'a, F: Shelf, O: Sink, R: HostRule>(
     match read_words(alloc, words) {
         Ok(command) => (
             inputs_of(command),
-            perform(alloc, command, shelf, hosts, out, report),
+            perform(rt, alloc, command, shelf, hosts, gate, out, report),
         ),
         Err(Stop::Memory) => (no_inputs(), End::Memory),
         Err(Stop::Fault(Usage)) => (no_inputs(), End::Usage),
@@ -275,6 +315,9 @@ fn follow<'a, F: Shelf, O: Sink, R: HostRule>(
 /// Does what a command line asks for. `words` are its words without the program's name; the text and the history are read
 /// from `shelf`, what a command makes goes to `out`, and the line on how the call ended to `err`. A program that is run may
 /// call the functions of `hosts`, whose answers meet its rule; before its history is read, each that it declares is looked for.
+/// Its sections are run by as many workers as the words ask for, or by fewer where threads cannot be made; `sample` has none. What
+/// comes of a call does not depend on their number, nor on what they do when. The gate is called around each section that
+/// a worker runs, with its number. All workers have ended when the call returns.
 ///
 /// The status of the report is 0 where the command did its work, 1 where the program that was run has a fault, 2 where
 /// the words are no command line, 3 where the text has a fault, 4 where a line of the
@@ -283,14 +326,19 @@ fn follow<'a, F: Shelf, O: Sink, R: HostRule>(
 /// shelf failed at the text or the history, 9 where a sink failed, 11 where memory was wanting, 12 where a function of the host is declared that
 /// `hosts` has not with its arity, the first of them by declaration being named, 13 where the text or the
 /// history has more bytes than its limit, and 14 where the run is over and some wait.
-pub fn cpc_main<F: Shelf, O: Sink, E: Sink, R: HostRule>(
+pub fn cpc_main<F: Shelf, O: Sink, E: Sink, R: HostRule, G, T>(
+    rt: T,
     alloc: Global,
     words: &[String],
     shelf: &mut F,
     out: &mut O,
     err: &mut E,
     hosts: &HostTable<R>,
+    gate: &Arc<G, Global>,
 ) -> Report
+where
+    G: Gate + Send + Sync + 'static,
+    T: Threads + Wait + Copy + Send + 'static,
     requires rule { ⟦<HostTable<R> as Kept>⟧.keeps hosts.now }
     ensures answer { Wrote (O.taken out.old) (O.taken out.new) (λ o. Wrote (E.taken err.old) (E.taken err.new) (λ e.
         Answer (map string_bytes words.now) (host_of (⟦<HostTable<R> as Kept>⟧.names hosts.now) R.answers) (F.files shelf.old)
@@ -316,7 +364,7 @@ pub fn cpc_main<F: Shelf, O: Sink, E: Sink, R: HostRule>(
         steps: 0,
         cells: 0,
     };
-    let (inputs, end) = follow(alloc, words, shelf, hosts, out, &mut report);
+    let (inputs, end) = follow(rt, alloc, words, shelf, hosts, gate, out, &mut report);
     report.status = conclude(alloc, &inputs, &end, err);
     report
 }

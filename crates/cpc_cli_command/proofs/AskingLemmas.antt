@@ -3,7 +3,7 @@ use Rattle.std.proofs.Common.{true, false, [], ◌∷◌, ◌++◌, Some, refl, 
 use Rattle.clap.proofs.OnLiterals.{clap_on_literals}
 use Rattle.cpc_base.specs.Bytes.{Text}
 use Rattle.cpc_cli_command.specs.Commands.{Check, Run, Translate, cpc_app}
-use Rattle.cpc_cli_command.specs.Usage.{Means, cells_by, defaults, run_by, sample_by, section_steps_by, steps_by, told_by, traced}
+use Rattle.cpc_cli_command.specs.Usage.{Means, cells_by, defaults, run_by, sample_by, section_steps_by, steps_by, told_by, traced, workers_by}
 use Rattle.cpc_cli_command.proofs.UsageLemmas.{IsValue}
 
 pub check_is : (file : Text) → IsValue file → Means (codes "check" ∷ file ∷ []) (Some (Check file))
@@ -63,6 +63,16 @@ pub section_steps_joined_is : (file number : Text) → IsValue file
     → Means (codes "run" ∷ file ∷ (codes "--section-steps=" ++ number) ∷ []) (run_by file (section_steps_by number))
 unfolding cpc_app clap_on_literals
 section_steps_joined_is file number f = rw (f.no_long, f.no_short, f.no_end) (refl {a = run_by file (section_steps_by number)})
+
+pub workers_is : (file number : Text) → IsValue file → IsValue number
+    → Means (codes "run" ∷ file ∷ codes "--workers" ∷ number ∷ []) (run_by file (workers_by number))
+unfolding cpc_app clap_on_literals
+workers_is file number f n = rw (f.no_long, f.no_short, f.no_end, n.no_long, n.no_short, n.no_end) (refl {a = run_by file (workers_by number)})
+
+pub workers_joined_is : (file number : Text) → IsValue file
+    → Means (codes "run" ∷ file ∷ (codes "--workers=" ++ number) ∷ []) (run_by file (workers_by number))
+unfolding cpc_app clap_on_literals
+workers_joined_is file number f = rw (f.no_long, f.no_short, f.no_end) (refl {a = run_by file (workers_by number)})
 
 pub history_is : (file history : Text) → IsValue file → IsValue history
     → Means (codes "run" ∷ file ∷ codes "--history" ∷ history ∷ []) (Some (Run file (told_by history) false))

@@ -9,8 +9,8 @@ use Rattle.clap.specs.Walk.{Row, first_of}
 use Rattle.clap.specs.Simple.{subcommand_of}
 use Rattle.clap.specs.Faults.{fault_of}
 use Rattle.cpc_base.specs.Bytes.{Text}
-use Rattle.cpc_cli_command.specs.Commands.{Command, Check, Exec, Options, Sample, Translate, Run, cells_in, command_in, command_named, command_of, cpc_app, exec_in, file_command_in, if_taken, is_given, options_in, options_with, run_in, sample_in, section_steps_in, steps_in, threads_in}
-use Rattle.cpc_cli_command.specs.Number.{default_cells, default_section_steps, default_steps, is_numeral, most_cells, most_section_steps, most_steps, most_threads, number_of, threads_of}
+use Rattle.cpc_cli_command.specs.Commands.{Command, Check, Exec, Options, Sample, Translate, Run, cells_in, command_in, command_named, command_of, cpc_app, exec_in, file_command_in, if_taken, is_given, options_in, options_with, run_in, sample_in, section_steps_in, steps_in, threads_in, workers_in}
+use Rattle.cpc_cli_command.specs.Number.{default_cells, default_section_steps, default_steps, default_workers, is_numeral, most_cells, most_section_steps, most_steps, most_threads, most_workers, number_of, number_up_to, threads_of}
 use Rattle.cpc_cli_command.specs.Usage.{AreBounded, IsBounded}
 
 -- P of what is there
@@ -41,13 +41,29 @@ given_within : (most default : ℕ) → Within most default → (given : Option 
 given_within most default w None = w
 given_within most default w (Some text) = number_within most text
 
-options_bounded : (rows : List Row) (steps cells section_steps : Option ℕ) → IfThere (Within most_steps) steps → IfThere (Within most_cells) cells
-    → IfThere (Within most_section_steps) section_steps
-    → IfThere AreBounded (option_and_then (λ s. option_and_then (λ c. option_map (options_with rows s c) section_steps) cells) steps)
-options_bounded rows None cells more h g k = tt
-options_bounded rows (Some s) None more h g k = tt
-options_bounded rows (Some s) (Some c) None h g k = tt
-options_bounded rows (Some s) (Some c) (Some n) h g k = (h.0, h.1, g.0, g.1, k.0, k.1)
+number_up_within : (most : ℕ) (text : Text) → IfThere (λ n. n ≤ most) (number_up_to most text)
+number_up_within most text = go (is_numeral text) (nat_le n most) refl
+  where
+    n : ℕ
+    n = digits_value 10 text
+
+    go : (a b : Bool) → nat_le n most ≡ b → IfThere (λ n. n ≤ most) (if a && b then Some n else None)
+    go false b e = tt
+    go true false e = tt
+    go true true e = grind (arith, nat_tests)
+
+given_up_within : (most default : ℕ) → default ≤ most → (given : Option Text) → IfThere (λ n. n ≤ most) (option_map_or (number_up_to most) given (Some default))
+given_up_within most default w None = w
+given_up_within most default w (Some text) = number_up_within most text
+
+options_bounded : (rows : List Row) (steps cells section_steps workers : Option ℕ) → IfThere (Within most_steps) steps → IfThere (Within most_cells) cells
+    → IfThere (Within most_section_steps) section_steps → IfThere (λ n. n ≤ most_workers) workers
+    → IfThere AreBounded (option_and_then (λ s. option_and_then (λ c. option_and_then (λ n. option_map (options_with rows s c n) workers) section_steps) cells) steps)
+options_bounded rows None cells more workers h g k j = tt
+options_bounded rows (Some s) None more workers h g k j = tt
+options_bounded rows (Some s) (Some c) None workers h g k j = tt
+options_bounded rows (Some s) (Some c) (Some n) None h g k j = tt
+options_bounded rows (Some s) (Some c) (Some n) (Some w) h g k j = (h.0, h.1, g.0, g.1, k.0, k.1, j)
 
 run_bounded : (file : Text) (text : Bool) (options : Option Options) → IfThere AreBounded options → IfThere IsBounded (option_map (λ o. Run file o text) options)
 run_bounded file text None h = tt
@@ -61,10 +77,11 @@ named_bounded : (name file : Text) (rows : List Row) → IfThere IsBounded (comm
 named_bounded name file rows = go (bytes_eq name (codes "check")) (bytes_eq name (codes "translate")) (bytes_eq name (codes "run")) (bytes_eq name (codes "exec"))
   where
     given : IfThere AreBounded (options_in rows)
-    given = options_bounded rows (steps_in rows) (cells_in rows) (section_steps_in rows)
+    given = options_bounded rows (steps_in rows) (cells_in rows) (section_steps_in rows) (workers_in rows)
         (given_within most_steps default_steps (omega arith, omega arith) (first_of (codes "steps") rows))
         (given_within most_cells default_cells (omega arith, omega arith) (first_of (codes "cells") rows))
         (given_within most_section_steps default_section_steps (omega arith, omega arith) (first_of (codes "section-steps") rows))
+        (given_up_within most_workers default_workers (omega arith) (first_of (codes "workers") rows))
 
     go : (c t r x : Bool) → IfThere IsBounded (if c then Some (Check file) else (if t then Some (Translate file)
         else (if r then run_in file rows else (if x then exec_in file rows else None))))

@@ -12,7 +12,7 @@ use Rattle.clap.specs.Simple.{App, Shape, built, entered, label_of, names_of, ro
 use Rattle.clap.specs.Faults.{check_fault, defaults_fault, entered_fault, fault_of, level_fault, settle_fault, walk_fault}
 use Rattle.clap.proofs.OnLiterals.{clap_on_literals}
 use Rattle.std.proofs.lemmas.Slice.Eq.{bytes_eq-Decides}
-use Rattle.cpc_cli_command.specs.Commands.{Check, Command, Exec, Options, Run, Sample, Translate, command_in, cells_in, command_named, command_of, cpc_app, file_command_in, if_taken, is_given as was_given, options_with, sample_in, section_steps_in, steps_in, threads_in}
+use Rattle.cpc_cli_command.specs.Commands.{Check, Command, Exec, Options, Run, Sample, Translate, command_in, cells_in, command_named, command_of, cpc_app, file_command_in, if_taken, is_given as was_given, options_with, sample_in, section_steps_in, steps_in, threads_in, workers_in}
 use Rattle.cpc_cli_command.specs.Usage.{BreaksNumber, EntersOperand, HasOperand, is_verb, operand_of}
 use Rattle.cpc_cli_command.proofs.CommandLemmas.{entered_command}
 use Rattle.cpc_cli_command.proofs.FullRows.{Full, HasSome, IsFed, finished_full, no_kind, or_none, walk_full}
@@ -140,34 +140,41 @@ same_test a b = go (bytes_eq a b) (bytes_eq b a) (λ e. (bytes_eq-Decides b a).1
 
 -- what may be wrong with a number
 abbrev IsWrong : Text → List Row → Type 0
-IsWrong name rows = steps_in rows ≡ None ⊎ (cells_in rows ≡ None ⊎ (section_steps_in rows ≡ None ⊎ ((name ≡ codes "sample") × (threads_in rows ≡ None))))
+IsWrong name rows = steps_in rows ≡ None ⊎ (cells_in rows ≡ None ⊎ (section_steps_in rows ≡ None ⊎ (workers_in rows ≡ None ⊎ ((name ≡ codes "sample") × (threads_in rows ≡ None)))))
 
 option_wrong : (name file : Text) (rows : List Row) → bytes_eq name (codes "sample") ≡ false → is_verb name ≡ true → command_named name file rows ≡ None → IsWrong name rows
 option_wrong name file rows other v e = go (bytes_eq name (codes "check")) (bytes_eq name (codes "translate")) (bytes_eq name (codes "run")) (bytes_eq name (codes "exec"))
-    (bytes_eq name (codes "sample")) (steps_in rows) (cells_in rows) (section_steps_in rows) other
+    (bytes_eq name (codes "sample")) (steps_in rows) (cells_in rows) (section_steps_in rows) (workers_in rows) other
     (rw (same_test name (codes "check"), same_test name (codes "translate"), same_test name (codes "run"), same_test name (codes "exec"), same_test name (codes "sample")) v) e
   where
-    asks : (o p q : Option ℕ) → Option Options
-    asks o p q = option_and_then (λ steps. option_and_then (λ cells. option_map (options_with rows steps cells) q) p) o
+    asks : (o p q w : Option ℕ) → Option Options
+    asks o p q w = option_and_then (λ steps. option_and_then (λ cells. option_and_then (λ more. option_map (options_with rows steps cells more) w) q) p) o
 
-    runs : (o p q : Option ℕ) → Option Command
-    runs o p q = option_map (λ options. Run file options (was_given (codes "text") rows)) (asks o p q)
+    runs : (o p q w : Option ℕ) → Option Command
+    runs o p q w = option_map (λ options. Run file options (was_given (codes "text") rows)) (asks o p q w)
 
-    go : (c t r x s : Bool) (o p q : Option ℕ) → s ≡ false → (c || (t || (r || (x || (s || false))))) ≡ true
-        → (if c then Some (Check file) else (if t then Some (Translate file) else (if r then runs o p q else (if x then option_map (Exec file) (asks o p q) else None)))) ≡ None
-        → o ≡ None ⊎ (p ≡ None ⊎ (q ≡ None ⊎ ((name ≡ codes "sample") × (threads_in rows ≡ None))))
-    go true t r x s o p q f v e = cc
-    go false true r x s o p q f v e = cc
-    go false false true x s (Some n) (Some m) (Some l) f v e = cc
-    go false false true x s (Some n) (Some m) None f v e = inr (inr (inl refl))
-    go false false true x s (Some n) None q f v e = inr (inl refl)
-    go false false true x s None p q f v e = inl refl
-    go false false false true s (Some n) (Some m) (Some l) f v e = cc
-    go false false false true s (Some n) (Some m) None f v e = inr (inr (inl refl))
-    go false false false true s (Some n) None q f v e = inr (inl refl)
-    go false false false true s None p q f v e = inl refl
-    go false false false false true o p q f v e = absurd (true≢false f)
-    go false false false false false o p q f v e = absurd (true≢false (sym v))
+    -- which number is wrong, where there are no options
+    wrong : (o p q w : Option ℕ) → asks o p q w ≡ None
+        → o ≡ None ⊎ (p ≡ None ⊎ (q ≡ None ⊎ (w ≡ None ⊎ ((name ≡ codes "sample") × (threads_in rows ≡ None)))))
+    wrong None p q w e = inl refl
+    wrong (Some n) None q w e = inr (inl refl)
+    wrong (Some n) (Some m) None w e = inr (inr (inl refl))
+    wrong (Some n) (Some m) (Some l) None e = inr (inr (inr (inl refl)))
+    wrong (Some n) (Some m) (Some l) (Some k) e = cc
+
+    no_options : (make : Options → Command) (o : Option Options) → option_map make o ≡ None → o ≡ None
+    no_options make None e = refl
+    no_options make (Some x) e = cc
+
+    go : (c t r x s : Bool) (o p q w : Option ℕ) → s ≡ false → (c || (t || (r || (x || (s || false))))) ≡ true
+        → (if c then Some (Check file) else (if t then Some (Translate file) else (if r then runs o p q w else (if x then option_map (Exec file) (asks o p q w) else None)))) ≡ None
+        → o ≡ None ⊎ (p ≡ None ⊎ (q ≡ None ⊎ (w ≡ None ⊎ ((name ≡ codes "sample") × (threads_in rows ≡ None)))))
+    go true t r x s o p q w f v e = cc
+    go false true r x s o p q w f v e = cc
+    go false false true x s o p q w f v e = wrong o p q w (no_options (λ options. Run file options (was_given (codes "text") rows)) (asks o p q w) e)
+    go false false false true s o p q w f v e = wrong o p q w (no_options (Exec file) (asks o p q w) e)
+    go false false false false true o p q w f v e = absurd (true≢false f)
+    go false false false false false o p q w f v e = absurd (true≢false (sym v))
 
 none_of : (o : Option ℕ) → option_map Sample o ≡ None → o ≡ None
 none_of None e = refl
@@ -178,7 +185,7 @@ number_wrong name value rows v has e = go (bytes_eq name (codes "sample")) refl 
   where
     go : (s : Bool) → bytes_eq name (codes "sample") ≡ s → first_of (if s then codes "N" else codes "FILE") rows ≡ Some value
         → (if s then sample_in rows else file_command_in (name, rows)) ≡ None → IsWrong name rows
-    go true is h e = inr (inr (inr ((bytes_eq-Decides name (codes "sample")).0 is, none_of (threads_in rows) e)))
+    go true is h e = inr (inr (inr (inr ((bytes_eq-Decides name (codes "sample")).0 is, none_of (threads_in rows) e))))
     go false is h e = option_wrong name value rows is v (sym (ap (option_and_then (λ f. command_named name f rows)) h) ∙ e)
 
 pub breaks_number : (words : List Text) → fault_of cpc_app words ≡ [] → command_of words ≡ None → BreaksNumber words

@@ -61,7 +61,11 @@ pub section_steps_twice_is : (one two file : Text)
 unfolding cpc_app clap_on_literals
 section_steps_twice_is one two file = refl
 
-pub no_workers_is : (number file : Text) → Means (codes "run" ∷ (codes "--workers=" ++ number) ∷ file ∷ []) None
+pub workers_twice_is : (one two file : Text) → Means (codes "run" ∷ (codes "--workers=" ++ one) ∷ (codes "--workers=" ++ two) ∷ file ∷ []) None
+unfolding cpc_app clap_on_literals
+workers_twice_is one two file = refl
+
+pub no_workers_is : (number file : Text) → Means (codes "check" ∷ (codes "--workers=" ++ number) ∷ file ∷ []) None
 unfolding cpc_app clap_on_literals
 no_workers_is number file = refl
 

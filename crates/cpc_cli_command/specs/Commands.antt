@@ -10,7 +10,7 @@ use Rattle.clap.specs.declared.builder.command.Command.TheViews.{out-Command}
 use Rattle.clap.specs.declared.builder.command.Command.{Command as Built}
 use Rattle.clap.specs.declared.builder.action.ArgAction.TheVariants.{Set, SetTrue}
 use Rattle.cpc_base.specs.Bytes.{Text}
-use Rattle.cpc_cli_command.specs.Number.{cells_of, default_cells, default_section_steps, default_steps, section_steps_of, steps_of, threads_of}
+use Rattle.cpc_cli_command.specs.Number.{cells_of, default_cells, default_section_steps, default_steps, default_workers, section_steps_of, steps_of, threads_of, workers_of}
 use Rattle.cpc_cli_command.specs.declared.words.Options.{Options as ParsedOptions}
 use Rattle.cpc_cli_command.specs.declared.words.Command.{Command as Parsed}
 use Rattle.cpc_cli_command.specs.declared.words.Command.TheVariants as P
@@ -37,10 +37,14 @@ flag_rule name = record (new_rule name) { long = Some name; action = Some SetTru
 abbrev pub on_file : Text → App
 on_file name = with_rule (new_app name) file_rule
 
--- the options of a run that have values: `--history H`, `--steps N`, `--cells N` and `--section-steps N`
-abbrev pub with_values : App → App
-with_values app = with_rule (with_rule (with_rule (with_rule app (option_rule (codes "history"))) (option_rule (codes "steps")))
+-- the history of a run and its limits: `--history H`, `--steps N`, `--cells N` and `--section-steps N`
+abbrev pub with_limits : App → App
+with_limits app = with_rule (with_rule (with_rule (with_rule app (option_rule (codes "history"))) (option_rule (codes "steps")))
     (option_rule (codes "cells"))) (option_rule (codes "section-steps"))
+
+-- and `--workers N`
+abbrev pub with_values : App → App
+with_values app = with_rule (with_limits app) (option_rule (codes "workers"))
 
 -- and `--trace`
 abbrev pub with_options : App → App
@@ -87,6 +91,8 @@ pub record Options : Type 0 where
   pub steps : ℕ
   pub cells : ℕ
   pub section_steps : ℕ
+  -- how many workers run sections
+  pub workers : ℕ
   -- a trace is wanted, and not the output alone
   pub trace : Bool
 
@@ -110,19 +116,24 @@ cells_in rows = option_map_or cells_of (first_of (codes "cells") rows) (Some def
 abbrev pub section_steps_in : List Row → Option ℕ
 section_steps_in rows = option_map_or section_steps_of (first_of (codes "section-steps") rows) (Some default_section_steps)
 
+abbrev pub workers_in : List Row → Option ℕ
+workers_in rows = option_map_or workers_of (first_of (codes "workers") rows) (Some default_workers)
+
 -- the options of these rows with these numbers
-abbrev pub options_with : List Row → (steps cells section_steps : ℕ) → Options
-options_with rows steps cells section_steps = record {
+abbrev pub options_with : List Row → (steps cells section_steps workers : ℕ) → Options
+options_with rows steps cells section_steps workers = record {
   history = first_of (codes "history") rows;
   steps = steps;
   cells = cells;
   section_steps = section_steps;
+  workers = workers;
   trace = is_given (codes "trace") rows;
 }
 
 -- the options that the matches give, unless a number breaks its rule
 abbrev pub options_in : List Row → Option Options
-options_in rows = option_and_then (λ steps. option_and_then (λ cells. option_map (options_with rows steps cells) (section_steps_in rows)) (cells_in rows)) (steps_in rows)
+options_in rows = option_and_then (λ steps. option_and_then (λ cells. option_and_then (λ section_steps.
+    option_map (options_with rows steps cells section_steps) (workers_in rows)) (section_steps_in rows)) (cells_in rows)) (steps_in rows)
 
 -- the command of the options, where no number breaks its rule
 abbrev pub run_in : (file : Text) → List Row → Option Command
@@ -169,6 +180,7 @@ asked_options options = record {
   steps = options.steps;
   cells = options.cells;
   section_steps = options.section_steps;
+  workers = options.workers;
   trace = options.trace;
 }
 

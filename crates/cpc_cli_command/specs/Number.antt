@@ -1,4 +1,4 @@
--- How many steps a run may take, how many cells, and how many steps a section.
+-- How many steps a run may take, how many cells, how many steps a section, and how many workers run sections.
 use Rattle.std.specs.Prelude.{ℕ, Bool, ◌&&◌, Option, Some, None, length, if◌then◌else◌, nat_le}
 use Rattle.std.specs.Char.{is_ascii_digit}
 use Rattle.std.specs.List.{list_all}
@@ -26,6 +26,13 @@ default_section_steps = 10000000
 abbrev pub most_section_steps : ℕ
 most_section_steps = 1000000000000
 
+-- where the words give no number
+abbrev pub default_workers : ℕ
+default_workers = 2
+
+abbrev pub most_workers : ℕ
+most_workers = 64
+
 -- the most threads of a sample
 abbrev pub most_threads : ℕ
 most_threads = 1000
@@ -42,6 +49,10 @@ is_within most n = nat_le 1 n && nat_le n most
 abbrev pub number_of : (most : ℕ) → Text → Option ℕ
 number_of most text = if is_numeral text && is_within most (digits_value 10 text) then Some (digits_value 10 text) else None
 
+-- the number from 0 to the most that a text writes
+abbrev pub number_up_to : (most : ℕ) → Text → Option ℕ
+number_up_to most text = if is_numeral text && nat_le (digits_value 10 text) most then Some (digits_value 10 text) else None
+
 -- the number of steps that a text writes
 abbrev pub steps_of : Text → Option ℕ
 steps_of text = number_of most_steps text
@@ -53,6 +64,10 @@ cells_of text = number_of most_cells text
 -- the number of steps of a section that a text writes
 abbrev pub section_steps_of : Text → Option ℕ
 section_steps_of text = number_of most_section_steps text
+
+-- the number of workers that a text writes
+abbrev pub workers_of : Text → Option ℕ
+workers_of text = number_up_to most_workers text
 
 -- the number of threads that a text writes
 abbrev pub threads_of : Text → Option ℕ

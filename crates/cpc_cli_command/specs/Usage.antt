@@ -4,8 +4,8 @@ use Rattle.std.specs.List.{list_any}
 use Rattle.clap.specs.Walk.{Row, first_of}
 use Rattle.clap.specs.Simple.{subcommand_of}
 use Rattle.cpc_base.specs.Bytes.{Text}
-use Rattle.cpc_cli_command.specs.Commands.{Command, Check, Translate, Exec, Options, Run, Sample, cells_in, command_of, cpc_app, section_steps_in, steps_in, threads_in}
-use Rattle.cpc_cli_command.specs.Number.{cells_of, default_cells, default_section_steps, default_steps, most_cells, most_section_steps, most_steps, most_threads, section_steps_of, steps_of, threads_of}
+use Rattle.cpc_cli_command.specs.Commands.{Command, Check, Translate, Exec, Options, Run, Sample, cells_in, command_of, cpc_app, section_steps_in, steps_in, threads_in, workers_in}
+use Rattle.cpc_cli_command.specs.Number.{cells_of, default_cells, default_section_steps, default_steps, default_workers, most_cells, most_section_steps, most_steps, most_threads, most_workers, section_steps_of, steps_of, threads_of, workers_of}
 
 -- the word does not begin with `-`
 abbrev pub is_plain : Text → Bool
@@ -25,7 +25,7 @@ Means words command = command_of words ≡ command
 
 -- the options where the words give none
 abbrev pub defaults : Options
-defaults = record { history = None; steps = default_steps; cells = default_cells; section_steps = default_section_steps; trace = false }
+defaults = record { history = None; steps = default_steps; cells = default_cells; section_steps = default_section_steps; workers = default_workers; trace = false }
 
 -- the options with the steps that a text writes
 abbrev pub steps_by : Text → Option Options
@@ -38,6 +38,10 @@ cells_by number = option_map (λ n. record defaults { cells = n }) (cells_of num
 -- the options with the steps of a section that a text writes
 abbrev pub section_steps_by : Text → Option Options
 section_steps_by number = option_map (λ n. record defaults { section_steps = n }) (section_steps_of number)
+
+-- the options with the workers that a text writes
+abbrev pub workers_by : Text → Option Options
+workers_by number = option_map (λ n. record defaults { workers = n }) (workers_of number)
 
 -- the options with a history
 abbrev pub told_by : Text → Options
@@ -61,7 +65,7 @@ sample_by number = option_map Sample (threads_of number)
 -- the numbers of the options are within their bounds
 abbrev pub AreBounded : Options → Type 0
 AreBounded options = (1 ≤ options.steps) × (options.steps ≤ most_steps) × (1 ≤ options.cells) × (options.cells ≤ most_cells)
-    × (1 ≤ options.section_steps) × (options.section_steps ≤ most_section_steps)
+    × (1 ≤ options.section_steps) × (options.section_steps ≤ most_section_steps) × (options.workers ≤ most_workers)
 
 -- the numbers of a command are within their bounds
 abbrev pub IsBounded : Command → Type 0
@@ -83,8 +87,8 @@ HasOperand met = (is_verb met.0 ≡ true) × (value : Text) × (first_of (operan
 abbrev pub EntersOperand : (words : List Text) → Type 0
 EntersOperand words = (met : Text × List Row) × (subcommand_of cpc_app words ≡ Some met) × HasOperand met
 
--- the words enter a subcommand whose `--steps` is no number of steps, whose `--cells` is no number of cells, or whose `--section-steps` is no number of
--- steps of a section, or `sample` with no number of threads
+-- the words enter a subcommand whose `--steps` is no number of steps, whose `--cells` is no number of cells, whose `--section-steps` is no number of
+-- steps of a section, or whose `--workers` is no number of workers, or `sample` with no number of threads
 abbrev pub BreaksNumber : (words : List Text) → Type 0
 BreaksNumber words = (met : Text × List Row) × (subcommand_of cpc_app words ≡ Some met)
-    × (steps_in met.1 ≡ None ⊎ (cells_in met.1 ≡ None ⊎ (section_steps_in met.1 ≡ None ⊎ ((met.0 ≡ codes "sample") × (threads_in met.1 ≡ None)))))
+    × (steps_in met.1 ≡ None ⊎ (cells_in met.1 ≡ None ⊎ (section_steps_in met.1 ≡ None ⊎ (workers_in met.1 ≡ None ⊎ ((met.0 ≡ codes "sample") × (threads_in met.1 ≡ None))))))

@@ -3,7 +3,7 @@ ghost use Rattle.std.specs.Prelude.{◌≡◌, IfOk, codes, false};
 ghost use Rattle.clap.specs.Words.{app_of, rule_of};
 ghost use Rattle.cpc_cli_command.specs.Commands.{IsLocal, bare_app, count_rule, cpc_app, exec_app, file_rule, flag_rule};
 ghost use Rattle.cpc_cli_command.specs.Commands.{on_file as on_file_app, option_rule, run_app, sample_app, with_options};
-ghost use Rattle.cpc_cli_command.specs.Commands.{with_values as with_values_app};
+ghost use Rattle.cpc_cli_command.specs.Commands.{with_limits as with_limits_app, with_values as with_values_app};
 
 use clap::{Arg, ArgAction, Command};
 use std::alloc::{AllocError, Global};
@@ -49,8 +49,8 @@ fn on_file<'a>(alloc: Global, name: &'a str) -> Result<Command<'a>, AllocError>
 }
 
 /// `NAME FILE [--history H] [--steps N] [--cells N] [--section-steps N]`.
-fn with_values<'a>(alloc: Global, name: &'a str) -> Result<Command<'a>, AllocError>
-    ensures app { IfOk result (λ c. app_of c ≡ with_values_app (on_file_app name.entry.now)) }
+fn with_limits<'a>(alloc: Global, name: &'a str) -> Result<Command<'a>, AllocError>
+    ensures app { IfOk result (λ c. app_of c ≡ with_limits_app (on_file_app name.entry.now)) }
     ensures local { IfOk result IsLocal }
 {
     on_file(alloc, name)?
@@ -58,6 +58,14 @@ fn with_values<'a>(alloc: Global, name: &'a str) -> Result<Command<'a>, AllocErr
         .arg(option(alloc, "steps"))?
         .arg(option(alloc, "cells"))?
         .arg(option(alloc, "section-steps"))
+}
+
+/// `NAME FILE` with these and `[--workers N]`.
+fn with_values<'a>(alloc: Global, name: &'a str) -> Result<Command<'a>, AllocError>
+    ensures app { IfOk result (λ c. app_of c ≡ with_values_app (on_file_app name.entry.now)) }
+    ensures local { IfOk result IsLocal }
+{
+    with_limits(alloc, name)?.arg(option(alloc, "workers"))
 }
 
 /// `NAME FILE` with these options and `[--trace]`.

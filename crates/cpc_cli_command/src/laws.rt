@@ -4,7 +4,7 @@ ghost use Rattle.std.specs.Prelude.{◌≡◌, false, true, List, Some, None, []
 ghost use Rattle.cpc_base.specs.Bytes.{Text};
 ghost use Rattle.cpc_cli_command.specs.Commands.{Check, Command, Exec, Run, Translate, command_of, cpc_app};
 ghost use Rattle.cpc_cli_command.specs.Usage.{BreaksNumber, EntersOperand, IsBounded, IsPlain, Means, is_verb};
-ghost use Rattle.cpc_cli_command.specs.Usage.{cells_by, defaults, exec_by, run_by, sample_by, section_steps_by, steps_by, told_by, traced};
+ghost use Rattle.cpc_cli_command.specs.Usage.{cells_by, defaults, exec_by, run_by, sample_by, section_steps_by, steps_by, told_by, traced, workers_by};
 
 /// The words that ask for a command, where no file or number begins with `-`.
 pub fn asking_words()
@@ -27,6 +27,10 @@ pub fn asking_words()
         → Means (codes "run" ∷ file ∷ codes "--section-steps" ∷ number ∷ []) (run_by file (section_steps_by number)) }
     ensures section_steps_joined { (file number : Text) → IsPlain file
         → Means (codes "run" ∷ file ∷ (codes "--section-steps=" ++ number) ∷ []) (run_by file (section_steps_by number)) }
+    ensures workers { (file number : Text) → IsPlain file → IsPlain number
+        → Means (codes "run" ∷ file ∷ codes "--workers" ∷ number ∷ []) (run_by file (workers_by number)) }
+    ensures workers_joined { (file number : Text) → IsPlain file
+        → Means (codes "run" ∷ file ∷ (codes "--workers=" ++ number) ∷ []) (run_by file (workers_by number)) }
     ensures history { (file history : Text) → IsPlain file → IsPlain history
         → Means (codes "run" ∷ file ∷ codes "--history" ∷ history ∷ []) (Some (Run file (told_by history) false)) }
     // Behind `=` the name of a history may be any, the empty one too.
@@ -47,6 +51,8 @@ pub fn exec_words()
         → Means (codes "exec" ∷ file ∷ (codes "--cells=" ++ number) ∷ []) (exec_by file (cells_by number)) }
     ensures section_steps { (file number : Text) → IsPlain file
         → Means (codes "exec" ∷ file ∷ (codes "--section-steps=" ++ number) ∷ []) (exec_by file (section_steps_by number)) }
+    ensures workers { (file number : Text) → IsPlain file
+        → Means (codes "exec" ∷ file ∷ (codes "--workers=" ++ number) ∷ []) (exec_by file (workers_by number)) }
     ensures history { (file history : Text) → IsPlain file → IsPlain history
         → Means (codes "exec" ∷ file ∷ codes "--history" ∷ history ∷ []) (Some (Exec file (told_by history))) }
     ensures history_joined { (file history : Text) → IsPlain file
@@ -71,8 +77,10 @@ pub fn other_words()
         → Means (codes "run" ∷ (codes "--cells=" ++ one) ∷ (codes "--cells=" ++ two) ∷ file ∷ []) None }
     ensures section_steps_twice { (one two file : Text)
         → Means (codes "run" ∷ (codes "--section-steps=" ++ one) ∷ (codes "--section-steps=" ++ two) ∷ file ∷ []) None }
-    // There are no workers.
-    ensures no_workers { (number file : Text) → Means (codes "run" ∷ (codes "--workers=" ++ number) ∷ file ∷ []) None }
+    ensures workers_twice { (one two file : Text)
+        → Means (codes "run" ∷ (codes "--workers=" ++ one) ∷ (codes "--workers=" ++ two) ∷ file ∷ []) None }
+    // `check` has no options.
+    ensures no_workers { (number file : Text) → Means (codes "check" ∷ (codes "--workers=" ++ number) ∷ file ∷ []) None }
     ensures history_twice { (one two file : Text)
         → Means (codes "run" ∷ (codes "--history=" ++ one) ∷ (codes "--history=" ++ two) ∷ file ∷ []) None }
     ensures trace_twice { (file : Text) → Means (codes "run" ∷ codes "--trace" ∷ codes "--trace" ∷ file ∷ []) None }

@@ -1,8 +1,8 @@
-//! How many steps a run may take, how many cells, and how many steps a section.
+//! How many steps a run may take, how many cells, how many steps a section, and how many workers run sections.
 ghost use Rattle.std.specs.Prelude.{◌≡◌};
 ghost use Rattle.std.specs.Char.{is_ascii_digit};
 ghost use Rattle.std.specs.List.{list_all};
-ghost use Rattle.cpc_cli_command.specs.Number.{is_numeral as is_numeral_text, number_of};
+ghost use Rattle.cpc_cli_command.specs.Number.{is_numeral as is_numeral_text, number_of, number_up_to};
 
 /// The steps of a run where the words give no number.
 pub const DEFAULT_STEPS: u64 = 100_000_000;
@@ -22,6 +22,12 @@ pub const DEFAULT_SECTION_STEPS: u64 = 10_000_000;
 /// The most steps of a section that the words may ask for.
 pub const MOST_SECTION_STEPS: u64 = 1_000_000_000_000;
 
+/// The workers that run sections where the words give no number.
+pub const DEFAULT_WORKERS: u32 = 2;
+
+/// The most workers that the words may ask for.
+pub const MOST_WORKERS: u32 = 64;
+
 /// The most threads of a sample.
 pub const MOST_THREADS: u32 = 1_000;
 
@@ -38,6 +44,21 @@ pub(crate) fn read_number(text: &str, most: u64) -> Option<u64>
     }
     let number: u64 = text.parse().ok()?;
     if number == 0 || number > most {
+        return None;
+    }
+    Some(number)
+}
+
+/// The number that `text` writes: 1 to 18 decimal digits and nothing else, of a value within 0 to `most`. None where
+/// it is no such number.
+pub(crate) fn read_number_up_to(text: &str, most: u64) -> Option<u64>
+    ensures { result ≡ number_up_to most text.now }
+{
+    if !is_numeral(text) {
+        return None;
+    }
+    let number: u64 = text.parse().ok()?;
+    if number > most {
         return None;
     }
     Some(number)

@@ -6,13 +6,14 @@ ghost use Rattle.cpc_cli_command.specs.Commands.{asked, asked_options, command_i
 ghost use Rattle.cpc_cli_command.specs.Commands.{cells_in as cells_given, is_given as was_given};
 ghost use Rattle.cpc_cli_command.specs.Commands.{exec_in as exec_given, file_command_in, options_in as options_given};
 ghost use Rattle.cpc_cli_command.specs.Commands.{run_in as run_given, sample_in as sample_given, section_steps_in as section_steps_given};
-ghost use Rattle.cpc_cli_command.specs.Commands.{steps_in as steps_given};
+ghost use Rattle.cpc_cli_command.specs.Commands.{steps_in as steps_given, workers_in as workers_given};
+ghost use Rattle.cpc_cli_command.specs.Number.{workers_of};
 ghost use Rattle.cpc_base.specs.declared.stop.Stop.TheVariants.{Fault};
 
 use crate::build;
 use crate::number::{
-    DEFAULT_CELLS, DEFAULT_SECTION_STEPS, DEFAULT_STEPS, MOST_CELLS, MOST_SECTION_STEPS,
-    MOST_STEPS, MOST_THREADS, read_number,
+    DEFAULT_CELLS, DEFAULT_SECTION_STEPS, DEFAULT_STEPS, DEFAULT_WORKERS, MOST_CELLS,
+    MOST_SECTION_STEPS, MOST_STEPS, MOST_THREADS, MOST_WORKERS, read_number, read_number_up_to,
 };
 use clap::ArgMatches;
 use clap::error::{Error, ErrorKind};
@@ -30,6 +31,8 @@ pub struct Options<'a> {
     pub cells: u64,
     /// The most steps of each section, within 1 to `MOST_SECTION_STEPS`.
     pub section_steps: u64,
+    /// How many workers run sections, within 0 to `MOST_WORKERS`.
+    pub workers: u32,
     /// Whether `--trace` was given.
     pub trace: bool,
 }
@@ -169,11 +172,13 @@ fn options_in<'a>(values: &ArgMatches<'a>) -> Option<Options<'a>>
     let steps = steps_in(values)?;
     let cells = cells_in(values)?;
     let section_steps = section_steps_in(values)?;
+    let workers = workers_in(values)?;
     Some(Options {
         history: history_in(values),
         steps,
         cells,
         section_steps,
+        workers,
         trace: is_given("trace", values),
     })
 }
@@ -213,6 +218,24 @@ fn section_steps_in(values: &ArgMatches<'_>) -> Option<u64>
         Some(text) => read_number(text, MOST_SECTION_STEPS),
         None => Some(DEFAULT_SECTION_STEPS),
     }
+}
+
+/// The number of `--workers`, or the default where it was not given.
+fn workers_in(values: &ArgMatches<'_>) -> Option<u32>
+    ensures { result ≡ workers_given (rows_of (found_of values.now)) }
+{
+    match values.get_str("workers") {
+        Some(text) => read_workers(text),
+        None => Some(DEFAULT_WORKERS),
+    }
+}
+
+/// The number of workers that `text` writes.
+fn read_workers(text: &str) -> Option<u32>
+    ensures { result ≡ workers_of text.now }
+{
+    let number = read_number_up_to(text, MOST_WORKERS as u64)?;
+    Some(number as u32)
 }
 
 /// Whether the flag `name` was given: clap's value of a flag is "true" then, and else "false".

@@ -10,8 +10,11 @@ use cpc_cli::cpc_main;
 use cpc_hosts::{
     Answer, HostTable, Kept, StdHosts, abs_diff, clamp, greatest, least, sign, standard_hosts,
 };
+use cpc_pool::NoGate;
 use std::alloc::Global;
 use std::fs;
+use std::sync::{Arc, Wait};
+use std::thread::Threads;
 
 /// The examples that run, in the order in which they are run.
 const RUN: [&str; 12] = [
@@ -48,20 +51,26 @@ fn file(rt: &HostRuntime, name: &str) -> anyhow::Result<MemFile> {
 }
 
 // Does what these words ask for over these files, and shows what comes of it under a name.
-fn show(
+fn show<T>(
+    threads: T,
     rt: &HostRuntime,
     hosts: &HostTable<StdHosts>,
     name: &str,
     words: &[String],
     files: Vec<MemFile>,
 ) -> anyhow::Result<()>
+where
+    T: Threads + Wait + Copy + Send + 'static,
     requires { ⟦<HostTable<StdHosts> as Kept>⟧.keeps hosts.now }
 {
     let alloc = rt.alloc();
     let mut shelf = MemShelf::new(files, 4096, never(alloc));
     let mut out = MemSink::new(alloc, 4096, never(alloc));
     let mut err = MemSink::new(alloc, 4096, never(alloc));
-    let report = cpc_main(alloc, words, &mut shelf, &mut out, &mut err, hosts);
+    let gate = Arc::new(alloc, NoGate)?;
+    let report = cpc_main(
+        threads, alloc, words, &mut shelf, &mut out, &mut err, hosts, &gate,
+    );
     let status = report.status;
     println!(rt; "== {name}")?;
     print!(rt; "{}", String::from_utf8_lossy(alloc, out.bytes())?)?;
@@ -71,7 +80,14 @@ fn show(
 }
 
 // Runs a text.
-fn show_run(rt: &HostRuntime, hosts: &HostTable<StdHosts>, name: &str) -> anyhow::Result<()>
+fn show_run<T>(
+    threads: T,
+    rt: &HostRuntime,
+    hosts: &HostTable<StdHosts>,
+    name: &str,
+) -> anyhow::Result<()>
+where
+    T: Threads + Wait + Copy + Send + 'static,
     requires { ⟦<HostTable<StdHosts> as Kept>⟧.keeps hosts.now }
 {
     let alloc = rt.alloc();
@@ -80,16 +96,19 @@ fn show_run(rt: &HostRuntime, hosts: &HostTable<StdHosts>, name: &str) -> anyhow
         String::from_str(alloc, name)?,
     ]?;
     let files = vec![in alloc; file(rt, name)?]?;
-    show(rt, hosts, name, words.as_slice(), files)
+    show(threads, rt, hosts, name, words.as_slice(), files)
 }
 
 // Runs a text by its history.
-fn show_told(
+fn show_told<T>(
+    threads: T,
     rt: &HostRuntime,
     hosts: &HostTable<StdHosts>,
     name: &str,
     history: &str,
 ) -> anyhow::Result<()>
+where
+    T: Threads + Wait + Copy + Send + 'static,
     requires { ⟦<HostTable<StdHosts> as Kept>⟧.keeps hosts.now }
 {
     let alloc = rt.alloc();
@@ -100,7 +119,7 @@ fn show_told(
         String::from_str(alloc, history)?,
     ]?;
     let files = vec![in alloc; file(rt, name)?, file(rt, history)?]?;
-    show(rt, hosts, name, words.as_slice(), files)
+    show(threads, rt, hosts, name, words.as_slice(), files)
 }
 
 fn main(rt: HostRuntime) -> anyhow::Result<()> {
@@ -146,10 +165,10 @@ fn main(rt: HostRuntime) -> anyhow::Result<()> {
         return Ok(());
     };
     for name in RUN {
-        show_run(&rt, &hosts, name)?;
+        show_run(rt, &rt, &hosts, name)?;
     }
     for (name, history) in TOLD {
-        show_told(&rt, &hosts, name, history)?;
+        show_told(rt, &rt, &hosts, name, history)?;
     }
     Ok(())
 }

@@ -1,4 +1,5 @@
 use Rattle.std.proofs.Common.{◌≡◌, ◌∙◌, ap, sym, subst, refl, [], ◌++◌}
+use Rattle.std.specs.Arc.{arc_value}
 use Rattle.std.specs.Io.KnownBytes.{append_known}
 use Rattle.cpc_base.proofs.Pieces.{append_known-append}
 use Rattle.cpc_tree.specs.Erase.{program_of}
@@ -27,5 +28,5 @@ returns-in-Ok-clause-ended g c =
     let front : h.0 ≡ heading c.args.text c.run_bare.new.report.printed.items = h.2 ∙ ap (heading c.args.text) (c.as_slice.ensures.value ∙ ap (λ v. v.items) (sym c.run_bare.ensures.kept)) in (
       h.0 ++ ran.0,
       ran.1 ∙ ap (λ t. append_known t ran.0) h.1 ∙ append_known-append (g.O.Sink.taken c.args.out.now) h.0 ran.0,
-      answered_behind _ (program_of c.args.program.now.program) _ _ c.args.text c.run_bare.new.report _ _ h.0 ran.0 (rose_earlier _ _ _ c.in-Ok.ensures.later) front c.run_bare.result ran.2,
+      answered_behind _ (program_of (arc_value c.args.program.now).program) _ _ c.args.text c.run_bare.new.report _ _ h.0 ran.0 (rose_earlier _ _ _ c.in-Ok.ensures.later) front c.run_bare.result ran.2,
     )

@@ -12,7 +12,7 @@ use Rattle.cpc_cli.proofs.TopLemmas.{exec_takes, no_steps_in, rose_earlier, run_
 use Rattle.cpc_cli.proofs.top.exec_file.Goals as goal
 
 pub run_told-requires-clause-fresh : goal.run_told-requires-clause-fresh
-run_told-requires-clause-fresh g c = no_steps_in c.args.report.now c.requires.none
+run_told-requires-clause-fresh g c = λ κs within. no_steps_in c.args.report.now c.requires.none
 
 pub returns-in-Ok-clause-ended : goal.returns-in-Ok-clause-ended
 returns-in-Ok-clause-ended g c =

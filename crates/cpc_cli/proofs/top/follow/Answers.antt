@@ -23,4 +23,4 @@ returns-in-Err-Fault-clause-ended g c =
     ([], sym (append_known-nil (g.O.Sink.taken c.args.out.now)), misused (c.in-Err-Fault.ensures.usage c.in-Err-Fault.field-0-0 (ap Err c.in-Err-Fault.field-0-is)) c.requires.none)
 
 pub perform-requires-clause-bounded : goal.perform-requires-clause-bounded
-perform-requires-clause-bounded g c = bounded_is (map string_bytes c.args.words.now) (asked c.in-Ok.command) c.in-Ok.ensures.command
+perform-requires-clause-bounded g c = λ κs within. bounded_is (map string_bytes c.args.words.now) (asked c.in-Ok.command) c.in-Ok.ensures.command

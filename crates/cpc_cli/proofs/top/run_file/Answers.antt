@@ -12,7 +12,7 @@ use Rattle.cpc_cli.proofs.TopLemmas.{no_steps_printed, rose_earlier, run_ended, 
 use Rattle.cpc_cli.proofs.top.run_file.Goals as goal
 
 pub run_told-requires-clause-fresh : goal.run_told-requires-clause-fresh
-run_told-requires-clause-fresh g c = no_steps_printed (located c.in-Ok.program.program) c.translated.new.report c.in-Ok.ensures.printed
+run_told-requires-clause-fresh g c = λ κs within. no_steps_printed (located c.in-Ok.program.program) c.translated.new.report c.in-Ok.ensures.printed
 
 pub returns-in-Ok-clause-ended : goal.returns-in-Ok-clause-ended
 returns-in-Ok-clause-ended g c =

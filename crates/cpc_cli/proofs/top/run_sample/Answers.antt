@@ -17,7 +17,7 @@ use Rattle.cpc_cli.proofs.TopLemmas.{no_steps_printed, rose_earlier, sample_refu
 use Rattle.cpc_cli.proofs.top.run_sample.Goals as goal
 
 pub run_told-requires-clause-fresh : goal.run_told-requires-clause-fresh
-run_told-requires-clause-fresh g c = no_steps_printed (located c.in-Ok-translated_text.program.program) c.translated_text.new.report c.in-Ok-translated_text.ensures.printed
+run_told-requires-clause-fresh g c = λ κs within. no_steps_printed (located c.in-Ok-translated_text.program.program) c.translated_text.new.report c.in-Ok-translated_text.ensures.printed
 
 pub returns-in-Err-clause-ended : goal.returns-in-Err-clause-ended
 returns-in-Err-clause-ended g c = ([], sym (append_known-nil (g.O.Sink.taken c.args.out.now)), not_begun Memory tt c.requires.none)

@@ -1,4 +1,4 @@
-use Rattle.cpc_cli_command.proofs.OtherLemmas.{cells_twice_is, history_twice_is, no_check_is, no_exec_is, no_number_is, no_options_is, no_run_is, no_translate_is, no_workers_is, nothing_is, section_steps_twice_is, trace_twice_is, twice_is, two_files_is, two_numbers_is, verb_is}
+use Rattle.cpc_cli_command.proofs.OtherLemmas.{cells_twice_is, history_twice_is, no_check_is, no_exec_is, no_number_is, no_options_is, no_run_is, no_translate_is, no_workers_is, nothing_is, section_steps_twice_is, trace_twice_is, twice_is, two_files_is, two_numbers_is, verb_is, workers_twice_is}
 use Rattle.cpc_cli_command.proofs.UsageLemmas.{unnamed, value_of}
 use Rattle.cpc_cli_command.proofs.laws.other_words.Goals as goal
 
@@ -14,6 +14,7 @@ returns c = record {
   twice = twice_is;
   cells_twice = cells_twice_is;
   section_steps_twice = section_steps_twice_is;
+  workers_twice = workers_twice_is;
   no_workers = no_workers_is;
   history_twice = history_twice_is;
   trace_twice = trace_twice_is;
