@@ -2,7 +2,8 @@
 # growths.sh [EACH]: refuses each growth of memory of a run in turn, or each EACH-th, and says how the runs ended. A growth is a call of malloc
 # or realloc, which are all that the built program asks for memory; a small library that is put in front of the C library's counts them, and
 # answers that there is none at the one whose number it is told. Afterwards the status has to be 11, with `no memory` on standard error, or the
-# answer unchanged; and what is on standard output a front of the answer. Ends with status 1 where something else is seen.
+# answer unchanged; and what is on standard output a front of the answer. Ends with status 1 where something else is seen. Where workers run
+# sections the order of the growths is not that of the run before, so that a number may stand for another growth there, or for none.
 set -u
 top=$(cd "$(dirname "${BASH_SOURCE[0]}")/.." && pwd)
 program=${CPC:-$top/crates/cpc/out/cpc}
@@ -16,10 +17,13 @@ cat >"$room/growths.c" <<'C'
 #include <stddef.h>
 #include <stdio.h>
 #include <stdlib.h>
+#include <sys/syscall.h>
+#include <unistd.h>
 
 extern void *__libc_malloc(size_t);
 extern void *__libc_realloc(void *, size_t);
-static unsigned long made, refused;
+static _Atomic unsigned long made;
+static unsigned long refused;
 
 __attribute__((constructor)) static void begin(void) {
     const char *number = getenv("REFUSED");
@@ -28,15 +32,15 @@ __attribute__((constructor)) static void begin(void) {
 }
 
 static int refuses(void) {
-    made++;
-    if (made == refused) errno = ENOMEM;
-    return made == refused;
+    const unsigned long number = ++made;
+    if (number == refused) errno = ENOMEM;
+    return number == refused;
 }
 
 void *malloc(size_t bytes) { return refuses() ? NULL : __libc_malloc(bytes); }
 void *realloc(void *old, size_t bytes) { return refuses() ? NULL : __libc_realloc(old, bytes); }
 
-__attribute__((destructor)) static void end(void) {
+static void tell(void) {
     const unsigned long all = made;
     const char *name = getenv("GROWTHS");
     FILE *file = name ? fopen(name, "w") : NULL;
@@ -45,6 +49,15 @@ __attribute__((destructor)) static void end(void) {
         fclose(file);
     }
 }
+
+// A program with threads ends by this call, which runs no destructor.
+void _exit(int status) {
+    tell();
+    syscall(SYS_exit_group, status);
+    __builtin_unreachable();
+}
+
+__attribute__((destructor)) static void end(void) { tell(); }
 C
 cc -O2 -shared -fPIC -o "$room/growths.so" "$room/growths.c" || exit 126
 
@@ -101,6 +114,18 @@ printf '%s\n' 1 ok 2 late >"$room/relay.due"
 printf '%s\n' 'io 0 r' 'poll 10 r0' 'io 0 r' 'poll 20 r0' 'wait 0' 'io 1 r' 'sleep 100' 'wait 1' 'poll 30 r1' 'io 2 r' 'sleep 100' 'io 1 r' \
   'poll 40 r2 r1' 'io 2 r' 'poll 50' 'out 310a' 'out 6f6b0a' 'poll 120' 'poll 130' 'poll 131' 'out 320a' 'out 6c6174650a' 'exit 0' >"$room/trace.due"
 
+# sections that come back in the other order
+cat >"$room/sections.c" <<'C'
+struct p { int a; int b; };
+struct p g;
+detached int sum(struct p *q, int k){ q->b = q->a * k; return q->a + q->b; }
+cps void f(int k){ int r; r = cpc_detached sum(&g, k); cpc_print(r); cpc_print(g.a); cpc_print(g.b); }
+cps void h(void){ cpc_yield(); g.a = 50; g.b = 60; cpc_print(99); }
+int main(void){ g.a = 2; g.b = 3; cpc_spawn f(10); cpc_spawn f(100); cpc_spawn h(); return 0; }
+C
+printf '%s\n' 'poll 0' 'poll 1 d1' 'poll 2 d0' >"$room/backs"
+printf '%s\n' 99 202 2 200 22 2 20 >"$room/sections.due"
+
 # refuse NUMBER: makes the call with this growth refused, and prints `memory`, `unchanged`, or what is not so
 refuse() {
   local status out=$room/$1.out err=$room/$1.err
@@ -138,6 +163,8 @@ row() {
 }
 
 row 'a local across a call' "$room/local.due" run "$room/local.c"
+row 'sections, by the loop' "$room/sections.due" run "$room/sections.c" --history "$room/backs" --workers 0
+row 'sections, by two workers' "$room/sections.due" run "$room/sections.c" --history "$room/backs" --workers 2
 row 'a relay' "$room/relay.due" run "$room/relay.c" --history "$room/polls"
 row 'a relay, traced' "$room/trace.due" run "$room/relay.c" --history "$room/polls" --trace
 exit "$wrong"

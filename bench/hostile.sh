@@ -1,9 +1,9 @@
 #!/usr/bin/env bash
 # hostile.sh [NAME..]: hostile texts of up to 262,144 bytes, which is the limit, each through `check`, `translate` and `run` of the built
 # program: each construct repeated or nested to the end, one name used everywhere, a goto to every label, the widest expressions, the longest
-# names, as many functions, globals, structs and threads as fit. Prints seconds and MiB of each call; with names only these texts. Ends with
-# status 1 where a call takes more than 10 seconds or 1 GiB, or does not end as is due. With the words --texts FOLDER it only puts the texts
-# there, and the file `list`, which says what is due to each.
+# names, as many functions, globals, structs and threads as fit. Prints seconds of a processor and MiB of each call; with names only these
+# texts. Ends with status 1 where a call takes more than 10 seconds or 1 GiB, or does not end as is due; after 30 seconds it is cut off. With
+# the words --texts FOLDER it only puts the texts there, and the file `list`, which says what is due to each.
 set -u
 top=$(cd "$(dirname "${BASH_SOURCE[0]}")/.." && pwd)
 program=${CPC:-$top/crates/cpc/out/cpc}
@@ -239,10 +239,13 @@ call_of() {
   local text=$1
   shift
   rm -f "$room/took"
-  timeout 60 /usr/bin/time -q -f '%e %M' -o "$room/took" "$program" "$1" "$text" "${@:2}" >/dev/null 2>"$room/said" </dev/null
+  (
+    ulimit -t 30
+    exec /usr/bin/time -q -f '%U %S %M' -o "$room/took" "$program" "$1" "$text" "${@:2}" >/dev/null 2>"$room/said" </dev/null
+  )
   status=$?
-  # a call that was cut off after a minute has none
-  read -r seconds kibibytes < <(tail -n 1 "$room/took" 2>/dev/null || echo 60 0)
+  # what is behind the last line is that of a call that was cut off
+  read -r seconds kibibytes < <(awk 'END { print $1 + $2, $3 }' "$room/took")
   mebibytes=$((kibibytes / 1024))
 }
 

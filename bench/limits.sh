@@ -1,6 +1,8 @@
 #!/usr/bin/env bash
-# limits.sh: files of the greatest length that the program takes, and of one byte more: a text of events, and a history of `run` and of `exec`,
-# 16,777,216 bytes each. Prints the seconds of each call, and ends with status 1 where one does not end as is due.
+# limits.sh: limits that take too long, or too much memory, for the gate, each from both sides: files of the greatest length that the program
+# takes and of one byte more (a text of events, and a history of `run` and of `exec`, 16,777,216 bytes each), and as many steps, steps of a
+# section and cells as there are where no option is given, and as many cells as there can be, and one more. Prints the time of each call, and
+# ends with status 1 where one does not end as is due; a call is cut off after two minutes of a processor. It takes 2 GB of memory.
 set -u
 top=$(cd "$(dirname "${BASH_SOURCE[0]}")/.." && pwd)
 program=${CPC:-$top/crates/cpc/out/cpc}
@@ -28,7 +30,10 @@ due() {
   local status=$1 out=$2 err=$3 from told took
   shift 3
   from=$(date +%s%N)
-  timeout 120 "$program" "$@" >out 2>err </dev/null
+  (
+    ulimit -t 120
+    exec "$program" "$@" >out 2>err </dev/null
+  )
   told=$?
   took=$((($(date +%s%N) - from) / 1000000))
   if [ "$told" -ne "$status" ] || [ "$(cat out)" != "$out" ] || [ "$(cat err)" != "$err" ]; then
@@ -59,4 +64,40 @@ due 0 1 '' exec say.c --history longest
 due 13 '' "too long: longer limit $limit" exec say.c --history longer
 due 0 1 '' run thread.c --history longest
 due 13 '' "too long: longer limit $limit" run thread.c --history longer
+
+# A loop of N turns takes 2 * N + 1 steps; two stand before it in its function, and one behind it. A run has three more: the loop turns to
+# the call of `main`, makes it, and ends.
+steps='int main(void){ int i; i = 0; while (i < 49999996) i++; %s return 0; }'
+# shellcheck disable=SC2059  # the format is the text
+printf "$steps" ';' >steps.c
+# shellcheck disable=SC2059
+printf "$steps" ';;' >more-steps.c
+section='detached int g(int *p, int n){ int i; i = 0; while (i < n) i++; %s return i; }
+cps void f(int n){ int r; r = cpc_detached g(0, n); cpc_print(r); } int main(void){ cpc_spawn f(4999998); return 0; }'
+# shellcheck disable=SC2059
+printf "$section" '' >section.c
+# shellcheck disable=SC2059
+printf "$section" ';' >longer-section.c
+printf 'poll 0 d0\n' >back
+
+due 0 '' '' run steps.c
+due 6 '' 'stopped after 100000000 steps' run more-steps.c
+due 0 4999998 '' run section.c --history back
+due 1 '' 'fault section steps in g' run longer-section.c --history back
+
+# the pointer is a cell too
+room='int main(void){ int *p; p = malloc(%s); p[%s] = 7; cpc_print(7); return 0; }'
+# shellcheck disable=SC2059
+printf "$room" 3999999 3999998 >cells.c
+# shellcheck disable=SC2059
+printf "$room" 4000000 3999999 >more-cells.c
+# shellcheck disable=SC2059
+printf "$room" 49999999 49999998 >most-cells.c
+# shellcheck disable=SC2059
+printf "$room" 50000000 49999999 >too-many-cells.c
+
+due 0 7 '' run cells.c
+due 7 '' 'full: cap 4000000, asked 4000001' run more-cells.c
+due 0 7 '' run most-cells.c --cells 50000000
+due 7 '' 'full: cap 50000000, asked 50000001' run too-many-cells.c --cells 50000000
 exit "$wrong"

@@ -1,4 +1,4 @@
-//! Tests alone: texts that are as long or as deep as they may be, and those that are more.
+//! Tests alone: texts that are as long or as deep as they may be, and those that are more; and the types of a program.
 #![tactic(auto)]
 
 #[cfg(test)]
@@ -7,3 +7,5 @@ mod answers;
 mod deep;
 #[cfg(test)]
 mod long;
+#[cfg(test)]
+mod types;

@@ -135,3 +135,17 @@ fn polls_wake_sections_then_descriptors_then_timers(rt: HostRuntime) -> Result<(
     assert_eq!(rt; asked.descriptors.len(), 1);
     Ok(())
 }
+
+#[test]
+fn so_many_sections_are_out_at_most(rt: HostRuntime) -> Result<(), Fail> {
+    let alloc = rt.alloc();
+    let mut agenda = Agenda::new(alloc);
+    for number in 0..1024u64 {
+        assert_eq!(rt; section(&mut agenda, 7), Ok(number));
+    }
+    assert_eq!(rt; section(&mut agenda, 7), Err(Stop::Fault(Fault::Sections)));
+    let polled = agenda.poll(alloc, &told(alloc, 1, &[Event::Done(1000)])?, &[NOTHING]);
+    assert_eq!(rt; polled, Ok(()));
+    assert_eq!(rt; section(&mut agenda, 7), Ok(1024));
+    Ok(())
+}

@@ -1,4 +1,4 @@
-//! Tests alone: what the loop waits for, its histories and its hosts, each by its public calls.
+//! Tests alone: what the loop waits for, its histories, its hosts, its cells and sinks, each by its public calls.
 #![tactic(auto)]
 
 #[cfg(test)]
@@ -11,5 +11,9 @@ mod descr;
 mod history;
 #[cfg(test)]
 mod hosts;
+#[cfg(test)]
+mod sinks;
+#[cfg(test)]
+mod store;
 #[cfg(test)]
 mod timers;

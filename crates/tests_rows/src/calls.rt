@@ -1,15 +1,19 @@
 //! The calls: the command over objects in memory, and the stages of reading that it has no words for.
+use crate::idle::IdleSink;
 use cpc_base::{Calls, Dialect, MemFile, MemShelf, MemSink, Names, Stop};
 use cpc_cli::cpc_main;
 use cpc_hosts::{HostTable, Kept, StdHosts};
 use cpc_lexer::{end_of_text, tokens};
 use cpc_parser::parse;
+use cpc_pool::NoGate;
 use cpc_printer::print;
 use cpc_translate::{TextFault, read};
 use std::alloc::{AllocError, Global};
+use std::sync::{Arc, Wait};
+use std::thread::Threads;
 
-/// How the objects behave: the most bytes of a call, and the number of the read, the put on `out` and the put on `err`
-/// that fails, or 0.
+/// How the objects behave: the most bytes of a call, the number of the read, the put on `out` and the put on `err` that
+/// fails, or 0, and that of the put on `out` that takes nothing.
 #[derive(Clone, Copy)]
 pub struct Setting {
     /// The most bytes of a call.
@@ -20,6 +24,8 @@ pub struct Setting {
     pub put: u64,
     /// The put on `err` that fails.
     pub said: u64,
+    /// The put on `out` that takes nothing.
+    pub idle: u64,
 }
 
 /// The files of a call.
@@ -86,19 +92,26 @@ fn words_of(alloc: Global, line: &str) -> Result<Vec<String>, AllocError> {
 }
 
 // Makes a call of the command over the objects of this setting, with the functions of the host that every run has.
-fn called(
+fn called<T>(
+    rt: T,
     alloc: Global,
     hosts: &HostTable<StdHosts>,
     words: &[String],
     mut shelf: MemShelf,
     setting: Setting,
 ) -> Result<Left, AllocError>
+where
+    T: Threads + Wait + Copy + Send + 'static,
     requires rule { ⟦<HostTable<StdHosts> as Kept>⟧.keeps hosts.now }
 {
     let most = setting.most as usize;
-    let mut out = MemSink::new(alloc, most, failing(alloc, setting.put)?);
+    let taking = MemSink::new(alloc, most, failing(alloc, setting.put)?);
+    let mut out = IdleSink::new(taking, failing(alloc, setting.idle)?);
     let mut err = MemSink::new(alloc, most, failing(alloc, setting.said)?);
-    let report = cpc_main(alloc, words, &mut shelf, &mut out, &mut err, hosts);
+    let gate = Arc::new(alloc, NoGate)?;
+    let report = cpc_main(
+        rt, alloc, words, &mut shelf, &mut out, &mut err, hosts, &gate,
+    );
     Ok(Left {
         out: out.bytes().to_vec(alloc)?,
         err: err.bytes().to_vec(alloc)?,
@@ -108,17 +121,21 @@ fn called(
     })
 }
 
-fn command(
+fn command<T>(
+    rt: T,
     alloc: Global,
     hosts: &HostTable<StdHosts>,
     line: &str,
     files: Files<'_>,
     setting: Setting,
 ) -> Result<Left, AllocError>
+where
+    T: Threads + Wait + Copy + Send + 'static,
     requires rule { ⟦<HostTable<StdHosts> as Kept>⟧.keeps hosts.now }
 {
     let words = words_of(alloc, line)?;
     called(
+        rt,
         alloc,
         hosts,
         words.as_slice(),
@@ -128,16 +145,19 @@ fn command(
 }
 
 // The text is translated, and what is printed stands in the file `b.c` of a call of `exec` with these words.
-fn exec_printed(
+fn exec_printed<T>(
+    rt: T,
     alloc: Global,
     hosts: &HostTable<StdHosts>,
     line: &str,
     files: Files<'_>,
     setting: Setting,
 ) -> Result<Left, AllocError>
+where
+    T: Threads + Wait + Copy + Send + 'static,
     requires rule { ⟦<HostTable<StdHosts> as Kept>⟧.keeps hosts.now }
 {
-    let printed = command(alloc, hosts, "translate a.c", files, setting)?;
+    let printed = command(rt, alloc, hosts, "translate a.c", files, setting)?;
     if printed.status != 0 {
         return Ok(printed);
     }
@@ -148,6 +168,7 @@ fn exec_printed(
         history: files.history,
     };
     called(
+        rt,
         alloc,
         hosts,
         words.as_slice(),
@@ -227,21 +248,24 @@ fn read_event(alloc: Global, text: &[u8]) -> Result<Left, AllocError> {
 ///
 /// # Errors
 /// Where memory is wanting.
-pub fn make(
+pub fn make<T>(
+    rt: T,
     alloc: Global,
     hosts: &HostTable<StdHosts>,
     line: &str,
     files: Files<'_>,
     setting: Setting,
 ) -> Result<Left, AllocError>
+where
+    T: Threads + Wait + Copy + Send + 'static,
     requires rule { ⟦<HostTable<StdHosts> as Kept>⟧.keeps hosts.now }
 {
     match line {
         ":print" => print_twice(alloc, files.text),
         ":event" => read_event(alloc, files.text),
         _ => match line.strip_prefix(":exec") {
-            Some(words) => exec_printed(alloc, hosts, words, files, setting),
-            None => command(alloc, hosts, line, files, setting),
+            Some(words) => exec_printed(rt, alloc, hosts, words, files, setting),
+            None => command(rt, alloc, hosts, line, files, setting),
         },
     }
 }

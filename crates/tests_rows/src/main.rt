@@ -2,6 +2,8 @@
 #![tactic(auto)]
 
 mod calls;
+mod failing;
+mod idle;
 mod row;
 
 ghost use Rattle.std.specs.Prelude.{◌≡◌, length, Some, codes};
@@ -12,9 +14,11 @@ use cpc_hosts::{
 };
 use row::Row;
 use std::fs;
+use std::sync::Wait;
+use std::thread::Threads;
 
 /// The files of rows, each with the texts of one subject.
-const FILES: [&str; 25] = [
+const FILES: [&str; 29] = [
     "grammar.rows",
     "printed.rows",
     "rules.rows",
@@ -34,16 +38,27 @@ const FILES: [&str; 25] = [
     "threads.rows",
     "waits.rows",
     "sections.rows",
+    "workers.rows",
     "exec.rows",
     "hosts.rows",
     "sample.rows",
     "forms.rows",
     "command.rows",
     "failures.rows",
+    "ends.rows",
+    "hostile.rows",
+    "largest.rows",
 ];
 
 // Goes over a file of rows, and tells how many it has.
-fn run_file(rt: &HostRuntime, hosts: &HostTable<StdHosts>, name: &str) -> anyhow::Result<()>
+fn run_file<T>(
+    rt: &HostRuntime,
+    threads: T,
+    hosts: &HostTable<StdHosts>,
+    name: &str,
+) -> anyhow::Result<()>
+where
+    T: Threads + Wait + Copy + Send + 'static,
     requires rule { ⟦<HostTable<StdHosts> as Kept>⟧.keeps hosts.now }
 {
     let alloc = rt.alloc();
@@ -52,7 +67,7 @@ fn run_file(rt: &HostRuntime, hosts: &HostTable<StdHosts>, name: &str) -> anyhow
     let mut line = Vec::new(alloc);
     for byte in bytes.iter() {
         if *byte == b'\n' {
-            row.take(rt, hosts, line.as_slice())?;
+            row.take(rt, threads, hosts, line.as_slice())?;
             line.clear();
         } else {
             line.push(*byte)?;
@@ -107,7 +122,7 @@ fn main(rt: HostRuntime) -> anyhow::Result<()> {
         return Ok(());
     };
     for name in FILES {
-        run_file(&rt, &hosts, name)?;
+        run_file(&rt, rt, &hosts, name)?;
     }
     Ok(())
 }

@@ -1,0 +1,242 @@
+//! Calls in which one thing fails: each read, each put on `out` and each put on `err` in turn; and calls over each front of
+//! a text. A function gives what the first call left that is not so.
+use crate::calls::{Files, Left, Setting, make};
+use cpc_hosts::{HostTable, Kept, StdHosts};
+use std::alloc::{AllocError, Global};
+use std::sync::Wait;
+use std::thread::Threads;
+
+/// What is due to a call where nothing fails.
+#[derive(Clone, Copy)]
+pub struct Due<'a> {
+    /// On `out`.
+    pub out: &'a [u8],
+    /// On `err`.
+    pub err: &'a [u8],
+    /// The status.
+    pub status: u64,
+}
+
+/// So many bytes a call, and nothing fails.
+pub fn steady(most: u64) -> Setting {
+    Setting {
+        most,
+        read: 0,
+        put: 0,
+        said: 0,
+        idle: 0,
+    }
+}
+
+// How many calls of so many bytes this length takes.
+fn calls_for(length: usize, most: u64) -> u64 {
+    (length as u64)
+        .saturating_add(most)
+        .saturating_sub(1)
+        .checked_div(most)
+        .unwrap_or(0)
+}
+
+// Whether a call left this.
+fn is_left(left: &Left, status: u64, out: &[u8], err: &[u8]) -> bool {
+    u64::from(left.status) == status && left.out.as_slice() == out && left.err.as_slice() == err
+}
+
+// Whether a call left what is due where nothing fails.
+fn is_due(left: &Left, due: Due<'_>) -> bool {
+    is_left(left, due.status, due.out, due.err)
+}
+
+// How many reads take all of a file; the last finds its end.
+fn reads_for(file: &[u8], most: u64) -> u64 {
+    calls_for(file.len(), most).saturating_add(1)
+}
+
+/// Each read fails, of the text and then of the history, and none is made behind these.
+///
+/// # Errors
+/// Where memory is wanting.
+pub fn each_read<T>(
+    rt: T,
+    alloc: Global,
+    hosts: &HostTable<StdHosts>,
+    line: &str,
+    files: Files<'_>,
+    due: Due<'_>,
+    most: u64,
+) -> Result<Option<Left>, AllocError>
+where
+    T: Threads + Wait + Copy + Send + 'static,
+    requires rule { ⟦<HostTable<StdHosts> as Kept>⟧.keeps hosts.now }
+{
+    let of_text = reads_for(files.text, most);
+    let of_history = match files.history {
+        Some(history) => reads_for(history, most),
+        None => 0,
+    };
+    let all = of_text.saturating_add(of_history);
+    for read in 1..all.saturating_add(2) {
+        let left = make(
+            rt,
+            alloc,
+            hosts,
+            line,
+            files,
+            Setting {
+                read,
+                ..steady(most)
+            },
+        )?;
+        let is_so = if read <= of_text {
+            is_left(&left, 8, b"", b"read fault: a.c\n")
+        } else if read <= all {
+            is_left(&left, 8, b"", b"read fault: h\n")
+        } else {
+            is_due(&left, due)
+        };
+        if !is_so {
+            return Ok(Some(left));
+        }
+    }
+    Ok(None)
+}
+
+// Whether a call whose put failed left a proper front of what is due, and more than the calls before it: they had so many
+// bytes, or none was made.
+fn is_cut(left: &Left, due: Due<'_>, before: Option<usize>) -> bool {
+    let length = left.out.len();
+    let is_more = match before {
+        Some(before) => before < length,
+        None => length == 0,
+    };
+    let is_front = length < due.out.len() && due.out.starts_with(left.out.as_slice());
+    let is_told = left.status == 9 && left.err.as_slice() == b"write fault\n".as_slice();
+    is_more && is_front && is_told
+}
+
+/// Each put on `out` fails. Where a put takes a byte, there is one for each byte that is due.
+///
+/// # Errors
+/// Where memory is wanting.
+pub fn each_put<T>(
+    rt: T,
+    alloc: Global,
+    hosts: &HostTable<StdHosts>,
+    line: &str,
+    files: Files<'_>,
+    due: Due<'_>,
+    most: u64,
+) -> Result<Option<Left>, AllocError>
+where
+    T: Threads + Wait + Copy + Send + 'static,
+    requires rule { ⟦<HostTable<StdHosts> as Kept>⟧.keeps hosts.now }
+{
+    let last = (due.out.len() as u64).saturating_add(1);
+    let mut before = None;
+    for put in 1..last {
+        let left = make(
+            rt,
+            alloc,
+            hosts,
+            line,
+            files,
+            Setting {
+                put,
+                ..steady(most)
+            },
+        )?;
+        if most > 1 && is_due(&left, due) {
+            return Ok(None);
+        }
+        if !is_cut(&left, due, before) {
+            return Ok(Some(left));
+        }
+        before = Some(left.out.len());
+    }
+    let put = last;
+    let left = make(
+        rt,
+        alloc,
+        hosts,
+        line,
+        files,
+        Setting {
+            put,
+            ..steady(most)
+        },
+    )?;
+    Ok(if is_due(&left, due) { None } else { Some(left) })
+}
+
+/// Each put on `err` fails.
+///
+/// # Errors
+/// Where memory is wanting.
+pub fn each_said<T>(
+    rt: T,
+    alloc: Global,
+    hosts: &HostTable<StdHosts>,
+    line: &str,
+    files: Files<'_>,
+    due: Due<'_>,
+    most: u64,
+) -> Result<Option<Left>, AllocError>
+where
+    T: Threads + Wait + Copy + Send + 'static,
+    requires rule { ⟦<HostTable<StdHosts> as Kept>⟧.keeps hosts.now }
+{
+    let last = calls_for(due.err.len(), most).saturating_add(1);
+    for said in 1..last.saturating_add(1) {
+        let left = make(
+            rt,
+            alloc,
+            hosts,
+            line,
+            files,
+            Setting {
+                said,
+                ..steady(most)
+            },
+        )?;
+        let length = said.saturating_sub(1).saturating_mul(most);
+        let is_so = if said < last {
+            let front = due.err.get(..length as usize).unwrap_or(b"");
+            is_left(&left, 9, due.out, front)
+        } else {
+            is_due(&left, due)
+        };
+        if !is_so {
+            return Ok(Some(left));
+        }
+    }
+    Ok(None)
+}
+
+/// Each front of the text that is not all of it is refused.
+///
+/// # Errors
+/// Where memory is wanting.
+pub fn each_front<T>(
+    rt: T,
+    alloc: Global,
+    hosts: &HostTable<StdHosts>,
+    line: &str,
+    files: Files<'_>,
+) -> Result<Option<Left>, AllocError>
+where
+    T: Threads + Wait + Copy + Send + 'static,
+    requires rule { ⟦<HostTable<StdHosts> as Kept>⟧.keeps hosts.now }
+{
+    for length in 0..files.text.len() {
+        let front = Files {
+            text: files.text.get(..length).unwrap_or(b""),
+            history: files.history,
+        };
+        let left = make(rt, alloc, hosts, line, front, steady(4096))?;
+        let is_told = left.err.as_slice().starts_with(b"refused ");
+        if !(left.status == 3 && left.out.is_empty() && is_told) {
+            return Ok(Some(left));
+        }
+    }
+    Ok(None)
+}
