@@ -35,6 +35,8 @@ impl<R: Files> Shelf for RealShelf<'_, R> {
 
     ghost faults = { λ s _. s.faults };
 
+    ghost asked = { λ _ _. 0 };
+
     fn read_at(&mut self, name: &str, offset: u64, into: &mut [u8]) -> Result<usize, Failed> {
         match read_piece(self.rt, name, offset, into) {
             Ok(count) => Ok(count),

@@ -1,5 +1,6 @@
 -- What a shelf tells of its files, and what a count of faults says.
-use Rattle.std.specs.Prelude.{◌≡◌, ℕ, ◌<◌, ◌≤◌, List, length, take, drop, Option, Some}
+use Rattle.std.specs.Prelude.{◌≡◌, ℕ, ◌<◌, ◌≤◌, max, List, length, take, drop, Option, Some, if◌then◌else◌}
+use Rattle.std.specs.Str.{bytes_eq}
 use Rattle.cpc_base.specs.Bytes.{Text}
 use Rattle.cpc_base.specs.Plan.{one_more}
 
@@ -10,6 +11,10 @@ Files = Text → Option Text
 -- a count ended a call above where it began, or stands at its last value
 abbrev pub Rose : ℕ → ℕ → Type 0
 Rose before now = one_more before ≤ now
+
+-- between the two counts nothing was asked for under another name, and under this one nothing beyond an end
+abbrev pub AskedTo : (Text → ℕ) → (Text → ℕ) → Text → ℕ → Type 0
+AskedTo before now name end = (other : Text) → now other ≤ (if bytes_eq other name then max (before other) end else before other)
 
 -- P holds of what is told
 abbrev pub WhereTold : {A : Type 0} → Option A → (A → Type 0) → Type 0

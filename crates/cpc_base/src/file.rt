@@ -1,8 +1,8 @@
 //! A whole file from a shelf, and a whole text to a sink.
-ghost use Rattle.std.specs.Prelude.{◌≡◌, ◌<◌, ◌≤◌, ℕ, length, take, IfOk, OnOk, OnErr, Some, IsErrOf};
+ghost use Rattle.std.specs.Prelude.{◌≡◌, ◌<◌, ◌≤◌, ◌+◌, ℕ, length, take, IfOk, OnOk, OnErr, Some, IsErrOf};
 ghost use Rattle.std.specs.Io.KnownBytes.{append_known};
 ghost use Rattle.cpc_base.specs.Bytes.{Text};
-ghost use Rattle.cpc_base.specs.Outside.{Rose, WhereTold, IsLonger};
+ghost use Rattle.cpc_base.specs.Outside.{AskedTo, Rose, WhereTold, IsLonger};
 ghost use Rattle.cpc_base.specs.declared.stop.Stop.TheVariants.{Fault};
 ghost use Rattle.cpc_base.specs.declared.file.ReadFault.TheVariants.{TooLong, Unread};
 
@@ -22,7 +22,7 @@ pub enum ReadFault {
 // How many bytes one call asks for at most.
 const CHUNK: usize = 4096;
 
-/// Reads a whole file of at most `limit` bytes, and asks the shelf for no more than one byte past the limit.
+/// Reads a whole file of at most `limit` bytes. It asks the shelf for this file alone, and for no more of it than one byte past the limit.
 /// `TooLong`: the file has more than `limit` bytes. `Unread`: the shelf failed at this name. `Memory` is want of memory.
 pub fn read_file<F: Shelf>(
     alloc: Global,
@@ -38,6 +38,7 @@ pub fn read_file<F: Shelf>(
         → Rose (F.faults shelf.old name.now) (F.faults shelf.new name.now) }
     ensures later { (other : Text) → F.faults shelf.old other ≤ F.faults shelf.new other }
     ensures stays { F.files shelf.new ≡ F.files shelf.old }
+    ensures asked { AskedTo (F.asked shelf.old) (F.asked shelf.new) name.now (limit + 1) }
 {
     let mut bytes = Vec::new(alloc);
     let mut buffer = [0u8; CHUNK];

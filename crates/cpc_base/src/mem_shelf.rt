@@ -74,6 +74,8 @@ impl Shelf for MemShelf {
 
     ghost faults = { λ s _. s.raised };
 
+    ghost asked = { λ _ _. 0 };
+
     /// Fails where the call's number is among those that are to fail, or no file has this name.
     fn read_at(&mut self, name: &str, offset: u64, into: &mut [u8]) -> Result<usize, Failed>
         ensures within { IfOk result (λ n. n ≤ length into.new) }

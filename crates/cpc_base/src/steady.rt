@@ -50,6 +50,8 @@ impl Shelf for SteadyShelf {
 
     ghost faults = { λ s name. miss_count s.files s.misses name };
 
+    ghost asked = { λ _ _. 0 };
+
     fn read_at(&mut self, name: &str, offset: u64, into: &mut [u8]) -> Result<usize, Failed> {
         match named(self.files.as_slice(), name) {
             Some(file) => Ok(copy_piece(file.bytes.as_slice(), offset, into.len(), into)),

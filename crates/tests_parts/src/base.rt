@@ -1,6 +1,7 @@
 //! What no clause says: that each call answers with memory at hand. Files that fail are tested where the command runs.
 use cpc_base::{
-    Failed, MemFile, Name, Names, Place, Shelf, Sink, SteadyShelf, read_held, write_all,
+    Calls, Failed, MemFile, MemShelf, Name, Names, Place, ReadFault, Shelf, Sink, SteadyShelf,
+    Stop, read_file, read_held, write_all,
 };
 use std::alloc::{AllocError, Global};
 use std::test::Fail;
@@ -88,4 +89,31 @@ fn places_follow_the_text(rt: HostRuntime) {
     let place = |line: u64, column: u64| Place { line, column };
     assert!(rt; place(1, 80) < place(2, 1) && place(2, 1) < place(10, 2));
     assert!(rt; place(1, 1) < place(1, 80));
+}
+
+// What the file `a` of seven bytes is read as, a byte a call, where one call fails.
+fn read_but_for(
+    alloc: Global,
+    limit: usize,
+    failing: u64,
+) -> Result<Result<usize, ReadFault>, AllocError> {
+    let mut calls = Vec::new(alloc);
+    calls.push(failing)?;
+    let mut shelf = MemShelf::new(files(alloc)?, 1, Calls::new(calls));
+    match read_file(alloc, &mut shelf, "a", limit) {
+        Ok(bytes) => Ok(Ok(bytes.len())),
+        Err(Stop::Fault(fault)) => Ok(Err(fault)),
+        Err(Stop::Memory) => Err(AllocError),
+    }
+}
+
+#[test]
+fn nothing_is_read_behind_the_byte_past_the_limit(rt: HostRuntime) -> Result<(), Fail> {
+    let alloc = rt.alloc();
+    assert_eq!(rt; read_but_for(alloc, 3, 5)?, Err(ReadFault::TooLong));
+    assert_eq!(rt; read_but_for(alloc, 3, 4)?, Err(ReadFault::Unread));
+    assert_eq!(rt; read_but_for(alloc, 0, 2)?, Err(ReadFault::TooLong));
+    assert_eq!(rt; read_but_for(alloc, 7, 9)?, Ok(7));
+    assert_eq!(rt; read_but_for(alloc, 7, 8)?, Err(ReadFault::Unread));
+    Ok(())
 }
