@@ -6,9 +6,9 @@ use Rattle.std.proofs.lemmas.Bool.Decides.{nat_tests}
 use Rattle.cpc_base.specs.Waiting.{without}
 use Rattle.cpc_base.specs.declared.poll.Event.{Event}
 use Rattle.cpc_base.specs.declared.poll.Event.TheVariants.{Done}
+use Rattle.cpc_base.proofs.Truth.{true_or_false, and_with_false}
 use Rattle.cpc_meaning.specs.Agenda as A
 use Rattle.cpc_tree.specs.Lists.{holds_number}
-use Rattle.cpc_agenda_queues.proofs.QueueLemmas.{bool_cases}
 use Rattle.cpc_agenda.specs.Named.{left_of}
 
 -- one more is named
@@ -28,23 +28,19 @@ absorbed false b c = refl
 apart : (k m n : ℕ) → (k == m) ≡ true → (m == n) ≡ (k == n)
 apart k m n t = let e : k ≡ m = grind (arith, nat_tests) in ap (λ x. x == n) (sym e)
 
-never : (b : Bool) → (b && false) ≡ false
-never true = refl
-never false = refl
-
 -- a number that is left out is not held
 held_without : (m n : ℕ) (outs : List ℕ) → holds_number (without (λ k. k == m) outs) n ≡ (holds_number outs n && not (m == n))
 held_without m n [] = refl
-held_without m n (k ∷ ks) = elim (bool_cases (k == m)) [
+held_without m n (k ∷ ks) = elim (true_or_false (k == m)) [
   | inl t ↦ rw t (held_without m n ks ∙ equal (m == n) (k == n) (apart k m n t))
-  | inr f ↦ rw f (elim (bool_cases (k == n)) [
+  | inr f ↦ rw f (elim (true_or_false (k == n)) [
     | inl e ↦ (let g : (m == n) ≡ false = grind (arith, nat_tests) in rw (e, g) refl)
     | inr g ↦ rw g (held_without m n ks)
   ])
 ]
   where
     equal : (b c : Bool) → b ≡ c → (holds_number ks n && not b) ≡ ((c || holds_number ks n) && not b)
-    equal true true h = never (holds_number ks n)
+    equal true true h = and_with_false (holds_number ks n)
     equal false false h = refl
     equal true false h = cc
     equal false true h = cc
@@ -68,7 +64,7 @@ never_out ns n outs f = held_left ns n outs ∙ rw f refl
 
 -- one that was named
 pub named_before : (ns : List ℕ) (n : ℕ) (outs : List ℕ) → list_any (λ y. y == n) ns ≡ true → holds_number (left_of ns outs) n ≡ false
-named_before ns n outs t = let g : holds_number ns n ≡ true = sym (any_held ns n) ∙ t in held_left ns n outs ∙ rw g (never (holds_number outs n))
+named_before ns n outs t = let g : holds_number ns n ≡ true = sym (any_held ns n) ∙ t in held_left ns n outs ∙ rw g (and_with_false (holds_number outs n))
 
 -- ---- events
 

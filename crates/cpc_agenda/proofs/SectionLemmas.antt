@@ -13,8 +13,9 @@ use Rattle.std.proofs.lemmas.Map.Keys.{sorted_head, sorted_tail}
 use Rattle.std.proofs.lemmas.Bool.Decides.{nat_tests}
 use Rattle.std.proofs.Common.{arith}
 use Rattle.cpc_base.specs.Waiting.{without}
+use Rattle.cpc_base.proofs.Truth.{true_or_false}
 use Rattle.cpc_tree.specs.Lists.{holds_number}
-use Rattle.cpc_agenda_queues.proofs.QueueLemmas.{bool_cases, insert_last, below_last, below_removed}
+use Rattle.cpc_agenda_queues.proofs.QueueLemmas.{insert_last, below_last, below_removed}
 use Rattle.cpc_conds.proofs.ConditionLemmas.{same_number}
 use Rattle.cpc_meaning.specs.Agenda.{OnSection}
 use Rattle.cpc_agenda.specs.Sectioning as M
@@ -22,7 +23,7 @@ use Rattle.cpc_agenda.specs.Sectioning.{waiter_of, sectioning_of, is_section, Ar
 
 pub out_is : {T : Type 0} (n : ℕ) (es : List (ℕ × T)) → is_some (lookup (is_at (nat_cmp n)) es) ≡ holds_number (map (λ w. w.section) (map waiter_of es)) n
 out_is n [] = refl
-out_is n (e ∷ es) = elim (bool_cases (e.0 == n)) [
+out_is n (e ∷ es) = elim (true_or_false (e.0 == n)) [
   | inl t ↦ (let u : is_at (nat_cmp n) e.0 ≡ true = same_number n e.0 ∙ t in rw (t, u) refl)
   | inr f ↦ (let u : is_at (nat_cmp n) e.0 ≡ false = same_number n e.0 ∙ f in rw (f, u) (out_is n es))
 ]
@@ -46,7 +47,7 @@ later n e es t s = let i : e.0 ≡ n = grind (arith, nat_tests) in subst (λ m. 
 pub finished_is : {T : Type 0} (n : ℕ) (es : List (ℕ × T)) → IsStrictlySortedBy nat_cmp (keys_of es)
     → option_to_list (lookup (is_at (nat_cmp n)) es) ≡ map M.item_of (filter (is_section n) (map waiter_of es))
 finished_is n [] s = refl
-finished_is n (e ∷ es) s = elim (bool_cases (e.0 == n)) [
+finished_is n (e ∷ es) s = elim (true_or_false (e.0 == n)) [
   | inl t ↦ (let u : is_at (nat_cmp n) e.0 ≡ true = same_number n e.0 ∙ t in rw (t, u) (ap (λ ws. e.1 ∷ map M.item_of ws) (sym (none_found n es (later n e es t s)))))
   | inr f ↦ (let u : is_at (nat_cmp n) e.0 ≡ false = same_number n e.0 ∙ f in rw (f, u) (finished_is n es (sorted_tail nat_cmp e.0 (keys_of es) s)))
 ]
@@ -54,7 +55,7 @@ finished_is n (e ∷ es) s = elim (bool_cases (e.0 == n)) [
 pub left_is : {T : Type 0} (n : ℕ) (es : List (ℕ × T)) → IsStrictlySortedBy nat_cmp (keys_of es)
     → map waiter_of (remove_entry (is_at (nat_cmp n)) es) ≡ without (is_section n) (map waiter_of es)
 left_is n [] s = refl
-left_is n (e ∷ es) s = elim (bool_cases (e.0 == n)) [
+left_is n (e ∷ es) s = elim (true_or_false (e.0 == n)) [
   | inl t ↦ (let u : is_at (nat_cmp n) e.0 ≡ true = same_number n e.0 ∙ t in rw (t, u) (sym (all_left n es (later n e es t s))))
   | inr f ↦ (let u : is_at (nat_cmp n) e.0 ≡ false = same_number n e.0 ∙ f in rw (f, u) (ap (λ ws. waiter_of e ∷ ws) (left_is n es (sorted_tail nat_cmp e.0 (keys_of es) s))))
 ]

@@ -11,11 +11,12 @@ use Rattle.std.specs.Ordering.{nat_cmp}
 use Rattle.std.specs.declared.cmp.Ordering.{Ordering}
 use Rattle.std.proofs.lemmas.List.{map-append}
 use Rattle.cpc_base.specs.Waiting.{first_passing, without_first}
+use Rattle.cpc_base.proofs.Truth.{true_or_false}
 use Rattle.cpc_agenda_queues.specs.Numbers.{queue_at}
 use Rattle.cpc_agenda_queues.specs.Queued as Q
 use Rattle.cpc_agenda_queues.specs.Queued.{numbers_in, waiting_of, waits_in, queued_of, IsIndexed, first_of, rest_of, first_in, item_of, Queued}
 use Rattle.cpc_agenda_queues.proofs.NumberLemmas.{any_lookup}
-use Rattle.cpc_agenda_queues.proofs.QueueLemmas.{bool_cases, numbers_same, numbers_more, below_last, below_removed}
+use Rattle.cpc_agenda_queues.proofs.QueueLemmas.{numbers_same, numbers_more, below_last, below_removed}
 use Rattle.cpc_agenda_queues.proofs.FirstLemmas.{first_found, first_left, numbers_left}
 
 -- a queue that is not there is empty
@@ -29,7 +30,7 @@ absent cmp k ns h = go (lookup (is_at (cmp k)) ns) (sym (any_lookup (is_at (cmp 
 -- nobody waits where there are no numbers
 pub nobody : {K T : Type 0} (cmp : K → K → Ordering) (k : K) (es : List (ℕ × (K × T))) → (numbers_in cmp k es ≡ []) ↔ (first_passing (waits_in cmp k) (waiting_of es) ≡ [])
 nobody cmp k [] = (λ h. refl, λ h. refl)
-nobody cmp k (e ∷ es) = elim (bool_cases (is_at (cmp k) e.1.0)) [
+nobody cmp k (e ∷ es) = elim (true_or_false (is_at (cmp k) e.1.0)) [
   | inl t ↦ rw t (λ h. cc, λ h. cc)
   | inr f ↦ rw f (nobody cmp k es)
 ]
@@ -37,7 +38,7 @@ nobody cmp k (e ∷ es) = elim (bool_cases (is_at (cmp k) e.1.0)) [
 -- where nobody waits, all are left
 pub nobody_left : {K T : Type 0} (cmp : K → K → Ordering) (k : K) (es : List (ℕ × (K × T))) → numbers_in cmp k es ≡ [] → without_first (waits_in cmp k) (waiting_of es) ≡ waiting_of es
 nobody_left cmp k [] h = refl
-nobody_left cmp k (e ∷ es) h = elim (bool_cases (is_at (cmp k) e.1.0)) [
+nobody_left cmp k (e ∷ es) h = elim (true_or_false (is_at (cmp k) e.1.0)) [
   | inl t ↦ (let g : e.0 ∷ numbers_in cmp k es ≡ [] = rw t at h in cc)
   | inr f ↦ (let g : numbers_in cmp k es ≡ [] = rw f at h in rw f (ap (λ ws. e.1 ∷ ws) (nobody_left cmp k es g)))
 ]
@@ -60,7 +61,7 @@ module _ {K T : Type 0} {cmp : K → K → Ordering} (laws : IsTotalOrder cmp) w
   }
     where
       same : (q : K) → numbers_in cmp q es ≡ cond (is_at (cmp k) q) [] (numbers_in cmp q es)
-      same q = elim (bool_cases (is_at (cmp k) q)) [ inl t ↦ rw t (sym (numbers_same laws k q t es) ∙ e) | inr f ↦ rw f refl ]
+      same q = elim (true_or_false (is_at (cmp k) q)) [ inl t ↦ rw t (sym (numbers_same laws k q t es) ∙ e) | inr f ↦ rw f refl ]
 
   -- the numbers stay
   pub IsIndexed-kept : (k : K) (es : List (ℕ × (K × T))) (ns ns' : List (K × List ℕ)) (a : ℕ) → IsIndexed cmp es ns a
@@ -72,7 +73,7 @@ module _ {K T : Type 0} {cmp : K → K → Ordering} (laws : IsTotalOrder cmp) w
   }
     where
       same : (q : K) → numbers_in cmp q es ≡ cond (is_at (cmp k) q) (queue_at cmp k ns) (numbers_in cmp q es)
-      same q = elim (bool_cases (is_at (cmp k) q)) [ inl t ↦ rw t (sym (numbers_same laws k q t es) ∙ sym (i.found k)) | inr f ↦ rw f refl ]
+      same q = elim (true_or_false (is_at (cmp k) q)) [ inl t ↦ rw t (sym (numbers_same laws k q t es) ∙ sym (i.found k)) | inr f ↦ rw f refl ]
 
   -- one waiter more
   pub IsIndexed-more : (k : K) (x : T) (es fs : List (ℕ × (K × T))) (ns ns' : List (K × List ℕ)) (a : ℕ) → IsIndexed cmp es ns a
@@ -85,7 +86,7 @@ module _ {K T : Type 0} {cmp : K → K → Ordering} (laws : IsTotalOrder cmp) w
   }
     where
       more : (q : K) → numbers_in cmp q fs ≡ cond (is_at (cmp k) q) (queue_at cmp k ns ++ a ∷ []) (numbers_in cmp q es)
-      more q = ap (numbers_in cmp q) e ∙ numbers_more laws q k a x es ∙ elim (bool_cases (is_at (cmp k) q)) [ inl t ↦ rw t (ap (λ ms. ms ++ a ∷ []) (sym (i.found k ∙ numbers_same laws k q t es))) | inr f ↦ rw f refl ]
+      more q = ap (numbers_in cmp q) e ∙ numbers_more laws q k a x es ∙ elim (true_or_false (is_at (cmp k) q)) [ inl t ↦ rw t (ap (λ ms. ms ++ a ∷ []) (sym (i.found k ∙ numbers_same laws k q t es))) | inr f ↦ rw f refl ]
 
   -- one waiter less
   pub IsIndexed-less : (k : K) (n : ℕ) (rest : List ℕ) (es fs : List (ℕ × (K × T))) (ns ns' : List (K × List ℕ)) (a : ℕ) → IsIndexed cmp es ns a → queue_at cmp k ns ≡ n ∷ rest

@@ -1,5 +1,5 @@
 -- A poll leaves the round as it is.
-use Rattle.std.proofs.Common.{◌≡◌, ℕ, List, [], ◌∷◌, length, Err, refl, ap, ◌∙◌, max, subst, arith}
+use Rattle.std.proofs.Common.{◌≡◌, ℕ, List, [], ◌∷◌, Err, refl, ap, ◌∙◌, max, subst}
 use Rattle.cpc_base.specs.declared.stop.Stop.{Stop}
 use Rattle.cpc_base.specs.declared.stop.Stop.TheVariants.{Fault}
 use Rattle.cpc_base.specs.declared.poll.Event.{Event}
@@ -26,10 +26,6 @@ poll_keeps_round told vs a =
 
 pub round_stays : {T : Type 0} (told : Told) (vs : List Value) (a b : A.Agenda T) → b ≡ A.poll told vs a → a.round ≡ [] → b.round ≡ []
 round_stays told vs a b e h = ap (λ x. A.Agenda.round x) e ∙ poll_keeps_round told vs a ∙ h
-
-pub emptied : {X : Type 0} (xs : List X) → length xs ≡ 0 → xs ≡ []
-emptied [] h = refl
-emptied (x ∷ xs) h = absurd (omega (arith, h))
 
 -- what is said of a fault is said of this one
 pub fault_told : (X : Type 0) {F : Type 0} (s : Stop F) (fault : F) (P : F → Type 0) → s ≡ Fault fault → IfFault {X = X} (Err s) P → P fault

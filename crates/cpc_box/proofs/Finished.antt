@@ -2,6 +2,7 @@
 use Rattle.std.proofs.Common.{◌≡◌, ℕ, false, List, [], ◌∷◌, ◌++◌, length, map, slice_get, Option, Some, None, refl, sym, ap, ◌∙◌, subst, arith}
 use Rattle.std.proofs.lemmas.List.{length-map}
 use Rattle.cpc_base.specs.Bytes.{Text}
+use Rattle.cpc_base.proofs.Lists.{appended_empty}
 use Rattle.cpc_tree.specs.Erase.{Names, function_of, stmt_of, item_of, parameter_of}
 use Rattle.cpc_tree.specs.Registers.{variables, as_variable, outer_scope}
 use Rattle.cpc_tree.specs.Syntax as S
@@ -23,7 +24,7 @@ use Rattle.cpc_forms_code.specs.Programs.{IsSpelled}
 use Rattle.cpc_box.specs.declared.walk.Walk.{Walk}
 use Rattle.cpc_box.specs.Outline.{declares, outline, the_end}
 use Rattle.cpc_box.specs.Walked.{AreSeen, marked_by, Walked, Stands, Came}
-use Rattle.cpc_box.proofs.Going.{nil_right, both, walked_as, walk_length}
+use Rattle.cpc_box.proofs.Going.{both, walked_as, walk_length}
 use Rattle.cpc_box.proofs.Marks.{marks_same}
 use Rattle.cpc_box.proofs.Outlined.{declares_open, all_points}
 use Rattle.cpc_box.proofs.Scopes.{all_seen}
@@ -57,7 +58,7 @@ module _ (names : Names) (ms : List V.Variable) (p : S.Program) (f : S.Function)
       let k = length-map f.parameters as_variable in
       omega arith) in
       let all = walked_as names ms a d (xs ++ (ys ++ [])) (variables f) (ps ++ the_end ∷ []) (outline p false (outer_scope f) (length f.parameters) f.body ++ the_end ∷ [])
-      (ap (λ l. xs ++ l) (sym (nil_right ys) ∙ declares_open f.body)) (ap (λ k. outline p false (outer_scope f) k f.body ++ the_end ∷ []) n)
+      (ap (λ l. xs ++ l) (sym (appended_empty ys) ∙ declares_open f.body)) (ap (λ k. outline p false (outer_scope f) k f.body ++ the_end ∷ []) n)
       (both names ms a b d xs (ys ++ []) [] (ps ++ the_end ∷ []) w.walked (both names ms b c d ys [] ps (the_end ∷ []) v u)) in
       record {
         variables = all.variables ∙ ap (λ (l : List Variable). map (variable_seen names) l ++ marked_by ms (length l) (variables f)) e;

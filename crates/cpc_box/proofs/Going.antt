@@ -3,6 +3,7 @@ use Rattle.std.proofs.Common.{◌≡◌, ℕ, suc, ◌+◌, Bool, true, false, L
 use Rattle.std.proofs.lemmas.List.{length-map, map-append}
 use Rattle.cpc_base.specs.Bytes.{Text}
 use Rattle.cpc_base.specs.declared.names.Name.{Name}
+use Rattle.cpc_base.proofs.Lists.{appended_empty}
 use Rattle.cpc_tree.specs.Erase.{Names}
 use Rattle.cpc_tree.specs.Syntax as S
 use Rattle.cpc_tree.specs.Typing as T
@@ -16,10 +17,6 @@ use Rattle.cpc_tree.specs.Points.{Test}
 use Rattle.cpc_box.specs.Outline.{declares, declares_in, declares_arm, behind_all, here, outline, outline_in, outline_arm}
 use Rattle.cpc_box.specs.Walked.{Chain, Inner, IsSeen, AreSeen, marked_by, mark_of, Walked, Stands, Came}
 use Rattle.cpc_box.proofs.Scopes.{get_either, get_last, chain_more, chain_before, seen_more, seen_last}
-
-pub nil_right : {A : Type 0} (xs : List A) → xs ≡ xs ++ []
-nil_right [] = refl
-nil_right (x ∷ xs) = ap (λ z. x ∷ z) (nil_right xs)
 
 module _ (names : Names) (ms : List V.Variable) where
   abbrev marked : S.Variable → Bool → Marked
@@ -60,16 +57,16 @@ module _ (names : Names) (ms : List V.Variable) where
   -- nothing happened
   pub none : (a b : Walk) → b ≡ a → Walked names ms a b [] []
   none a b e = let P : Walk → Type 0 = λ c. Walked names ms a c [] [] in subst P (sym e) (record {
-    variables = nil_right (map (variable_seen names) a.variables.items);
+    variables = appended_empty (map (variable_seen names) a.variables.items);
     named = λ n. n;
     grows = λ o sc c. c;
-    points = λ ps s. let Q : List BoxedPoint → Type 0 = AreSeen names a.variables.items a.points.items in subst Q (nil_right ps) s;
+    points = λ ps s. let Q : List BoxedPoint → Type 0 = AreSeen names a.variables.items a.points.items in subst Q (appended_empty ps) s;
   })
 
   -- a point is pushed
   pub pushed : (a b : Walk) (x : B.BoxedPoint) (p : BoxedPoint) → b.variables.items ≡ a.variables.items → b.points.items ≡ a.points.items ++ x ∷ [] → IsSeen names a.variables.items x p → Walked names ms a b [] (p ∷ [])
   pushed a b x p e f i = record {
-    variables = ap (map (variable_seen names)) e ∙ nil_right (map (variable_seen names) a.variables.items);
+    variables = ap (map (variable_seen names)) e ∙ appended_empty (map (variable_seen names) a.variables.items);
     named = λ n. let P : List Variable → Type 0 = AreNamed names in subst P (sym e) n;
     grows = λ o sc c. let P : List Variable → Type 0 = λ vs. Chain names vs o sc in subst P (sym e) c;
     points = λ ps s.
@@ -98,7 +95,7 @@ module _ (names : Names) (ms : List V.Variable) where
               let P : List Variable → Type 0 = λ us. AreSeen names us b.points.items (ps ++ []) in
               let Q : List B.BoxedPoint → Type 0 = λ bs. AreSeen names (vs ++ v ∷ []) bs (ps ++ []) in
               let R : List BoxedPoint → Type 0 = AreSeen names (vs ++ v ∷ []) a.points.items in
-              subst P (sym e) (subst Q (sym f) (subst R (nil_right ps) (seen_more names vs (v ∷ []) a.points.items ps s)));
+              subst P (sym e) (subst Q (sym f) (subst R (appended_empty ps) (seen_more names vs (v ∷ []) a.points.items ps s)));
         };
         scope =
             let P : List Variable → Type 0 = λ us. Chain names us (Some (length vs)) (local_seen names (length vs) v ∷ sc) in
@@ -193,7 +190,7 @@ module _ (names : Names) (ms : List V.Variable) (p : S.Program) (fixed : Bool) (
   pub do_walked : (t : S.Expr) (s : S.Stmt) (a b c : Walk) → Walked names ms a b (declares fixed s) (outline p fixed sc (count a) s) → Walked names ms b c [] (here p sc (Test (Some t)) ∷ [])
       → Walked names ms a c (declares fixed (S.DoWhile s t)) (outline p fixed sc (count a) (S.DoWhile s t))
   do_walked t s a b c w v =
-      walked_as names ms a c (declares fixed s ++ []) (declares fixed s) (outline p fixed sc (count a) s ++ (here p sc (Test (Some t)) ∷ [])) (outline p fixed sc (count a) (S.DoWhile s t)) (sym (nil_right (declares fixed s))) refl
+      walked_as names ms a c (declares fixed s ++ []) (declares fixed s) (outline p fixed sc (count a) s ++ (here p sc (Test (Some t)) ∷ [])) (outline p fixed sc (count a) (S.DoWhile s t)) (sym (appended_empty (declares fixed s))) refl
       (both names ms a b c (declares fixed s) [] (outline p fixed sc (count a) s) (here p sc (Test (Some t)) ∷ []) w v)
 
   pub for_walked : (first : S.Stmts) (t : Option S.Expr) (step : S.MaybeStmt) (s : S.Stmt) (a b c d e : Walk)

@@ -1,6 +1,7 @@
 -- A row of statements, one after the other.
 use Rattle.std.proofs.Common.{◌≡◌, ℕ, ◌+◌, Bool, List, [], ◌++◌, length, Option, refl, ap, ◌∙◌, subst, append_assoc}
 use Rattle.cpc_base.specs.Bytes.{Text}
+use Rattle.cpc_base.proofs.Lists.{appended_empty}
 use Rattle.cpc_tree.specs.Erase.{Names}
 use Rattle.cpc_tree.specs.Syntax as S
 use Rattle.cpc_tree.specs.Typing as T
@@ -9,7 +10,7 @@ use Rattle.cpc_forms_code.specs.Points.{BoxedPoint}
 use Rattle.cpc_box.specs.declared.walk.Walk.{Walk}
 use Rattle.cpc_box.specs.Outline.{declares, declares_in, behind, behind_all, outline, outline_in}
 use Rattle.cpc_box.specs.Walked.{Stands, Came}
-use Rattle.cpc_box.proofs.Going.{nil_right, both, none, walk_length, walked_as, stands_in}
+use Rattle.cpc_box.proofs.Going.{both, none, walk_length, walked_as, stands_in}
 
 -- how far a walk through a row has come, of which this is left
 pub record SoFar (names : Names) (ms : List V.Variable) (p : S.Program) (fixed : Bool) (old new : Walk) (o : Option ℕ) (sc : T.Scope) (whole rest : S.Stmts) : Type 0 where
@@ -51,7 +52,7 @@ module _ (names : Names) (ms : List V.Variable) (p : S.Program) (fixed : Bool) (
   ends new o f =
       let P : T.Scope → Type 0 = λ t. Came names ms old new (declares_in fixed whole) (outline_in p fixed sc (length old.variables.items) whole) o t in
       subst P f.scope (record {
-        walked = walked_as names ms old new f.xs (declares_in fixed whole) f.ps (outline_in p fixed sc (length old.variables.items) whole) (nil_right f.xs ∙ f.variables) (nil_right f.ps ∙ f.points) f.came.walked;
+        walked = walked_as names ms old new f.xs (declares_in fixed whole) f.ps (outline_in p fixed sc (length old.variables.items) whole) (appended_empty f.xs ∙ f.variables) (appended_empty f.ps ∙ f.points) f.came.walked;
         scope = f.came.scope;
       })
 

@@ -1,5 +1,6 @@
 -- Scopes of the code stay where more variables come.
 use Rattle.std.proofs.Common.{◌≡◌, ℕ, zero, suc, ◌<◌, List, [], ◌∷◌, ◌++◌, length, map, slice_get, Option, Some, None, refl, ap, ◌∙◌, subst, arith}
+use Rattle.cpc_base.proofs.Lists.{some_is, item_in_front, item_within}
 use Rattle.cpc_tree.specs.Erase.{Names}
 use Rattle.cpc_tree.specs.Typing as T
 use Rattle.cpc_meaning.specs.Act as A
@@ -10,20 +11,6 @@ use Rattle.cpc_forms_code.specs.Seen.{manner_seen, local_seen, scope_within, sco
 use Rattle.cpc_forms_code.specs.Points.{BoxedPoint, point_seen}
 use Rattle.cpc_box.specs.Walked.{IsBefore, Chain, NoLocal, Inner, IsSeen, AreSeen}
 
--- an element of a list is one of a longer list, and within it
-some_same : {A : Type 0} (x y : A) → Some x ≡ Some y → x ≡ y
-some_same x y e = cc
-
-pub get_more : {A : Type 0} (xs ys : List A) (k : ℕ) (x : A) → slice_get xs k ≡ Some x → slice_get (xs ++ ys) k ≡ Some x
-get_more [] ys k x e = absurd (let h : None ≡ Some x = e in cc)
-get_more (a ∷ xs) ys zero x e = e
-get_more (a ∷ xs) ys (suc k) x e = get_more xs ys k x e
-
-pub get_within : {A : Type 0} (xs : List A) (k : ℕ) (x : A) → slice_get xs k ≡ Some x → k < length xs
-get_within [] k x e = absurd (let h : None ≡ Some x = e in cc)
-get_within (a ∷ xs) zero x e = omega arith
-get_within (a ∷ xs) (suc k) x e = let h = get_within xs k x e in omega arith
-
 pub get_last : {A : Type 0} (xs : List A) (n : ℕ) (x : A) → n ≡ length xs → slice_get (xs ++ x ∷ []) n ≡ Some x
 get_last [] zero x e = refl
 get_last [] (suc n) x e = absurd (let h : suc n ≡ 0 = e in omega arith)
@@ -32,7 +19,7 @@ get_last (a ∷ xs) (suc n) x e = get_last xs n x (let h : suc n ≡ length (a �
 
 -- an element of a list with one more is one of it, or that one
 pub get_either : {A : Type 0} (P : A → Type 0) (xs : List A) (y : A) → ((k : ℕ) (x : A) → slice_get xs k ≡ Some x → P x) → P y → (k : ℕ) (x : A) → slice_get (xs ++ y ∷ []) k ≡ Some x → P x
-get_either P [] y f q zero x e = let h : y ≡ x = some_same y x e in subst P h q
+get_either P [] y f q zero x e = let h : y ≡ x = some_is y x e in subst P h q
 get_either P [] y f q (suc k) x e = absurd (let h : None ≡ Some x = e in cc)
 get_either P (a ∷ xs) y f q zero x e = f 0 x e
 get_either P (a ∷ xs) y f q (suc k) x e = get_either P xs y (λ j. f (suc j)) q k x e
@@ -40,11 +27,11 @@ get_either P (a ∷ xs) y f q (suc k) x e = get_either P xs y (λ j. f (suc j)) 
 module _ (names : Names) where
   pub chain_more : (vs ws : List Variable) (o : Option ℕ) (sc : T.Scope) → Chain names vs o sc → Chain names (vs ++ ws) o sc
   chain_more vs ws o sc NoLocal = NoLocal
-  chain_more vs ws o sc (Inner k v outer g b c) = Inner k v outer (get_more vs ws k v g) b (chain_more vs ws v.outer outer c)
+  chain_more vs ws o sc (Inner k v outer g b c) = Inner k v outer (item_in_front vs ws k v g) b (chain_more vs ws v.outer outer c)
 
   pub chain_before : (vs : List Variable) (o : Option ℕ) (sc : T.Scope) → Chain names vs o sc → IsBefore o (length vs)
   chain_before vs o sc NoLocal = tt
-  chain_before vs o sc (Inner k v outer g b c) = get_within vs k v g
+  chain_before vs o sc (Inner k v outer g b c) = item_within vs k v g
 
   before_less : (o : Option ℕ) (k d : ℕ) → IsBefore o k → k < suc d → IsBefore o d
   before_less None k d b h = tt

@@ -2,6 +2,7 @@
 use Rattle.std.proofs.Common.{◌≡◌, ◌||◌, not, true, List, [], Option, Some, None, refl, sym, ◌∙◌, ap, ap₂, subst}
 use Rattle.std.specs.Prelude.{option_map, is_some}
 use Rattle.cpc_base.specs.Bytes.{Text}
+use Rattle.cpc_base.proofs.Truth.{or_neither, not_fails}
 use Rattle.cpc_num.specs.declared.kinds.Op.{Op}
 use Rattle.cpc_tree.specs.Syntax.{Ty, Expr, EBinary, Exprs, Assign, Call}
 use Rattle.cpc_tree.specs.Located.{bare_expr}
@@ -15,8 +16,7 @@ use Rattle.cpc_check_rules.specs.ExprRules.{expr_breaks}
 use Rattle.cpc_check_rules.specs.StmtRules.{is_writable, place_breaks, target_breaks, type_of, fits_breaks, result_breaks, assign_breaks, given_breaks, to_breaks, is_tested, tested_breaks, test_breaks, maybe_test, start_breaks, is_void, unfit_return, return_breaks, stmt_breaks}
 use Rattle.cpc_check_laws.proofs.NativeValues.{both_none}
 use Rattle.cpc_check_laws.proofs.OnePlace.{here, ident_here, expr_here, exprs_here, stmt_here}
-use Rattle.cpc_check_sound_laws.proofs.Bodies.{either_false}
-use Rattle.cpc_check_sound_laws.proofs.Unbroken.{split, holds_not, holds_then, negated, binary_some}
+use Rattle.cpc_check_sound_laws.proofs.Unbroken.{split, holds_not, holds_then, binary_some}
 use Rattle.cpc_convert_image_laws.specs.Images.{Readings, image, images, image_if}
 use Rattle.cpc_convert_image_laws.proofs.Types.{same_null}
 use Rattle.cpc_check_complete_laws.specs.Reads.{Carries, stays_called}
@@ -133,8 +133,8 @@ module _ (w v : Where) (r : Readings) (c : Carries w v r) where
   return_carried same (Some e) h =
       let k = split (expr_breaks w (expr_here e)) _ h in
       let d = both_typed w v r c e k.0 in
-      let fit = either_false (is_void w.result) _ (holds_not (unfit_return w (expr_here e) (Some d.0)) here BadReturn (subst (λ o. at_if (unfit_return w (expr_here e) o) here BadReturn ≡ []) d.1 k.1)) in
-      let takes = takes_there w v r c w.result e d.0 (negated (takes_typed w.result (bare_expr (expr_here e)) d.0) fit.1) in
+      let fit = or_neither (is_void w.result) _ (holds_not (unfit_return w (expr_here e) (Some d.0)) here BadReturn (subst (λ o. at_if (unfit_return w (expr_here e) o) here BadReturn ≡ []) d.1 k.1)) in
+      let takes = takes_there w v r c w.result e d.0 (not_fails (takes_typed w.result (bare_expr (expr_here e)) d.0) fit.1) in
       both_none _ _ (expr_carried w v r c e k.0)
       (ap (λ o. at_if (unfit_return v (expr_here (image r e)) o) here BadReturn) d.2
       ∙ ap (λ t. at_if (is_void t || not (takes_typed t (bare_expr (expr_here (image r e))) d.0)) here BadReturn) same

@@ -1,6 +1,7 @@
 -- A call that breaks no rule, of what is neither a cps function nor a primitive that waits, breaks none as its image.
 use Rattle.std.proofs.Common.{◌≡◌, ◌&&◌, not, Bool, true, false, List, [], Option, Some, None, refl, sym, ◌∙◌, ap, subst}
 use Rattle.cpc_base.specs.Bytes.{Text}
+use Rattle.cpc_base.proofs.Truth.{by_false_true}
 use Rattle.cpc_tree.specs.declared.program.Mode.{Mode}
 use Rattle.cpc_tree.specs.declared.program.Mode.TheVariants.{Extern, Native, Cps, Detached}
 use Rattle.cpc_tree.specs.Syntax.{Ty, Expr, ENamed, EInteger, ECharacter, EText, EUnary, EBinary, EAnd, EOr, EChoose, ECast, ESizeOf, EIndex, EMember, EArrow, ECall, Exprs}
@@ -15,7 +16,6 @@ use Rattle.cpc_check_rules.specs.Calls.{Takes, unmeant_callee, unmeant_breaks, w
 use Rattle.cpc_check_rules.specs.ExprRules.{expr_breaks, called_breaks, args_breaks, call_breaks}
 use Rattle.cpc_check_laws.proofs.NativeValues.{both_none}
 use Rattle.cpc_check_laws.proofs.OnePlace.{here, expr_here, exprs_here}
-use Rattle.cpc_check_sound_laws.proofs.Answers.{not_true}
 use Rattle.cpc_check_sound_laws.proofs.Unbroken.{split, not_broken, holds_not, holds_then}
 use Rattle.cpc_convert_image_laws.specs.Images.{Reading, Readings, image_named, image, images}
 use Rattle.cpc_check_complete_laws.specs.Reads.{Reads, ReadsLocal, ReadsField, StaysLocal, StaysGlobal, StaysFunction, IsCps, StaysNothing, Carries, stays_meant, stays_called}
@@ -23,19 +23,15 @@ use Rattle.cpc_check_complete_laws.proofs.Carried.{both_typed, expr_carried}
 use Rattle.cpc_check_complete_laws.proofs.Called.{args_carried, number_there}
 
 both_false : (a b : Bool) → a ≡ false → (a && b) ≡ false
-both_false true b e = not_true (sym e)
+both_false true b e = by_false_true (sym e)
 both_false false b e = refl
 
-and_false : (a : Bool) → (a && false) ≡ false
-and_false true = refl
-and_false false = refl
-
 and_true : (a : Bool) → (a && true) ≡ false → a ≡ false
-and_true true e = not_true (sym e)
+and_true true e = by_false_true (sym e)
 and_true false e = refl
 
 no_cps : (m : Mode) (u : Ty) (ts : List Ty) (o : Option Primitive) → stays_meant (AFunction m u ts) o ≡ true → is_cps m ≡ false
-no_cps Cps u ts o h = not_true h
+no_cps Cps u ts o h = by_false_true h
 no_cps Native u ts o h = refl
 no_cps Extern u ts o h = refl
 no_cps Detached u ts o h = refl
@@ -93,7 +89,7 @@ module _ (w v : Where) (r : Readings) (c : Carries w v r) where
 
   -- what it wants does not depend on the place
   wants_there : (prim : Primitive) (es : Exprs) → is_rt prim ≡ false → wants v.scope prim (exprs_here (images r es)) ≡ wants w.scope prim (exprs_here es)
-  wants_there P.RtDetach es h = not_true (sym h)
+  wants_there P.RtDetach es h = by_false_true (sym h)
   wants_there P.Puts es h = refl
   wants_there prim es h = refl
 
@@ -122,7 +118,7 @@ module _ (w v : Where) (r : Readings) (c : Carries w v r) where
     called = ap (λ m. named_breaks v (expr_here (ENamed x)) here (expr_breaks v (expr_here (ENamed x))) m (primitive_named x)) e ∙ function_there mode (no_cps mode u ts prim s) h;
     same = ap (λ m. named_callee v (expr_here (ENamed x)) (exprs_here (images r es)) m (primitive_named x)) e;
   }
-  named_there x es _ _ prim i (IsCps o u ts) s pointer h = not_true s
+  named_there x es _ _ prim i (IsCps o u ts) s pointer h = by_false_true s
   named_there x es _ _ None i (StaysNothing e) s pointer h = not_broken _ _ h
   named_there x es _ _ (Some prim) i (StaysNothing e) s pointer h =
       let waits_not : gives_up prim ≡ false = no (gives_up prim) s in
@@ -134,7 +130,7 @@ module _ (w v : Where) (r : Readings) (c : Carries w v r) where
       }
     where
       no : (b : Bool) → not b ≡ true → b ≡ false
-      no true e = not_true e
+      no true e = by_false_true e
       no false e = refl
 
   name_pointer : (x : Text) → PointerThere x (r x)

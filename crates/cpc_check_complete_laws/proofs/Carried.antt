@@ -4,6 +4,7 @@ use Rattle.std.specs.Prelude.{is_some}
 use Rattle.std.specs.Option.{is_none}
 use Rattle.cpc_base.specs.Bytes.{Text}
 use Rattle.cpc_base.specs.declared.stop.Place.{Place}
+use Rattle.cpc_base.proofs.Truth.{by_false_true, and_with_false}
 use Rattle.cpc_num.specs.declared.kinds.Op.{Op}
 use Rattle.cpc_num.specs.declared.kinds.Op.TheVariants.{Add, Sub}
 use Rattle.cpc_tree.specs.declared.program.Mode.{Mode}
@@ -19,7 +20,7 @@ use Rattle.cpc_check_rules.specs.Operators.{Where, typed_at, first, is_detached,
 use Rattle.cpc_check_rules.specs.ExprRules.{expr_breaks}
 use Rattle.cpc_check_laws.proofs.NativeValues.{both_none}
 use Rattle.cpc_check_laws.proofs.OnePlace.{here, ident_here, expr_here}
-use Rattle.cpc_check_sound_laws.proofs.Answers.{no_some, not_true}
+use Rattle.cpc_check_sound_laws.proofs.Answers.{no_some}
 use Rattle.cpc_check_sound_laws.proofs.Options.{then_some}
 use Rattle.cpc_check_sound_laws.proofs.Unbroken.{split, not_broken, holds_not, typed_of}
 use Rattle.cpc_convert_image_laws.specs.Images.{Reading, Readings, image_named, image}
@@ -28,15 +29,11 @@ use Rattle.cpc_check_complete_laws.proofs.Typing.{sizes, here_image}
 
 -- ---- what breaks no rule, of parts and a whole that have types
 
-never : (b : Bool) → (b && false) ≡ false
-never true = refl
-never false = refl
-
 pub rule_none : (have : Bool) (whole : Option Typed) (d : Typed) (q : Place) → whole ≡ Some d → no_rule have whole q ≡ []
-rule_none have whole d q e = ap (λ o. at_if (have && is_none o) q Disagree) e ∙ ap (λ b. at_if b q Disagree) (never have)
+rule_none have whole d q e = ap (λ o. at_if (have && is_none o) q Disagree) e ∙ ap (λ b. at_if b q Disagree) (and_with_false have)
 
 pub address_none : (operand whole : Option Typed) (d : Typed) (q : Place) → whole ≡ Some d → address_breaks operand whole q ≡ []
-address_none operand whole d q e = ap (λ o. at_if (is_some operand && is_none o) q NoPlace) e ∙ ap (λ b. at_if b q NoPlace) (never (is_some operand))
+address_none operand whole d q e = ap (λ o. at_if (is_some operand && is_none o) q NoPlace) e ∙ ap (λ b. at_if b q NoPlace) (and_with_false (is_some operand))
 
 pub binary_none : (s : Scope) (op : Op) (a b whole : Option Typed) (d : Typed) (q : Place) → is_incomplete_sum s op a b ≡ false → whole ≡ Some d → binary_breaks s op a b whole q ≡ []
 binary_none s op a b whole d q e h = ap (λ c. cond c ((q, Incomplete) ∷ []) (no_rule (is_some a && is_some b) whole q)) e ∙ rule_none (is_some a && is_some b) whole d q h
@@ -98,7 +95,7 @@ module _ (w v : Where) (r : Readings) (c : Carries w v r) where
   none_there t h = go (measured w.scope t) refl h
     where
       go : (o : Option ℕ) → measured w.scope t ≡ o → is_none o ≡ false → is_none (measured v.scope t) ≡ false
-      go None e h = not_true (sym h)
+      go None e h = by_false_true (sym h)
       go (Some n) e h = ap is_none (measured_there t n e)
 
   unmeasured_there : (o : Option Ty) → is_unmeasured w.scope o ≡ false → is_unmeasured v.scope o ≡ false

@@ -4,6 +4,7 @@ use Rattle.std.specs.Prelude.{is_some}
 use Rattle.std.proofs.lemmas.List.{append-nil, map-append, length-append, length-map, drop_all}
 use Rattle.cpc_base.specs.Bytes.{Text}
 use Rattle.cpc_base.specs.declared.stop.Dialect.TheVariants as D
+use Rattle.cpc_base.proofs.Truth.{by_false_true, and_both}
 use Rattle.cpc_tree.specs.Syntax.{TyPointer, TyStruct, ENamed, EArrow, Stmt, Block, Empty, Declare, Assign, Call, Detach, Spawn, If, While, DoWhile, For, Goto, Label, Break, Continue, Return, Stmts, NoStmt, AndStmt, Absent, Present, Variable, Program}
 use Rattle.cpc_tree.specs.Located.{LParameter}
 use Rattle.cpc_tree.specs.Typing.{ALocal, APlace, size, field}
@@ -19,8 +20,6 @@ use Rattle.cpc_check_rules.specs.StmtRules.{behind, stmts_breaks}
 use Rattle.cpc_check_rules.specs.FunctionRules.{among, repeated, missing, labels, labels_in, gotos, gotos_in, stray_breaks, stray_in, reserved_breaks, parameter_names, locals, locals_in, first_of}
 use Rattle.cpc_check_laws.proofs.NativeValues.{both_none}
 use Rattle.cpc_check_laws.proofs.OnePlace.{here, ident_here, stmt_here, stmts_here}
-use Rattle.cpc_check_sound_laws.proofs.Answers.{not_true}
-use Rattle.cpc_check_sound_laws.proofs.Scalars.{both_true}
 use Rattle.cpc_convert_chain_laws.specs.Flat.{before, is_plain, is_line, is_flat}
 use Rattle.cpc_convert_chain_laws.specs.Frames.{Load, loads_one, declares_one, opens_frame}
 use Rattle.cpc_check_complete_laws.specs.Sets.{Sets}
@@ -36,7 +35,7 @@ distinct_parts _ _ (AndDistinct x xs n d) = (n, d)
 
 -- a text that is none of these is apart from each of them
 none_apart : (x y : Text) (ys : List Text) → NoneOf x ys → OneOf y ys → bytes_eq x y ≡ false
-none_apart x y _ (AndOther z ys e n) (IsFirst _ _ i) = texts_differ x y (λ (k : x ≡ y). not_true (sym e ∙ (let j : z ≡ y = same_text z y i in ap (λ a. bytes_eq a x) j ∙ ap (λ a. bytes_eq y a) k ∙ text_same y)))
+none_apart x y _ (AndOther z ys e n) (IsFirst _ _ i) = texts_differ x y (λ (k : x ≡ y). by_false_true (sym e ∙ (let j : z ≡ y = same_text z y i in ap (λ a. bytes_eq a x) j ∙ ap (λ a. bytes_eq y a) k ∙ text_same y)))
 none_apart x y _ (AndOther z ys e n) (IsLater _ _ o) = none_apart x y ys n o
 none_apart x y _ NoText o = elim o [ ]
 
@@ -44,7 +43,7 @@ none_apart x y _ NoText o = elim o [ ]
 
 -- behind a line is where it stands
 line_behind : (v : Where) (s : Stmt) → is_line s ≡ true → behind v (stmt_here s) ≡ v
-line_behind v (Declare x t o) h = not_true h
+line_behind v (Declare x t o) h = by_false_true h
 line_behind v (Block ss) h = refl
 line_behind v Empty h = refl
 line_behind v (Assign e op a) h = refl
@@ -221,22 +220,22 @@ plain_names (Detach to f es) h = record { labels = refl; gotos = refl; locals = 
 plain_names (Spawn f es) h = record { labels = refl; gotos = refl; locals = refl; stray = refl }
 plain_names (Goto l) h = record { labels = refl; gotos = refl; locals = refl; stray = refl }
 plain_names (Return o) h = record { labels = refl; gotos = refl; locals = refl; stray = refl }
-plain_names (Block ss) h = not_true h
-plain_names (Declare x t o) h = not_true h
-plain_names (If e a b) h = not_true h
-plain_names (While t s) h = not_true h
-plain_names (DoWhile s t) h = not_true h
-plain_names (For first t step s) h = not_true h
-plain_names (Label l s) h = not_true h
-plain_names Break h = not_true h
-plain_names Continue h = not_true h
+plain_names (Block ss) h = by_false_true h
+plain_names (Declare x t o) h = by_false_true h
+plain_names (If e a b) h = by_false_true h
+plain_names (While t s) h = by_false_true h
+plain_names (DoWhile s t) h = by_false_true h
+plain_names (For first t step s) h = by_false_true h
+plain_names (Label l s) h = by_false_true h
+plain_names Break h = by_false_true h
+plain_names Continue h = by_false_true h
 
 line_names : (s : Stmt) → is_line s ≡ true → Names s (line_labels s) (line_gotos s) []
 line_names (Label l s) h = let k = line_names s h in record { labels = ap (λ xs. ident_here l ∷ xs) k.labels; gotos = k.gotos; locals = k.locals; stray = k.stray }
 line_names (If e s Absent) h =
     let k = plain_names s h in
     record { labels = ap (λ xs. xs ++ []) k.labels; gotos = append-nil (gotos (stmt_here s)) ∙ k.gotos; locals = ap (λ xs. xs ++ []) k.locals; stray = ap (λ xs. xs ++ []) k.stray }
-line_names (If e s (Present t)) h = not_true h
+line_names (If e s (Present t)) h = by_false_true h
 line_names Empty h = plain_names Empty h
 line_names (Assign e op a) h = plain_names (Assign e op a) h
 line_names (Call to f es) h = plain_names (Call to f es) h
@@ -244,13 +243,13 @@ line_names (Detach to f es) h = plain_names (Detach to f es) h
 line_names (Spawn f es) h = plain_names (Spawn f es) h
 line_names (Goto l) h = plain_names (Goto l) h
 line_names (Return o) h = plain_names (Return o) h
-line_names (Block ss) h = not_true h
-line_names (Declare x t o) h = not_true h
-line_names (While t s) h = not_true h
-line_names (DoWhile s t) h = not_true h
-line_names (For first t step s) h = not_true h
-line_names Break h = not_true h
-line_names Continue h = not_true h
+line_names (Block ss) h = by_false_true h
+line_names (Declare x t o) h = by_false_true h
+line_names (While t s) h = by_false_true h
+line_names (DoWhile s t) h = by_false_true h
+line_names (For first t step s) h = by_false_true h
+line_names Break h = by_false_true h
+line_names Continue h = by_false_true h
 
 flat_names : (s : Stmt) → is_flat s ≡ true → Names s (line_labels s) (line_gotos s) (line_locals s)
 flat_names (Declare x t o) h = record { labels = refl; gotos = refl; locals = refl; stray = refl }
@@ -263,12 +262,12 @@ flat_names (Detach to f es) h = line_names (Detach to f es) h
 flat_names (Spawn f es) h = line_names (Spawn f es) h
 flat_names (Goto l) h = line_names (Goto l) h
 flat_names (Return o) h = line_names (Return o) h
-flat_names (Block ss) h = not_true h
-flat_names (While t s) h = not_true h
-flat_names (DoWhile s t) h = not_true h
-flat_names (For first t step s) h = not_true h
-flat_names Break h = not_true h
-flat_names Continue h = not_true h
+flat_names (Block ss) h = by_false_true h
+flat_names (While t s) h = by_false_true h
+flat_names (DoWhile s t) h = by_false_true h
+flat_names (For first t step s) h = by_false_true h
+flat_names Break h = by_false_true h
+flat_names Continue h = by_false_true h
 
 -- ---- flat bodies
 
@@ -282,7 +281,7 @@ pub record AllNames (ss : List Stmt) : Type 0 where
 pub all_names : (ss : List Stmt) → all_flat ss ≡ true → AllNames ss
 all_names [] h = record { labels = refl; gotos = refl; locals = refl; stray = refl }
 all_names (s ∷ ss) h =
-    let g = both_true (is_flat s) (all_flat ss) h in
+    let g = and_both (is_flat s) (all_flat ss) h in
     let k = flat_names s g.0 in
     let l = all_names ss g.1 in
     record {

@@ -2,6 +2,7 @@
 use Rattle.std.proofs.Common.{◌≡◌, true, false, List, [], ◌∷◌, ◌++◌, map, codes, pos, ℕ, Some, None, refl, sym, ap, subst}
 use Rattle.cpc_base.specs.Bytes.{Text}
 use Rattle.cpc_base.specs.declared.stop.Dialect.TheVariants as D
+use Rattle.cpc_base.proofs.Truth.{by_false_true}
 use Rattle.cpc_num.specs.declared.kinds.Kind.TheVariants.{Int, Long, ULong}
 use Rattle.cpc_tree.specs.declared.program.Mode.TheVariants.{Native}
 use Rattle.cpc_tree.specs.Syntax.{Ty, TyVoid, TyInt, TyCondvar, TyPointer, TyCode, TyStruct, TyArray, Expr, ENamed, ESizeOf, EArrow, EInteger, Exprs, NoExpr, AndExpr, Assign, Call, Return}
@@ -12,7 +13,6 @@ use Rattle.cpc_check_rules.specs.Operators.{Where, is_detached}
 use Rattle.cpc_check_rules.specs.Calls.{Wanted, Of, Callback, wanted_of, gives, gives_up}
 use Rattle.cpc_check_rules.specs.StmtRules.{is_writable, is_void, stmt_breaks}
 use Rattle.cpc_check_laws.proofs.OnePlace.{stmt_here}
-use Rattle.cpc_check_sound_laws.proofs.Answers.{not_true}
 use Rattle.cpc_convert_image_laws.specs.Images.{followed}
 use Rattle.cpc_convert_chain_laws.specs.Frames.{Save, saves_one, frame_through, asks_block, frees_frame, Give, gives_one}
 use Rattle.cpc_convert_chain_laws.specs.Boxes.{boxes_one, fills_box, unboxes_one}
@@ -37,9 +37,9 @@ writable_scalar (TyInt k) h = refl
 writable_scalar TyCondvar h = refl
 writable_scalar (TyPointer t) h = refl
 writable_scalar (TyCode r ts) h = refl
-writable_scalar TyVoid h = not_true h
-writable_scalar (TyStruct tag) h = not_true h
-writable_scalar (TyArray t n) h = not_true h
+writable_scalar TyVoid h = by_false_true h
+writable_scalar (TyStruct tag) h = by_false_true h
+writable_scalar (TyArray t n) h = by_false_true h
 
 pub takes_any : (t : Ty) → takes_value (TyPointer t) false any_pointer ≡ true
 takes_any TyVoid = refl
@@ -51,7 +51,7 @@ runtime_takes Yield h = refl
 runtime_takes Sleep h = refl
 runtime_takes IoWait h = refl
 runtime_takes Wait h = refl
-runtime_takes _ h = not_true h
+runtime_takes _ h = by_false_true h
 
 runtime_stays : (prim : Primitive) → gives_up (runtime prim) ≡ false
 runtime_stays Sleep = refl

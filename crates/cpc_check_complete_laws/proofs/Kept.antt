@@ -4,6 +4,7 @@ use Rattle.std.specs.Prelude.{option_map}
 use Rattle.cpc_base.specs.Bytes.{Text}
 use Rattle.cpc_base.specs.declared.stop.Place.{Place}
 use Rattle.cpc_base.specs.declared.stop.Dialect.TheVariants as D
+use Rattle.cpc_base.proofs.Truth.{by_false_true, or_neither, eq_means}
 use Rattle.cpc_num.specs.declared.kinds.Kind.TheVariants.{Int}
 use Rattle.cpc_tree.specs.declared.program.Mode.{Mode}
 use Rattle.cpc_tree.specs.declared.program.Mode.TheVariants.{Extern, Native, Cps, Detached}
@@ -22,10 +23,7 @@ use Rattle.cpc_check_rules.specs.StmtRules.{variable, behind, all_behind, to_bre
 use Rattle.cpc_check_rules.specs.FunctionRules.{is_kept, is_reserved, holds_bars, reserved_breaks, locals, locals_in, locals_maybe}
 use Rattle.cpc_check_laws.proofs.NativeValues.{both_none, cpc, event}
 use Rattle.cpc_check_laws.proofs.OnePlace.{here, ident_here, expr_here, exprs_here, stmt_here, stmts_here, maybe_here}
-use Rattle.cpc_check_sound_laws.proofs.Answers.{not_true}
 use Rattle.cpc_check_sound_laws.proofs.Agreement.{used_taken}
-use Rattle.cpc_check_sound_laws.proofs.Bodies.{either_false}
-use Rattle.cpc_check_sound_laws.proofs.Types as T
 use Rattle.cpc_check_sound_laws.proofs.Unbroken.{split, not_broken, holds_not, holds_then}
 use Rattle.cpc_convert.specs.Converted.{spawner_name, respawned, respawned_all, respawned_arm}
 use Rattle.cpc_convert_image_laws.specs.Images.{image, image_if}
@@ -47,22 +45,22 @@ reserved_both (x ∷ xs) ys h =
     (both_none _ _ k.0 l.0, l.1)
 
 pub barless : (x : Ident) (xs : List Ident) → reserved_breaks D.Cpc (x ∷ xs) ≡ [] → holds_bars x.text ≡ false
-barless x xs h = (either_false (is_kept x.text) (holds_bars x.text) (holds_not (is_reserved D.Cpc x.text) x.place Reserved (split (at_if (is_reserved D.Cpc x.text) x.place Reserved) _ h).0)).1
+barless x xs h = (or_neither (is_kept x.text) (holds_bars x.text) (holds_not (is_reserved D.Cpc x.text) x.place Reserved (split (at_if (is_reserved D.Cpc x.text) x.place Reserved) _ h).0)).1
 
 -- ---- arguments
 
 -- so many arguments as are wanted
 number_is : (es : Exprs) (ws : List Wanted) (t : Ty) (q : Place) → number_breaks (Takes ws t) (exprs_here es) q ≡ [] → length (count (exprs_here es)) ≡ length ws
-number_is es ws t q h = T.number_is (length (count (exprs_here es))) (length ws) (holds_then (length (count (exprs_here es)) == length ws) q WrongNumber h)
+number_is es ws t q h = eq_means (length (count (exprs_here es))) (length ws) (holds_then (length (count (exprs_here es)) == length ws) q WrongNumber h)
 
 takes_scalar : (t : Ty) (null : Bool) (u : Ty) → takes_value t null u ≡ true → is_scalar t ≡ true
 takes_scalar (TyInt k) null u h = refl
 takes_scalar TyCondvar null u h = refl
 takes_scalar (TyPointer t) null u h = refl
 takes_scalar (TyCode r ps) null u h = refl
-takes_scalar TyVoid null u h = not_true h
-takes_scalar (TyStruct tag) null u h = not_true h
-takes_scalar (TyArray t n) null u h = not_true h
+takes_scalar TyVoid null u h = by_false_true h
+takes_scalar (TyStruct tag) null u h = by_false_true h
+takes_scalar (TyArray t n) null u h = by_false_true h
 
 -- what is assignable to a type is so to a scalar one
 pub typed_scalar : (t : Ty) (e : Expr) (d : Typed) → takes_typed t e d ≡ true → is_scalar t ≡ true
@@ -160,12 +158,12 @@ module _ (before after : Program) (keeps : KeepsItems before after) (m : Mode) (
   -- ---- simple statements
 
   unless_cps : (b : Bool) → (b && not (is_cps m)) ≡ false → b ≡ false
-  unless_cps true h = not_true (sym h ∙ ap not native)
+  unless_cps true h = by_false_true (sym h ∙ ap not native)
   unless_cps false h = refl
 
   -- native code calls no cps function, and nothing that waits
   function_stays : (mode : Mode) (t : Ty) (ts : List Ty) (o : Option Primitive) → is_cps mode ≡ false → stays_meant (AFunction mode t ts) o ≡ true
-  function_stays Cps t ts o h = not_true (sym h)
+  function_stays Cps t ts o h = by_false_true (sym h)
   function_stays Native t ts o h = refl
   function_stays Extern t ts o h = refl
   function_stays Detached t ts o h = refl
@@ -210,7 +208,7 @@ module _ (before after : Program) (keeps : KeepsItems before after) (m : Mode) (
   sized_kept blocks t h = go (size before t) refl h
     where
       go : (o : Option ℕ) → size before t ≡ o → has_cells o ≡ true → is_sized (over after blocks) t ≡ true
-      go None e h = not_true h
+      go None e h = by_false_true h
       go (Some n) e h = ap has_cells (sizes (w blocks) (v blocks) unread (carries blocks) t n e) ∙ h
 
   declare_kept : (blocks : List S.Block) (x : Text) (t : Ty) (o : Option Expr) → stmt_breaks (w blocks) (stmt_here (Declare x t o)) ≡ [] → stmt_breaks (v blocks) (stmt_here (Declare x t o)) ≡ []
@@ -227,7 +225,7 @@ module _ (before after : Program) (keeps : KeepsItems before after) (m : Mode) (
   detach_kept blocks to f es h =
       let k = split (to_breaks (w blocks) (option_map expr_here to) here (Some (TyInt Int))) _ h in
       let l = split (at_if (not (is_cps m)) here CpsInNative) _ k.1 in
-      not_true (sym native ∙ holds_then (is_cps m) here CpsInNative l.0)
+      by_false_true (sym native ∙ holds_then (is_cps m) here CpsInNative l.0)
 
   right_name : (k : Meant) (c : Callee) (q : Place) → wrong_name k c q ≡ [] → is_callee c ≡ true
   right_name k (Takes ws t) q h = refl
@@ -238,7 +236,7 @@ module _ (before after : Program) (keeps : KeepsItems before after) (m : Mode) (
 
   spawned_is : (k : Meant) → is_callee (spawn_callee k) ≡ true → (t : Ty) × (ts : List Ty) × (k ≡ AFunction Cps t ts)
   spawned_is (AFunction Cps t ts) h = (t, ts, refl)
-  spawned_is _ h = not_true h
+  spawned_is _ h = by_false_true h
 
   spawn_kept : (blocks : List S.Block) → HidesNone blocks → (x : Text) (es : Exprs) → stmt_breaks (w blocks) (stmt_here (Spawn x es)) ≡ [] → stmt_breaks (v blocks) (stmt_here (respawned (Spawn x es))) ≡ []
   spawn_kept blocks hides x es h =

@@ -1,6 +1,7 @@
 -- A native or detached function that breaks no rule of the dialect Cpc breaks none of the dialect Event, with each spawn as a call of the spawner.
 use Rattle.std.proofs.Common.{◌≡◌, ◌&&◌, not, ℕ, true, false, List, [], ◌∷◌, ◌++◌, map, Option, Some, None, refl, sym, ◌∙◌, ap, subst}
 use Rattle.cpc_base.specs.declared.stop.Dialect.TheVariants as D
+use Rattle.cpc_base.proofs.Truth.{by_false_true}
 use Rattle.cpc_tree.specs.Syntax.{Ty, Stmt, Function, FunctionItem, Program}
 use Rattle.cpc_tree.specs.Syntax as X
 use Rattle.cpc_tree.specs.Located.{Ident, LParameter}
@@ -14,7 +15,6 @@ use Rattle.cpc_check_rules.specs.FunctionRules.{repeated, reserved_breaks, param
 use Rattle.cpc_check_rules.specs.ItemRules.{Signature, declared_breaks, types, cps_breaks, parameters_breaks, sized_breaks, outside, parameter_block, in_body, body_breaks, function_breaks}
 use Rattle.cpc_check_laws.proofs.NativeValues.{both_none, cpc, event}
 use Rattle.cpc_check_laws.proofs.OnePlace.{here, ident_here, stmt_here, parameter_here, function_here, item_again}
-use Rattle.cpc_check_sound_laws.proofs.Answers.{not_true}
 use Rattle.cpc_check_sound_laws.proofs.Unbroken.{split, holds_then}
 use Rattle.cpc_convert.specs.Converted.{respawned}
 use Rattle.cpc_check_complete_laws.specs.Kept.{KeepsItems}
@@ -57,7 +57,7 @@ sized_fine before after sizes (p ∷ ps) h = one p.called p.type h (λ h. sized_
     sized t h = go (size before t) refl h
       where
         go : (o : Option ℕ) → size before t ≡ o → has_cells o ≡ true → is_sized (outside D.Event after).scope t ≡ true
-        go None e h = not_true h
+        go None e h = by_false_true h
         go (Some n) e h = ap has_cells (sizes t n e) ∙ h
 
     one : (o : Option Ident) (t : Ty) → sized_breaks (outside D.Cpc before).scope (record { called = o; type = t } ∷ ps) ≡ [] → (sized_breaks (outside D.Cpc before).scope ps ≡ [] → sized_breaks (outside D.Event after).scope ps ≡ [])

@@ -1,8 +1,9 @@
 -- Expressions, places and arguments that are made break no rule.
-use Rattle.std.proofs.Common.{◌≡◌, ◌==◌, ◌&&◌, not, ℕ, suc, Bool, true, false, List, [], ◌∷◌, ◌++◌, length, map, pos, Option, Some, None, refl, sym, ◌∙◌, ap, arith}
+use Rattle.std.proofs.Common.{◌≡◌, ◌==◌, ◌&&◌, not, ℕ, suc, Bool, true, false, List, [], ◌∷◌, ◌++◌, length, map, pos, Option, Some, None, refl, sym, ◌∙◌, ap}
 use Rattle.std.specs.Prelude.{option_map}
 use Rattle.std.specs.Option.{is_none}
 use Rattle.cpc_base.specs.Bytes.{Text}
+use Rattle.cpc_base.proofs.Truth.{by_false_true, eq_reflexive}
 use Rattle.cpc_num.specs.declared.kinds.Kind.{Kind}
 use Rattle.cpc_num.specs.declared.kinds.Kind.TheVariants.{Char, UChar, Int, UInt, Long, ULong}
 use Rattle.cpc_num.specs.declared.kinds.Op.TheVariants.{Ne}
@@ -22,7 +23,7 @@ use Rattle.cpc_check_rules.specs.ExprRules.{expr_breaks, arg_breaks, args_breaks
 use Rattle.cpc_check_rules.specs.StmtRules.{is_tested, place_breaks, target_breaks, given_breaks, to_breaks, tested_breaks, test_breaks}
 use Rattle.cpc_check_laws.proofs.NativeValues.{both_none}
 use Rattle.cpc_check_laws.proofs.OnePlace.{here, ident_here, expr_here, exprs_here, expr_again}
-use Rattle.cpc_check_sound_laws.proofs.Answers.{no_some, not_true}
+use Rattle.cpc_check_sound_laws.proofs.Answers.{no_some}
 use Rattle.cpc_check_sound_laws.proofs.Options.{then_of}
 use Rattle.cpc_check_complete_laws.specs.Sets.{Has, Sets, Writes, AllSet, NoneSet, AndSet, Gives, Suits, AllSuit, NoneSuits, AndSuits}
 use Rattle.cpc_check_complete_laws.proofs.Typing.{type_again}
@@ -30,9 +31,6 @@ use Rattle.cpc_check_complete_laws.proofs.Carried.{rule_none, arrow_none, binary
 use Rattle.cpc_check_complete_laws.proofs.Called.{suit_none}
 
 -- ---- types
-
-eq_itself : (n : ℕ) → (n == n) ≡ true
-eq_itself n = grind arith
 
 kind_itself : (k : Kind) → same_kind k k ≡ true
 kind_itself Char = refl
@@ -50,7 +48,7 @@ mutual
   type_itself (TyPointer t) = type_itself t
   type_itself (TyCode r ts) = rw (type_itself r) (types_itself ts)
   type_itself (TyStruct tag) = text_same tag
-  type_itself (TyArray t n) = rw (type_itself t) (eq_itself n)
+  type_itself (TyArray t n) = rw (type_itself t) (eq_reflexive n)
 
   types_itself : (ts : Tys) → same_types ts ts ≡ true
   types_itself NoTy = refl
@@ -68,9 +66,9 @@ takes_itself (TyPointer (TyPointer t)) h = rw (type_itself t) refl
 takes_itself (TyPointer (TyCode r ts)) h = rw (type_itself (TyCode r ts)) refl
 takes_itself (TyPointer (TyStruct tag)) h = rw (text_same tag) refl
 takes_itself (TyPointer (TyArray t n)) h = rw (type_itself (TyArray t n)) refl
-takes_itself TyVoid h = not_true h
-takes_itself (TyStruct tag) h = not_true h
-takes_itself (TyArray t n) h = not_true h
+takes_itself TyVoid h = by_false_true h
+takes_itself (TyStruct tag) h = by_false_true h
+takes_itself (TyArray t n) h = by_false_true h
 
 -- null is assignable to what refers
 pub takes_null : (t : Ty) → is_reference t ≡ true → takes_value t true (TyInt Int) ≡ true
@@ -82,20 +80,20 @@ takes_null (TyPointer (TyCode r ts)) h = refl
 takes_null (TyPointer (TyStruct tag)) h = refl
 takes_null (TyPointer (TyArray t n)) h = refl
 takes_null (TyCode r ts) h = refl
-takes_null TyVoid h = not_true h
-takes_null (TyInt k) h = not_true h
-takes_null TyCondvar h = not_true h
-takes_null (TyStruct tag) h = not_true h
-takes_null (TyArray t n) h = not_true h
+takes_null TyVoid h = by_false_true h
+takes_null (TyInt k) h = by_false_true h
+takes_null TyCondvar h = by_false_true h
+takes_null (TyStruct tag) h = by_false_true h
+takes_null (TyArray t n) h = by_false_true h
 
 pub scalar_used : (t : Ty) → is_scalar t ≡ true → used (APlace t) ≡ Some t
 scalar_used (TyInt k) h = refl
 scalar_used TyCondvar h = refl
 scalar_used (TyPointer t) h = refl
 scalar_used (TyCode r ts) h = refl
-scalar_used TyVoid h = not_true h
-scalar_used (TyStruct tag) h = not_true h
-scalar_used (TyArray t n) h = not_true h
+scalar_used TyVoid h = by_false_true h
+scalar_used (TyStruct tag) h = by_false_true h
+scalar_used (TyArray t n) h = by_false_true h
 
 compares_null : (a : Bool) (u : Ty) → equality_type a true (TyPointer u) (TyInt Int) ≡ Some (TyInt Int)
 compares_null true TyVoid = refl
@@ -197,7 +195,7 @@ module _ (v : Where) where
   arg_fine (Of t) e h = plain_arg (Of t) e h
   arg_fine (Callback t) e h = plain_arg (Callback t) e h
   arg_fine ForSection e h = plain_arg ForSection e h
-  arg_fine String e h = not_true h.suits
+  arg_fine String e h = by_false_true h.suits
 
   pub args_fine : (ts : List Wanted) (es : Exprs) → AllSuit v ts es → args_breaks v ts (exprs_here es) ≡ []
   args_fine _ _ NoneSuits = refl
@@ -208,4 +206,4 @@ module _ (v : Where) where
   count_fine _ _ (AndSuits t ts e es h k) = ap suc (count_fine ts es k)
 
   pub number_fine : (ts : List Wanted) (es : Exprs) (r : Ty) (q : _) → AllSuit v ts es → number_breaks (Takes ts r) (exprs_here es) q ≡ []
-  number_fine ts es r q h = ap (λ n. at_if (not (n == length ts)) q WrongNumber) (count_fine ts es h) ∙ ap (λ b. at_if (not b) q WrongNumber) (eq_itself (length ts))
+  number_fine ts es r q h = ap (λ n. at_if (not (n == length ts)) q WrongNumber) (count_fine ts es h) ∙ ap (λ b. at_if (not b) q WrongNumber) (eq_reflexive (length ts))

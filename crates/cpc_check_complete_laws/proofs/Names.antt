@@ -1,13 +1,13 @@
 -- What names stand for in blocks, over the items of a source and those of its event program.
 use Rattle.std.proofs.Common.{◌≡◌, ◌||◌, Bool, true, false, List, [], ◌∷◌, ◌++◌, Option, Some, None, bytes_eq, codes, refl, sym, ◌∙◌, ap}
 use Rattle.cpc_base.specs.Bytes.{Text}
+use Rattle.cpc_base.proofs.Truth.{by_false_true}
 use Rattle.cpc_tree.specs.declared.program.Mode.{Mode}
 use Rattle.cpc_tree.specs.Syntax.{Ty, Expr, ENamed, EInteger, ECharacter, EText, EUnary, EBinary, EAnd, EOr, EChoose, ECast, ESizeOf, EIndex, EMember, EArrow, ECall, Exprs, NoExpr, AndExpr, Variable}
 use Rattle.cpc_tree.specs.Typing.{Meant, ALocal, AFunction}
 use Rattle.cpc_meaning.proofs.Functions.{texts_differ}
 use Rattle.cpc_check_rules.specs.Scopes.{Scope, Block, in_block, in_blocks, meant, with_name}
 use Rattle.cpc_check_rules.specs.FunctionRules.{begins_with, holds_bars}
-use Rattle.cpc_check_sound_laws.proofs.Answers.{not_true}
 use Rattle.cpc_convert.specs.Converted.{spawner_name}
 use Rattle.cpc_convert_image_laws.specs.Images.{Readings, image, images, image_if}
 use Rattle.cpc_check_complete_laws.specs.Reads.{Reads, StaysLocal, StaysGlobal, StaysFunction, IsCps, StaysNothing}
@@ -91,7 +91,7 @@ bars_in (c ∷ f) rest = either (begins_with (codes "__") (c ∷ (f ++ 95 ∷ 95
 -- a name without bars is none of a spawner
 no_spawner : (y x : Text) → holds_bars y ≡ false → bytes_eq y (spawner_name x) ≡ false
 unfolding spawner_name
-no_spawner y x h = texts_differ y (spawner_name x) (λ (e : y ≡ spawner_name x). not_true (sym h ∙ ap holds_bars e ∙ bars_in x (codes "spawn")))
+no_spawner y x h = texts_differ y (spawner_name x) (λ (e : y ≡ spawner_name x). by_false_true (sym h ∙ ap holds_bars e ∙ bars_in x (codes "spawn")))
 
 -- one more name without bars
 pub hides_none_more : (items : _) (blocks : List Block) (v : Variable) → holds_bars v.called ≡ false → HidesNone blocks → HidesNone (with_name (record { items = items; blocks = blocks }) v).blocks

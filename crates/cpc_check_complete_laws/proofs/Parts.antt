@@ -2,6 +2,7 @@
 use Rattle.std.proofs.Common.{◌≡◌, ◌==◌, not, Bool, true, false, cond, List, [], ◌∷◌, ◌++◌, length, map, Option, Some, None, refl, sym, ◌∙◌, ap, subst, arith}
 use Rattle.std.specs.Prelude.{option_map}
 use Rattle.cpc_base.specs.Bytes.{Text}
+use Rattle.cpc_base.proofs.Truth.{by_false_true, or_neither, eq_means, not_fails}
 use Rattle.cpc_num.specs.declared.kinds.Kind.TheVariants.{Int}
 use Rattle.cpc_tree.specs.declared.program.Mode.{Mode}
 use Rattle.cpc_tree.specs.declared.program.Mode.TheVariants.{Cps, Detached}
@@ -18,10 +19,7 @@ use Rattle.cpc_check_rules.specs.Calls.{Wanted, Integer, Of, Callback, Callee, T
 use Rattle.cpc_check_rules.specs.ExprRules.{expr_breaks, called_breaks, arg_breaks, args_breaks}
 use Rattle.cpc_check_rules.specs.StmtRules.{is_writable, place_breaks, target_breaks, fits_breaks, given_breaks, to_breaks, is_tested, tested_breaks, test_breaks, start_breaks, wrong_name, started_breaks, is_void, unfit_return, stmt_breaks}
 use Rattle.cpc_check_laws.proofs.OnePlace.{here, ident_here, expr_here, exprs_here, expr_again, stmt_here}
-use Rattle.cpc_check_sound_laws.proofs.Answers.{not_true}
-use Rattle.cpc_check_sound_laws.proofs.Bodies.{either_false}
-use Rattle.cpc_check_sound_laws.proofs.Types.{number_is}
-use Rattle.cpc_check_sound_laws.proofs.Unbroken.{split, not_broken, holds_not, holds_then, negated, typed_of}
+use Rattle.cpc_check_sound_laws.proofs.Unbroken.{split, not_broken, holds_not, holds_then, typed_of}
 use Rattle.cpc_check_complete_laws.specs.Sets.{Has, Sets, Writes, AllSet, NoneSet, AndSet, Gives, Suits, AllSuit, NoneSuits, AndSuits, is_simple}
 use Rattle.cpc_check_complete_laws.proofs.Typing.{type_again}
 use Rattle.cpc_check_complete_laws.proofs.Called.{plain_suits}
@@ -45,7 +43,7 @@ module _ (w : Where) where
 
   place_is : (d : Typed) → is_writable d ≡ true → (t : Ty) × (d ≡ APlace t)
   place_is (APlace t) h = (t, refl)
-  place_is _ h = not_true h
+  place_is _ h = by_false_true h
 
   target_writes : (e : Expr) → target_breaks w (expr_here e) ≡ [] → (t : Ty) × Writes w t e
   target_writes e h =
@@ -74,8 +72,8 @@ module _ (w : Where) where
       let k = split (expr_breaks w (expr_here e)) _ h in
       let d = has_of e k.0 in
       let is : typed_at w (expr_here e) ≡ Some d.0 = type_again w e ∙ d.1.is_typed in
-      let fit = either_false (is_void w.result) _ (holds_not (unfit_return w (expr_here e) (Some d.0)) here BadReturn (subst (λ o. at_if (unfit_return w (expr_here e) o) here BadReturn ≡ []) is k.1)) in
-      (fit.0, record { type = d.0; has = d.1; takes = ap (λ e. takes_typed w.result e d.0) (sym (expr_again e)) ∙ negated (takes_typed w.result (bare_expr (expr_here e)) d.0) fit.1 })
+      let fit = or_neither (is_void w.result) _ (holds_not (unfit_return w (expr_here e) (Some d.0)) here BadReturn (subst (λ o. at_if (unfit_return w (expr_here e) o) here BadReturn ≡ []) is k.1)) in
+      (fit.0, record { type = d.0; has = d.1; takes = ap (λ e. takes_typed w.result e d.0) (sym (expr_again e)) ∙ not_fails (takes_typed w.result (bare_expr (expr_here e)) d.0) fit.1 })
 
   pub test_has : (e : Expr) → test_breaks w (expr_here e) ≡ [] → (d : Typed) × (t : Ty) × Has w e d × (used d ≡ Some t) × (is_testable t ≡ true)
   test_has e h =
@@ -86,7 +84,7 @@ module _ (w : Where) where
       (d.0, t.0, d.1, t.1, t.2)
     where
       tested_is : (o : Option Ty) → is_tested o ≡ true → (t : Ty) × (o ≡ Some t) × (is_testable t ≡ true)
-      tested_is None e = not_true e
+      tested_is None e = by_false_true e
       tested_is (Some t) e = (t, refl, e)
 
   pub gives_of : (o : Option Expr) (u : Option Ty) (t : Ty) → u ≡ Some t → to_breaks w (option_map expr_here o) here u ≡ [] → Gives w o t
@@ -102,7 +100,7 @@ module _ (w : Where) where
 
   -- so many arguments as are wanted
   counted : (ws : List Wanted) (t : Ty) (es : Exprs) (q : _) → number_breaks (Takes ws t) (exprs_here es) q ≡ [] → length (count (exprs_here es)) ≡ length ws
-  counted ws t es q h = number_is (length (count (exprs_here es))) (length ws) (holds_then (length (count (exprs_here es)) == length ws) q WrongNumber h)
+  counted ws t es q h = eq_means (length (count (exprs_here es))) (length ws) (holds_then (length (count (exprs_here es)) == length ws) q WrongNumber h)
 
   plain_arg : (t : Wanted) (e : Expr) → expr_breaks w (expr_here e) ++ suit_breaks w.scope t (expr_here e) (typed_at w (expr_here e)) ≡ [] → Suits w t e
   plain_arg t e h = let s = plain_suits w t (expr_here e) h in record { type = s.1.0; has = record { fine = s.0; is_typed = sym (type_again w e) ∙ s.1.1 }; suits = s.1.2 }
@@ -156,8 +154,8 @@ module _ (w : Where) where
       )
 
   simple_wants : (prim : Primitive) (es : Exprs) → is_simple prim ≡ true → wants w.scope prim (exprs_here es) ≡ map wanted_of (takes_first prim)
-  simple_wants P.Puts es h = not_true h
-  simple_wants P.RtDetach es h = not_true h
+  simple_wants P.Puts es h = by_false_true h
+  simple_wants P.RtDetach es h = by_false_true h
   simple_wants prim es h = refl
 
   -- a call of a primitive
@@ -193,7 +191,7 @@ module _ (w : Where) where
 
   spawned_is : (k : Meant) → is_callee (spawn_callee k) ≡ true → (t : Ty) × (ts : List Ty) × (k ≡ AFunction Cps t ts)
   spawned_is (AFunction Cps t ts) h = (t, ts, refl)
-  spawned_is _ h = not_true h
+  spawned_is _ h = by_false_true h
 
   pub spawn_parts : (x : Text) (es : Exprs) → stmt_breaks w (stmt_here (Spawn x es)) ≡ [] → (t : Ty) × (ts : List Ty) × (meant w.scope x ≡ AFunction Cps t ts) × AllSet w ts es
   spawn_parts x es h =
@@ -208,8 +206,8 @@ module _ (w : Where) where
     where
       go : (b : Bool) → takes_section w.scope ts ≡ b → is_callee (cond b (Takes (map (λ t. Of t) ts) (TyInt Int)) NoCallee) ≡ true → (us : List Ty) × (AFunction Detached (TyInt Int) ts ≡ AFunction Detached (TyInt Int) us) × (takes_section w.scope us ≡ true)
       go true e h = (ts, refl, e)
-      go false e h = not_true h
-  section_is _ h = not_true h
+      go false e h = by_false_true h
+  section_is _ h = by_false_true h
 
   pub section_parts : (to : Option Expr) (x : Text) (es : Exprs) → stmt_breaks w (stmt_here (Detach to x es)) ≡ []
       → (ts : List Ty) × (meant w.scope x ≡ AFunction Detached (TyInt Int) ts) × (takes_section w.scope ts ≡ true) × AllSet w ts es × Gives w to (TyInt Int)

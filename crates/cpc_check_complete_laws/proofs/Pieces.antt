@@ -1,6 +1,7 @@
 -- Where a source function's point stands, and where its image stands in a piece: names, openings, arrivals.
 use Rattle.std.proofs.Common.{◌≡◌, ℕ, suc, ◌+◌, Bool, true, false, cond, List, [], ◌∷◌, length, map, reverse, Option, Some, None, bytes_eq, refl, sym, ◌∙◌, ap, subst}
 use Rattle.cpc_base.specs.Bytes.{Text}
+use Rattle.cpc_base.proofs.Truth.{by_false_true}
 use Rattle.cpc_tree.specs.declared.program.Mode.{Mode}
 use Rattle.cpc_tree.specs.declared.program.Mode.TheVariants.{Native}
 use Rattle.cpc_tree.specs.Syntax.{Ty, TyVoid, TyInt, TyCondvar, TyPointer, TyCode, TyStruct, TyArray, Expr, ENamed, Assign, Variable, StructItem, GlobalItem, PrototypeItem, FunctionItem, Program}
@@ -14,7 +15,6 @@ use Rattle.cpc_check_laws.proofs.NativeValues.{cpc, event}
 use Rattle.cpc_check_laws.proofs.OnePlace.{stmt_here}
 use Rattle.cpc_check_sound_laws.specs.Suits.{converts}
 use Rattle.cpc_check_sound_laws.proofs.Agreement.{takes_converts}
-use Rattle.cpc_check_sound_laws.proofs.Answers.{not_true}
 use Rattle.cpc_convert_image_laws.specs.Images.{Readings}
 use Rattle.cpc_convert_chain_laws.specs.Frames.{Load, loaded_scope, declared_scope, taken_scope}
 use Rattle.cpc_check_complete_laws.specs.Reads.{Reads, Carries}
@@ -125,20 +125,20 @@ piece_carries before after keeps m u t scope blocks others r closed tells variab
 
 -- what a value of a type can be given to has a scalar type, and so has the value
 pub given_scalar : (t u : Ty) → takes_value t false u ≡ true → is_scalar u ≡ true
-given_scalar t u h = converted_scalar t u (takes_converts t u false h (λ e. not_true e))
+given_scalar t u h = converted_scalar t u (takes_converts t u false h (λ e. by_false_true e))
   where
     converted_scalar : (t u : Ty) → converts t u ≡ true → is_scalar u ≡ true
     converted_scalar t (TyInt k) h = refl
     converted_scalar t TyCondvar h = refl
     converted_scalar t (TyPointer u) h = refl
     converted_scalar t (TyCode r ps) h = refl
-    converted_scalar (TyInt j) _ h = not_true h
-    converted_scalar TyCondvar _ h = not_true h
-    converted_scalar (TyPointer t) _ h = not_true h
-    converted_scalar (TyCode r ps) _ h = not_true h
-    converted_scalar TyVoid _ h = not_true h
-    converted_scalar (TyStruct tag) _ h = not_true h
-    converted_scalar (TyArray t n) _ h = not_true h
+    converted_scalar (TyInt j) _ h = by_false_true h
+    converted_scalar TyCondvar _ h = by_false_true h
+    converted_scalar (TyPointer t) _ h = by_false_true h
+    converted_scalar (TyCode r ps) _ h = by_false_true h
+    converted_scalar TyVoid _ h = by_false_true h
+    converted_scalar (TyStruct tag) _ h = by_false_true h
+    converted_scalar (TyArray t n) _ h = by_false_true h
 
 -- the value that arrived goes to its place
 pub arrival_fine : (v : Where) (e : Expr) (x : Text) (k : ℕ) (u : Ty) → meant v.scope x ≡ ALocal k u → Gives v (Some e) u → stmt_breaks v (stmt_here (Assign e None (ENamed x))) ≡ []

@@ -1,6 +1,7 @@
 -- A spawn as a call of the spawner leaves locals, labels, and breaks and continues as they are.
 use Rattle.std.proofs.Common.{◌≡◌, List, [], ◌∷◌, ◌++◌, refl, sym, ◌∙◌, ap, ap₂, drop, drop-drop}
 use Rattle.cpc_base.specs.declared.stop.Dialect.TheVariants as D
+use Rattle.cpc_base.proofs.Truth.{or_neither}
 use Rattle.cpc_tree.specs.Syntax.{Stmt, Block, If, While, DoWhile, For, Label, Stmts, NoStmt, AndStmt, MaybeStmt, Absent, Present}
 use Rattle.cpc_tree.specs.Located.{Ident, LParameter}
 use Rattle.cpc_check_rules.specs.declared.rule.Rule.TheVariants.{LabelTwice, Reserved}
@@ -9,7 +10,6 @@ use Rattle.cpc_check_rules.specs.FunctionRules as F
 use Rattle.cpc_check_rules.specs.FunctionRules.{locals, locals_in, locals_maybe, labels, labels_in, labels_maybe, gotos, gotos_in, gotos_maybe, stray_breaks, stray_in, stray_maybe, label_breaks, repeated, missing, many_breaks, variables, parameter_names, reserved_breaks, is_kept, is_reserved, holds_bars}
 use Rattle.cpc_check_laws.proofs.NativeValues.{left_none, right_none, both_none, unbroken}
 use Rattle.cpc_check_laws.proofs.OnePlace.{ident_here, stmt_here, stmts_here, maybe_here}
-use Rattle.cpc_check_sound_laws.proofs.Bodies.{either_false}
 use Rattle.cpc_convert.specs.Converted.{respawned, respawned_all, respawned_arm}
 
 mutual
@@ -95,7 +95,7 @@ same_label_breaks s = ap₂ (λ x y. repeated LabelTwice [] x ++ missing x y) (s
 pub unreserved : (xs : List Ident) → reserved_breaks D.Cpc xs ≡ [] → reserved_breaks D.Event xs ≡ []
 unreserved [] h = refl
 unreserved (x ∷ xs) h =
-    let fine = (either_false (is_kept x.text) (holds_bars x.text) (unbroken (is_reserved D.Cpc x.text) x.place Reserved (left_none _ _ h))).0 in
+    let fine = (or_neither (is_kept x.text) (holds_bars x.text) (unbroken (is_reserved D.Cpc x.text) x.place Reserved (left_none _ _ h))).0 in
     both_none _ _ (ap (λ b. at_if b x.place Reserved) fine) (unreserved xs (right_none (at_if (is_reserved D.Cpc x.text) x.place Reserved) _ h))
 
 -- names of locals and labels

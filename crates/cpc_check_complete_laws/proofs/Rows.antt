@@ -3,6 +3,7 @@ use Rattle.std.proofs.Common.{◌≡◌, ◌&&◌, ◌||◌, not, Bool, true, fa
 use Rattle.std.specs.Prelude.{option_map}
 use Rattle.cpc_base.specs.Bytes.{Text}
 use Rattle.cpc_base.specs.declared.stop.Dialect.TheVariants as D
+use Rattle.cpc_base.proofs.Truth.{by_false_true}
 use Rattle.cpc_num.specs.declared.kinds.Kind.TheVariants.{Int}
 use Rattle.cpc_tree.specs.declared.program.Mode.{Mode}
 use Rattle.cpc_tree.specs.declared.program.Mode.TheVariants.{Detached}
@@ -20,7 +21,6 @@ use Rattle.cpc_check_rules.specs.ExprRules.{expr_breaks, called_breaks, args_bre
 use Rattle.cpc_check_rules.specs.StmtRules.{fits_breaks, start_breaks, to_breaks, is_void, unfit_return, test_breaks, stmt_breaks}
 use Rattle.cpc_check_laws.proofs.NativeValues.{both_none}
 use Rattle.cpc_check_laws.proofs.OnePlace.{here, ident_here, expr_here, exprs_here, stmt_here, expr_again}
-use Rattle.cpc_check_sound_laws.proofs.Answers.{not_true}
 use Rattle.cpc_check_complete_laws.specs.Sets.{Sets, Writes, AllSet, Gives, Suits, AllSuit, AndSuits, is_simple}
 use Rattle.cpc_check_complete_laws.proofs.Makers.{type_here, target_fine, to_fine, sets_suits, all_sets_suit, args_fine, number_fine}
 
@@ -85,8 +85,8 @@ module _ (v : Where) where
       never false = refl
 
   simple_wants : (prim : Primitive) (es : Exprs) → is_simple prim ≡ true → wants v.scope prim (exprs_here es) ≡ map wanted_of (takes_first prim)
-  simple_wants P.Puts es h = not_true h
-  simple_wants P.RtDetach es h = not_true h
+  simple_wants P.Puts es h = by_false_true h
+  simple_wants P.RtDetach es h = by_false_true h
   simple_wants prim es h = refl
 
   pub primitive_fine : (to : Option Expr) (x : Text) (es : Exprs) (prim : Primitive) → v.dialect ≡ D.Event → is_detached v.mode ≡ false → meant v.scope x ≡ NotMeant → primitive_named x ≡ Some prim → gives_up prim ≡ false → is_simple prim ≡ true

@@ -2,6 +2,8 @@
 use Rattle.std.proofs.Common.{◌≡◌, not, Bool, true, false, cond, List, [], ◌∷◌, ◌++◌, length, map, Option, Some, None, bytes_eq, refl, sym, ap, subst, append_assoc, append-nil}
 use Rattle.cpc_base.specs.Bytes.{Text}
 use Rattle.cpc_base.specs.declared.stop.Dialect.{Dialect}
+use Rattle.cpc_base.proofs.Truth.{by_false_true}
+use Rattle.cpc_base.proofs.Lists.{some_is}
 use Rattle.cpc_tree.specs.Syntax.{Ty, Block, Empty, Stmts, NoStmt, AndStmt, Parameter, Function, Item, StructItem, GlobalItem, PrototypeItem, FunctionItem, Program}
 use Rattle.cpc_tree.specs.Located.{LParameter}
 use Rattle.cpc_tree.specs.ItemGrammar.{all_named}
@@ -17,7 +19,7 @@ use Rattle.cpc_check_rules.specs.StmtRules.{stmts_breaks}
 use Rattle.cpc_check_rules.specs.FunctionRules.{reserved_breaks}
 use Rattle.cpc_check_rules.specs.ItemRules.{declared_breaks, cps_breaks, parameters_breaks, sized_breaks, outside, parameter_block, in_body, body_breaks, function_breaks, item_breaks, items_breaks}
 use Rattle.cpc_check_laws.proofs.OnePlace.{ident_here, stmt_here, stmts_here, parameter_here, function_here, item_here, item_again}
-use Rattle.cpc_check_sound_laws.proofs.Answers.{some_is, no_some, not_true}
+use Rattle.cpc_check_sound_laws.proofs.Answers.{no_some}
 use Rattle.cpc_check_sound_laws.proofs.Unbroken.{split, holds_then}
 use Rattle.cpc_check_complete_laws.specs.Steps.{HasSteps, AllHaveSteps}
 use Rattle.cpc_check_complete_laws.specs.Standing.{Tells, Standing, NothingStands, Stands, AllSized, NoneSized, AndSized}
@@ -123,7 +125,7 @@ module _ (dialect : Dialect) (before : Program) (f : Function) (row : function_b
         one : (o : Option Text) (t : Ty) → all_named (λ (p : Parameter). p.called) (record { called = o; type = t } ∷ ps) ≡ true → sized_breaks (outside dialect before).scope (map parameter_here (record { called = o; type = t } ∷ ps)) ≡ []
             → (all_named (λ (p : Parameter). p.called) ps ≡ true → sized_breaks (outside dialect before).scope (map parameter_here ps) ≡ [] → AllSized (outside dialect before).scope (map as_variable ps))
             → AllSized (outside dialect before).scope (map as_variable (record { called = o; type = t } ∷ ps))
-        one None t e h rest = not_true e
+        one None t e h rest = by_false_true e
         one (Some x) t e h rest =
             let k = split (at_if (not (is_sized (outside dialect before).scope t)) _ Incomplete) _ h in
             AndSized _ (map as_variable ps) (holds_then (is_sized (outside dialect before).scope t) _ Incomplete k.0) (rest e k.1)

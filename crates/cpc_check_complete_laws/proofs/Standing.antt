@@ -3,6 +3,7 @@ use Rattle.std.proofs.Common.{◌≡◌, not, ℕ, zero, suc, ◌+◌, Bool, tru
 use Rattle.std.specs.Prelude.{option_map}
 use Rattle.cpc_base.specs.Bytes.{Text}
 use Rattle.cpc_base.specs.declared.stop.Dialect.{Dialect}
+use Rattle.cpc_base.proofs.Truth.{by_false_true}
 use Rattle.cpc_tree.specs.declared.program.Mode.{Mode}
 use Rattle.cpc_tree.specs.Syntax.{Ty, Expr, Stmt, Block, Empty, Declare, Assign, Call, Detach, Spawn, If, While, DoWhile, For, Goto, Label, Break, Continue, Return, Stmts, NoStmt, AndStmt, MaybeStmt, Absent, Present, Variable, Parameter, Program}
 use Rattle.cpc_tree.specs.ItemGrammar.{all_named}
@@ -18,7 +19,6 @@ use Rattle.cpc_check_rules.specs.Operators.{Where}
 use Rattle.cpc_check_rules.specs.StmtRules.{variable, behind, all_behind, test_breaks, maybe_test, stmt_breaks, stmts_breaks, maybe_breaks}
 use Rattle.cpc_check_rules.specs.ItemRules.{parameter_block}
 use Rattle.cpc_check_laws.proofs.OnePlace.{here, ident_here, expr_here, stmt_here, stmts_here, maybe_here, parameter_here}
-use Rattle.cpc_check_sound_laws.proofs.Answers.{not_true}
 use Rattle.cpc_check_sound_laws.proofs.Unbroken.{split, holds_then}
 use Rattle.cpc_check_complete_laws.specs.Steps.{IsStep, HasSteps, AllHaveSteps, ArmHasSteps}
 use Rattle.cpc_check_complete_laws.specs.Standing.{local_named, local_or, Tells, Standing, NothingStands, Stands, AllSized, NoneSized, AndSized}
@@ -56,7 +56,7 @@ parameters_told block n (p ∷ ps) scope e tells = one p.called p.type e (λ blo
     one : (o : Option Text) (t : Ty) → all_named (λ (p : Parameter). p.called) (record { called = o; type = t } ∷ ps) ≡ true
         → ((block : S.Block) (scope : T.Scope) → all_named (λ (p : Parameter). p.called) ps ≡ true → Tells scope (block ∷ []) → Tells (parameter_scope (suc n) ps scope) (parameter_block block (map parameter_here ps) ∷ []))
         → Tells (parameter_scope n (record { called = o; type = t } ∷ ps) scope) (parameter_block block (map parameter_here (record { called = o; type = t } ∷ ps)) ∷ [])
-    one None t e rest = not_true e
+    one None t e rest = by_false_true e
     one (Some x) t e rest = rest (record { called = x; type = t } ∷ block) (record { called = x; type = t; slot = n } ∷ scope) e (tells_more scope (block ∷ []) (record { called = x; type = t }) n tells)
 
 module _ (items : Program) (mode : Mode) (result : Ty) (dialect : Dialect) where

@@ -6,6 +6,8 @@ use Rattle.std.specs.Prelude.{reverse, if◌then◌else◌}
 use Rattle.cpc_base.specs.Bytes.{Text}
 use Rattle.cpc_base.specs.declared.stop.Place.{Place}
 use Rattle.cpc_base.specs.declared.stop.Dialect.{Dialect}
+use Rattle.cpc_base.proofs.Truth.{or_regrouped, or_exchanged}
+use Rattle.cpc_base.proofs.Lists.{drop_to_item}
 use Rattle.cpc_tree.specs.declared.program.Word.{Word}
 use Rattle.cpc_tree.specs.declared.program.Field as GField
 use Rattle.cpc_tree.specs.declared.program.Item as GItem
@@ -25,7 +27,6 @@ use Rattle.cpc_check_rules.specs.FunctionRules.{is_reserved, reserved_breaks}
 use Rattle.cpc_check_rules.specs.ItemRules as R
 use Rattle.cpc_check_rules.proofs.Firsts.{noted_both}
 use Rattle.cpc_types.specs.Counted.{fields_count, count}
-use Rattle.cpc_check_names.proofs.Nodes.{drop_item}
 use Rattle.cpc_check_items.specs.Signatures.{types_of}
 
 abbrev Firsts : Type 0
@@ -40,7 +41,7 @@ pub row_step : (A : Type 0) (f : List A → Broken) (a : Broken) (xs : List A) (
     → f (x ∷ drop (i + 1) xs) ≡ a ++ f (drop (i + 1) xs) → noted o (f (drop i xs)) ≡ r → noted p (f (drop (i + 1) xs)) ≡ r
 row_step A f a xs i x o p r h is e g k =
     let rest = f (drop (i + 1) xs) in
-    ap (λ y. noted y rest) e ∙ sym (noted_both o a rest) ∙ ap (noted o) (sym g) ∙ ap (λ l. noted o (f l)) (sym (drop_item xs i x h is)) ∙ k
+    ap (λ y. noted y rest) e ∙ sym (noted_both o a rest) ∙ ap (noted o) (sym g) ∙ ap (λ l. noted o (f l)) (sym (drop_to_item xs i x h is)) ∙ k
 
 -- parameters of no size, one by one
 sized_named : (s : S.Scope) (o : Option Ident) (t : Ty) (ps : List LParameter)
@@ -79,7 +80,7 @@ words_more names ws vs fs i f h is e =
     let rest = R.field_names (map (located_field names) (drop (i + 1) fs)) in
     ap (λ l. map (ident names) l ++ rest) e ∙ ap (λ l. l ++ rest) (map_push (ident names) ws f.word)
     ∙ append_assoc (map (ident names) ws) (ident names f.word ∷ []) rest
-    ∙ ap (λ l. map (ident names) ws ++ R.field_names (map (located_field names) l)) (sym (drop_item fs i f h is))
+    ∙ ap (λ l. map (ident names) ws ++ R.field_names (map (located_field names) l)) (sym (drop_to_item fs i f h is))
 
 pub words_end : (names : Names) (row : List Ident) (fs : List GField.Field) (i : ℕ) → length fs ≤ i → row ++ R.field_names (map (located_field names) (drop i fs)) ≡ row
 words_end names row fs i h = ap (λ l. row ++ R.field_names (map (located_field names) l)) (drop_all i fs h) ∙ append-nil row
@@ -102,25 +103,15 @@ oversized_is names p tag fs e =
 
 -- ---- tags
 
-or_grouped : (a b c : Bool) → (a || (b || c)) ≡ ((a || b) || c)
-or_grouped true b c = refl
-or_grouped false b c = refl
-
-or_swapped : (a b : Bool) → (a || b) ≡ (b || a)
-or_swapped true true = refl
-or_swapped true false = refl
-or_swapped false true = refl
-or_swapped false false = refl
-
 struct_both : (tag : Text) (xs ys : Program) → R.is_struct tag (xs ++ ys) ≡ (R.is_struct tag xs || R.is_struct tag ys)
 struct_both tag [] ys = refl
-struct_both tag (StructItem t fs ∷ xs) ys = ap (λ b. bytes_eq t tag || b) (struct_both tag xs ys) ∙ or_grouped (bytes_eq t tag) (R.is_struct tag xs) (R.is_struct tag ys)
+struct_both tag (StructItem t fs ∷ xs) ys = ap (λ b. bytes_eq t tag || b) (struct_both tag xs ys) ∙ or_regrouped (bytes_eq t tag) (R.is_struct tag xs) (R.is_struct tag ys)
 struct_both tag (GlobalItem g t start ∷ xs) ys = struct_both tag xs ys
 struct_both tag (PrototypeItem mode f r ps ∷ xs) ys = struct_both tag xs ys
 struct_both tag (FunctionItem f ∷ xs) ys = struct_both tag xs ys
 
 struct_here : (tag : Text) (x : Item) (xs : Program) → R.is_struct tag (x ∷ xs) ≡ (R.is_struct tag xs || R.is_struct tag (x ∷ []))
-struct_here tag x xs = struct_both tag (x ∷ []) xs ∙ or_swapped (R.is_struct tag (x ∷ [])) (R.is_struct tag xs)
+struct_here tag x xs = struct_both tag (x ∷ []) xs ∙ or_exchanged (R.is_struct tag (x ∷ [])) (R.is_struct tag xs)
 
 struct_back : (tag : Text) (xs : Program) → R.is_struct tag (reverse xs) ≡ R.is_struct tag xs
 struct_back tag [] = refl
@@ -159,7 +150,7 @@ function_both x [] ys = refl
 function_both x (StructItem t fs ∷ xs) ys = function_both x xs ys
 function_both x (GlobalItem g t start ∷ xs) ys = function_both x xs ys
 function_both x (PrototypeItem mode f r ps ∷ xs) ys = function_both x xs ys
-function_both x (FunctionItem f ∷ xs) ys = ap (λ b. bytes_eq f.called x || b) (function_both x xs ys) ∙ or_grouped (bytes_eq f.called x) (R.is_function x xs) (R.is_function x ys)
+function_both x (FunctionItem f ∷ xs) ys = ap (λ b. bytes_eq f.called x || b) (function_both x xs ys) ∙ or_regrouped (bytes_eq f.called x) (R.is_function x xs) (R.is_function x ys)
 
 -- the items so far and one more
 pub function_more : (names : Names) (x : Text) (xs : List GItem.Item) (i : ℕ) (y : GItem.Item) (b c : Bool) → i < length xs → y ≡ get_or xs i y
@@ -167,6 +158,6 @@ pub function_more : (names : Names) (x : Text) (xs : List GItem.Item) (i : ℕ) 
 function_more names x xs i y b c h is e f =
     let so_far = map (item_of names) (take i xs) in
     let last = item_of names y ∷ [] in
-    e ∙ ap (λ t. R.is_function x last || t) f ∙ or_swapped (R.is_function x last) (R.is_function x so_far) ∙ sym (function_both x so_far last)
+    e ∙ ap (λ t. R.is_function x last || t) f ∙ or_exchanged (R.is_function x last) (R.is_function x so_far) ∙ sym (function_both x so_far last)
     ∙ ap (R.is_function x) (sym (map-append (item_of names) (take i xs) (y ∷ [])))
     ∙ ap (λ l. R.is_function x (map (item_of names) l)) (ap (λ z. take i xs ++ z ∷ []) is ∙ sym (take_more xs i y h))

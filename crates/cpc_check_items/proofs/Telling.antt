@@ -5,6 +5,7 @@ use Rattle.std.specs.Prelude.{bytes_eq, if◌then◌else◌, ◌==◌, nat_eq}
 use Rattle.std.specs.HashMap as hash
 use Rattle.cpc_base.specs.Bytes.{Text}
 use Rattle.cpc_base.specs.declared.names.Name.{Name}
+use Rattle.cpc_base.proofs.Truth.{or_regrouped, or_with_true, or_with_false, or_not_first, or_not_second, and_with_true}
 use Rattle.cpc_tree.specs.declared.program.Mode.{Mode}
 use Rattle.cpc_tree.specs.declared.program.Mode.TheVariants.{Extern, Native, Cps, Detached}
 use Rattle.cpc_tree.specs.declared.program.Parameter as GParameter
@@ -21,46 +22,24 @@ use Rattle.cpc_check_items.specs.declared.earlier.Past.TheVariants as P
 use Rattle.cpc_check_items.specs.declared.earlier.Earlier.{Earlier}
 use Rattle.cpc_check_items.proofs.Agreeing.{agrees_alike}
 
--- ---- tests
-
-or_grouped : (a b c : Bool) → (a || (b || c)) ≡ ((a || b) || c)
-or_grouped true b c = refl
-or_grouped false b c = refl
-
-or_true : (a : Bool) → (a || true) ≡ true
-or_true true = refl
-or_true false = refl
-
-or_false : (a : Bool) → (a || false) ≡ a
-or_false true = refl
-or_false false = refl
-
-neither_left : (a b : Bool) → (a || b) ≡ false → a ≡ false
-neither_left true b e = e
-neither_left false b e = refl
-
-neither_right : (a b : Bool) → (a || b) ≡ false → b ≡ false
-neither_right true b e = absurd cc
-neither_right false b e = e
-
 -- ---- the items of two rows
 
 item_both : (x : Text) (xs ys : Program) → R.is_item x (xs ++ ys) ≡ (R.is_item x xs || R.is_item x ys)
 item_both x [] ys = refl
 item_both x (StructItem t fs ∷ xs) ys = item_both x xs ys
-item_both x (GlobalItem g t start ∷ xs) ys = ap (λ b. bytes_eq g x || b) (item_both x xs ys) ∙ or_grouped (bytes_eq g x) (R.is_item x xs) (R.is_item x ys)
-item_both x (PrototypeItem mode f r ps ∷ xs) ys = ap (λ b. bytes_eq f x || b) (item_both x xs ys) ∙ or_grouped (bytes_eq f x) (R.is_item x xs) (R.is_item x ys)
-item_both x (FunctionItem f ∷ xs) ys = ap (λ b. bytes_eq f.called x || b) (item_both x xs ys) ∙ or_grouped (bytes_eq f.called x) (R.is_item x xs) (R.is_item x ys)
+item_both x (GlobalItem g t start ∷ xs) ys = ap (λ b. bytes_eq g x || b) (item_both x xs ys) ∙ or_regrouped (bytes_eq g x) (R.is_item x xs) (R.is_item x ys)
+item_both x (PrototypeItem mode f r ps ∷ xs) ys = ap (λ b. bytes_eq f x || b) (item_both x xs ys) ∙ or_regrouped (bytes_eq f x) (R.is_item x xs) (R.is_item x ys)
+item_both x (FunctionItem f ∷ xs) ys = ap (λ b. bytes_eq f.called x || b) (item_both x xs ys) ∙ or_regrouped (bytes_eq f.called x) (R.is_item x xs) (R.is_item x ys)
 
 clash_both : (x : Text) (new : R.Signature) (xs ys : Program) → R.is_clash x new (xs ++ ys) ≡ (R.is_clash x new xs || R.is_clash x new ys)
 clash_both x new [] ys = refl
 clash_both x new (StructItem t fs ∷ xs) ys = clash_both x new xs ys
 clash_both x new (GlobalItem g t start ∷ xs) ys =
-    ap (λ b. bytes_eq g x || b) (clash_both x new xs ys) ∙ or_grouped (bytes_eq g x) (R.is_clash x new xs) (R.is_clash x new ys)
+    ap (λ b. bytes_eq g x || b) (clash_both x new xs ys) ∙ or_regrouped (bytes_eq g x) (R.is_clash x new xs) (R.is_clash x new ys)
 clash_both x new (PrototypeItem mode f r ps ∷ xs) ys =
-    ap (λ b. (bytes_eq f x && R.clashes new mode false) || b) (clash_both x new xs ys) ∙ or_grouped (bytes_eq f x && R.clashes new mode false) (R.is_clash x new xs) (R.is_clash x new ys)
+    ap (λ b. (bytes_eq f x && R.clashes new mode false) || b) (clash_both x new xs ys) ∙ or_regrouped (bytes_eq f x && R.clashes new mode false) (R.is_clash x new xs) (R.is_clash x new ys)
 clash_both x new (FunctionItem f ∷ xs) ys =
-    ap (λ b. (bytes_eq f.called x && R.clashes new f.mode true) || b) (clash_both x new xs ys) ∙ or_grouped (bytes_eq f.called x && R.clashes new f.mode true) (R.is_clash x new xs) (R.is_clash x new ys)
+    ap (λ b. (bytes_eq f.called x && R.clashes new f.mode true) || b) (clash_both x new xs ys) ∙ or_regrouped (bytes_eq f.called x && R.clashes new f.mode true) (R.is_clash x new xs) (R.is_clash x new ys)
 
 disagreeing_both : (x : Text) (new : R.Signature) (xs ys : Program) → R.is_disagreeing x new (xs ++ ys) ≡ (R.is_disagreeing x new xs || R.is_disagreeing x new ys)
 disagreeing_both x new [] ys = refl
@@ -68,10 +47,10 @@ disagreeing_both x new (StructItem t fs ∷ xs) ys = disagreeing_both x new xs y
 disagreeing_both x new (GlobalItem g t start ∷ xs) ys = disagreeing_both x new xs ys
 disagreeing_both x new (PrototypeItem mode f r ps ∷ xs) ys =
     let here = bytes_eq f x && R.disagrees new mode false r (map parameter_type ps) in
-    ap (λ b. here || b) (disagreeing_both x new xs ys) ∙ or_grouped here (R.is_disagreeing x new xs) (R.is_disagreeing x new ys)
+    ap (λ b. here || b) (disagreeing_both x new xs ys) ∙ or_regrouped here (R.is_disagreeing x new xs) (R.is_disagreeing x new ys)
 disagreeing_both x new (FunctionItem f ∷ xs) ys =
     let here = bytes_eq f.called x && R.disagrees new f.mode true f.result (map parameter_type f.parameters) in
-    ap (λ b. here || b) (disagreeing_both x new xs ys) ∙ or_grouped here (R.is_disagreeing x new xs) (R.is_disagreeing x new ys)
+    ap (λ b. here || b) (disagreeing_both x new xs ys) ∙ or_regrouped here (R.is_disagreeing x new xs) (R.is_disagreeing x new ys)
 
 -- ---- functions beside functions
 
@@ -111,17 +90,13 @@ one_of_two false b c = refl
 -- of three functions, with a body or without
 three : (x y z a b c : Bool) → ((differ x y || (a && b)) || (differ x z || (a && c))) ≡ (if differ y z then true else (differ x y || (a && (b || c))))
 three true true true a b c = one_of_two a b c
-three true true false a b c = or_true (a && b)
+three true true false a b c = or_with_true (a && b)
 three true false true a b c = refl
 three true false false a b c = refl
 three false true true a b c = refl
 three false true false a b c = refl
-three false false true a b c = or_true (a && b)
+three false false true a b c = or_with_true (a && b)
 three false false false a b c = one_of_two a b c
-
-and_true : (b : Bool) → (b && true) ≡ b
-and_true true = refl
-and_true false = refl
 
 both_parts : (a same s g : Bool) → (a ≡ true → s ≡ g) → (not (a && same) || not s) ≡ not (a && (same && g))
 both_parts false same s g e = refl
@@ -166,7 +141,7 @@ module _ (names : Names) where
 
   disagreeing_joined : (o : Option Past) (s : Signature) (new : R.Signature) → is_clash_beside (Some (joined names o s)) new ≡ false
       → (is_disagreeing_beside names o new || not (agrees_with names new s)) ≡ is_disagreeing_beside names (Some (joined names o s)) new
-  disagreeing_joined None s new e = ap not (sym (and_true (agrees_with names new s)))
+  disagreeing_joined None s new e = ap not (sym (and_with_true (agrees_with names new s)))
   disagreeing_joined (Some P.Taken) s new e = absurd cc
   disagreeing_joined (Some (P.Functions d same)) s new e = disagreeing_if (are_mixed d.mode s.mode) d same s new e
 
@@ -186,7 +161,7 @@ module _ (names : Names) where
 
   tells_more : (before : Program) (x : Text) (y : Item) (o : Option Past) (s : Signature) → Declares x y s → Tells names before x o → Tells names (before ++ y ∷ []) x (Some (joined names o s))
   tells_more before x y o s d t = record {
-    item = item_both x before (y ∷ []) ∙ ap (λ b. R.is_item x before || b) d.item ∙ or_true (R.is_item x before);
+    item = item_both x before (y ∷ []) ∙ ap (λ b. R.is_item x before || b) d.item ∙ or_with_true (R.is_item x before);
     clash = λ new.
         clash_both x new before (y ∷ [])
         ∙ ap (λ b. b || R.is_clash x new (y ∷ [])) (t.clash new)
@@ -194,26 +169,26 @@ module _ (names : Names) where
         ∙ clash_joined o s new;
     disagreement = λ new e.
         let f : (is_clash_beside o new || R.clashes new s.mode s.is_defined) ≡ false = clash_joined o s new ∙ e in
-        let apart : R.clashes new s.mode s.is_defined ≡ false = neither_right (is_clash_beside o new) (R.clashes new s.mode s.is_defined) f in
+        let apart : R.clashes new s.mode s.is_defined ≡ false = or_not_second (is_clash_beside o new) (R.clashes new s.mode s.is_defined) f in
         disagreeing_both x new before (y ∷ [])
-        ∙ ap (λ b. b || R.is_disagreeing x new (y ∷ [])) (t.disagreement new (neither_left (is_clash_beside o new) (R.clashes new s.mode s.is_defined) f))
+        ∙ ap (λ b. b || R.is_disagreeing x new (y ∷ [])) (t.disagreement new (or_not_first (is_clash_beside o new) (R.clashes new s.mode s.is_defined) f))
         ∙ ap (λ b. is_disagreeing_beside names o new || b) (d.disagreement new ∙ ap (λ b. not b && not (agrees_with names new s)) apart)
         ∙ disagreeing_joined o s new e;
   }
 
   tells_same : (before : Program) (x : Text) (y : Item) (o : Option Past) → Skips x y → Tells names before x o → Tells names (before ++ y ∷ []) x o
   tells_same before x y o k t = record {
-    item = item_both x before (y ∷ []) ∙ ap (λ b. R.is_item x before || b) k.item ∙ or_false (R.is_item x before) ∙ t.item;
-    clash = λ new. clash_both x new before (y ∷ []) ∙ ap (λ b. R.is_clash x new before || b) (k.clash new) ∙ or_false (R.is_clash x new before) ∙ t.clash new;
+    item = item_both x before (y ∷ []) ∙ ap (λ b. R.is_item x before || b) k.item ∙ or_with_false (R.is_item x before) ∙ t.item;
+    clash = λ new. clash_both x new before (y ∷ []) ∙ ap (λ b. R.is_clash x new before || b) (k.clash new) ∙ or_with_false (R.is_clash x new before) ∙ t.clash new;
     disagreement = λ new e.
-        disagreeing_both x new before (y ∷ []) ∙ ap (λ b. R.is_disagreeing x new before || b) (k.disagreement new) ∙ or_false (R.is_disagreeing x new before) ∙ t.disagreement new e;
+        disagreeing_both x new before (y ∷ []) ∙ ap (λ b. R.is_disagreeing x new before || b) (k.disagreement new) ∙ or_with_false (R.is_disagreeing x new before) ∙ t.disagreement new e;
   }
 
   -- a variable
   tells_taken : (before : Program) (x : Text) (y : Item) → R.is_item x (y ∷ []) ≡ true → ((new : R.Signature) → R.is_clash x new (y ∷ []) ≡ true) → Tells names (before ++ y ∷ []) x (Some P.Taken)
   tells_taken before x y item clash = record {
-    item = item_both x before (y ∷ []) ∙ ap (λ b. R.is_item x before || b) item ∙ or_true (R.is_item x before);
-    clash = λ new. clash_both x new before (y ∷ []) ∙ ap (λ b. R.is_clash x new before || b) (clash new) ∙ or_true (R.is_clash x new before);
+    item = item_both x before (y ∷ []) ∙ ap (λ b. R.is_item x before || b) item ∙ or_with_true (R.is_item x before);
+    clash = λ new. clash_both x new before (y ∷ []) ∙ ap (λ b. R.is_clash x new before || b) (clash new) ∙ or_with_true (R.is_clash x new before);
     disagreement = λ new e. absurd cc;
   }
 
@@ -243,9 +218,9 @@ module _ (names : Names) where
       → Declares x (PrototypeItem mode f r ps) s
   declare_prototype x f mode r ps s e same = record {
     item = ap (λ b. b || false) e;
-    clash = λ new. ap (λ b. (b && R.clashes new mode false) || false) e ∙ or_false (R.clashes new mode false) ∙ ap (λ (t : R.Signature). R.clashes new t.mode t.is_defined) (sym same);
+    clash = λ new. ap (λ b. (b && R.clashes new mode false) || false) e ∙ or_with_false (R.clashes new mode false) ∙ ap (λ (t : R.Signature). R.clashes new t.mode t.is_defined) (sym same);
     disagreement = λ new.
-        ap (λ b. (b && R.disagrees new mode false r (map parameter_type ps)) || false) e ∙ or_false (R.disagrees new mode false r (map parameter_type ps))
+        ap (λ b. (b && R.disagrees new mode false r (map parameter_type ps)) || false) e ∙ or_with_false (R.disagrees new mode false r (map parameter_type ps))
         ∙ ap (λ (t : R.Signature). R.disagrees new t.mode t.is_defined t.result t.parameters) (sym same);
   }
 
@@ -253,9 +228,9 @@ module _ (names : Names) where
       → Declares x (FunctionItem f) s
   declare_function x f s e same = record {
     item = ap (λ b. b || false) e;
-    clash = λ new. ap (λ b. (b && R.clashes new f.mode true) || false) e ∙ or_false (R.clashes new f.mode true) ∙ ap (λ (t : R.Signature). R.clashes new t.mode t.is_defined) (sym same);
+    clash = λ new. ap (λ b. (b && R.clashes new f.mode true) || false) e ∙ or_with_false (R.clashes new f.mode true) ∙ ap (λ (t : R.Signature). R.clashes new t.mode t.is_defined) (sym same);
     disagreement = λ new.
-        ap (λ b. (b && R.disagrees new f.mode true f.result (map parameter_type f.parameters)) || false) e ∙ or_false (R.disagrees new f.mode true f.result (map parameter_type f.parameters))
+        ap (λ b. (b && R.disagrees new f.mode true f.result (map parameter_type f.parameters)) || false) e ∙ or_with_false (R.disagrees new f.mode true f.result (map parameter_type f.parameters))
         ∙ ap (λ (t : R.Signature). R.disagrees new t.mode t.is_defined t.result t.parameters) (sym same);
   }
 

@@ -1,7 +1,8 @@
 -- What a program of native code breaks in the dialect Event it breaks in the dialect Cpc: items, and whole programs.
-use Rattle.std.proofs.Common.{◌≡◌, Bool, true, false, ◌&&◌, ◌||◌, not, List, [], ◌∷◌, ◌++◌, drop, drop-drop, Option, Some, None, refl, sym, ap, ◌∙◌}
+use Rattle.std.proofs.Common.{◌≡◌, true, false, ◌&&◌, not, List, [], ◌∷◌, ◌++◌, drop, drop-drop, Option, Some, None, refl, sym, ap, ◌∙◌}
 use Rattle.cpc_base.specs.declared.stop.Place.{Place}
 use Rattle.cpc_base.specs.declared.stop.Dialect.TheVariants as D
+use Rattle.cpc_base.proofs.Truth.{and_first, and_second, not_holds, or_not_first}
 use Rattle.cpc_tree.specs.declared.program.Mode.{Mode}
 use Rattle.cpc_tree.specs.declared.program.Mode.TheVariants.{Native}
 use Rattle.cpc_tree.specs.Syntax.{Ty, TyVoid, Program}
@@ -15,22 +16,14 @@ use Rattle.cpc_check_rules.specs.ItemRules.{outside, struct_breaks, declared_bre
 use Rattle.cpc_check_rules.specs.Rules.{breaks, has_main}
 use Rattle.cpc_check_laws.specs.Native.{spawns_none, is_native_item, are_native}
 use Rattle.cpc_check_laws.proofs.NativeValues.{left_none, right_none, both_none, unbroken}
-use Rattle.cpc_check_laws.proofs.NativeStatements.{and_left, and_right, start_native, stmts_native}
-
-not_true : (b : Bool) → not b ≡ true → b ≡ false
-not_true true e = absurd cc
-not_true false e = refl
+use Rattle.cpc_check_laws.proofs.NativeStatements.{start_native, stmts_native}
 
 -- ---- names
-
-kept : (a b : Bool) → (a || b) ≡ false → a ≡ false
-kept true b e = e
-kept false b e = refl
 
 reserved_native : (xs : List Ident) → reserved_breaks D.Cpc xs ≡ [] → reserved_breaks D.Event xs ≡ []
 reserved_native [] h = refl
 reserved_native (x ∷ xs) h =
-    let fine : is_kept x.text ≡ false = kept (is_kept x.text) (holds_bars x.text) (unbroken (is_reserved D.Cpc x.text) x.place Reserved (left_none _ _ h)) in
+    let fine : is_kept x.text ≡ false = or_not_first (is_kept x.text) (holds_bars x.text) (unbroken (is_reserved D.Cpc x.text) x.place Reserved (left_none _ _ h)) in
     both_none _ _ (ap (λ b. at_if b x.place Reserved) fine) (reserved_native xs (right_none (at_if (is_reserved D.Cpc x.text) x.place Reserved) _ h))
 
 none_first : (xs : List Ident) → F.first_of xs ≡ [] → xs ≡ []
@@ -127,15 +120,15 @@ function_native before f native k h =
 item_native : (program before : Program) (x : LItem) → is_native_item x ≡ true → item_breaks D.Cpc program before x ≡ [] → item_breaks D.Event program before x ≡ []
 item_native program before (LStruct tag fs) k h = struct_native before tag fs h
 item_native program before (LGlobal x t start) k h = global_native before x t start h
-item_native program before (LPrototype q mode x r ps) k h = prototype_native program before q mode x r ps (not_true (is_cps mode) k) h
+item_native program before (LPrototype q mode x r ps) k h = prototype_native program before q mode x r ps (not_holds (is_cps mode) k) h
 item_native program before (LFunctionItem f) k h =
-    function_native before f (not_true (is_cps f.mode) (and_left (not (is_cps f.mode)) (spawns_none f.body) k)) (and_right (not (is_cps f.mode)) (spawns_none f.body) k) h
+    function_native before f (not_holds (is_cps f.mode) (and_first (not (is_cps f.mode)) (spawns_none f.body) k)) (and_second (not (is_cps f.mode)) (spawns_none f.body) k) h
 
 items_native : (program before : Program) (xs : List LItem) → are_native xs ≡ true → items_breaks D.Cpc program before xs ≡ [] → items_breaks D.Event program before xs ≡ []
 items_native program before [] k h = refl
 items_native program before (x ∷ xs) k h =
-    both_none _ _ (item_native program before x (and_left (is_native_item x) (are_native xs) k) (left_none _ _ h))
-    (items_native program (before ++ bare_item x ∷ []) xs (and_right (is_native_item x) (are_native xs) k) (right_none (item_breaks D.Cpc program before x) _ h))
+    both_none _ _ (item_native program before x (and_first (is_native_item x) (are_native xs) k) (left_none _ _ h))
+    (items_native program (before ++ bare_item x ∷ []) xs (and_second (is_native_item x) (are_native xs) k) (right_none (item_breaks D.Cpc program before x) _ h))
 
 -- a program of native code that breaks no rule of the dialect Cpc breaks none of the dialect Event
 pub native_unbroken : (p : LProgram) → are_native p.items ≡ true → breaks D.Cpc p ≡ [] → breaks D.Event p ≡ []

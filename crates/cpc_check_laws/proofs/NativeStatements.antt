@@ -1,6 +1,7 @@
 -- What native code breaks in the dialect Event it breaks in the dialect Cpc: calls as statements, and statements.
-use Rattle.std.proofs.Common.{◌≡◌, Bool, true, false, ◌&&◌, not, List, [], ◌∷◌, ◌++◌, Option, Some, None, refl, sym, ap, subst, ◌∙◌}
+use Rattle.std.proofs.Common.{◌≡◌, Bool, true, false, not, List, [], ◌∷◌, ◌++◌, Option, Some, None, refl, sym, ap, subst, ◌∙◌}
 use Rattle.cpc_base.specs.declared.stop.Place.{Place}
+use Rattle.cpc_base.proofs.Truth.{and_first, and_second}
 use Rattle.cpc_num.specs.declared.kinds.Kind.TheVariants.{Int}
 use Rattle.cpc_num.specs.declared.kinds.Op.{Op}
 use Rattle.cpc_tree.specs.declared.program.Mode.{Mode}
@@ -17,15 +18,6 @@ use Rattle.cpc_check_rules.specs.ExprRules.{expr_breaks, args_breaks, arg_breaks
 use Rattle.cpc_check_rules.specs.StmtRules.{stmt_breaks, stmts_breaks, maybe_breaks, target_breaks, assign_breaks, to_breaks, test_breaks, maybe_test, start_breaks, return_breaks, behind, all_behind, variable}
 use Rattle.cpc_check_laws.specs.Native.{spawns_none, all_spawn_none, maybe_spawns_none}
 use Rattle.cpc_check_laws.proofs.NativeValues.{left_none, right_none, both_none, cpc, event, expr_native, called_native}
-
--- both halves of a test
-pub and_left : (a b : Bool) → (a && b) ≡ true → a ≡ true
-and_left true b e = refl
-and_left false b e = absurd cc
-
-pub and_right : (a b : Bool) → (a && b) ≡ true → b ≡ true
-and_right true b e = e
-and_right false b e = absurd cc
 
 module _ (s : Scope) (m : Mode) (r : Ty) (native : is_cps m ≡ false) where
   -- an argument that is no string
@@ -178,8 +170,8 @@ mutual
   stmt_native s m r native (If q c a b) k h =
       let g = right_none (test_breaks (cpc s m r) c) _ h in
       both_none _ _ (test_native s m r native c (left_none _ _ h))
-      (both_none _ _ (stmt_native s m r native a (and_left (spawns_none a) (maybe_spawns_none b) k) (left_none _ _ g))
-      (maybe_native s m r native b (and_right (spawns_none a) (maybe_spawns_none b) k) (right_none (stmt_breaks (cpc s m r) a) _ g)))
+      (both_none _ _ (stmt_native s m r native a (and_first (spawns_none a) (maybe_spawns_none b) k) (left_none _ _ g))
+      (maybe_native s m r native b (and_second (spawns_none a) (maybe_spawns_none b) k) (right_none (stmt_breaks (cpc s m r) a) _ g)))
   stmt_native s m r native (While q c a) k h = both_none _ _ (test_native s m r native c (left_none _ _ h)) (stmt_native s m r native a k (right_none (test_breaks (cpc s m r) c) _ h))
   stmt_native s m r native (DoWhile q a c) k h = both_none _ _ (stmt_native s m r native a k (left_none _ _ h)) (test_native s m r native c (right_none (stmt_breaks (cpc s m r) a) _ h))
   stmt_native s m r native (For q ss c b a) k h =
@@ -190,12 +182,12 @@ mutual
       subst (λ w. stmts_breaks (cpc i m r) ss ++ (maybe_test w c ++ (maybe_breaks w b ++ stmt_breaks w a)) ≡ []) there.1 h in
       let g = right_none (stmts_breaks (cpc i m r) ss) _ none in
       let j = right_none (maybe_test (cpc t m r) c) _ g in
-      let rest = and_right (all_spawn_none ss) _ k in
+      let rest = and_second (all_spawn_none ss) _ k in
       subst (λ w. stmts_breaks (event i m r) ss ++ (maybe_test w c ++ (maybe_breaks w b ++ stmt_breaks w a)) ≡ []) (sym there.2)
-      (both_none _ _ (stmts_native i m r native ss (and_left (all_spawn_none ss) _ k) (left_none _ _ none))
+      (both_none _ _ (stmts_native i m r native ss (and_first (all_spawn_none ss) _ k) (left_none _ _ none))
       (both_none _ _ (maybe_test_native t m r native c (left_none _ _ g))
-      (both_none _ _ (maybe_native t m r native b (and_left (maybe_spawns_none b) (spawns_none a) rest) (left_none _ _ j))
-      (stmt_native t m r native a (and_right (maybe_spawns_none b) (spawns_none a) rest) (right_none (maybe_breaks (cpc t m r) b) _ j)))))
+      (both_none _ _ (maybe_native t m r native b (and_first (maybe_spawns_none b) (spawns_none a) rest) (left_none _ _ j))
+      (stmt_native t m r native a (and_second (maybe_spawns_none b) (spawns_none a) rest) (right_none (maybe_breaks (cpc t m r) b) _ j)))))
   stmt_native s m r native (Goto q x) k h = refl
   stmt_native s m r native (Label x a) k h = stmt_native s m r native a k h
   stmt_native s m r native (Break q) k h = refl
@@ -208,8 +200,8 @@ mutual
       let there = same_behind s m r x in
       let none : stmt_breaks (cpc s m r) x ++ stmts_breaks (cpc there.0 m r) ss ≡ [] = subst (λ w. stmt_breaks (cpc s m r) x ++ stmts_breaks w ss ≡ []) there.1 h in
       subst (λ w. stmt_breaks (event s m r) x ++ stmts_breaks w ss ≡ []) (sym there.2)
-      (both_none _ _ (stmt_native s m r native x (and_left (spawns_none x) (all_spawn_none ss) k) (left_none _ _ none))
-      (stmts_native there.0 m r native ss (and_right (spawns_none x) (all_spawn_none ss) k) (right_none (stmt_breaks (cpc s m r) x) _ none)))
+      (both_none _ _ (stmt_native s m r native x (and_first (spawns_none x) (all_spawn_none ss) k) (left_none _ _ none))
+      (stmts_native there.0 m r native ss (and_second (spawns_none x) (all_spawn_none ss) k) (right_none (stmt_breaks (cpc s m r) x) _ none)))
 
   maybe_native : (s : Scope) (m : Mode) (r : Ty) → is_cps m ≡ false → (x : MaybeLStmt) → maybe_spawns_none x ≡ true → maybe_breaks (cpc s m r) x ≡ [] → maybe_breaks (event s m r) x ≡ []
   maybe_native s m r native NoneLStmt k h = refl

@@ -1,13 +1,13 @@
 -- The names of parameters, one by one.
 use Rattle.std.proofs.Common.{◌≡◌, ℕ, ◌+◌, ◌<◌, ◌≤◌, List, [], ◌∷◌, ◌++◌, length, get_or, drop, map, refl, sym, ap, ◌∙◌, append_assoc, Option, Some, None}
 use Rattle.std.proofs.lemmas.List.{append-nil, drop_all}
+use Rattle.cpc_base.proofs.Lists.{drop_to_item}
 use Rattle.cpc_tree.specs.declared.program.Parameter.{Parameter}
 use Rattle.cpc_tree.specs.Syntax.{Ty}
 use Rattle.cpc_tree.specs.Located.{Ident, LParameter}
 use Rattle.cpc_tree.specs.Erase.{Names}
 use Rattle.cpc_tree.specs.Locate.{located_parameter}
 use Rattle.cpc_check_rules.specs.FunctionRules.{parameter_names}
-use Rattle.cpc_check_names.proofs.Nodes.{drop_item}
 
 called_first : (o : Option Ident) (t : Ty) (ps : List LParameter) → parameter_names (record { called = o; type = t } ∷ ps) ≡ parameter_names (record { called = o; type = t } ∷ []) ++ parameter_names ps
 called_first None t ps = refl
@@ -23,7 +23,7 @@ pub named_more : (names : Names) (x y : List Ident) (ps : List Parameter) (i : �
 named_more names x y ps i p h e k =
     let rest = parameter_names (map (located_parameter names) (drop (i + 1) ps)) in
     ap (λ v. v ++ rest) k ∙ (append_assoc x (parameter_names (located_parameter names p ∷ [])) rest
-    ∙ ap (λ v. x ++ v) (sym (ap (λ qs. parameter_names (map (located_parameter names) qs)) (drop_item ps i p h e) ∙ names_cons (located_parameter names p) (map (located_parameter names) (drop (i + 1) ps)))))
+    ∙ ap (λ v. x ++ v) (sym (ap (λ qs. parameter_names (map (located_parameter names) qs)) (drop_to_item ps i p h e) ∙ names_cons (located_parameter names p) (map (located_parameter names) (drop (i + 1) ps)))))
 
 pub named_end : (names : Names) (x : List Ident) (ps : List Parameter) (i : ℕ) → length ps ≤ i
     → x ++ parameter_names (map (located_parameter names) (drop i ps)) ≡ x

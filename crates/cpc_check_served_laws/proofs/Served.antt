@@ -3,6 +3,7 @@ use Rattle.std.proofs.Common.{◌≡◌, ◌∙◌, ◌&&◌, Bool, true, false,
 use Rattle.cpc_base.specs.Bytes.{Text}
 use Rattle.cpc_base.specs.declared.stop.Dialect.TheVariants as D
 use Rattle.cpc_base.specs.declared.stop.Place.{Place}
+use Rattle.cpc_base.proofs.Truth.{and_holds, by_true_false}
 use Rattle.cpc_num.specs.declared.kinds.Kind.TheVariants.{Int}
 use Rattle.cpc_tree.specs.Syntax.{TyInt, Program}
 use Rattle.cpc_tree.specs.Located.{Ident, LExpr, LNamed, LInteger, LCharacter, LText, LUnary, LBinary, LAnd, LOr, LChoose, LCast, LSizeOf, LIndex, LMember, LArrow, LCall, LExprs, LStmt, Block, Empty, Declare, Assign, Call, Detach, Spawn, If, While, DoWhile, For, Goto, Label, Break, Continue, Return, LStmts, NoLStmt, AndLStmt, MaybeLStmt, NoneLStmt, SomeLStmt, LFunction, LItem, LStruct, LGlobal, LPrototype, LFunctionItem, bare, bare_expr, bare_item, bare_maybe, bare_stmt, bare_stmts}
@@ -25,14 +26,6 @@ use Rattle.cpc_check_sound_laws.proofs.Unbroken.{holds_not, split}
 use Rattle.cpc_native_builtins.specs.Served.{are_served, calls_served, is_served, is_served_arm, is_served_item, is_served_program, is_served_stmt, serves}
 use Rattle.cpc_check_served_laws.specs.Laws.{AcceptedAreServed}
 use Rattle.cpc_check_served_laws.proofs.Scopes.{AreFree, Inside, ItemsFree, block_passed, first_free, free_names, inside_all_behind, inside_behind, inside_inner, item_free, last_free, parameters_free}
-
-both : (a b : Bool) → a ≡ true → b ≡ true → (a && b) ≡ true
-both true b e f = f
-both false b e f = e
-
-clash : {A : Type 0} (b : Bool) → b ≡ true → b ≡ false → A
-clash true e f = absurd cc
-clash false e f = absurd cc
 
 -- ---- calls
 
@@ -61,7 +54,7 @@ unless_waits RtDetach h = refl
 unless_waits _ h = absurd cc
 
 alone : (a b : Bool) → b ≡ true → (a && b) ≡ false → a ≡ false
-alone true b e h = clash b e h
+alone true b e h = by_true_false b e h
 alone false b e h = refl
 
 primitive_served : (w : Where) (q : Place) (prim : Primitive) → is_event w.dialect ≡ true → primitive_breaks w q prim ≡ [] → is_served prim ≡ true
@@ -100,7 +93,7 @@ call_served w i (LCall q f vs) es h = refl
 
 -- no form of the dialect Cpc stands here
 no_form : {A : Type 0} (w : Where) (q : Place) (rest : Broken) → Inside w → at_if (is_event w.dialect) q CpsForm ++ rest ≡ [] → A
-no_form w q rest i h = clash (is_event w.dialect) i.event (holds_not (is_event w.dialect) q CpsForm (split (at_if (is_event w.dialect) q CpsForm) rest h).0)
+no_form w q rest i h = by_true_false (is_event w.dialect) i.event (holds_not (is_event w.dialect) q CpsForm (split (at_if (is_event w.dialect) q CpsForm) rest h).0)
 
 no_section : {A : Type 0} (w : Where) (k : Place) (x : Ident) (es : LExprs) → Inside w → section_breaks w k x es ≡ [] → A
 no_section w k x es i h = no_form w k _ i (split (at_if (not (is_cps w.mode)) k CpsInNative) _ h).1
@@ -124,7 +117,7 @@ mutual
   stmt_served w i (If q c a r) s own h =
       let k = split (test_breaks w c) _ h in
       let l = split (stmt_breaks w a) (maybe_breaks w r) k.1 in
-      both (is_served_stmt (bare_stmt a)) (is_served_arm (bare_maybe r)) (stmt_served w i a s.0 (first_free (locals a) (locals_maybe r) own) l.0)
+      and_holds (is_served_stmt (bare_stmt a)) (is_served_arm (bare_maybe r)) (stmt_served w i a s.0 (first_free (locals a) (locals_maybe r) own) l.0)
       (arm_served w i r s.1 (last_free (locals a) (locals_maybe r) own) l.1)
   stmt_served w i (While q c a) s own h = stmt_served w i a s own (split (test_breaks w c) (stmt_breaks w a) h).1
   stmt_served w i (DoWhile q a c) s own h = stmt_served w i a s own (split (stmt_breaks w a) (test_breaks w c) h).0
@@ -135,8 +128,8 @@ mutual
       let i2 = inside_all_behind (inner w) ss firsts (inside_inner w i) in
       let l = split (maybe_test w2 c) _ k.1 in
       let m = split (maybe_breaks w2 r) (stmt_breaks w2 a) l.1 in
-      both (are_served (bare_stmts ss)) (is_served_arm (bare_maybe r) && is_served_stmt (bare_stmt a)) (stmts_served (inner w) (inside_inner w i) ss (all_first_written ss s.0) firsts k.0)
-      (both (is_served_arm (bare_maybe r)) (is_served_stmt (bare_stmt a)) (step_served w2 i2 r s.1 m.0) (stmt_served w2 i2 a s.2 (last_free (locals_in ss) (locals a) own) m.1))
+      and_holds (are_served (bare_stmts ss)) (is_served_arm (bare_maybe r) && is_served_stmt (bare_stmt a)) (stmts_served (inner w) (inside_inner w i) ss (all_first_written ss s.0) firsts k.0)
+      (and_holds (is_served_arm (bare_maybe r)) (is_served_stmt (bare_stmt a)) (step_served w2 i2 r s.1 m.0) (stmt_served w2 i2 a s.2 (last_free (locals_in ss) (locals a) own) m.1))
   stmt_served w i (Goto q x) s own h = refl
   stmt_served w i (Label x a) s own h = stmt_served w i a s own h
   stmt_served w i (Break q) s own h = refl
@@ -148,7 +141,7 @@ mutual
   stmts_served w i (AndLStmt a ss) s own h =
       let k = split (stmt_breaks w a) (stmts_breaks (behind w a) ss) h in
       let first = first_free (locals a) (locals_in ss) own in
-      both (is_served_stmt (bare_stmt a)) (are_served (bare_stmts ss)) (stmt_served w i a s.0 first k.0)
+      and_holds (is_served_stmt (bare_stmt a)) (are_served (bare_stmts ss)) (stmt_served w i a s.0 first k.0)
       (stmts_served (behind w a) (inside_behind w a first i) ss s.1 (last_free (locals a) (locals_in ss) own) k.1)
 
   arm_served : (w : Where) → Inside w → (r : MaybeLStmt) → MaybeWritten r → AreFree (locals_maybe r) → maybe_breaks w r ≡ [] → is_served_arm (bare_maybe r) ≡ true
@@ -193,7 +186,7 @@ items_served program before [] free s h = refl
 items_served program before (x ∷ xs) free s h =
     let k = split (item_breaks D.Event program before x) _ h in
     let more = item_free program before x free k.0 in
-    both (is_served_item (bare_item x)) (is_served_program (map bare_item xs)) (item_served program before x more s.0 k.0)
+    and_holds (is_served_item (bare_item x)) (is_served_program (map bare_item xs)) (item_served program before x more s.0 k.0)
     (items_served program (before ++ bare_item x ∷ []) xs more s.1 k.1)
 
 pub accepted_served : AcceptedAreServed

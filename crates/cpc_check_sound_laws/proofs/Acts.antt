@@ -2,6 +2,8 @@
 use Rattle.std.proofs.Common.{◌≡◌, ℕ, zero, suc, Bool, true, false, cond, List, [], ◌∷◌, ◌++◌, slice_get, slice_set, Option, Some, None, refl, sym, ◌∙◌, ap, subst}
 use Rattle.cpc_base.specs.Bytes.{Text}
 use Rattle.cpc_base.specs.declared.stop.Dialect.{Dialect}
+use Rattle.cpc_base.proofs.Truth.{by_false_true}
+use Rattle.cpc_base.proofs.Lists.{some_is}
 use Rattle.cpc_num.specs.declared.kinds.Kind.TheVariants.{Int, Long}
 use Rattle.cpc_num.specs.declared.kinds.Op.{Op}
 use Rattle.cpc_num.specs.declared.kinds.Fault.TheVariants as F
@@ -25,7 +27,7 @@ use Rattle.cpc_check_sound_laws.specs.Suits.{Comes, Suits, SuitsSlot, SuitSlots,
 use Rattle.cpc_check_sound_laws.specs.Control.{Stands, GoesOnward}
 use Rattle.cpc_check_sound_laws.specs.Typed.{Gets, Assigns, Delivers, AllGet, EachGets, AllGetTaken, GetsTaken, IsSection, Detaches, TakesArguments, is_for, is_own, is_variable, is_pointer_call, Calls, CallsHost, CallsFunction, CallsPrimitive, CallsPointer, IsOpen, IsTyped, FoundTyped}
 use Rattle.cpc_meaning.proofs.Functions.{found_again}
-use Rattle.cpc_check_sound_laws.proofs.Answers.{some_is, no_some, not_true, comes_then, comes_as, comes_needed, comes_result}
+use Rattle.cpc_check_sound_laws.proofs.Answers.{no_some, comes_then, comes_as, comes_needed, comes_result}
 use Rattle.cpc_check_sound_laws.proofs.Conversions.{holds_comes}
 use Rattle.cpc_check_sound_laws.proofs.Scalars.{testable_scalar}
 use Rattle.cpc_check_sound_laws.proofs.Expressions.{expressions_answer}
@@ -147,7 +149,7 @@ module _ (d : Dialect) (p : Program) (f : Function) (scope : Scope) (ts : List T
 
   named_comes : (found : Found) (x : Text) (es : Exprs) (mode : Mode) (r : Ty) (ps : List Ty) (o : Option Primitive) (g : Function) → is_own mode ≡ true → Comes (ActOk d p f scope ts slots s found) (calls c g es)
       → Comes (ActOk d p f scope ts slots s found) (calls_named c x es (AFunction mode r ps) o (Some g))
-  named_comes found x es Extern r ps o g e h = not_true e
+  named_comes found x es Extern r ps o g e h = by_false_true e
   named_comes found x es Native r ps o g e h = h
   named_comes found x es Cps r ps o g e h = h
   named_comes found x es Detached r ps o g e h = h
@@ -225,7 +227,7 @@ module _ (d : Dialect) (p : Program) (f : Function) (scope : Scope) (ts : List T
   variable_call : (x : Text) (es : Exprs) (m : Meant) (o : Option Primitive) (u : Option Function) → is_variable m ≡ true → calls_named c x es m o u ≡ calls_value c (ENamed x) es
   variable_call x es (ALocal k t) o u e = refl
   variable_call x es (AGlobal n t) o u e = refl
-  variable_call x es _ o u e = not_true e
+  variable_call x es _ o u e = by_false_true e
 
   pointer_call : (g : Expr) (es : Exprs) → is_pointer_call p scope g ≡ true → calls_expr c g es ≡ calls_value c g es
   pointer_call (ENamed x) es e = variable_call x es (named p scope x) (primitive_named x) (function_named p x) e
@@ -272,7 +274,7 @@ module _ (d : Dialect) (p : Program) (f : Function) (scope : Scope) (ts : List T
       (comes_then (AllBecome (list_of_tys ps)) (ActOk d p f scope ts slots s found) (values c es) _ (all_get_come c ts in_scope in_slots (list_of_tys ps) es gets b) λ vs i.
       comes_then (AllSuit (list_of_tys ps)) (ActOk d p f scope ts slots s found) (arguments (list_of_tys ps) vs) _ (arguments_come (list_of_tys ps) vs i) λ ws j.
       comes_then (IsCallee r (list_of_tys ps)) (ActOk d p f scope ts slots s found) (callee p (TyCode r ps) v) _ (callee_comes r ps v h) λ u k.
-      (k.0, subst (λ us. AllSuit us ws) (sym k.2) j, (λ e. not_true (sym apart ∙ e)), subst (Awaits p scope found) (sym k.1) awaits))
+      (k.0, subst (λ us. AllSuit us ws) (sym k.2) j, (λ e. by_false_true (sym apart ∙ e)), subst (Awaits p scope found) (sym k.1) awaits))
 
   call_comes : (found : Found) (g : Expr) (es : Exprs) (r : Ty) → Calls d p f.mode scope g es r → boxes g → AllBoxed slots (addresses_all scope es) → Awaits p scope found r → Comes (ActOk d p f scope ts slots s found) (calls_expr c g es)
   call_comes found _ _ _ (CallsHost x r ps es apart is_x gets) bg b awaits =

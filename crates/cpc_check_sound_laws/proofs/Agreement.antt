@@ -2,6 +2,8 @@
 use Rattle.std.proofs.Common.{◌≡◌, ◌⊎◌, inl, inr, ◌&&◌, ◌||◌, ℕ, Bool, true, false, cond, List, [], ◌∷◌, ◌++◌, map, length, Option, Some, None, bytes_eq, refl, sym, ◌∙◌, ap, subst, arith}
 use Rattle.cpc_base.specs.Bytes.{Text}
 use Rattle.cpc_base.specs.declared.stop.Dialect.{Dialect}
+use Rattle.cpc_base.proofs.Truth.{by_false_true, and_both, or_either}
+use Rattle.cpc_base.proofs.Lists.{some_is}
 use Rattle.cpc_num.specs.declared.kinds.Kind.TheVariants.{Int, Long}
 use Rattle.cpc_tree.specs.declared.program.Mode.{Mode}
 use Rattle.cpc_tree.specs.declared.program.Mode.TheVariants.{Extern, Native, Cps, Detached}
@@ -19,9 +21,9 @@ use Rattle.cpc_meaning.specs.Layout.{layout, scalars}
 use Rattle.cpc_meaning.specs.Requests.{section_takes}
 use Rattle.cpc_check_sound_laws.specs.Suits.{converts}
 use Rattle.cpc_check_sound_laws.specs.Typed.{Gets, AllGet, EachGets, NamesFunction, GetsTaken, AllGetTaken, IsSection, Detaches, is_own}
-use Rattle.cpc_check_sound_laws.proofs.Answers.{some_is, no_some, not_true}
+use Rattle.cpc_check_sound_laws.proofs.Answers.{no_some}
 use Rattle.cpc_check_sound_laws.proofs.Options.{then_some, then_of}
-use Rattle.cpc_check_sound_laws.proofs.Scalars.{both_true, either_true, null_int}
+use Rattle.cpc_check_sound_laws.proofs.Scalars.{null_int}
 use Rattle.cpc_check_sound_laws.proofs.Types.{type_is}
 use Rattle.cpc_check_sound_laws.proofs.More.{typing_more}
 use Rattle.cpc_check_sound_laws.proofs.Unbroken.{split, holds_then, typed_of}
@@ -32,18 +34,18 @@ same_itself : (t u : Ty) → same_type t u ≡ true → converts t t ≡ true �
 same_itself t u e h = subst (λ u. converts t u ≡ true) (type_is t u e) h
 
 code_takes : (null : Bool) (t u : Ty) → is_reference t ≡ true → converts t t ≡ true → (same_type t u || (null && is_reference t)) ≡ true → (null ≡ true → u ≡ TyInt Int) → converts t (TyInt Int) ≡ true → converts t u ≡ true
-code_takes null t u r h e f g = go (either_true (same_type t u) (null && is_reference t) e)
+code_takes null t u r h e f g = go (or_either (same_type t u) (null && is_reference t) e)
   where
     go : ((same_type t u ≡ true) ⊎ ((null && is_reference t) ≡ true)) → converts t u ≡ true
     go (inl i) = same_itself t u i h
-    go (inr i) = subst (λ u. converts t u ≡ true) (sym (f (both_true null (is_reference t) i).0)) g
+    go (inr i) = subst (λ u. converts t u ≡ true) (sym (f (and_both null (is_reference t) i).0)) g
 
 plain_takes : (null : Bool) (t u : Ty) → is_reference t ≡ false → converts t t ≡ true → (same_type t u || (null && is_reference t)) ≡ true → converts t u ≡ true
-plain_takes null t u r h e = go (either_true (same_type t u) (null && is_reference t) e)
+plain_takes null t u r h e = go (or_either (same_type t u) (null && is_reference t) e)
   where
     go : ((same_type t u ≡ true) ⊎ ((null && is_reference t) ≡ true)) → converts t u ≡ true
     go (inl i) = same_itself t u i h
-    go (inr i) = not_true (sym r ∙ (both_true null (is_reference t) i).1)
+    go (inr i) = by_false_true (sym r ∙ (and_both null (is_reference t) i).1)
 
 pointer_takes : (t u : Ty) (null : Bool) → takes_value (TyPointer t) null u ≡ true → (null ≡ true → u ≡ TyInt Int) → converts (TyPointer t) u ≡ true
 pointer_takes t (TyPointer u) null e f = refl
@@ -67,16 +69,16 @@ int_takes j (TyArray t n) null e = plain_takes null (TyInt j) (TyArray t n) refl
 pub takes_converts : (t u : Ty) (null : Bool) → takes_value t null u ≡ true → (null ≡ true → u ≡ TyInt Int) → converts t u ≡ true
 takes_converts (TyInt j) u null e f = int_takes j u null e
 takes_converts (TyPointer t) u null e f = pointer_takes t u null e f
-takes_converts TyVoid u null e f = not_true e
-takes_converts (TyStruct tag) u null e f = not_true e
-takes_converts (TyArray t n) u null e f = not_true e
+takes_converts TyVoid u null e f = by_false_true e
+takes_converts (TyStruct tag) u null e f = by_false_true e
+takes_converts (TyArray t n) u null e f = by_false_true e
 takes_converts TyCondvar u null e f = plain_takes null TyCondvar u refl refl e
 takes_converts (TyCode r ps) u null e f = code_takes null (TyCode r ps) u refl refl e f refl
 
 pub used_taken : (t : Ty) (e : Expr) (d : Typed) → takes_typed t e d ≡ true → (u : Ty) × (used d ≡ Some u) × (takes_value t (is_null e) u ≡ true)
 used_taken t e (AValue u) h = (u, refl, h)
 used_taken t e (APlace (TyArray u n)) h = (TyPointer u, refl, h)
-used_taken t e (APlace (TyStruct tag)) h = not_true h
+used_taken t e (APlace (TyStruct tag)) h = by_false_true h
 used_taken t e (APlace TyVoid) h = (TyVoid, refl, h)
 used_taken t e (APlace (TyInt k)) h = (TyInt k, refl, h)
 used_taken t e (APlace TyCondvar) h = (TyCondvar, refl, h)
@@ -164,13 +166,13 @@ module _ (d : Dialect) (p : Program) (facts : Facts p) (f : Function) (w : Where
 
   integer_gets : (e : LExpr) (c : Typed) (o : Option Ty) → typed_at w e ≡ Some c → used c ≡ o → is_integer_used o ≡ true → Gets p scope (TyInt Long) (bare_expr e)
   integer_gets e c (Some (TyInt k)) h i j = record { typed = c; type = TyInt k; is_typed = typed_here (bare_expr e) c h; is_type = i; converts = refl }
-  integer_gets e c None h i j = not_true j
-  integer_gets e c (Some TyVoid) h i j = not_true j
-  integer_gets e c (Some TyCondvar) h i j = not_true j
-  integer_gets e c (Some (TyPointer t)) h i j = not_true j
-  integer_gets e c (Some (TyCode r ps)) h i j = not_true j
-  integer_gets e c (Some (TyStruct tag)) h i j = not_true j
-  integer_gets e c (Some (TyArray t n)) h i j = not_true j
+  integer_gets e c None h i j = by_false_true j
+  integer_gets e c (Some TyVoid) h i j = by_false_true j
+  integer_gets e c (Some TyCondvar) h i j = by_false_true j
+  integer_gets e c (Some (TyPointer t)) h i j = by_false_true j
+  integer_gets e c (Some (TyCode r ps)) h i j = by_false_true j
+  integer_gets e c (Some (TyStruct tag)) h i j = by_false_true j
+  integer_gets e c (Some (TyArray t n)) h i j = by_false_true j
 
   value_mode : (mode : Mode) (r : Ty) (ps : List Ty) (c : Typed) → type_named (AFunction mode r ps) ≡ Some c → ((mode ≡ Native) ⊎ (mode ≡ Detached)) × (c ≡ AValue (TyCode r (tys_of ps))) × (is_own mode ≡ true)
   value_mode Native r ps c e = (inl refl, sym (some_is _ c e), refl)
@@ -179,11 +181,11 @@ module _ (d : Dialect) (p : Program) (facts : Facts p) (f : Function) (w : Where
   value_mode Extern r ps c e = no_some c e
 
   code_is : (q : Ty) (qs : Tys) (u : Ty) → takes_value (TyCode q qs) false u ≡ true → TyCode q qs ≡ u
-  code_is q qs u h = go (either_true (same_type (TyCode q qs) u) false h)
+  code_is q qs u h = go (or_either (same_type (TyCode q qs) u) false h)
     where
       go : ((same_type (TyCode q qs) u ≡ true) ⊎ (false ≡ true)) → TyCode q qs ≡ u
       go (inl i) = type_is (TyCode q qs) u i
-      go (inr i) = not_true i
+      go (inr i) = by_false_true i
 
   -- the name of a function as a callback
   names_here : (q : Ty) (qs : Tys) (x : Ident) (c : Typed) (m : Meant) → meant w.scope x.text ≡ m → is_function m ≡ true → type_named m ≡ Some c → takes_typed (TyCode q qs) (ENamed x.text) c ≡ true → NamesFunction p scope (TyCode q qs) x.text
@@ -202,28 +204,28 @@ module _ (d : Dialect) (p : Program) (facts : Facts p) (f : Function) (w : Where
         is_function = g.1;
         is_type = code_is q qs (TyCode r (tys_of ps)) code ∙ ap (λ r. TyCode r (tys_of ps)) (sym g.3) ∙ ap (λ ps. TyCode g.0.result (tys_of ps)) (sym g.4);
       }
-  names_here q qs x c (ALocal n u) i j k l = not_true j
-  names_here q qs x c (AGlobal n u) i j k l = not_true j
-  names_here q qs x c NotMeant i j k l = not_true j
+  names_here q qs x c (ALocal n u) i j k l = by_false_true j
+  names_here q qs x c (AGlobal n u) i j k l = by_false_true j
+  names_here q qs x c NotMeant i j k l = by_false_true j
 
   callback_here : (q : Ty) (qs : Tys) (e : LExpr) (c : Typed) → typed_at w e ≡ Some c → (is_function_name w.scope e && takes_typed (TyCode q qs) (bare_expr e) c) ≡ true → GetsTaken p scope (SetOf (TyCode q qs)) (bare_expr e)
   callback_here q qs (LNamed x) c h k =
-      let l = both_true (is_function (meant w.scope x.text)) (takes_typed (TyCode q qs) (ENamed x.text) c) k in
+      let l = and_both (is_function (meant w.scope x.text)) (takes_typed (TyCode q qs) (ENamed x.text) c) k in
       names_here q qs x c (meant w.scope x.text) refl l.0 h l.1
-  callback_here q qs (LInteger a b z) c h k = not_true k
-  callback_here q qs (LCharacter a z) c h k = not_true k
-  callback_here q qs (LText a b) c h k = not_true k
-  callback_here q qs (LUnary a op v) c h k = not_true k
-  callback_here q qs (LBinary a op v u) c h k = not_true k
-  callback_here q qs (LAnd a v u) c h k = not_true k
-  callback_here q qs (LOr a v u) c h k = not_true k
-  callback_here q qs (LChoose a t v u) c h k = not_true k
-  callback_here q qs (LCast a t v) c h k = not_true k
-  callback_here q qs (LSizeOf a t) c h k = not_true k
-  callback_here q qs (LIndex a v u) c h k = not_true k
-  callback_here q qs (LMember a v x) c h k = not_true k
-  callback_here q qs (LArrow a v x) c h k = not_true k
-  callback_here q qs (LCall a g vs) c h k = not_true k
+  callback_here q qs (LInteger a b z) c h k = by_false_true k
+  callback_here q qs (LCharacter a z) c h k = by_false_true k
+  callback_here q qs (LText a b) c h k = by_false_true k
+  callback_here q qs (LUnary a op v) c h k = by_false_true k
+  callback_here q qs (LBinary a op v u) c h k = by_false_true k
+  callback_here q qs (LAnd a v u) c h k = by_false_true k
+  callback_here q qs (LOr a v u) c h k = by_false_true k
+  callback_here q qs (LChoose a t v u) c h k = by_false_true k
+  callback_here q qs (LCast a t v) c h k = by_false_true k
+  callback_here q qs (LSizeOf a t) c h k = by_false_true k
+  callback_here q qs (LIndex a v u) c h k = by_false_true k
+  callback_here q qs (LMember a v x) c h k = by_false_true k
+  callback_here q qs (LArrow a v x) c h k = by_false_true k
+  callback_here q qs (LCall a g vs) c h k = by_false_true k
 
   pub taken_here : (t : Taken) (e : LExpr) → arg_breaks w (wanted_of t) e (expr_breaks w e) ≡ [] → GetsTaken p scope t (bare_expr e)
   taken_here AnyInteger e h = let c = suits_here Integer e h in integer_gets e c.0 (used c.0) c.1 refl c.2
@@ -251,37 +253,37 @@ module _ (d : Dialect) (p : Program) (facts : Facts p) (f : Function) (w : Where
     where
       go : (b : Bool) → takes_section w.scope ps ≡ b → is_callee (cond b (Takes (map (λ t. Of t) ps) (TyInt Int)) NoCallee) ≡ true → (us : List Ty) × (AFunction Detached (TyInt Int) ps ≡ AFunction Detached (TyInt Int) us) × (takes_section w.scope us ≡ true)
       go true e h = (ps, refl, e)
-      go false e h = not_true h
-  section_meant _ h = not_true h
+      go false e h = by_false_true h
+  section_meant _ h = by_false_true h
 
   all_scalars : (q : Program) (ts : List Ty) → all_integers ts ≡ true → (xs : List Scalar) × (scalars ts ≡ Some xs)
   all_scalars q [] h = ([], refl)
   all_scalars q (TyInt k ∷ ts) h = let xs = all_scalars q ts h in (_, then_of (scalars ts) _ xs.0 _ xs.1 refl)
-  all_scalars q (TyVoid ∷ ts) h = not_true h
-  all_scalars q (TyCondvar ∷ ts) h = not_true h
-  all_scalars q (TyPointer t ∷ ts) h = not_true h
-  all_scalars q (TyCode r ps ∷ ts) h = not_true h
-  all_scalars q (TyStruct tag ∷ ts) h = not_true h
-  all_scalars q (TyArray t n ∷ ts) h = not_true h
+  all_scalars q (TyVoid ∷ ts) h = by_false_true h
+  all_scalars q (TyCondvar ∷ ts) h = by_false_true h
+  all_scalars q (TyPointer t ∷ ts) h = by_false_true h
+  all_scalars q (TyCode r ps ∷ ts) h = by_false_true h
+  all_scalars q (TyStruct tag ∷ ts) h = by_false_true h
+  all_scalars q (TyArray t n ∷ ts) h = by_false_true h
 
   layout_here : (t : Ty) → are_integers (cells w.scope.items t) ≡ true → (xs : List Scalar) × (layout p t ≡ Some xs)
   layout_here t h = go (cells w.scope.items t) refl h
     where
       go : (o : Option (List Ty)) → cells w.scope.items t ≡ o → are_integers o ≡ true → (xs : List Scalar) × (layout p t ≡ Some xs)
-      go None e h = not_true h
+      go None e h = by_false_true h
       go (Some ts) e h = let xs = all_scalars p ts h in (xs.0, then_of (cells p t) scalars ts xs.0 (at.grows.cells t ts e) xs.1)
 
   section_of_types : (x : Text) (g : Function) (ps : List Ty) → function_named p x ≡ Some g → g.mode ≡ Detached → g.result ≡ TyInt Int → parameter_types g ≡ ps → takes_section w.scope ps ≡ true → IsSection p x g
   section_of_types x g (TyPointer t ∷ ps) is_g m r e h =
-      let k = both_true (are_integers (cells w.scope.items t)) (all_integers ps) h in
+      let k = and_both (are_integers (cells w.scope.items t)) (all_integers ps) h in
       record { is_function = is_g; detached = ap is_detached m; result = r; cells = t; others = ps; parameters = e; complete = layout_here t k.0 }
-  section_of_types x g [] is_g m r e h = not_true h
-  section_of_types x g (TyVoid ∷ ps) is_g m r e h = not_true h
-  section_of_types x g (TyInt k ∷ ps) is_g m r e h = not_true h
-  section_of_types x g (TyCondvar ∷ ps) is_g m r e h = not_true h
-  section_of_types x g (TyCode q qs ∷ ps) is_g m r e h = not_true h
-  section_of_types x g (TyStruct tag ∷ ps) is_g m r e h = not_true h
-  section_of_types x g (TyArray t n ∷ ps) is_g m r e h = not_true h
+  section_of_types x g [] is_g m r e h = by_false_true h
+  section_of_types x g (TyVoid ∷ ps) is_g m r e h = by_false_true h
+  section_of_types x g (TyInt k ∷ ps) is_g m r e h = by_false_true h
+  section_of_types x g (TyCondvar ∷ ps) is_g m r e h = by_false_true h
+  section_of_types x g (TyCode q qs ∷ ps) is_g m r e h = by_false_true h
+  section_of_types x g (TyStruct tag ∷ ps) is_g m r e h = by_false_true h
+  section_of_types x g (TyArray t n ∷ ps) is_g m r e h = by_false_true h
 
   free_gets : (ps : List Ty) (es : Exprs) → AllGet p scope ps es → AllGetTaken p scope (map (λ t. FreeOf t) ps) es
   free_gets [] NoExpr h = tt
@@ -292,13 +294,13 @@ module _ (d : Dialect) (p : Program) (facts : Facts p) (f : Function) (w : Where
   section_gets : (ps : List Ty) (es : Exprs) → takes_section w.scope ps ≡ true → AllGet p scope ps es → AllGetTaken p scope (section_takes ps) es
   section_gets (TyPointer t ∷ ps) (AndExpr e es) h k = (k.0, free_gets ps es k.1)
   section_gets (TyPointer t ∷ ps) NoExpr h k = absurd k
-  section_gets [] es h k = not_true h
-  section_gets (TyVoid ∷ ps) es h k = not_true h
-  section_gets (TyInt i ∷ ps) es h k = not_true h
-  section_gets (TyCondvar ∷ ps) es h k = not_true h
-  section_gets (TyCode q qs ∷ ps) es h k = not_true h
-  section_gets (TyStruct tag ∷ ps) es h k = not_true h
-  section_gets (TyArray t n ∷ ps) es h k = not_true h
+  section_gets [] es h k = by_false_true h
+  section_gets (TyVoid ∷ ps) es h k = by_false_true h
+  section_gets (TyInt i ∷ ps) es h k = by_false_true h
+  section_gets (TyCondvar ∷ ps) es h k = by_false_true h
+  section_gets (TyCode q qs ∷ ps) es h k = by_false_true h
+  section_gets (TyStruct tag ∷ ps) es h k = by_false_true h
+  section_gets (TyArray t n ∷ ps) es h k = by_false_true h
 
   -- a section by its name
   pub detaches_here : (x : Text) (ps : List Ty) (es : LExprs) → meant w.scope x ≡ AFunction Detached (TyInt Int) ps → takes_section w.scope ps ≡ true → AllGet p scope ps (bare_exprs es) → Detaches p scope x (bare_exprs es)

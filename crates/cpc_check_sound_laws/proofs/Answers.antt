@@ -1,17 +1,12 @@
 -- Combinators: what comes of one answer after another.
 use Rattle.std.proofs.Common.{◌≡◌, Bool, true, false, cond, Option, Some, None, Result, Ok, Err, refl, sym, subst}
+use Rattle.cpc_base.proofs.Lists.{some_is}
 use Rattle.cpc_num.specs.declared.kinds.Fault.{Fault}
 use Rattle.cpc_meaning.specs.Answer.{Answer, Gives, Faults, NoAnswer, ◌>>=◌, of_result, needed}
 use Rattle.cpc_check_sound_laws.specs.Suits.{Comes}
 
-pub some_is : {A : Type 0} (x y : A) → Some x ≡ Some y → x ≡ y
-some_is x y e = cc
-
 pub no_some : {A B : Type 0} (x : A) → None ≡ Some x → B
 no_some x e = absurd (cc)
-
-pub not_true : {A : Type 0} → false ≡ true → A
-not_true e = absurd (cc)
 
 -- one answer, and then what is made of it
 pub comes_then : {A B : Type 0} (P : A → Type 0) (Q : B → Type 0) (a : Answer A) (f : A → Answer B) → Comes P a → ((x : A) → P x → Comes Q (f x)) → Comes Q (a >>= f)

@@ -1,6 +1,8 @@
 -- What binary operators and `?:` come to, by the rules of their types.
 use Rattle.std.proofs.Common.{◌≡◌, ◌&&◌, ◌||◌, pos, ◌-ℤ◌, Bool, cond, Option, Some, None, refl, ◌∙◌, ap, subst}
 use Rattle.std.specs.Prelude.{is_some, int_lt, int_le}
+use Rattle.cpc_base.proofs.Truth.{and_both}
+use Rattle.cpc_base.proofs.Lists.{some_is}
 use Rattle.cpc_num.specs.declared.kinds.Kind.{Kind}
 use Rattle.cpc_num.specs.declared.kinds.Kind.TheVariants.{Int, Long}
 use Rattle.cpc_num.specs.declared.kinds.Op.{Op}
@@ -11,8 +13,7 @@ use Rattle.cpc_tree.specs.Typing.{size, binary_type, common_type, sum_type, diff
 use Rattle.cpc_store.specs.Store.{Value, Unset, Whole, Null, At, Code, Cond, Store}
 use Rattle.cpc_meaning.specs.Eval.{result_kind, operate}
 use Rattle.cpc_check_sound_laws.specs.Suits.{Comes, Suits}
-use Rattle.cpc_check_sound_laws.proofs.Scalars.{both_true}
-use Rattle.cpc_check_sound_laws.proofs.Answers.{some_is, no_some, if_some}
+use Rattle.cpc_check_sound_laws.proofs.Answers.{no_some, if_some}
 use Rattle.cpc_check_sound_laws.proofs.Operators.{ints_come, moves_come, distance_comes, two_come, is_distance, is_ordered, order_comes, on_two}
 
 -- ---- results
@@ -70,7 +71,7 @@ module _ (p : Program) (s : Store) where
       → Comes (Suits r) (operate p s Sub (Some (TyPointer t)) (Some (TyPointer u)) v w)
   apart_comes t u r v w e a b =
       let f = if_some (same_type t u && is_some (size p t)) (TyInt Long) r e in
-      let g = both_true (same_type t u) (is_some (size p t)) f.0 in
+      let g = and_both (same_type t u) (is_some (size p t)) f.0 in
       subst (λ r. Comes (Suits r) (on_two p s Sub t u v w)) f.1
       (two_come p s Sub t u (TyInt Long) _ (is_distance p s t u) (λ x y i j. distance_comes p s t x y g.1 i j) v w a b)
 

@@ -1,10 +1,12 @@
 -- A statement that breaks no rule is well typed, and the variables that it declares have sizes.
-use Rattle.std.proofs.Common.{◌≡◌, ◌||◌, not, ℕ, ◌+◌, Bool, true, false, cond, List, [], ◌∷◌, ◌++◌, map, length, Option, Some, None, bytes_eq, refl, sym, ◌∙◌, ap, subst}
+use Rattle.std.proofs.Common.{◌≡◌, not, ℕ, ◌+◌, Bool, true, false, cond, List, [], ◌∷◌, ◌++◌, map, length, Option, Some, None, bytes_eq, refl, sym, ◌∙◌, ap, subst}
 use Rattle.std.specs.Prelude.{option_map, is_some}
 use Rattle.cpc_base.specs.Bytes.{Text}
 use Rattle.cpc_base.specs.declared.stop.Place.{Place}
 use Rattle.cpc_base.specs.declared.stop.Dialect.{Dialect}
 use Rattle.cpc_base.specs.declared.stop.Dialect.TheVariants as D
+use Rattle.cpc_base.proofs.Truth.{by_false_true, not_fails, or_neither}
+use Rattle.cpc_base.proofs.Lists.{some_is}
 use Rattle.cpc_num.specs.declared.kinds.Op.{Op}
 use Rattle.cpc_num.specs.declared.kinds.Kind.TheVariants.{Int}
 use Rattle.cpc_tree.specs.declared.program.Mode.{Mode}
@@ -25,9 +27,8 @@ use Rattle.cpc_check_rules.specs.StmtRules.{in_scope, inner, variable, behind, a
 use Rattle.cpc_meaning.specs.Act.{right_side}
 use Rattle.cpc_meaning.proofs.Functions.{text_same}
 use Rattle.cpc_check_sound_laws.specs.Typed.{Gets, IsTest, IsTestIf, Assigns, Delivers, AllGet, Detaches, IsOpen, IsTyped, StepTyped, BodyTyped, AllTyped, ArmTyped, AllSized}
-use Rattle.cpc_check_sound_laws.proofs.Answers.{some_is, not_true}
 use Rattle.cpc_check_sound_laws.proofs.Options.{then_some}
-use Rattle.cpc_check_sound_laws.proofs.Unbroken.{split, not_broken, holds_not, holds_then, negated, binary_some, typed_of}
+use Rattle.cpc_check_sound_laws.proofs.Unbroken.{split, not_broken, holds_not, holds_then, binary_some, typed_of}
 use Rattle.cpc_check_sound_laws.proofs.Agreement.{Matches, Grows, sizes_grow, Facts, At, item_of, takes_converts, typed_here, gets_here, args_here, section_meant, detaches_here}
 use Rattle.cpc_check_sound_laws.proofs.Callees.{number_here, call_here}
 use Rattle.cpc_check_sound_laws.proofs.Shapes.{StepWritten, Written, AllWritten, MaybeWritten, all_first_written}
@@ -42,15 +43,11 @@ meant_later : (items : Program) (bs : List R.Block) (v : Variable) (x : Text) �
 meant_later items [] v x e = simp (e) refl
 meant_later items (b ∷ bs) v x e = simp (e) refl
 
-pub either_false : (a b : Bool) → (a || b) ≡ false → (a ≡ false) × (b ≡ false)
-either_false true b e = not_true (sym e)
-either_false false b e = (refl, e)
-
 pub size_of : (s : R.Scope) (t : Ty) → is_sized s t ≡ true → (n : ℕ) × (size s.items t ≡ Some n)
 size_of s t e = go (size s.items t) refl e
   where
     go : (o : Option ℕ) → size s.items t ≡ o → has_cells o ≡ true → (n : ℕ) × (size s.items t ≡ Some n)
-    go None f e = not_true e
+    go None f e = by_false_true e
     go (Some n) f e = (n, f)
 
 binary_value : (names : Text → Meant) (p : Program) (op : Op) (a b : Expr) (d : Typed) → typing_of names p (EBinary op a b) ≡ Some d → (r : Ty) × (d ≡ AValue r)
@@ -64,7 +61,7 @@ binary_value names p op a b d h =
 
 writable_is : (d : Typed) → is_writable d ≡ true → (t : Ty) × (d ≡ APlace t)
 writable_is (APlace t) e = (t, refl)
-writable_is (AValue t) e = not_true e
+writable_is (AValue t) e = by_false_true e
 
 module _ (d : Dialect) (p : Program) (facts : Facts p) (f : Function) where
   -- with one more name
@@ -142,7 +139,7 @@ module _ (d : Dialect) (p : Program) (facts : Facts p) (f : Function) where
             type = r.0;
             is_typed = typed_here d p facts f w scope at (EBinary op (bare_expr v) (bare_expr e)) (AValue r.0) is_r;
             is_type = refl;
-            converts = takes_converts t.0 r.0 false (holds_then (takes_value t.0 false r.0) o Disagree l) (λ e. not_true e);
+            converts = takes_converts t.0 r.0 false (holds_then (takes_value t.0 false r.0) o Disagree l) (λ e. by_false_true e);
           };
         }
 
@@ -152,7 +149,7 @@ module _ (d : Dialect) (p : Program) (facts : Facts p) (f : Function) where
         let k = split (target_breaks w v) (given_breaks (typed_at w v) u o) h in
         let t = target_here v k.0 in
         let l : given_breaks (Some (APlace t.0)) (Some r) o ≡ [] = subst (λ c. given_breaks c (Some r) o ≡ []) t.1 (subst (λ u. given_breaks (typed_at w v) u o ≡ []) e k.1) in
-        (t.0, place_here v t.0 t.1, takes_converts t.0 r false (holds_then (takes_value t.0 false r) o Disagree l) (λ e. not_true e))
+        (t.0, place_here v t.0 t.1, takes_converts t.0 r false (holds_then (takes_value t.0 false r) o Disagree l) (λ e. by_false_true e))
 
     test_here : (e : LExpr) → test_breaks w e ≡ [] → IsTest p scope (bare_expr e)
     test_here e h =
@@ -162,7 +159,7 @@ module _ (d : Dialect) (p : Program) (facts : Facts p) (f : Function) where
         record { typed = c.0; type = t.0; is_typed = typed_here d p facts f w scope at (bare_expr e) c.0 c.1; is_type = t.1; testable = t.2 }
       where
         tested_type_is : (o : Option Ty) → is_tested o ≡ true → (t : Ty) × (o ≡ Some t) × (is_testable t ≡ true)
-        tested_type_is None e = not_true e
+        tested_type_is None e = by_false_true e
         tested_type_is (Some t) e = (t, refl, e)
 
     maybe_test_here : (o : Option LExpr) → maybe_test w o ≡ [] → IsTestIf p scope (option_map bare_expr o)
@@ -171,13 +168,13 @@ module _ (d : Dialect) (p : Program) (facts : Facts p) (f : Function) where
 
     cpc_is : (e : Dialect) → is_event e ≡ false → e ≡ D.Cpc
     cpc_is D.Cpc h = refl
-    cpc_is D.Event h = not_true (sym h)
+    cpc_is D.Event h = by_false_true (sym h)
 
     cps_is : (m : Mode) → is_cps m ≡ true → is_detached m ≡ false
     cps_is Cps h = refl
-    cps_is Native h = not_true h
-    cps_is Extern h = not_true h
-    cps_is Detached h = not_true h
+    cps_is Native h = by_false_true h
+    cps_is Extern h = by_false_true h
+    cps_is Detached h = by_false_true h
 
     right_name : (m : Meant) (c : Callee) (q : Place) → wrong_name m c q ≡ [] → is_callee c ≡ true
     right_name m (Takes ws r) q h = refl
@@ -209,12 +206,12 @@ module _ (d : Dialect) (p : Program) (facts : Facts p) (f : Function) where
 
     spawn_meant : (m : Meant) → is_callee (spawn_callee m) ≡ true → (r : Ty) × (ps : List Ty) × (m ≡ AFunction Cps r ps)
     spawn_meant (AFunction Cps r ps) h = (r, ps, refl)
-    spawn_meant (AFunction Native r ps) h = not_true h
-    spawn_meant (AFunction Extern r ps) h = not_true h
-    spawn_meant (AFunction Detached r ps) h = not_true h
-    spawn_meant NotMeant h = not_true h
-    spawn_meant (ALocal k t) h = not_true h
-    spawn_meant (AGlobal k t) h = not_true h
+    spawn_meant (AFunction Native r ps) h = by_false_true h
+    spawn_meant (AFunction Extern r ps) h = by_false_true h
+    spawn_meant (AFunction Detached r ps) h = by_false_true h
+    spawn_meant NotMeant h = by_false_true h
+    spawn_meant (ALocal k t) h = by_false_true h
+    spawn_meant (AGlobal k t) h = by_false_true h
 
     spawn_here : (q : Place) (x : Ident) (es : LExprs) → spawn_breaks w q x es ≡ [] → IsOpen d f.mode × ((h : Function) × (function_named p x.text ≡ Some h) × AllGet p scope (parameter_types h) (bare_exprs es) × (is_cps h.mode ≡ true))
     spawn_here q x es h =
@@ -233,8 +230,8 @@ module _ (d : Dialect) (p : Program) (facts : Facts p) (f : Function) where
         let k = split (expr_breaks w e) (at_if (unfit_return w e (typed_at w e)) q BadReturn) h in
         let c = typed_of w e k.0 in
         let u : unfit_return w e (Some c.0) ≡ false = ap (unfit_return w e) (sym c.1) ∙ holds_not (unfit_return w e (typed_at w e)) q BadReturn k.1 in
-        let v = either_false (is_void w.result) (not (takes_typed w.result (bare_expr e) c.0)) u in
-        subst (λ t. Gets p scope t (bare_expr e)) at.result (gets_here d p facts f w scope at w.result e c.0 c.1 (negated (takes_typed w.result (bare_expr e) c.0) v.1))
+        let v = or_neither (is_void w.result) (not (takes_typed w.result (bare_expr e) c.0)) u in
+        subst (λ t. Gets p scope t (bare_expr e)) at.result (gets_here d p facts f w scope at w.result e c.0 c.1 (not_fails (takes_typed w.result (bare_expr e) c.0) v.1))
 
   -- ---- declarations
 

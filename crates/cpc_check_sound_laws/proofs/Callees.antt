@@ -4,6 +4,8 @@ use Rattle.cpc_base.specs.Bytes.{Text}
 use Rattle.cpc_base.specs.declared.stop.Place.{Place}
 use Rattle.cpc_base.specs.declared.stop.Dialect.{Dialect}
 use Rattle.cpc_base.specs.declared.stop.Dialect.TheVariants as D
+use Rattle.cpc_base.proofs.Truth.{by_false_true, eq_means, and_fails_second, not_fails}
+use Rattle.cpc_base.proofs.Lists.{some_is}
 use Rattle.cpc_num.specs.declared.kinds.Kind.TheVariants.{Int}
 use Rattle.cpc_tree.specs.declared.program.Mode.{Mode}
 use Rattle.cpc_tree.specs.declared.program.Mode.TheVariants.{Extern, Native, Cps, Detached}
@@ -18,9 +20,8 @@ use Rattle.cpc_check_rules.specs.Operators.{Where, typed_at, used_of, first, is_
 use Rattle.cpc_check_rules.specs.Calls.{Wanted, Of, String, ForSection, Callback, Callee, Takes, NoCallee, is_callee, section_callee, section_of, detached_wants, wants, gives, gives_up, is_rt, is_closed, is_event, primitive_breaks, function_breaks, code_callee, named_callee, callee, is_code, no_code, pointer_breaks, named_breaks, count, number_breaks, wanted, result}
 use Rattle.cpc_check_rules.specs.ExprRules.{expr_breaks, called_breaks, arg_breaks, args_breaks, call_breaks}
 use Rattle.cpc_check_sound_laws.specs.Typed.{Gets, GetsTaken, AllGet, TakesArguments, is_for, is_own, is_variable, is_pointer_call, Calls, CallsHost, CallsFunction, CallsPrimitive, CallsPointer}
-use Rattle.cpc_check_sound_laws.proofs.Answers.{some_is, no_some, not_true}
-use Rattle.cpc_check_sound_laws.proofs.Types.{number_is}
-use Rattle.cpc_check_sound_laws.proofs.Unbroken.{split, not_broken, holds_not, holds_then, have_all, negated, typed_of}
+use Rattle.cpc_check_sound_laws.proofs.Answers.{no_some}
+use Rattle.cpc_check_sound_laws.proofs.Unbroken.{split, not_broken, holds_not, holds_then, typed_of}
 use Rattle.cpc_check_sound_laws.proofs.Agreement.{Matches, Facts, At, item_of, typed_here, suits_here, of_here, args_here, taken_here, all_taken_here, section_meant, detaches_here}
 
 module _ (d : Dialect) (p : Program) (facts : Facts p) (f : Function) (w : Where) (scope : Scope) (at : At d p f w scope) where
@@ -28,20 +29,20 @@ module _ (d : Dialect) (p : Program) (facts : Facts p) (f : Function) (w : Where
 
   text_here : (e : LExpr) → arg_breaks w String e (expr_breaks w e) ≡ [] → TakesArguments p scope Puts (bare_exprs (AndLExpr e NoLExpr))
   text_here (LText q bytes) h = tt
-  text_here (LNamed x) h = not_true (suits_here d p facts f w scope at String (LNamed x) h).2
-  text_here (LInteger q kind z) h = not_true (suits_here d p facts f w scope at String (LInteger q kind z) h).2
-  text_here (LCharacter q z) h = not_true (suits_here d p facts f w scope at String (LCharacter q z) h).2
-  text_here (LUnary q op v) h = not_true (suits_here d p facts f w scope at String (LUnary q op v) h).2
-  text_here (LBinary q op v u) h = not_true (suits_here d p facts f w scope at String (LBinary q op v u) h).2
-  text_here (LAnd q v u) h = not_true (suits_here d p facts f w scope at String (LAnd q v u) h).2
-  text_here (LOr q v u) h = not_true (suits_here d p facts f w scope at String (LOr q v u) h).2
-  text_here (LChoose q c v u) h = not_true (suits_here d p facts f w scope at String (LChoose q c v u) h).2
-  text_here (LCast q t v) h = not_true (suits_here d p facts f w scope at String (LCast q t v) h).2
-  text_here (LSizeOf q t) h = not_true (suits_here d p facts f w scope at String (LSizeOf q t) h).2
-  text_here (LIndex q v u) h = not_true (suits_here d p facts f w scope at String (LIndex q v u) h).2
-  text_here (LMember q v x) h = not_true (suits_here d p facts f w scope at String (LMember q v x) h).2
-  text_here (LArrow q v x) h = not_true (suits_here d p facts f w scope at String (LArrow q v x) h).2
-  text_here (LCall q g vs) h = not_true (suits_here d p facts f w scope at String (LCall q g vs) h).2
+  text_here (LNamed x) h = by_false_true (suits_here d p facts f w scope at String (LNamed x) h).2
+  text_here (LInteger q kind z) h = by_false_true (suits_here d p facts f w scope at String (LInteger q kind z) h).2
+  text_here (LCharacter q z) h = by_false_true (suits_here d p facts f w scope at String (LCharacter q z) h).2
+  text_here (LUnary q op v) h = by_false_true (suits_here d p facts f w scope at String (LUnary q op v) h).2
+  text_here (LBinary q op v u) h = by_false_true (suits_here d p facts f w scope at String (LBinary q op v u) h).2
+  text_here (LAnd q v u) h = by_false_true (suits_here d p facts f w scope at String (LAnd q v u) h).2
+  text_here (LOr q v u) h = by_false_true (suits_here d p facts f w scope at String (LOr q v u) h).2
+  text_here (LChoose q c v u) h = by_false_true (suits_here d p facts f w scope at String (LChoose q c v u) h).2
+  text_here (LCast q t v) h = by_false_true (suits_here d p facts f w scope at String (LCast q t v) h).2
+  text_here (LSizeOf q t) h = by_false_true (suits_here d p facts f w scope at String (LSizeOf q t) h).2
+  text_here (LIndex q v u) h = by_false_true (suits_here d p facts f w scope at String (LIndex q v u) h).2
+  text_here (LMember q v x) h = by_false_true (suits_here d p facts f w scope at String (LMember q v x) h).2
+  text_here (LArrow q v x) h = by_false_true (suits_here d p facts f w scope at String (LArrow q v x) h).2
+  text_here (LCall q g vs) h = by_false_true (suits_here d p facts f w scope at String (LCall q g vs) h).2
 
   puts_here : (es : LExprs) → length (count es) ≡ 1 → args_breaks w (String ∷ []) es ≡ [] → TakesArguments p scope Puts (bare_exprs es)
   puts_here (AndLExpr e NoLExpr) n h = text_here e (split (arg_breaks w String e (expr_breaks w e)) [] h).0
@@ -69,20 +70,20 @@ module _ (d : Dialect) (p : Program) (facts : Facts p) (f : Function) (w : Where
   -- what is no name is no section
   no_section : (c : LExpr) → is_callee (section_of w.scope (Some c)) ≡ true → (x : Ident) × (c ≡ LNamed x)
   no_section (LNamed x) h = (x, refl)
-  no_section (LInteger q kind z) h = not_true h
-  no_section (LCharacter q z) h = not_true h
-  no_section (LText q bytes) h = not_true h
-  no_section (LUnary q op v) h = not_true h
-  no_section (LBinary q op v u) h = not_true h
-  no_section (LAnd q v u) h = not_true h
-  no_section (LOr q v u) h = not_true h
-  no_section (LChoose q c v u) h = not_true h
-  no_section (LCast q t v) h = not_true h
-  no_section (LSizeOf q t) h = not_true h
-  no_section (LIndex q v u) h = not_true h
-  no_section (LMember q v x) h = not_true h
-  no_section (LArrow q v x) h = not_true h
-  no_section (LCall q g vs) h = not_true h
+  no_section (LInteger q kind z) h = by_false_true h
+  no_section (LCharacter q z) h = by_false_true h
+  no_section (LText q bytes) h = by_false_true h
+  no_section (LUnary q op v) h = by_false_true h
+  no_section (LBinary q op v u) h = by_false_true h
+  no_section (LAnd q v u) h = by_false_true h
+  no_section (LOr q v u) h = by_false_true h
+  no_section (LChoose q c v u) h = by_false_true h
+  no_section (LCast q t v) h = by_false_true h
+  no_section (LSizeOf q t) h = by_false_true h
+  no_section (LIndex q v u) h = by_false_true h
+  no_section (LMember q v x) h = by_false_true h
+  no_section (LArrow q v x) h = by_false_true h
+  no_section (LCall q g vs) h = by_false_true h
 
   some_left : (k : Callee) → (n : ℕ) × (length (detached_wants k) ≡ suc n)
   some_left (Takes ws r) = (length ws, refl)
@@ -114,11 +115,11 @@ module _ (d : Dialect) (p : Program) (facts : Facts p) (f : Function) (w : Where
   -- ---- what is called
 
   pub number_here : (c : Callee) (ws : List Wanted) (r : Ty) (es : LExprs) (q : Place) → c ≡ Takes ws r → number_breaks c es q ≡ [] → length (count es) ≡ length ws
-  number_here (Takes us u) ws r es q e h = number_is (length (count es)) (length us) (holds_then (length (count es) == length us) q WrongNumber h) ∙ ap (λ c. length (wanted c)) e
+  number_here (Takes us u) ws r es q e h = eq_means (length (count es)) (length us) (holds_then (length (count es) == length us) q WrongNumber h) ∙ ap (λ c. length (wanted c)) e
   number_here NoCallee ws r es q e h = absurd (cc)
 
   for_cpc : (a b : Bool) → (a && true) ≡ false → not a ≡ true
-  for_cpc true b h = not_true (sym h)
+  for_cpc true b h = by_false_true (sym h)
   for_cpc false b h = refl
 
   primitive_for : (e : Dialect) (prim : Primitive) (q : Place) → (at_if (is_rt prim && not (is_event e)) q RtCall ++ at_if (gives_up prim && is_event e) q CpsForm) ≡ [] → is_for e prim ≡ true
@@ -127,7 +128,7 @@ module _ (d : Dialect) (p : Program) (facts : Facts p) (f : Function) (w : Where
 
   -- a detached function calls what is closed
   closes : (a b : Bool) → (a && not b) ≡ false → a ≡ true → b ≡ true
-  closes a b h e = negated b (have_all a (not b) h e)
+  closes a b h e = not_fails b (and_fails_second a (not b) h e)
 
   -- what a call is
   abbrev CallOk : Callee → Expr → LExprs → Type 0
@@ -151,7 +152,7 @@ module _ (d : Dialect) (p : Program) (facts : Facts p) (f : Function) (w : Where
       (CallsFunction x mode r ps g.0 (bare_exprs es) own is_m g.1 (λ k. ap is_detached g.2 ∙ closed (around ∙ k)) (λ k. ap is_cps (sym at.mode) ∙ cps (ap is_cps (sym g.2) ∙ k)) (subst (λ us. AllGet p scope us (bare_exprs es)) (sym g.4) gets))
 
   no_detached : (a : Bool) → (a && true) ≡ false → a ≡ false
-  no_detached true h = not_true (sym h)
+  no_detached true h = by_false_true (sym h)
   no_detached false h = refl
 
   function_call : (x : Text) (q : Place) (mode : Mode) (r : Ty) (ps : List Ty) (es : LExprs) → meant w.scope x ≡ AFunction mode r ps → function_breaks w q mode ≡ [] → AllGet p scope ps (bare_exprs es)
@@ -178,13 +179,13 @@ module _ (d : Dialect) (p : Program) (facts : Facts p) (f : Function) (w : Where
 
   code_of : (o : Option Ty) → is_code o ≡ true → (r : Ty) × (ps : Tys) × (o ≡ Some (TyCode r ps))
   code_of (Some (TyCode r ps)) h = (r, ps, refl)
-  code_of None h = not_true h
-  code_of (Some TyVoid) h = not_true h
-  code_of (Some (TyInt k)) h = not_true h
-  code_of (Some TyCondvar) h = not_true h
-  code_of (Some (TyPointer t)) h = not_true h
-  code_of (Some (TyStruct tag)) h = not_true h
-  code_of (Some (TyArray t n)) h = not_true h
+  code_of None h = by_false_true h
+  code_of (Some TyVoid) h = by_false_true h
+  code_of (Some (TyInt k)) h = by_false_true h
+  code_of (Some TyCondvar) h = by_false_true h
+  code_of (Some (TyPointer t)) h = by_false_true h
+  code_of (Some (TyStruct tag)) h = by_false_true h
+  code_of (Some (TyArray t n)) h = by_false_true h
 
   code_holds : (o : Option Typed) (c : Typed) (q : Place) → o ≡ Some c → no_code o q ≡ [] → is_code (used c) ≡ true
   code_holds None c q e h = no_some c e

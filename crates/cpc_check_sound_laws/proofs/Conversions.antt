@@ -1,5 +1,6 @@
 -- Tests and conversions, on values that suit a type.
 use Rattle.std.proofs.Common.{◌≡◌, ℕ, Bool, true, false, cond, Option, Some, None, Ok, Err, refl, sym, ◌∙◌}
+use Rattle.cpc_base.proofs.Truth.{by_false_true}
 use Rattle.cpc_num.specs.declared.kinds.Kind.{Kind}
 use Rattle.cpc_num.specs.declared.kinds.Kind.TheVariants.{Char, UChar, Int, UInt, Long, ULong}
 use Rattle.cpc_num.specs.declared.kinds.Fault.TheVariants as F
@@ -14,7 +15,6 @@ use Rattle.cpc_meaning.specs.Layout.{scalar_of}
 use Rattle.cpc_meaning.specs.Answer.{of_result}
 use Rattle.cpc_meaning.specs.Eval.{holds, assigned, at_type}
 use Rattle.cpc_check_sound_laws.specs.Suits.{Comes, Suits, converts}
-use Rattle.cpc_check_sound_laws.proofs.Answers.{not_true}
 
 pub kind_is : (j k : Kind) → same_kind j k ≡ true → j ≡ k
 kind_is Char Char e = refl
@@ -23,7 +23,7 @@ kind_is Int Int e = refl
 kind_is UInt UInt e = refl
 kind_is Long Long e = refl
 kind_is ULong ULong e = refl
-kind_is _ _ e = not_true e
+kind_is _ _ e = by_false_true e
 
 pub holds_comes : (t : Ty) (v : Value) → is_testable t ≡ true → Suits t v → Comes (λ b. Unit {0}) (holds v)
 holds_comes t Unset e h = tt
@@ -31,7 +31,7 @@ holds_comes t (Whole kind z) e h = tt
 holds_comes t Null e h = tt
 holds_comes t (At c n k) e h = tt
 holds_comes t (Code f) e h = tt
-holds_comes TyCondvar (Cond n) e h = not_true e
+holds_comes TyCondvar (Cond n) e h = by_false_true e
 holds_comes _ (Cond n) e h = absurd h
 
 -- a value of one type, assigned to another
@@ -56,7 +56,7 @@ assigned_comes (TyCode r ps) (TyInt k) _ e h = absurd h
 assigned_comes TyCondvar TyCondvar Unset e h = tt
 assigned_comes TyCondvar TyCondvar (Cond n) e h = tt
 assigned_comes TyCondvar TyCondvar _ e h = absurd h
-assigned_comes _ _ v e h = not_true e
+assigned_comes _ _ v e h = by_false_true e
 
 -- the same, where an unset value faults
 pub cast_comes : (t u : Ty) (v : Value) → converts t u ≡ true → Suits u v → Comes (Suits t) (at_type t v)

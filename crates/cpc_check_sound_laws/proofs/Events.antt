@@ -2,6 +2,7 @@
 use Rattle.std.proofs.Common.{◌≡◌, ℕ, true, false, List, [], ◌∷◌, Ok, refl, sym, ◌∙◌, ap, subst}
 use Rattle.cpc_base.specs.Bytes.{Text}
 use Rattle.cpc_base.specs.declared.stop.Dialect.TheVariants as D
+use Rattle.cpc_base.proofs.Truth.{by_false_true}
 use Rattle.cpc_num.specs.declared.kinds.Kind.TheVariants.{Int}
 use Rattle.cpc_tree.specs.Syntax.{Ty, TyVoid, TyInt, TyPointer, Program}
 use Rattle.cpc_tree.specs.Typing.{parameter_types, code_parameters}
@@ -24,7 +25,7 @@ use Rattle.cpc_check_rules.specs.Calls.{gives}
 use Rattle.cpc_check_sound_laws.specs.Suits.{Comes, Suits}
 use Rattle.cpc_check_sound_laws.specs.Typed.{TypedProgram, is_for}
 use Rattle.cpc_check_sound_laws.specs.Promises.{TypedCallbacksNeverStuck}
-use Rattle.cpc_check_sound_laws.proofs.Answers.{not_true, comes_then}
+use Rattle.cpc_check_sound_laws.proofs.Answers.{comes_then}
 use Rattle.cpc_check_sound_laws.proofs.Conversions.{assigned_comes}
 use Rattle.cpc_check_sound_laws.proofs.Types.{list_back}
 use Rattle.cpc_check_sound_laws.proofs.Requests.{AllSuit, PrimitiveGiven, IsCallback, callback_type}
@@ -112,11 +113,11 @@ module _ (p : Program) (typed : TypedProgram D.Event p) where
       comes_then (λ (t : State Point Callback). (t.running ≡ s.running) × (t.store ≡ s.store) × RestOk D.Event p typed CallbackOk t.agenda t.jobs) Good (submits (trees p) c vs (CallWith a x) s) _
       (submits_come D.Event p typed CallbackOk c vs (CallWith a x) s g.2 (i, g.1) rest) (λ t j. reply_comes D.Event p typed CallbackOk R TyVoid k Unset t j.2 h tt)
   owns_come R RtDetach _ k s e f g h rest = absurd g
-  owns_come R Yield vs k s e f g h rest = not_true f
-  owns_come R Sleep vs k s e f g h rest = not_true f
-  owns_come R IoWait vs k s e f g h rest = not_true f
-  owns_come R Wait vs k s e f g h rest = not_true f
-  owns_come R _ vs k s e f g h rest = not_true (sym e)
+  owns_come R Yield vs k s e f g h rest = by_false_true f
+  owns_come R Sleep vs k s e f g h rest = by_false_true f
+  owns_come R IoWait vs k s e f g h rest = by_false_true f
+  owns_come R Wait vs k s e f g h rest = by_false_true f
+  owns_come R _ vs k s e f g h rest = by_false_true (sym e)
 
   own_ok : OwnOk D.Event p typed CallbackOk (callbacks p)
   own_ok = record {

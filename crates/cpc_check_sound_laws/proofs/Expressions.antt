@@ -1,6 +1,8 @@
 -- An expression that has a type has a value that suits it, or a fault.
 use Rattle.std.proofs.Common.{◌≡◌, ℕ, ℤ, pos, Bool, true, false, List, ◌++◌, slice_get, Option, Some, None, Result, Ok, Err, refl, sym, ◌∙◌, ap, subst}
 use Rattle.cpc_base.specs.Bytes.{Text}
+use Rattle.cpc_base.proofs.Truth.{by_false_true}
+use Rattle.cpc_base.proofs.Lists.{some_is}
 use Rattle.cpc_num.specs.declared.kinds.Kind.{Kind}
 use Rattle.cpc_num.specs.declared.kinds.Kind.TheVariants.{Int, ULong}
 use Rattle.cpc_num.specs.declared.kinds.Fault.{Fault}
@@ -21,7 +23,7 @@ use Rattle.cpc_meaning.specs.Answer.{Answer, Gives, ◌>>=◌}
 use Rattle.cpc_meaning.specs.Eval.{Slot, Register, Boxed, Context, Spot, InSlot, InCell, and_then, place, value, address, place_type, used_type, field_spot, value_named, address_named, spot_named, slot_spot, slot_value, read, pointed, pointer_to, pointed_type, moved, operate, apply, number, holds, tested, and_also, or_else, chosen, at_type}
 use Rattle.cpc_check_sound_laws.specs.Promises.{ExpressionsAnswer}
 use Rattle.cpc_check_sound_laws.specs.Suits.{Comes, Suits, converts, SuitsSome, SuitSlots, ScopeOf, IsBoxed, AllBoxed, SuitsSpot}
-use Rattle.cpc_check_sound_laws.proofs.Answers.{some_is, no_some, not_true, comes_then, comes_as, comes_needed, if_some}
+use Rattle.cpc_check_sound_laws.proofs.Answers.{no_some, comes_then, comes_as, comes_needed, if_some}
 use Rattle.cpc_check_sound_laws.proofs.Options.{then_some}
 use Rattle.cpc_check_sound_laws.proofs.Operators.{moved_comes}
 use Rattle.cpc_check_sound_laws.proofs.Conversions.{holds_comes, cast_comes, load_comes}
@@ -100,15 +102,15 @@ field_comes p s o t tag x f v e g h k =
 
 struct_spot : (ts : List Ty) (slots : List Slot) (t : Ty) (tag : Text) (spot : Spot) → struct_tag t ≡ Some tag → SuitsSpot ts slots t spot → IsCell spot
 struct_spot ts slots t tag (InCell c n k) e h = tt
-struct_spot ts slots (TyStruct tag) u (InSlot k) e h = not_true h.2
+struct_spot ts slots (TyStruct tag) u (InSlot k) e h = by_false_true h.2
 struct_spot ts slots _ u (InSlot k) e h = no_some u e
 
 -- the value of a place that is used as a value
 read_comes : (ts : List Ty) (slots : List Slot) (s : Store) (t u : Ty) (spot : Spot) → used (APlace t) ≡ Some u → is_scalar u ≡ true → SuitsSpot ts slots t spot → Comes (Suits u) (read slots s (Some t) spot)
 read_comes ts slots s (TyArray t m) u (InCell c n k) e sc h = subst (λ u. Suits u (At c n k)) (some_is (TyPointer t) u e) tt
-read_comes ts slots s (TyArray t m) u (InSlot k) e sc h = not_true h.2
+read_comes ts slots s (TyArray t m) u (InSlot k) e sc h = by_false_true h.2
 read_comes ts slots s (TyStruct tag) u spot e sc h = no_some u e
-read_comes ts slots s TyVoid u spot e sc h = not_true (ap is_scalar (some_is TyVoid u e) ∙ sc)
+read_comes ts slots s TyVoid u spot e sc h = by_false_true (ap is_scalar (some_is TyVoid u e) ∙ sc)
 read_comes ts slots s (TyInt kind) u (InCell c n k) e sc h = subst (λ u. Comes (Suits u) (read slots s (Some (TyInt kind)) (InCell c n k))) (some_is (TyInt kind) u e) (load_comes (TyInt kind) (S.Int kind) c n k s refl)
 read_comes ts slots s TyCondvar u (InCell c n k) e sc h = subst (λ u. Comes (Suits u) (read slots s (Some TyCondvar) (InCell c n k))) (some_is TyCondvar u e) (load_comes TyCondvar S.Cond c n k s refl)
 read_comes ts slots s (TyPointer t) u (InCell c n k) e sc h = subst (λ u. Comes (Suits u) (read slots s (Some (TyPointer t)) (InCell c n k))) (some_is (TyPointer t) u e) (load_comes (TyPointer t) S.Pointer c n k s refl)

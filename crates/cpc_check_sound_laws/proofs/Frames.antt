@@ -2,6 +2,7 @@
 use Rattle.std.proofs.Common.{◌≡◌, ◌==◌, ◌||◌, not, ℕ, zero, suc, ◌+◌, Bool, true, false, List, [], ◌∷◌, ◌++◌, map, slice_get, Option, Some, None, refl, sym, ◌∙◌, ap, subst, arith}
 use Rattle.cpc_base.specs.Bytes.{Text}
 use Rattle.cpc_base.specs.declared.stop.Dialect.{Dialect}
+use Rattle.cpc_base.proofs.Truth.{by_false_true, and_both, eq_reflexive}
 use Rattle.cpc_tree.specs.Syntax.{Ty, Variable, Parameter, Function, Program}
 use Rattle.cpc_tree.specs.Lists.{first_or, rest_of, holds_number}
 use Rattle.cpc_tree.specs.Typing.{is_scalar, size, function_named, parameter_types, parameter_type}
@@ -20,8 +21,7 @@ use Rattle.cpc_check_rules.specs.Operators.{is_detached}
 use Rattle.cpc_check_sound_laws.specs.Suits.{Comes, Suits, SuitSlots, IsBoxed, AllBoxed}
 use Rattle.cpc_check_sound_laws.specs.Control.{Stands, GoesOnward, IsPoint}
 use Rattle.cpc_check_sound_laws.specs.Typed.{AllSized, TypedFunction, TypedProgram}
-use Rattle.cpc_check_sound_laws.proofs.Answers.{not_true, comes_then, comes_as, comes_needed}
-use Rattle.cpc_check_sound_laws.proofs.Scalars.{both_true}
+use Rattle.cpc_check_sound_laws.proofs.Answers.{comes_then, comes_as, comes_needed}
 use Rattle.cpc_check_sound_laws.proofs.Copies.{CopyStays, alloc_stays}
 use Rattle.cpc_check_sound_laws.proofs.Control.{begins, goes_next}
 use Rattle.cpc_check_sound_laws.proofs.Paths.{types_of, function_scope, function_typed, function_boxed}
@@ -66,24 +66,21 @@ NoneTaken f n (Boxed k ∷ slots) = NoneTaken f (suc n) slots
 
 none_boxed : (f : Function) (n k : ℕ) (slots : List Slot) → NoneTaken f n slots → holds_number (addressed f) (n + k) ≡ true → IsBoxed (slice_get slots k)
 none_boxed f n k [] h e = tt
-none_boxed f n zero (Register v ∷ slots) h e = not_true (sym h.0 ∙ subst (λ m. holds_number (addressed f) m ≡ true) (let i : n + 0 ≡ n = omega arith in i) e)
+none_boxed f n zero (Register v ∷ slots) h e = by_false_true (sym h.0 ∙ subst (λ m. holds_number (addressed f) m ≡ true) (let i : n + 0 ≡ n = omega arith in i) e)
 none_boxed f n zero (Boxed m ∷ slots) h e = tt
 none_boxed f n (suc k) (Register v ∷ slots) h e = none_boxed f (suc n) k slots h.1 (subst (λ m. holds_number (addressed f) m ≡ true) (let i : n + suc k ≡ suc n + k = omega arith in i) e)
 none_boxed f n (suc k) (Boxed m ∷ slots) h e = none_boxed f (suc n) k slots h (subst (λ m. holds_number (addressed f) m ≡ true) (let i : n + suc k ≡ suc n + k = omega arith in i) e)
 
-same_number : (n : ℕ) → (n == n) ≡ true
-same_number n = grind arith
-
 all_within : (f : Function) (slots : List Slot) (ks : List ℕ) → NoneTaken f 0 slots → ((k : ℕ) → holds_number ks k ≡ true → holds_number (addressed f) k ≡ true) → AllBoxed slots ks
 all_within f slots [] h w = tt
 all_within f slots (k ∷ ks) h w = (
-  none_boxed f 0 k slots h (subst (λ m. holds_number (addressed f) m ≡ true) (let i : k ≡ 0 + k = omega arith in i) (w k (first_holds (k == k) (same_number k)))),
+  none_boxed f 0 k slots h (subst (λ m. holds_number (addressed f) m ≡ true) (let i : k ≡ 0 + k = omega arith in i) (w k (first_holds (k == k) (eq_reflexive k)))),
   all_within f slots ks h (λ j e. w j (later_holds (k == j) e)),
 )
   where
     first_holds : (b : Bool) → b ≡ true → (b || holds_number ks k) ≡ true
     first_holds true e = refl
-    first_holds false e = not_true e
+    first_holds false e = by_false_true e
 
     later_holds : {b : Bool} (a : Bool) → b ≡ true → (a || b) ≡ true
     later_holds true e = refl
@@ -94,10 +91,10 @@ abbrev Made : Function → ℕ → List Variable → Store → List Slot × Stor
 Made f n xs s r = SuitSlots (map (λ (x : Variable). x.type) xs) r.0 × NoneTaken f n r.0 × CopyStays s r.1
 
 register_is : (f : Function) (n : ℕ) (x : Variable) → is_register f n x ≡ true → (is_scalar x.type ≡ true) × (holds_number (addressed f) n ≡ false)
-register_is f n x e = let h = both_true (is_scalar x.type) (not (holds_number (addressed f) n)) e in (h.0, go (holds_number (addressed f) n) h.1)
+register_is f n x e = let h = and_both (is_scalar x.type) (not (holds_number (addressed f) n)) e in (h.0, go (holds_number (addressed f) n) h.1)
   where
     go : (b : Bool) → not b ≡ true → b ≡ false
-    go true i = not_true i
+    go true i = by_false_true i
     go false i = refl
 
 made_come : (p : Program) (f : Function) (n : ℕ) (xs : List Variable) (vs : List Value) (s : Store) → AllSized p xs → Given xs vs → Comes (Made f n xs s) (make_slots p f n xs vs s)

@@ -2,6 +2,7 @@
 use Rattle.std.proofs.Common.{◌≡◌, ◌||◌, ℕ, ◌+◌, Bool, true, false, cond, List, [], ◌∷◌, ◌++◌, reverse, Some, None, bytes_eq, refl, sym, ◌∙◌, ap, subst}
 use Rattle.std.proofs.lemmas.List.{reverse-append}
 use Rattle.cpc_base.specs.Bytes.{Text}
+use Rattle.cpc_base.proofs.Truth.{or_neither}
 use Rattle.cpc_tree.specs.Syntax.{Ty, TyVoid, TyInt, TyCondvar, TyPointer, TyCode, TyStruct, TyArray, Variable, Item, StructItem, GlobalItem, PrototypeItem, FunctionItem, Program}
 use Rattle.cpc_tree.specs.Typing.{◌>>=◌, Cells, cells, cells_in, fields_cells, struct_cells, fields, fields_in, field, field_from, size}
 use Rattle.cpc_check_rules.specs.ItemRules.{is_struct}
@@ -9,7 +10,6 @@ use Rattle.cpc_meaning.proofs.Functions.{same_text}
 use Rattle.cpc_check_sound_laws.proofs.Answers.{no_some}
 use Rattle.cpc_check_sound_laws.proofs.Options.{then_some, then_of}
 use Rattle.cpc_check_sound_laws.proofs.Agreement.{Grows}
-use Rattle.cpc_check_sound_laws.proofs.Bodies.{either_false}
 use Rattle.cpc_check_sound_laws.proofs.Items.{last_first}
 
 -- ---- cells
@@ -29,13 +29,13 @@ cells_more tags more h (TyArray t n) ts e =
 
 struct_append : (tag : Text) (a b : Program) → is_struct tag a ≡ false → is_struct tag b ≡ false → is_struct tag (a ++ b) ≡ false
 struct_append tag [] b h k = k
-struct_append tag (StructItem t fs ∷ a) b h k = let g = either_false (bytes_eq t tag) (is_struct tag a) h in ap (λ c. c || is_struct tag (a ++ b)) g.0 ∙ struct_append tag a b g.1 k
+struct_append tag (StructItem t fs ∷ a) b h k = let g = or_neither (bytes_eq t tag) (is_struct tag a) h in ap (λ c. c || is_struct tag (a ++ b)) g.0 ∙ struct_append tag a b g.1 k
 struct_append tag (GlobalItem x t start ∷ a) b h k = struct_append tag a b h k
 struct_append tag (PrototypeItem mode f r ps ∷ a) b h k = struct_append tag a b h k
 struct_append tag (FunctionItem f ∷ a) b h k = struct_append tag a b h k
 
 one_struct : (tag : Text) (i : Item) (a : Program) → is_struct tag (i ∷ a) ≡ false → (is_struct tag (i ∷ []) ≡ false) × (is_struct tag a ≡ false)
-one_struct tag (StructItem t fs) a h = let g = either_false (bytes_eq t tag) (is_struct tag a) h in (ap (λ c. c || false) g.0, g.1)
+one_struct tag (StructItem t fs) a h = let g = or_neither (bytes_eq t tag) (is_struct tag a) h in (ap (λ c. c || false) g.0, g.1)
 one_struct tag (GlobalItem x t start) a h = (refl, h)
 one_struct tag (PrototypeItem mode f r ps) a h = (refl, h)
 one_struct tag (FunctionItem f) a h = (refl, h)
@@ -48,14 +48,14 @@ struct_reverse tag (i ∷ a) h =
 
 no_cells : (tag : Text) (a : Program) → is_struct tag a ≡ false → struct_cells a tag ≡ None
 no_cells tag [] h = refl
-no_cells tag (StructItem t fs ∷ a) h = let g = either_false (bytes_eq t tag) (is_struct tag a) h in ap (λ b. cond b (fields_cells (struct_cells a) fs) (struct_cells a tag)) g.0 ∙ no_cells tag a g.1
+no_cells tag (StructItem t fs ∷ a) h = let g = or_neither (bytes_eq t tag) (is_struct tag a) h in ap (λ b. cond b (fields_cells (struct_cells a) fs) (struct_cells a tag)) g.0 ∙ no_cells tag a g.1
 no_cells tag (GlobalItem x t start ∷ a) h = no_cells tag a h
 no_cells tag (PrototypeItem mode f r ps ∷ a) h = no_cells tag a h
 no_cells tag (FunctionItem f ∷ a) h = no_cells tag a h
 
 no_fields : (tag : Text) (a : Program) → is_struct tag a ≡ false → fields_in a tag ≡ None
 no_fields tag [] h = refl
-no_fields tag (StructItem t fs ∷ a) h = let g = either_false (bytes_eq t tag) (is_struct tag a) h in ap (λ b. cond b (Some fs) (fields_in a tag)) g.0 ∙ no_fields tag a g.1
+no_fields tag (StructItem t fs ∷ a) h = let g = or_neither (bytes_eq t tag) (is_struct tag a) h in ap (λ b. cond b (Some fs) (fields_in a tag)) g.0 ∙ no_fields tag a g.1
 no_fields tag (GlobalItem x t start ∷ a) h = no_fields tag a h
 no_fields tag (PrototypeItem mode f r ps ∷ a) h = no_fields tag a h
 no_fields tag (FunctionItem f ∷ a) h = no_fields tag a h

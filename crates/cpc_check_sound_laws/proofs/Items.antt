@@ -2,15 +2,14 @@
 use Rattle.std.proofs.Common.{◌≡◌, ◌⊎◌, inl, inr, ◌&&◌, ◌||◌, not, ℕ, suc, Bool, true, false, cond, List, [], ◌∷◌, ◌++◌, map, reverse, Option, Some, None, bytes_eq, refl, sym, ◌∙◌, ap, subst}
 use Rattle.std.proofs.lemmas.List.{reverse-append}
 use Rattle.cpc_base.specs.Bytes.{Text}
+use Rattle.cpc_base.proofs.Truth.{by_false_true, and_both, or_neither, and_fails_second}
 use Rattle.cpc_tree.specs.declared.program.Mode.{Mode}
 use Rattle.cpc_tree.specs.declared.program.Mode.TheVariants.{Extern, Native, Cps, Detached}
 use Rattle.cpc_tree.specs.Syntax.{Ty, Function, Item, StructItem, GlobalItem, PrototypeItem, FunctionItem, Program}
 use Rattle.cpc_tree.specs.Typing.{Meant, ALocal, AGlobal, AFunction, NotMeant, item_named, function_named, parameter_type, same_type}
 use Rattle.cpc_check_rules.specs.ItemRules.{same_mode, same_list, Signature, agrees, clashes, is_clash, disagrees, is_disagreeing, is_item, is_function}
-use Rattle.cpc_check_sound_laws.proofs.Answers.{no_some, not_true}
-use Rattle.cpc_check_sound_laws.proofs.Scalars.{both_true}
+use Rattle.cpc_check_sound_laws.proofs.Answers.{no_some}
 use Rattle.cpc_check_sound_laws.proofs.Types.{type_is}
-use Rattle.cpc_check_sound_laws.proofs.Bodies.{either_false}
 
 -- ---- one more item
 
@@ -66,20 +65,20 @@ mode_is Extern Extern e = refl
 mode_is Native Native e = refl
 mode_is Cps Cps e = refl
 mode_is Detached Detached e = refl
-mode_is _ _ e = not_true e
+mode_is _ _ e = by_false_true e
 
 list_is : (ts us : List Ty) → same_list ts us ≡ true → ts ≡ us
 list_is [] [] e = refl
-list_is (t ∷ ts) (u ∷ us) e = let h = both_true (same_type t u) (same_list ts us) e in ap (λ t. t ∷ ts) (type_is t u h.0) ∙ ap (λ ts. u ∷ ts) (list_is ts us h.1)
-list_is _ _ e = not_true e
+list_is (t ∷ ts) (u ∷ us) e = let h = and_both (same_type t u) (same_list ts us) e in ap (λ t. t ∷ ts) (type_is t u h.0) ∙ ap (λ ts. u ∷ ts) (list_is ts us h.1)
+list_is _ _ e = by_false_true e
 
 abbrev pub signed : Signature → Meant
 signed s = AFunction s.mode s.result s.parameters
 
 agrees_is : (new : Signature) (mode : Mode) (r : Ty) (ps : List Ty) → agrees new mode r ps ≡ true → AFunction mode r ps ≡ signed new
 agrees_is new mode r ps e =
-    let h = both_true (same_mode new.mode mode) _ e in
-    let k = both_true (same_type new.result r) (same_list new.parameters ps) h.1 in
+    let h = and_both (same_mode new.mode mode) _ e in
+    let k = and_both (same_type new.result r) (same_list new.parameters ps) h.1 in
     sym (ap (λ m. AFunction m new.result new.parameters) (mode_is new.mode mode h.0) ∙ ap (λ t. AFunction mode t new.parameters) (type_is new.result r k.0) ∙ ap (λ us. AFunction mode r us) (list_is new.parameters ps k.1))
 
 -- neither a clash nor a disagreement
@@ -87,9 +86,9 @@ pub settled : (new : Signature) (mode : Mode) (is_defined : Bool) (r : Ty) (ps :
 settled new mode is_defined r ps c e = agrees_is new mode r ps (go (clashes new mode is_defined) (agrees new mode r ps) c e)
   where
     go : (a b : Bool) → a ≡ false → (not a && not b) ≡ false → b ≡ true
-    go true b h e = not_true (sym h)
+    go true b h e = by_false_true (sym h)
     go false true h e = refl
-    go false false h e = not_true (sym e)
+    go false false h e = by_false_true (sym e)
 
 -- what was declared of a name before is what is declared now
 abbrev pub Agreed : Signature → Meant → Type 0
@@ -99,36 +98,32 @@ agreed_either : (b : Bool) (a c : Meant) (new : Signature) → (b ≡ true → A
 agreed_either true a c new f g = f refl
 agreed_either false a c new f g = g refl
 
-and_true : (a b : Bool) → (a && b) ≡ false → a ≡ true → b ≡ false
-and_true true b e h = e
-and_true false b e h = not_true h
-
 pub agreed : (x : Text) (new : Signature) (n : ℕ) (before : Program) → is_clash x new before ≡ false → is_disagreeing x new before ≡ false → Agreed new (item_named n before x)
 agreed x new n [] c e = inl refl
 agreed x new n (StructItem tag fs ∷ before) c e = agreed x new n before c e
 agreed x new n (GlobalItem g t start ∷ before) c e =
-    let h = either_false (bytes_eq g x) (is_clash x new before) c in
-    agreed_either (bytes_eq g x) (AGlobal n t) (item_named (suc n) before x) new (λ k. not_true (sym (sym k ∙ h.0))) (λ k. agreed x new (suc n) before h.1 e)
+    let h = or_neither (bytes_eq g x) (is_clash x new before) c in
+    agreed_either (bytes_eq g x) (AGlobal n t) (item_named (suc n) before x) new (λ k. by_false_true (sym (sym k ∙ h.0))) (λ k. agreed x new (suc n) before h.1 e)
 agreed x new n (PrototypeItem mode f r ps ∷ before) c e =
-    let h = either_false (bytes_eq f x && clashes new mode false) (is_clash x new before) c in
-    let k = either_false (bytes_eq f x && disagrees new mode false r (map parameter_type ps)) (is_disagreeing x new before) e in
+    let h = or_neither (bytes_eq f x && clashes new mode false) (is_clash x new before) c in
+    let k = or_neither (bytes_eq f x && disagrees new mode false r (map parameter_type ps)) (is_disagreeing x new before) e in
     agreed_either (bytes_eq f x) (AFunction mode r (map parameter_type ps)) (item_named n before x) new
-    (λ i. inr (settled new mode false r (map parameter_type ps) (and_true (bytes_eq f x) _ h.0 i) (and_true (bytes_eq f x) _ k.0 i))) (λ i. agreed x new n before h.1 k.1)
+    (λ i. inr (settled new mode false r (map parameter_type ps) (and_fails_second (bytes_eq f x) _ h.0 i) (and_fails_second (bytes_eq f x) _ k.0 i))) (λ i. agreed x new n before h.1 k.1)
 agreed x new n (FunctionItem f ∷ before) c e =
-    let h = either_false (bytes_eq f.called x && clashes new f.mode true) (is_clash x new before) c in
-    let k = either_false (bytes_eq f.called x && disagrees new f.mode true f.result (map parameter_type f.parameters)) (is_disagreeing x new before) e in
+    let h = or_neither (bytes_eq f.called x && clashes new f.mode true) (is_clash x new before) c in
+    let k = or_neither (bytes_eq f.called x && disagrees new f.mode true f.result (map parameter_type f.parameters)) (is_disagreeing x new before) e in
     agreed_either (bytes_eq f.called x) (AFunction f.mode f.result (map parameter_type f.parameters)) (item_named n before x) new
-    (λ i. inr (settled new f.mode true f.result (map parameter_type f.parameters) (and_true (bytes_eq f.called x) _ h.0 i) (and_true (bytes_eq f.called x) _ k.0 i))) (λ i. agreed x new n before h.1 k.1)
+    (λ i. inr (settled new f.mode true f.result (map parameter_type f.parameters) (and_fails_second (bytes_eq f.called x) _ h.0 i) (and_fails_second (bytes_eq f.called x) _ k.0 i))) (λ i. agreed x new n before h.1 k.1)
 
 -- a name that no item has
 pub no_item : (x : Text) (n : ℕ) (before : Program) → is_item x before ≡ false → item_named n before x ≡ NotMeant
 no_item x n [] e = refl
 no_item x n (StructItem tag fs ∷ before) e = no_item x n before e
-no_item x n (GlobalItem g t start ∷ before) e = let h = either_false (bytes_eq g x) (is_item x before) e in ap (λ b. cond b (AGlobal n t) (item_named (suc n) before x)) h.0 ∙ no_item x (suc n) before h.1
+no_item x n (GlobalItem g t start ∷ before) e = let h = or_neither (bytes_eq g x) (is_item x before) e in ap (λ b. cond b (AGlobal n t) (item_named (suc n) before x)) h.0 ∙ no_item x (suc n) before h.1
 no_item x n (PrototypeItem mode f r ps ∷ before) e =
-    let h = either_false (bytes_eq f x) (is_item x before) e in ap (λ b. cond b (AFunction mode r (map parameter_type ps)) (item_named n before x)) h.0 ∙ no_item x n before h.1
+    let h = or_neither (bytes_eq f x) (is_item x before) e in ap (λ b. cond b (AFunction mode r (map parameter_type ps)) (item_named n before x)) h.0 ∙ no_item x n before h.1
 no_item x n (FunctionItem f ∷ before) e =
-    let h = either_false (bytes_eq f.called x) (is_item x before) e in ap (λ b. cond b (AFunction f.mode f.result (map parameter_type f.parameters)) (item_named n before x)) h.0 ∙ no_item x n before h.1
+    let h = or_neither (bytes_eq f.called x) (is_item x before) e in ap (λ b. cond b (AFunction f.mode f.result (map parameter_type f.parameters)) (item_named n before x)) h.0 ∙ no_item x n before h.1
 
 -- ---- functions that are defined
 
@@ -159,7 +154,7 @@ found_either true f o c k h = (f, refl)
 found_either false f o c k h = k h
 
 pub is_defined : (x : Text) (p : Program) → is_function x p ≡ true → (g : Function) × (function_named p x ≡ Some g)
-is_defined x [] h = not_true h
+is_defined x [] h = by_false_true h
 is_defined x (StructItem tag fs ∷ p) h = is_defined x p h
 is_defined x (GlobalItem y t start ∷ p) h = is_defined x p h
 is_defined x (PrototypeItem mode f r ps ∷ p) h = is_defined x p h

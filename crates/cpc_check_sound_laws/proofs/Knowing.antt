@@ -1,6 +1,8 @@
 -- What is known after each item of a program that breaks no rule.
 use Rattle.std.proofs.Common.{◌≡◌, inl, inr, nat_le, ℕ, Bool, true, false, cond, List, [], ◌∷◌, ◌++◌, reverse, length, Option, Some, None, bytes_eq, refl, sym, ◌∙◌, ap, subst}
 use Rattle.cpc_base.specs.Bytes.{Text}
+use Rattle.cpc_base.proofs.Truth.{by_false_true, and_both}
+use Rattle.cpc_base.proofs.Lists.{some_is}
 use Rattle.cpc_num.specs.declared.kinds.Kind.TheVariants.{Char, UChar, Int, UInt, Long, ULong}
 use Rattle.cpc_tree.specs.declared.program.Mode.{Mode}
 use Rattle.cpc_tree.specs.declared.program.Mode.TheVariants.{Extern}
@@ -12,8 +14,7 @@ use Rattle.cpc_check_rules.specs.FunctionRules.{is_kept}
 use Rattle.cpc_check_rules.specs.ItemRules.{Signature, is_clash, is_disagreeing, is_item, is_function, is_long, all_long, is_host_like}
 use Rattle.cpc_meaning.proofs.Functions.{same_text, text_same}
 use Rattle.cpc_check_sound_laws.specs.Typed.{Gets, AllGet, EachGets, is_own}
-use Rattle.cpc_check_sound_laws.proofs.Answers.{some_is, no_some, not_true}
-use Rattle.cpc_check_sound_laws.proofs.Scalars.{both_true}
+use Rattle.cpc_check_sound_laws.proofs.Answers.{no_some}
 use Rattle.cpc_check_sound_laws.proofs.Agendas.{Each}
 use Rattle.cpc_check_sound_laws.proofs.Agreement.{Facts}
 use Rattle.cpc_check_sound_laws.proofs.Items.{last_first, named_more, named_rest, named_other, signed, Agreed, agreed, no_item, defined_more, defined_rest, is_defined}
@@ -106,7 +107,7 @@ module _ (program before : Program) (known : Known program before) where
             (λ e. subst (λ b. Same (cond b (AGlobal 0 t) (in_items (reverse before) x)) (item_named 0 (before ++ g_item ∷ []) x)) (sym e) (subst (Same (in_items (reverse before) x)) (sym (g_other x e)) (known.same x))))
 
         kept : (x : Text) → is_kept x ≡ true → item_named 0 (before ++ g_item ∷ []) x ≡ NotMeant
-        kept x k = bool_cases (bytes_eq y x) (λ e. not_true (sym (subst (λ z. is_kept z ≡ false) (same_text y x e) not_kept) ∙ k)) (λ e. g_other x e ∙ known.kept x k)
+        kept x k = bool_cases (bytes_eq y x) (λ e. by_false_true (sym (subst (λ z. is_kept z ≡ false) (same_text y x e) not_kept) ∙ k)) (λ e. g_other x e ∙ known.kept x k)
 
         extern : (x : Text) (r : Ty) (ps : List Ty) → item_named 0 (before ++ g_item ∷ []) x ≡ AFunction Extern r ps → is_host_like r ps ≡ true
         extern x r ps h = bool_cases (bytes_eq y x) (λ e. let m = g_matched x e in absurd (global_no_function m.0 t Extern r ps (sym m.1 ∙ h))) (λ e. known.extern x r ps (sym (g_other x e) ∙ h))
@@ -147,7 +148,7 @@ module _ (program before : Program) (known : Known program before) where
             (λ e. subst (λ b. Same (cond b (signed new) (in_items (reverse before) x)) (item_named 0 (before ++ i ∷ []) x)) (sym e) (subst (Same (in_items (reverse before) x)) (sym (f_other x e)) (known.same x)))))
 
         kept : (x : Text) → is_kept x ≡ true → item_named 0 (before ++ i ∷ []) x ≡ NotMeant
-        kept x k = bool_cases (bytes_eq y x) (λ e. not_true (sym (subst (λ z. is_kept z ≡ false) (same_text y x e) not_kept) ∙ k)) (λ e. f_other x e ∙ known.kept x k)
+        kept x k = bool_cases (bytes_eq y x) (λ e. by_false_true (sym (subst (λ z. is_kept z ≡ false) (same_text y x e) not_kept) ∙ k)) (λ e. f_other x e ∙ known.kept x k)
 
         extern : (x : Text) (r : Ty) (ps : List Ty) → item_named 0 (before ++ i ∷ []) x ≡ AFunction Extern r ps → is_host_like r ps ≡ true
         extern x r ps h = bool_cases (bytes_eq y x)
@@ -190,21 +191,21 @@ primitive_kept x prim e = kept_in primitives x prim all_kept e
 
 long_is : (t : Ty) → is_long t ≡ true → t ≡ TyInt Long
 long_is (TyInt Long) e = refl
-long_is (TyInt Char) e = not_true e
-long_is (TyInt UChar) e = not_true e
-long_is (TyInt Int) e = not_true e
-long_is (TyInt UInt) e = not_true e
-long_is (TyInt ULong) e = not_true e
-long_is TyVoid e = not_true e
-long_is TyCondvar e = not_true e
-long_is (TyPointer t) e = not_true e
-long_is (TyCode r ps) e = not_true e
-long_is (TyStruct tag) e = not_true e
-long_is (TyArray t n) e = not_true e
+long_is (TyInt Char) e = by_false_true e
+long_is (TyInt UChar) e = by_false_true e
+long_is (TyInt Int) e = by_false_true e
+long_is (TyInt UInt) e = by_false_true e
+long_is (TyInt ULong) e = by_false_true e
+long_is TyVoid e = by_false_true e
+long_is TyCondvar e = by_false_true e
+long_is (TyPointer t) e = by_false_true e
+long_is (TyCode r ps) e = by_false_true e
+long_is (TyStruct tag) e = by_false_true e
+long_is (TyArray t n) e = by_false_true e
 
 longs_get : (p : Program) (scope : Scope) (ps : List Ty) (es : Exprs) → all_long ps ≡ true → AllGet p scope ps es → EachGets p scope (TyInt Long) es
 longs_get p scope [] NoExpr h g = tt
-longs_get p scope (t ∷ ps) (AndExpr e es) h g = let k = both_true (is_long t) (all_long ps) h in (subst (λ t. Gets p scope t e) (long_is t k.0) g.0, longs_get p scope ps es k.1 g.1)
+longs_get p scope (t ∷ ps) (AndExpr e es) h g = let k = and_both (is_long t) (all_long ps) h in (subst (λ t. Gets p scope t e) (long_is t k.0) g.0, longs_get p scope ps es k.1 g.1)
 longs_get p scope [] (AndExpr e es) h g = absurd g
 longs_get p scope (t ∷ ps) NoExpr h g = absurd g
 
@@ -213,8 +214,8 @@ facts_of p known = record { extern = extern; function = function }
   where
     extern : (x : Text) (r : Ty) (ps : List Ty) → item_named 0 p x ≡ AFunction Extern r ps → (r ≡ TyInt Long) × ((es : Exprs) (scope : Scope) → AllGet p scope ps es → EachGets p scope (TyInt Long) es)
     extern x r ps e =
-        let h = both_true (is_long r) _ (known.extern x r ps e) in
-        let k = both_true (all_long ps) (nat_le (length ps) 8) h.1 in
+        let h = and_both (is_long r) _ (known.extern x r ps e) in
+        let k = and_both (all_long ps) (nat_le (length ps) 8) h.1 in
         (long_is r h.0, λ es scope g. longs_get p scope ps es k.0 g)
 
     function : (x : Text) (mode : Mode) (r : Ty) (ps : List Ty) → item_named 0 p x ≡ AFunction mode r ps → is_own mode ≡ true

@@ -4,12 +4,13 @@ use Rattle.cpc_base.specs.Bytes.{Text}
 use Rattle.cpc_tree.specs.Located.{Ident, LStmt, Block, Empty, Declare, Assign, Call, Detach, Spawn, If, While, DoWhile, For, Goto, Label, Break, Continue, Return, LStmts, NoLStmt, AndLStmt, MaybeLStmt, NoneLStmt, SomeLStmt, bare_stmt, bare_stmts, bare_maybe}
 use Rattle.cpc_tree.specs.Points.{Part, Nth, TheTest, TheYes, TheNo, TheStep, TheBody, Path, enter, labelled, labelled_in, labelled_arm, path_under, path_later, or_else}
 use Rattle.cpc_base.specs.declared.stop.Place.{Place}
+use Rattle.cpc_base.proofs.Truth.{by_false_true}
 use Rattle.cpc_check_rules.specs.declared.rule.Rule.{Rule}
 use Rattle.cpc_check_rules.specs.declared.rule.Rule.TheVariants.{NoLabel, LabelTwice}
 use Rattle.cpc_check_rules.specs.Rule.{at_if}
 use Rattle.cpc_check_rules.specs.FunctionRules.{among, repeated, labels, labels_in, labels_maybe, gotos, gotos_in, gotos_maybe, missing, label_breaks, stray_breaks, stray_in, stray_maybe}
 use Rattle.cpc_check_sound_laws.specs.Control.{Controlled, AllControlled, ArmControlled, IsLabel, StaysIn}
-use Rattle.cpc_check_sound_laws.proofs.Answers.{no_some, not_true}
+use Rattle.cpc_check_sound_laws.proofs.Answers.{no_some}
 use Rattle.cpc_check_sound_laws.proofs.Agendas.{Each}
 use Rattle.cpc_check_sound_laws.proofs.Unbroken.{split, not_broken, holds_then}
 use Rattle.cpc_check_sound_laws.proofs.Shapes.{IsFirst, AllFirst, StepWritten, Written, AllWritten, MaybeWritten}
@@ -66,16 +67,16 @@ mutual
   label_there x (DoWhile q a c) h = has_under TheBody (labelled x (bare_stmt a)) (label_there x a h)
   label_there x (For q ss c r a) h = has_under TheBody (labelled x (bare_stmt a)) (label_there x a h)
   label_there x (Label m a) h = has_label (bytes_eq m.text x) (among x (labels a)) (TheBody ∷ enter (bare_stmt a)) (path_under TheBody (labelled x (bare_stmt a))) h (λ k. has_under TheBody (labelled x (bare_stmt a)) (label_there x a k))
-  label_there x _ h = not_true h
+  label_there x _ h = by_false_true h
 
   labels_there : (x : Text) (ss : LStmts) → among x (labels_in ss) ≡ true → Has (labelled_in x (bare_stmts ss))
-  labels_there x NoLStmt h = not_true h
+  labels_there x NoLStmt h = by_false_true h
   labels_there x (AndLStmt a ss) h =
       has_either (path_under (Nth 0) (labelled x (bare_stmt a))) (path_later (labelled_in x (bare_stmts ss))) (among x (labels a) ≡ true) (among x (labels_in ss) ≡ true) (among_either x (labels a) (labels_in ss) h)
       (λ k. has_under (Nth 0) (labelled x (bare_stmt a)) (label_there x a k)) (λ k. has_later (labelled_in x (bare_stmts ss)) (labels_there x ss k))
 
   maybe_there : (x : Text) (r : MaybeLStmt) → among x (labels_maybe r) ≡ true → Has (labelled_arm x (bare_maybe r))
-  maybe_there x NoneLStmt h = not_true h
+  maybe_there x NoneLStmt h = by_false_true h
   maybe_there x (SomeLStmt a) h = label_there x a h
 
 -- ---- bodies
@@ -121,9 +122,9 @@ module _ (L : Text → Type 0) where
       controlled b a s.0 (λ e. (split (stray_breaks a) (stray_maybe r) (h e)).0) (each_left Goes (gotos a) (gotos_maybe r) g),
       arm_controlled b r s.1 (λ e. (split (stray_breaks a) (stray_maybe r) (h e)).1) (each_right Goes (gotos a) (gotos_maybe r) g),
     )
-    controlled b (While q c a) s h g = controlled true a s (λ e. not_true (sym e)) g
-    controlled b (DoWhile q a c) s h g = controlled true a s (λ e. not_true (sym e)) g
-    controlled b (For q ss c r a) s h g = (first_controlled b ss s.0, step_controlled b r s.1, controlled true a s.2 (λ e. not_true (sym e)) g)
+    controlled b (While q c a) s h g = controlled true a s (λ e. by_false_true (sym e)) g
+    controlled b (DoWhile q a c) s h g = controlled true a s (λ e. by_false_true (sym e)) g
+    controlled b (For q ss c r a) s h g = (first_controlled b ss s.0, step_controlled b r s.1, controlled true a s.2 (λ e. by_false_true (sym e)) g)
     controlled b (Label x a) s h g = controlled b a s h g
     controlled b (Goto q x) s h g = g.0
     controlled b (Break q) s h g = in_loop b _ h

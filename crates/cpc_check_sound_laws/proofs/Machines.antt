@@ -3,6 +3,7 @@ use Rattle.std.proofs.Common.{◌≡◌, ◌⊎◌, inl, inr, ℕ, zero, suc, �
 use Rattle.cpc_base.specs.Bytes.{Text}
 use Rattle.cpc_base.specs.declared.stop.Dialect.{Dialect}
 use Rattle.cpc_base.specs.declared.stop.Dialect.TheVariants as D
+use Rattle.cpc_base.proofs.Truth.{by_false_true}
 use Rattle.std.specs.Fmt.{signed_decimal}
 use Rattle.cpc_num.specs.declared.kinds.Fault.{Fault}
 use Rattle.cpc_num.specs.declared.kinds.Kind.{Kind}
@@ -33,7 +34,7 @@ use Rattle.cpc_check_sound_laws.specs.Suits.{Comes, Suits}
 use Rattle.cpc_check_sound_laws.specs.Typed.{TypedProgram, is_for}
 use Rattle.cpc_check_rules.specs.Calls.{gives}
 use Rattle.cpc_meaning.proofs.Functions.{found_again}
-use Rattle.cpc_check_sound_laws.proofs.Answers.{not_true, comes_then, comes_needed}
+use Rattle.cpc_check_sound_laws.proofs.Answers.{comes_then, comes_needed}
 use Rattle.cpc_check_sound_laws.proofs.Requests.{AllSuit, IsWhole, AllWhole, IsCond, SectionGiven, PrimitiveGiven, IsRequest, AsksPrimitive, AsksHost, AsksSpawn, AsksSection}
 use Rattle.cpc_check_sound_laws.proofs.Frames.{Given, Running, Asking, DoneOk, WentOk, entered, frame_comes, plain_comes, answer_comes}
 use Rattle.cpc_check_sound_laws.proofs.Agendas.{Each, each_append, each_map, OkThen, DueOk, OutOk, AgendaOk, new_ok, ready_one_ok, begin_round_ok, cond_new_ok, cond_free_ok, signal_ok, signal_all_ok, section_ok, more_out, poll_ok, out_are}
@@ -89,7 +90,7 @@ module _ (d : Dialect) (p : Program) (typed : TypedProgram d p) {T : Type 0} (Fi
   pub runs_come : (x : Text) (g : Function) (vs : List Value) (s : State Point T) → function_named p x ≡ Some g → Given (variables g) vs → RestOk s.agenda s.jobs → Comes StateOk (runs (trees p) x vs s)
   runs_come x g vs s is_g h rest =
       comes_needed StateOk (function_named p x) g _ is_g
-      (comes_then (entered d p typed false g s.store) StateOk (make_frame (trees p) g vs s.store) _ (frame_comes d p typed false g vs s.store (found_again p x g is_g) (λ e. not_true e) h)
+      (comes_then (entered d p typed false g s.store) StateOk (make_frame (trees p) g vs s.store) _ (frame_comes d p typed false g vs s.store (found_again p x g is_g) (λ e. by_false_true e) h)
       (λ r k. ((g.result, (g, k.1, k.2, refl)), rest)))
 
   -- ---- sections

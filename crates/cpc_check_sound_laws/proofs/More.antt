@@ -2,6 +2,7 @@
 use Rattle.std.proofs.Common.{◌≡◌, ◌&&◌, ℕ, Bool, true, cond, Option, Some, None, refl, sym, ◌∙◌, ap}
 use Rattle.std.specs.Prelude.{is_some}
 use Rattle.cpc_base.specs.Bytes.{Text}
+use Rattle.cpc_base.proofs.Truth.{and_both}
 use Rattle.cpc_num.specs.declared.kinds.Kind.TheVariants.{Long}
 use Rattle.cpc_num.specs.declared.kinds.Op.{Op}
 use Rattle.cpc_num.specs.declared.kinds.Op.TheVariants.{Add, Sub}
@@ -10,7 +11,6 @@ use Rattle.cpc_tree.specs.Syntax.{Ty, TyInt, TyPointer, Expr, ENamed, EInteger, 
 use Rattle.cpc_tree.specs.Typing.{Meant, Typed, size, field, used, typed_place, target, struct_tag, type_named, sign_type, tested_type, movable, sum_type, difference_type, binary_type, field_type, is_null, same_type, typing_of}
 use Rattle.cpc_check_sound_laws.proofs.Answers.{no_some, if_some}
 use Rattle.cpc_check_sound_laws.proofs.Options.{then_some, then_of}
-use Rattle.cpc_check_sound_laws.proofs.Scalars.{both_true}
 use Rattle.cpc_check_sound_laws.proofs.Expressions.{sign_some, tested_is}
 
 tested_more : (o u : Option Typed) (t : Ty) → ((d : Typed) → o ≡ Some d → u ≡ Some d) → tested_type o ≡ Some t → tested_type u ≡ Some t
@@ -38,7 +38,7 @@ module _ (p q : Program) (sizes : (t : Ty) (n : ℕ) → size p t ≡ Some n →
   apart_more : (t u r : Ty) → cond (same_type t u && is_some (size p t)) (Some (TyInt Long)) None ≡ Some r → cond (same_type t u && is_some (size q t)) (Some (TyInt Long)) None ≡ Some r
   apart_more t u r e =
       let h = if_some (same_type t u && is_some (size p t)) (TyInt Long) r e in
-      let k = both_true (same_type t u) (is_some (size p t)) h.0 in
+      let k = and_both (same_type t u) (is_some (size p t)) h.0 in
       ap (λ b. cond (b && is_some (size q t)) (Some (TyInt Long)) None) k.0 ∙ ap (λ b. cond b (Some (TyInt Long)) None) (sized_more t k.1) ∙ ap (λ t. Some t) h.1
 
   difference_more : (t u r : Ty) → difference_type p t u ≡ Some r → difference_type q t u ≡ Some r

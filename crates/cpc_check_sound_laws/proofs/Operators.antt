@@ -1,6 +1,8 @@
 -- What operators, tests and conversions come to, on values that suit their operands' types.
 use Rattle.std.proofs.Common.{◌≡◌, ℕ, Bool, true, false, ◌&&◌, cond, ℤ, pos, ◌+ℤ◌, ◌-ℤ◌, ◌*ℤ◌, int_div, List, length, Option, Some, None, Result, Ok, Err, refl, sym, ◌∙◌, ap, subst}
 use Rattle.std.specs.Prelude.{is_some, int_le}
+use Rattle.cpc_base.proofs.Truth.{by_false_true}
+use Rattle.cpc_base.proofs.Lists.{some_is}
 use Rattle.cpc_num.specs.declared.kinds.Fault.{Fault}
 use Rattle.cpc_num.specs.declared.kinds.Kind.{Kind}
 use Rattle.cpc_num.specs.declared.kinds.Kind.TheVariants.{Int, Long}
@@ -13,7 +15,7 @@ use Rattle.cpc_store.specs.Store.{Value, Unset, Whole, Null, At, Code, Cond, Sto
 use Rattle.cpc_meaning.specs.Answer.{Answer, Gives, ◌>>=◌, needed}
 use Rattle.cpc_meaning.specs.Eval.{number, result_kind, moved_within, moved, offsets_in, offsets, moved_by, distance, ordered, operate}
 use Rattle.cpc_check_sound_laws.specs.Suits.{Comes, Suits}
-use Rattle.cpc_check_sound_laws.proofs.Answers.{some_is, no_some, not_true, comes_then, comes_if}
+use Rattle.cpc_check_sound_laws.proofs.Answers.{no_some, comes_then, comes_if}
 
 -- ---- integers
 
@@ -83,7 +85,7 @@ distance_comes p s t v w e a b =
     comes_then (λ jk. Unit {0}) (Suits (TyInt Long)) (offsets s v w) _ (offsets_come s v w a b) (λ jk h. go (size p t) e jk)
   where
     go : (o : Option ℕ) → is_some o ≡ true → (jk : ℕ × ℕ) → Comes (Suits (TyInt Long)) (needed o >>= (λ n. Gives (Whole Long (int_div (pos jk.0 -ℤ pos jk.1) (pos n)))))
-    go None e jk = not_true e
+    go None e jk = by_false_true e
     go (Some n) e jk = refl
 
 ordered_comes : (s : Store) (test : ℤ → ℤ → Bool) (v w : Value) → IsAddress v → IsAddress w → Comes (Suits (TyInt Int)) (ordered s test v w)

@@ -1,7 +1,8 @@
 -- What an option was made of.
 use Rattle.std.proofs.Common.{◌≡◌, Option, Some, None, refl, ap, ◌∙◌}
+use Rattle.cpc_base.proofs.Lists.{some_is}
 use Rattle.cpc_tree.specs.Typing.{◌>>=◌}
-use Rattle.cpc_check_sound_laws.proofs.Answers.{no_some, some_is}
+use Rattle.cpc_check_sound_laws.proofs.Answers.{no_some}
 
 pub then_some : {A B : Type 0} (o : Option A) (f : A → Option B) (y : B) → (o >>= f) ≡ Some y → (x : A) × (o ≡ Some x) × (f x ≡ Some y)
 then_some None f y e = no_some y e

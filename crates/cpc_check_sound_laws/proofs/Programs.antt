@@ -6,6 +6,8 @@ use Rattle.cpc_base.specs.Bytes.{Text}
 use Rattle.cpc_base.specs.declared.stop.Place.{Place}
 use Rattle.cpc_base.specs.declared.stop.Dialect.{Dialect}
 use Rattle.cpc_base.specs.declared.stop.Dialect.TheVariants as D
+use Rattle.cpc_base.proofs.Truth.{by_false_true, and_both, or_neither, and_not_fails}
+use Rattle.cpc_base.proofs.Lists.{some_is}
 use Rattle.cpc_tree.specs.declared.program.Mode.{Mode}
 use Rattle.cpc_tree.specs.declared.program.Mode.TheVariants.{Extern, Native, Cps, Detached}
 use Rattle.cpc_tree.specs.Syntax.{Ty, Function, Item, FunctionItem, Program}
@@ -25,13 +27,12 @@ use Rattle.cpc_check_rules.specs.Rules.{has_main, is_main, breaks}
 use Rattle.cpc_meaning.specs.Start.{main_name}
 use Rattle.cpc_check_sound_laws.specs.Typed.{AllSized, BodyTyped, TypedFunction, TypedProgram, is_own}
 use Rattle.cpc_meaning.proofs.Functions.{text_same}
-use Rattle.cpc_check_sound_laws.proofs.Answers.{some_is, no_some, not_true}
-use Rattle.cpc_check_sound_laws.proofs.Scalars.{both_true}
+use Rattle.cpc_check_sound_laws.proofs.Answers.{no_some}
 use Rattle.cpc_check_sound_laws.proofs.Agendas.{Each}
-use Rattle.cpc_check_sound_laws.proofs.Unbroken.{split, holds_not, holds_then, have_all, negated}
+use Rattle.cpc_check_sound_laws.proofs.Unbroken.{split, holds_not, holds_then}
 use Rattle.cpc_check_sound_laws.proofs.Agreement.{Matches, Grows, sizes_grow, Facts, At}
 use Rattle.cpc_check_sound_laws.proofs.Shapes.{Written, AllWritten}
-use Rattle.cpc_check_sound_laws.proofs.Bodies.{either_false, size_of, at_name, stmts_here, all_sized, stmts_sized}
+use Rattle.cpc_check_sound_laws.proofs.Bodies.{size_of, at_name, stmts_here, all_sized, stmts_sized}
 use Rattle.cpc_check_sound_laws.proofs.Loops.{body_controlled}
 use Rattle.cpc_check_sound_laws.proofs.Items.{signed, named_more, is_defined, function_there}
 use Rattle.cpc_check_sound_laws.proofs.Knowing.{Same, Known, nothing_known, known_struct, known_global, known_function, primitive_kept, facts_of}
@@ -57,7 +58,7 @@ types_are (p ∷ ps) = ap (λ ts. p.type ∷ ts) (types_are ps)
 
 kept_not : (dialect : Dialect) (x : Text) → is_reserved dialect x ≡ false → is_kept x ≡ false
 kept_not D.Event x e = e
-kept_not D.Cpc x e = (either_false (is_kept x) _ e).0
+kept_not D.Cpc x e = (or_neither (is_kept x) _ e).0
 
 free_name : (dialect : Dialect) (x : Ident) → reserved_breaks dialect (x ∷ []) ≡ [] → is_kept x.text ≡ false
 free_name dialect x h = kept_not dialect x.text (holds_not (is_reserved dialect x.text) x.place Reserved (split (at_if (is_reserved dialect x.text) x.place Reserved) [] h).0)
@@ -66,13 +67,10 @@ no_extern : (m : Mode) → is_own m ≡ true → is_extern m ≡ false
 no_extern Native e = refl
 no_extern Cps e = refl
 no_extern Detached e = refl
-no_extern Extern e = not_true e
+no_extern Extern e = by_false_true e
 
 extern_is : (m : Mode) → m ≡ Extern → is_extern m ≡ true
 extern_is m e = ap is_extern e
-
-implied : (a b : Bool) → (a && not b) ≡ false → a ≡ true → b ≡ true
-implied a b h e = negated b (have_all a (not b) h e)
 
 -- the signature of a function, as a declaration and as a definition
 abbrev signature : Mode → Ty → List LParameter → Bool → Signature
@@ -92,8 +90,8 @@ module _ (dialect : Dialect) (program before rest : Program) (known : Known prog
       (λ p y. ap (λ ts. cond (bytes_eq x.text y) (AFunction mode r ts) (in_items p y)) (sym (types_are ps)))
       (λ k y. ap (λ ts. cond (bytes_eq x.text y) (AFunction mode r ts) NotMeant) (sym (types_are ps)))
       (holds_not (is_clash x.text new before) x.place Twice c.0) (holds_not (is_disagreeing x.text new before) x.place Disagree c.1) (free_name dialect x h1.0)
-      (λ e. implied (is_extern mode) (is_host_like r (types ps)) (holds_not (is_extern mode && not (is_host_like r (types ps))) x.place Disagree h4.0) (extern_is mode e))
-      (λ o. implied (not (is_extern mode)) (is_function x.text program) (holds_not (not (is_extern mode) && not (is_function x.text program)) x.place Undeclared h5.0) (ap not (no_extern mode o)))
+      (λ e. and_not_fails (is_extern mode) (is_host_like r (types ps)) (holds_not (is_extern mode && not (is_host_like r (types ps))) x.place Disagree h4.0) (extern_is mode e))
+      (λ o. and_not_fails (not (is_extern mode)) (is_function x.text program) (holds_not (not (is_extern mode) && not (is_function x.text program)) x.place Undeclared h5.0) (ap not (no_extern mode o)))
       (λ y g e. no_some g e)
 
   known_definition : (f : LFunction) → ItemShape (LFunctionItem f) → program ≡ before ++ bare_item (LFunctionItem f) ∷ rest → function_breaks dialect before f ≡ [] → Known program (before ++ bare_item (LFunctionItem f) ∷ [])
@@ -107,7 +105,7 @@ module _ (dialect : Dialect) (program before rest : Program) (known : Known prog
       (λ p y. ap (λ ts. cond (bytes_eq f.called.text y) (AFunction f.mode f.result ts) (in_items p y)) (sym (types_are f.parameters)))
       (λ k y. ap (λ ts. cond (bytes_eq f.called.text y) (AFunction f.mode f.result ts) NotMeant) (sym (types_are f.parameters)))
       (holds_not (is_clash f.called.text new before) f.called.place Twice c.0) (holds_not (is_disagreeing f.called.text new before) f.called.place Disagree c.1) (free_name dialect f.called h1.0)
-      (λ e. not_true (sym (no_extern f.mode shape.0) ∙ extern_is f.mode e))
+      (λ e. by_false_true (sym (no_extern f.mode shape.0) ∙ extern_is f.mode e))
       (λ o. subst (λ p. is_function f.called.text p ≡ true) (sym whole) (function_there before rest (bare_function f) f.called.text (text_same f.called.text)))
       (λ y g e. is_new f y g e)
     where
@@ -177,7 +175,7 @@ module _ (d : Dialect) (p : Program) (facts : Facts p) (f : Function) (items : P
       one : (o : Option Ident) (t : Ty) → (is_some o && all_named (λ (p : LParameter). p.called) ps) ≡ true
           → ((block : R.Block) (scope : Scope) → Named ps → At d p f (among_block block) scope → At d p f (among_block (parameter_block block ps)) (parameter_scope (suc n) (map bare_parameter ps) scope))
           → At d p f (among_block (parameter_block block (record { called = o; type = t } ∷ ps))) (parameter_scope n (map bare_parameter (record { called = o; type = t } ∷ ps)) scope)
-      one None t e rest = not_true e
+      one None t e rest = by_false_true e
       one (Some x) t e rest = rest (record { called = x.text; type = t } ∷ block) (record { called = x.text; type = t; slot = n } ∷ scope) e (at_name d p facts f (among_block block) scope n (record { called = x.text; type = t }) at)
 
 -- names of items, by the rules and by the meaning
@@ -196,7 +194,7 @@ parameters_sized p items s (q ∷ ps) e g n h = one q.called q.type n h (λ n h.
   where
     one : (o : Option Ident) (t : Ty) → (is_some o && all_named (λ (p : LParameter). p.called) ps) ≡ true → sized_breaks s (record { called = o; type = t } ∷ ps) ≡ []
         → (all_named (λ (p : LParameter). p.called) ps ≡ true → sized_breaks s ps ≡ [] → AllSized p (map as_variable (map bare_parameter ps))) → AllSized p (map as_variable (map bare_parameter (record { called = o; type = t } ∷ ps)))
-    one None t n h rest = not_true n
+    one None t n h rest = by_false_true n
     one (Some x) t n h rest =
         let k = split (at_if (not (is_sized s t)) x.place Incomplete) (sized_breaks s ps) h in
         let z = size_of s t (holds_then (is_sized s t) x.place Incomplete k.0) in
@@ -275,7 +273,7 @@ found_typed dialect p (LFunctionItem f ∷ xs) x g h e = go (bytes_eq f.called.t
     go false e rest = rest e
 
 main_found : (xs : List LItem) → has_main xs ≡ true → (g : Function) × (function_named (map bare_item xs) main_name ≡ Some g)
-main_found [] h = not_true h
+main_found [] h = by_false_true h
 main_found (LStruct tag fs ∷ xs) h = main_found xs h
 main_found (LGlobal y t start ∷ xs) h = main_found xs h
 main_found (LPrototype q mode y r ps ∷ xs) h = main_found xs h
@@ -284,7 +282,7 @@ main_found (LFunctionItem f ∷ xs) h = go (bytes_eq f.called.text (codes "main"
     go : (b : Bool) → bytes_eq f.called.text (codes "main") ≡ b → (c : Bool) → is_main f ≡ c → cond c true (has_main xs) ≡ true → (has_main xs ≡ true → (g : Function) × (function_named (map bare_item xs) main_name ≡ Some g))
         → (g : Function) × (cond b (Some (bare_function f)) (function_named (map bare_item xs) main_name) ≡ Some g)
     go true e c i h rest = (bare_function f, refl)
-    go false e true i h rest = not_true (sym e ∙ (both_true (bytes_eq f.called.text (codes "main")) _ i).0)
+    go false e true i h rest = by_false_true (sym e ∙ (and_both (bytes_eq f.called.text (codes "main")) _ i).0)
     go false e false i h rest = rest h
 
 -- a program of the grammar's shape that breaks no rule

@@ -2,6 +2,7 @@
 use Rattle.std.proofs.Common.{◌≡◌, ◌⊎◌, inl, inr, true, false, List, [], ◌∷◌, Some, refl, sym, ◌∙◌, ap, subst}
 use Rattle.cpc_base.specs.Bytes.{Text}
 use Rattle.cpc_base.specs.declared.stop.Dialect.{Dialect}
+use Rattle.cpc_base.proofs.Truth.{by_false_true}
 use Rattle.cpc_num.specs.declared.kinds.Kind.{Kind}
 use Rattle.cpc_num.specs.declared.kinds.Kind.TheVariants.{Int, Long}
 use Rattle.cpc_tree.specs.declared.program.Mode.{Mode}
@@ -18,7 +19,7 @@ use Rattle.cpc_check_rules.specs.Operators.{is_detached}
 use Rattle.cpc_check_rules.specs.Calls.{gives, is_closed}
 use Rattle.cpc_check_sound_laws.specs.Suits.{Comes, Suits, converts, SuitSlots, ScopeOf, AllBoxed}
 use Rattle.cpc_check_sound_laws.specs.Typed.{Gets, AllGet, EachGets, NamesFunction, GetsTaken, AllGetTaken, IsSection, IsOpen, is_for}
-use Rattle.cpc_check_sound_laws.proofs.Answers.{not_true, comes_then, comes_as}
+use Rattle.cpc_check_sound_laws.proofs.Answers.{comes_then, comes_as}
 use Rattle.cpc_check_sound_laws.proofs.Conversions.{assigned_comes, cast_comes}
 use Rattle.cpc_check_sound_laws.proofs.Expressions.{expressions_answer}
 use Rattle.cpc_check_sound_laws.proofs.Lookups.{boxed_left, boxed_right}
@@ -124,19 +125,19 @@ set_comes : (k : Kind) (t : Ty) (v : Value) → converts (TyInt k) t ≡ true �
 set_comes k (TyInt j) Unset e h = tt
 set_comes k (TyInt j) (Whole i z) e h = tt
 set_comes k (TyInt j) _ e h = absurd h
-set_comes k _ v e h = not_true e
+set_comes k _ v e h = by_false_true e
 
 cond_comes : (t : Ty) (v : Value) → converts TyCondvar t ≡ true → Suits t v → Comes IsCond (at_type TyCondvar v)
 cond_comes TyCondvar Unset e h = tt
 cond_comes TyCondvar (Cond n) e h = tt
 cond_comes TyCondvar _ e h = absurd h
-cond_comes _ v e h = not_true e
+cond_comes _ v e h = by_false_true e
 
 integer_comes : (k : Kind) (t : Ty) (v : Value) → converts (TyInt k) t ≡ true → Suits t v → Comes IsWhole (set_integer v)
 integer_comes k (TyInt j) Unset e h = tt
 integer_comes k (TyInt j) (Whole i z) e h = tt
 integer_comes k (TyInt j) _ e h = absurd h
-integer_comes k _ v e h = not_true e
+integer_comes k _ v e h = by_false_true e
 
 pub longs_come : (vs : List Value) → EachBecomes (TyInt Long) vs → Comes AllWhole (all_long vs)
 longs_come [] h = tt
@@ -179,7 +180,7 @@ converts_scalar (TyPointer t) (TyInt k) e = (refl, refl)
 converts_scalar (TyCode r ps) (TyCode q qs) e = (refl, refl)
 converts_scalar (TyCode r ps) (TyInt k) e = (refl, refl)
 converts_scalar TyCondvar TyCondvar e = (refl, refl)
-converts_scalar _ _ e = not_true e
+converts_scalar _ _ e = by_false_true e
 
 module _ (c : Context) (ts : List Ty) (in_scope : ScopeOf ts c.scope) (in_slots : SuitSlots ts c.slots) where
   pub value_suits : (e : Expr) (d : Typed) (t : Ty) → AllBoxed c.slots (addresses c.scope e) → typing c.program c.scope e ≡ Some d → used d ≡ Some t → is_scalar t ≡ true → Comes (Suits t) (value c e)

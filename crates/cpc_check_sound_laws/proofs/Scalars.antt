@@ -1,5 +1,7 @@
 -- Operands are scalars, and what `?:` and casts make of them can be assigned.
 use Rattle.std.proofs.Common.{◌≡◌, ◌⊎◌, inl, inr, ◌&&◌, ◌||◌, Bool, true, false, cond, Some, None, refl, sym, ◌∙◌, ap, subst}
+use Rattle.cpc_base.proofs.Truth.{by_false_true, or_either, and_both}
+use Rattle.cpc_base.proofs.Lists.{some_is}
 use Rattle.cpc_num.specs.declared.kinds.Kind.{Kind}
 use Rattle.cpc_num.specs.declared.kinds.Kind.TheVariants.{Int}
 use Rattle.cpc_num.specs.declared.kinds.Op.{Op}
@@ -8,25 +10,17 @@ use Rattle.cpc_tree.specs.Syntax.{Ty, TyVoid, TyInt, TyCondvar, TyPointer, TyCod
 use Rattle.cpc_tree.specs.Typing.{Scope, Typed, typing, used, integer, target, is_scalar, is_testable, is_null, binary_type, common_type, sum_type, difference_type, shift_type, order_type, equality_type, choice_type, cast_type, same_type, is_reference, are_comparable}
 use Rattle.cpc_meaning.specs.Eval.{and_then}
 use Rattle.cpc_check_sound_laws.specs.Suits.{converts}
-use Rattle.cpc_check_sound_laws.proofs.Answers.{some_is, no_some, not_true, if_some}
+use Rattle.cpc_check_sound_laws.proofs.Answers.{no_some, if_some}
 
 -- both types are scalars
 abbrev pub Scalars : Ty → Ty → Type 0
 Scalars t u = (is_scalar t ≡ true) × (is_scalar u ≡ true)
 
-pub either_true : (a b : Bool) → (a || b) ≡ true → (a ≡ true) ⊎ (b ≡ true)
-either_true true b e = inl refl
-either_true false b e = inr e
-
-pub both_true : (a b : Bool) → (a && b) ≡ true → (a ≡ true) × (b ≡ true)
-both_true true b e = (refl, e)
-both_true false b e = not_true e
-
 pub testable_scalar : (t : Ty) → is_testable t ≡ true → is_scalar t ≡ true
 testable_scalar (TyInt k) e = refl
 testable_scalar (TyPointer t) e = refl
 testable_scalar (TyCode r ps) e = refl
-testable_scalar _ e = not_true e
+testable_scalar _ e = by_false_true e
 
 pub integer_is : (t : Ty) (k : Kind) → integer t ≡ Some k → t ≡ TyInt k
 integer_is (TyInt j) k e = ap (λ i. TyInt i) (some_is j k e)
@@ -39,7 +33,7 @@ target_is _ u e = no_some u e
 reference_scalar : (t : Ty) → is_reference t ≡ true → is_scalar t ≡ true
 reference_scalar (TyPointer t) e = refl
 reference_scalar (TyCode r ps) e = refl
-reference_scalar _ e = not_true e
+reference_scalar _ e = by_false_true e
 
 int_scalar : (t : Ty) → t ≡ TyInt Int → is_scalar t ≡ true
 int_scalar t e = ap is_scalar e
@@ -47,39 +41,39 @@ int_scalar t e = ap is_scalar e
 -- the literal 0 is an int
 pub null_int : (p : Program) (scope : Scope) (e : Expr) (d : Typed) (t : Ty) → typing p scope e ≡ Some d → used d ≡ Some t → is_null e ≡ true → t ≡ TyInt Int
 null_int p scope (EInteger Int z) d t h u e = sym (some_is (TyInt Int) t (ap (λ o. and_then o used) h ∙ u))
-null_int p scope (EInteger _ z) d t h u e = not_true e
-null_int p scope _ d t h u e = not_true e
+null_int p scope (EInteger _ z) d t h u e = by_false_true e
+null_int p scope _ d t h u e = by_false_true e
 
 -- ---- operators on two operands
 
 comparable_pointers : (t u : Ty) → are_comparable (TyPointer t) u ≡ true → is_scalar u ≡ true
 comparable_pointers t (TyPointer u) e = refl
-comparable_pointers TyVoid _ e = not_true e
-comparable_pointers (TyInt k) _ e = not_true e
-comparable_pointers TyCondvar _ e = not_true e
-comparable_pointers (TyPointer t) _ e = not_true e
-comparable_pointers (TyCode r ps) _ e = not_true e
-comparable_pointers (TyStruct tag) _ e = not_true e
-comparable_pointers (TyArray t n) _ e = not_true e
+comparable_pointers TyVoid _ e = by_false_true e
+comparable_pointers (TyInt k) _ e = by_false_true e
+comparable_pointers TyCondvar _ e = by_false_true e
+comparable_pointers (TyPointer t) _ e = by_false_true e
+comparable_pointers (TyCode r ps) _ e = by_false_true e
+comparable_pointers (TyStruct tag) _ e = by_false_true e
+comparable_pointers (TyArray t n) _ e = by_false_true e
 
 comparable_scalars : (t u : Ty) → are_comparable t u ≡ true → Scalars t u
 comparable_scalars (TyInt j) (TyInt k) e = (refl, refl)
 comparable_scalars (TyPointer t) u e = (refl, comparable_pointers t u e)
 comparable_scalars (TyCode r ps) (TyCode q qs) e = (refl, refl)
 comparable_scalars TyCondvar TyCondvar e = (refl, refl)
-comparable_scalars _ _ e = not_true e
+comparable_scalars _ _ e = by_false_true e
 
 equality_scalars : (m n : Bool) (t u r : Ty) → equality_type m n t u ≡ Some r → (m ≡ true → t ≡ TyInt Int) → (n ≡ true → u ≡ TyInt Int) → Scalars t u
 equality_scalars m n t u r e f g =
-    go (either_true (are_comparable t u || (m && is_reference u)) (n && is_reference t) (if_some (are_comparable t u || (m && is_reference u) || (n && is_reference t)) (TyInt Int) r e).0)
+    go (or_either (are_comparable t u || (m && is_reference u)) (n && is_reference t) (if_some (are_comparable t u || (m && is_reference u) || (n && is_reference t)) (TyInt Int) r e).0)
   where
     first : ((are_comparable t u ≡ true) ⊎ ((m && is_reference u) ≡ true)) → Scalars t u
     first (inl h) = comparable_scalars t u h
-    first (inr h) = let k = both_true m (is_reference u) h in (int_scalar t (f k.0), reference_scalar u k.1)
+    first (inr h) = let k = and_both m (is_reference u) h in (int_scalar t (f k.0), reference_scalar u k.1)
 
     go : (((are_comparable t u || (m && is_reference u)) ≡ true) ⊎ ((n && is_reference t) ≡ true)) → Scalars t u
-    go (inl h) = first (either_true (are_comparable t u) (m && is_reference u) h)
-    go (inr h) = let k = both_true n (is_reference t) h in (reference_scalar t k.1, int_scalar u (g k.0))
+    go (inl h) = first (or_either (are_comparable t u) (m && is_reference u) h)
+    go (inr h) = let k = and_both n (is_reference t) h in (reference_scalar t k.1, int_scalar u (g k.0))
 
 common_scalars : (t u r : Ty) → common_type t u ≡ Some r → Scalars t u
 common_scalars (TyInt j) (TyInt k) r e = (refl, refl)
@@ -124,14 +118,14 @@ binary_scalars p _ m n t u r e f g = common_scalars t u r e
 same_converts : (t u : Ty) → is_reference t ≡ true → same_type t u ≡ true → (is_scalar u ≡ true) × (converts t u ≡ true)
 same_converts (TyPointer t) (TyPointer u) e h = (refl, refl)
 same_converts (TyCode r ps) (TyCode q qs) e h = (refl, refl)
-same_converts (TyPointer t) _ e h = not_true h
-same_converts (TyCode r ps) _ e h = not_true h
-same_converts _ u e h = not_true e
+same_converts (TyPointer t) _ e h = by_false_true h
+same_converts (TyCode r ps) _ e h = by_false_true h
+same_converts _ u e h = by_false_true e
 
 reference_itself : (t : Ty) → is_reference t ≡ true → converts t t ≡ true
 reference_itself (TyPointer t) e = refl
 reference_itself (TyCode r ps) e = refl
-reference_itself _ e = not_true e
+reference_itself _ e = by_false_true e
 
 reference_null : (t u : Ty) → is_reference t ≡ true → u ≡ TyInt Int → converts t u ≡ true
 reference_null t u e h = subst (λ u. converts t u ≡ true) (sym h) (go t e)
@@ -139,7 +133,7 @@ reference_null t u e h = subst (λ u. converts t u ≡ true) (sym h) (go t e)
     go : (t : Ty) → is_reference t ≡ true → converts t (TyInt Int) ≡ true
     go (TyPointer t) e = refl
     go (TyCode r ps) e = refl
-    go _ e = not_true e
+    go _ e = by_false_true e
 
 -- the two arms are scalars that can become the whole
 pub record Arms (r t u : Ty) : Type 0 where
@@ -158,11 +152,11 @@ module _ (m n : Bool) where
 
       go : (b : Bool) → (is_reference t && (same_type t u || n)) ≡ b → cond b (Some t) (cond (m && is_reference u) (Some u) None) ≡ Some r → Arms r t u
       go true h e =
-          let k = both_true (is_reference t) (same_type t u || n) h in
-          subst (λ r. Arms r t u) (some_is t r e) (same (either_true (same_type t u) n k.1) k.0)
+          let k = and_both (is_reference t) (same_type t u || n) h in
+          subst (λ r. Arms r t u) (some_is t r e) (same (or_either (same_type t u) n k.1) k.0)
       go false h e =
           let i = if_some (m && is_reference u) u r e in
-          let k = both_true m (is_reference u) i.0 in
+          let k = and_both m (is_reference u) i.0 in
           subst (λ r. Arms r t u) i.1 (record { scalars = (int_scalar t (f k.0), reference_scalar u k.1); first = reference_null u t k.1 (f k.0); second = reference_itself u k.1 })
 
   pub choice_arms : (t u r : Ty) → choice_type m n t u ≡ Some r → (m ≡ true → t ≡ TyInt Int) → (n ≡ true → u ≡ TyInt Int) → Arms r t u
@@ -185,7 +179,7 @@ module _ (m : Bool) where
   no_cast : (t u r : Ty) → cond (m && is_reference t) (Some t) None ≡ Some r → (m ≡ true → u ≡ TyInt Int) → Cast r t u
   no_cast t u r e f =
       let i = if_some (m && is_reference t) t r e in
-      let k = both_true m (is_reference t) i.0 in
+      let k = and_both m (is_reference t) i.0 in
       record { same = i.1; scalar = int_scalar u (f k.0); into = reference_null t u k.1 (f k.0) }
 
   pub cast_is : (t u r : Ty) → cast_type m t u ≡ Some r → (m ≡ true → u ≡ TyInt Int) → Cast r t u

@@ -3,6 +3,8 @@ use Rattle.std.proofs.Common.{◌≡◌, ◌==◌, ℕ, zero, suc, pos, Bool, tr
 use Rattle.std.specs.Prelude.{int_lt, unsigned_abs, replicate}
 use Rattle.cpc_base.specs.Bytes.{Text}
 use Rattle.cpc_base.specs.declared.stop.Dialect.{Dialect}
+use Rattle.cpc_base.proofs.Truth.{by_false_true}
+use Rattle.cpc_base.proofs.Lists.{some_is}
 use Rattle.cpc_num.specs.declared.kinds.Fault.TheVariants as F
 use Rattle.cpc_num.specs.declared.kinds.Kind.TheVariants.{Int}
 use Rattle.cpc_tree.specs.declared.program.Mode.{Mode}
@@ -27,7 +29,7 @@ use Rattle.cpc_check_rules.specs.Calls.{is_closed, gives}
 use Rattle.cpc_check_sound_laws.specs.Suits.{Comes, Suits}
 use Rattle.cpc_check_sound_laws.specs.Typed.{IsSection, TypedProgram}
 use Rattle.cpc_meaning.proofs.Functions.{found_again}
-use Rattle.cpc_check_sound_laws.proofs.Answers.{some_is, no_some, not_true, comes_then, comes_as, comes_needed, comes_result}
+use Rattle.cpc_check_sound_laws.proofs.Answers.{no_some, comes_then, comes_as, comes_needed, comes_result}
 use Rattle.cpc_check_sound_laws.proofs.Copies.{IsLive, CopyStays, free_stays, alloc_stays}
 use Rattle.cpc_check_sound_laws.proofs.Requests.{AllSuit, IsWhole, AllTaken, PrimitiveGiven, IsRequest, AsksPrimitive, AsksHost, AsksSpawn, AsksSection}
 use Rattle.cpc_check_sound_laws.proofs.Frames.{given, Running, Asking, DoneOk, WentOk, entered, frame_comes, plain_comes, answer_comes}
@@ -104,14 +106,14 @@ module _ (d : Dialect) (p : Program) (typed : TypedProgram d p) where
       comes_then (StoreActOk TyVoid s) (NextOk R s) (freed Heap v s) _ (freed_comes Heap v s refl) (λ r i. answers_next R s k r.0 r.1 TyVoid i.0 i.1 h)
   act_next R s k Free [] e g h = absurd g
   act_next R s k Free (v ∷ w ∷ vs) e g h = absurd g.1
-  act_next R s k _ vs e g h = not_true e
+  act_next R s k _ vs e g h = by_false_true e
 
   asks_next : (R : Ty) (s : Store) (k : Stack Point) (asked : Asked) (vs : List Value) (mode : Mode) (t : Ty) → is_detached mode ≡ true → IsRequest d p mode asked vs t → Asking d p true R t k.frames
       → Comes (NextOk R s) (section_asks (trees p) s k asked vs)
   asks_next R s k _ _ mode _ e (AsksPrimitive prim vs is_d closed g) h = act_next R s k prim vs (closed e) g h
-  asks_next R s k _ _ mode _ e (AsksHost x vs apart w) h = not_true (sym apart ∙ e)
-  asks_next R s k _ _ mode _ e (AsksSpawn x vs g is_open is_g w) h = not_true (sym is_open.not_detached ∙ e)
-  asks_next R s k _ _ mode _ e (AsksSection x vs is_open w) h = not_true (sym is_open.not_detached ∙ e)
+  asks_next R s k _ _ mode _ e (AsksHost x vs apart w) h = by_false_true (sym apart ∙ e)
+  asks_next R s k _ _ mode _ e (AsksSpawn x vs g is_open is_g w) h = by_false_true (sym is_open.not_detached ∙ e)
+  asks_next R s k _ _ mode _ e (AsksSection x vs is_open w) h = by_false_true (sym is_open.not_detached ∙ e)
 
   done_next : (R : Ty) (s : Store) (k : Stack Point) (x : Done Point) → DoneOk d p true R s k.frames x → Comes (NextOk R s) (section_done (trees p) s k x)
   done_next R s k (Went t j) h = h
@@ -268,7 +270,7 @@ module _ (d : Dialect) (p : Program) (typed : TypedProgram d p) where
     where
       go : (b : Bool) → b ≡ true → cond b (Some j) None ≡ Some j
       go true e = refl
-      go false e = not_true e
+      go false e = by_false_true e
   last_there (l ∷ jobs) j = go (l.number == j.number) (last_there jobs j)
     where
       go : (b : Bool) → (i : Job) × (job_numbered (jobs ++ j ∷ []) j.number ≡ Some i) → (i : Job) × (cond b (Some l) (job_numbered (jobs ++ j ∷ []) j.number) ≡ Some i)

@@ -2,6 +2,7 @@
 use Rattle.std.proofs.Common.{◌≡◌, true, false, List, [], ◌∷◌, Option, Some, None, Result, Ok, sym}
 use Rattle.cpc_base.specs.Bytes.{Text}
 use Rattle.cpc_base.specs.declared.stop.Dialect.TheVariants as D
+use Rattle.cpc_base.proofs.Truth.{by_false_true}
 use Rattle.cpc_num.specs.declared.kinds.Fault.{Fault}
 use Rattle.cpc_num.specs.declared.kinds.Kind.TheVariants.{Int}
 use Rattle.cpc_tree.specs.Syntax.{Ty, TyVoid, TyInt, TyCondvar, TyPointer, TyCode, TyStruct, TyArray, Expr, Function, Program}
@@ -21,7 +22,7 @@ use Rattle.cpc_check_rules.specs.Calls.{gives}
 use Rattle.cpc_check_sound_laws.specs.Suits.{Comes, Suits, converts}
 use Rattle.cpc_check_sound_laws.specs.Typed.{Delivers, TypedProgram, is_for}
 use Rattle.cpc_check_sound_laws.specs.Promises.{TypedThreadsNeverStuck}
-use Rattle.cpc_check_sound_laws.proofs.Answers.{not_true, comes_then, comes_as}
+use Rattle.cpc_check_sound_laws.proofs.Answers.{comes_then, comes_as}
 use Rattle.cpc_check_sound_laws.proofs.Requests.{SectionGiven, PrimitiveGiven}
 use Rattle.cpc_check_sound_laws.proofs.Frames.{Given, given, given_none, Asking, Waiting, waiting_comes, resumes}
 use Rattle.cpc_check_sound_laws.proofs.Agendas.{OkThen, AgendaOk, ready_one_ok, wait_ok, sleep_ok, io_ok}
@@ -30,13 +31,13 @@ use Rattle.cpc_check_sound_laws.proofs.Machines.{whole_is, cond_is, ok_comes, Re
 
 -- no value is given for a void one, so any may arrive
 no_void : {A : Type 0} (t : Ty) → converts t TyVoid ≡ true → A
-no_void TyVoid e = not_true e
-no_void (TyInt k) e = not_true e
-no_void TyCondvar e = not_true e
-no_void (TyPointer t) e = not_true e
-no_void (TyCode r ps) e = not_true e
-no_void (TyStruct tag) e = not_true e
-no_void (TyArray t n) e = not_true e
+no_void TyVoid e = by_false_true e
+no_void (TyInt k) e = by_false_true e
+no_void TyCondvar e = by_false_true e
+no_void (TyPointer t) e = by_false_true e
+no_void (TyCode r ps) e = by_false_true e
+no_void (TyStruct tag) e = by_false_true e
+no_void (TyArray t n) e = by_false_true e
 
 int_delivers : (p : Program) (scope : Scope) (x : Option Expr) → Delivers p scope TyVoid x → Delivers p scope (TyInt Int) x
 int_delivers p scope None h = tt
@@ -97,18 +98,18 @@ module _ (p : Program) (typed : TypedProgram D.Cpc p) where
       suspends_come (marks (WaitingMark n) s) (wait n (Suspended j) s.agenda) (wait_ok ThreadOk (HasJob D.Cpc p typed s.jobs) n (Suspended j) s.agenda l rest.agenda) rest
   owns_come R Wait [] k s e f g h rest = absurd g
   owns_come R Wait (v ∷ w ∷ vs) k s e f g h rest = absurd g.1
-  owns_come R Print vs k s e f g h rest = not_true (sym e)
-  owns_come R Putc vs k s e f g h rest = not_true (sym e)
-  owns_come R Puts vs k s e f g h rest = not_true (sym e)
-  owns_come R Now vs k s e f g h rest = not_true (sym e)
-  owns_come R CondNew vs k s e f g h rest = not_true (sym e)
-  owns_come R CondFree vs k s e f g h rest = not_true (sym e)
-  owns_come R Signal vs k s e f g h rest = not_true (sym e)
-  owns_come R SignalAll vs k s e f g h rest = not_true (sym e)
-  owns_come R Exit vs k s e f g h rest = not_true (sym e)
-  owns_come R Malloc vs k s e f g h rest = not_true (sym e)
-  owns_come R Free vs k s e f g h rest = not_true (sym e)
-  owns_come R _ vs k s e f g h rest = not_true f
+  owns_come R Print vs k s e f g h rest = by_false_true (sym e)
+  owns_come R Putc vs k s e f g h rest = by_false_true (sym e)
+  owns_come R Puts vs k s e f g h rest = by_false_true (sym e)
+  owns_come R Now vs k s e f g h rest = by_false_true (sym e)
+  owns_come R CondNew vs k s e f g h rest = by_false_true (sym e)
+  owns_come R CondFree vs k s e f g h rest = by_false_true (sym e)
+  owns_come R Signal vs k s e f g h rest = by_false_true (sym e)
+  owns_come R SignalAll vs k s e f g h rest = by_false_true (sym e)
+  owns_come R Exit vs k s e f g h rest = by_false_true (sym e)
+  owns_come R Malloc vs k s e f g h rest = by_false_true (sym e)
+  owns_come R Free vs k s e f g h rest = by_false_true (sym e)
+  owns_come R _ vs k s e f g h rest = by_false_true f
 
   detaches_come : (R : Ty) (x : Text) (vs : List Value) (k : Stack Point) (s : State Point (Thread Point)) → SectionGiven p x vs → Asking D.Cpc p false R (TyInt Int) k.frames → Rest s → Comes Good (detaches_thread (trees p) x vs k s)
   detaches_come R x vs k s g h rest =

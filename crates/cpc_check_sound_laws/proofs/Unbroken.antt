@@ -4,6 +4,7 @@ use Rattle.std.specs.Prelude.{is_some}
 use Rattle.std.specs.Option.{is_none}
 use Rattle.cpc_base.specs.Bytes.{Text}
 use Rattle.cpc_base.specs.declared.stop.Place.{Place}
+use Rattle.cpc_base.proofs.Truth.{by_false_true, not_fails, and_fails_second, and_holds}
 use Rattle.cpc_num.specs.declared.kinds.Op.{Op}
 use Rattle.cpc_num.specs.declared.kinds.Op.TheVariants.{Add}
 use Rattle.cpc_num.specs.declared.kinds.Kind.TheVariants.{ULong}
@@ -20,7 +21,7 @@ use Rattle.cpc_check_rules.specs.Rule.{Broken, at_if}
 use Rattle.cpc_check_rules.specs.Scopes.{Scope, meant, measured}
 use Rattle.cpc_check_rules.specs.Operators.{Where, typed_at, first, name_breaks, no_rule, binary_breaks, is_incomplete_sum, address_breaks, field_breaks, member_breaks, arrow_breaks, pointed}
 use Rattle.cpc_check_rules.specs.ExprRules.{expr_breaks}
-use Rattle.cpc_check_sound_laws.proofs.Answers.{no_some, not_true}
+use Rattle.cpc_check_sound_laws.proofs.Answers.{no_some}
 use Rattle.cpc_check_sound_laws.proofs.Options.{then_of}
 
 -- ---- rows of broken rules
@@ -36,34 +37,22 @@ pub holds_not : (b : Bool) (q : Place) (rule : Rule) → at_if b q rule ≡ [] �
 holds_not true q rule e = not_broken (q, rule) [] e
 holds_not false q rule e = refl
 
-pub negated : (b : Bool) → not b ≡ false → b ≡ true
-negated true e = refl
-negated false e = not_true (sym e)
-
 pub holds_then : (b : Bool) (q : Place) (rule : Rule) → at_if (not b) q rule ≡ [] → b ≡ true
-holds_then b q rule e = negated b (holds_not (not b) q rule e)
+holds_then b q rule e = not_fails b (holds_not (not b) q rule e)
 
 pub there : {A : Type 0} (o : Option A) → is_none o ≡ false → (x : A) × (o ≡ Some x)
-there None e = not_true (sym e)
+there None e = by_false_true (sym e)
 there (Some x) e = (x, refl)
 
-pub have_all : (b c : Bool) → (b && c) ≡ false → b ≡ true → c ≡ false
-have_all true c e h = e
-have_all false c e h = not_true h
-
 pub rule_some : (have : Bool) (whole : Option Typed) (q : Place) → no_rule have whole q ≡ [] → have ≡ true → (d : Typed) × (whole ≡ Some d)
-rule_some have whole q e h = there whole (have_all have (is_none whole) (holds_not (have && is_none whole) q _ e) h)
-
-pub both_of : (b c : Bool) → b ≡ true → c ≡ true → (b && c) ≡ true
-both_of true c e h = h
-both_of false c e h = not_true e
+rule_some have whole q e h = there whole (and_fails_second have (is_none whole) (holds_not (have && is_none whole) q _ e) h)
 
 pub binary_some : (s : Scope) (op : Op) (a b whole : Option Typed) (q : Place) → binary_breaks s op a b whole q ≡ [] → is_some a ≡ true → is_some b ≡ true → (d : Typed) × (whole ≡ Some d)
 binary_some s op a b whole q e h k = go (is_incomplete_sum s op a b) e
   where
     go : (x : Bool) → cond x ((q, Incomplete) ∷ []) (no_rule (is_some a && is_some b) whole q) ≡ [] → (d : Typed) × (whole ≡ Some d)
     go true e = not_broken _ [] e
-    go false e = rule_some (is_some a && is_some b) whole q e (both_of (is_some a) (is_some b) h k)
+    go false e = rule_some (is_some a && is_some b) whole q e (and_holds (is_some a) (is_some b) h k)
 
 -- ---- expressions
 
@@ -106,7 +95,7 @@ module _ (w : Where) where
   size_some t e = go (size w.scope.items t) refl e
     where
       go : (o : Option ℕ) → size w.scope.items t ≡ o → is_none (measured w.scope t) ≡ false → (n : ℕ) × (o ≡ Some n)
-      go None f e = not_true (sym (let i : is_none (measured w.scope t) ≡ true = simp (f) refl in sym i ∙ e))
+      go None f e = by_false_true (sym (let i : is_none (measured w.scope t) ≡ true = simp (f) refl in sym i ∙ e))
       go (Some n) f e = (n, refl)
 
   sign_of : (q : Place) (op : UnaryOp) (v : LExpr) → no_rule (is_some (typed_at w v)) (typed_at w (LUnary q op v)) q ≡ [] → (d : Typed) × (typed_at w v ≡ Some d) → (e : Typed) × (typed_at w (LUnary q op v) ≡ Some e)
@@ -120,7 +109,7 @@ module _ (w : Where) where
   typed_of (LUnary q AddressOf v) h =
       let k = split (expr_breaks w v) (address_breaks (typed_at w v) (typed_at w (LUnary q AddressOf v)) (first v)) h in
       let d = typed_of v k.0 in
-      there (typed_at w (LUnary q AddressOf v)) (have_all (is_some (typed_at w v)) (is_none (typed_at w (LUnary q AddressOf v))) (holds_not _ (first v) _ k.1) (ap is_some d.1))
+      there (typed_at w (LUnary q AddressOf v)) (and_fails_second (is_some (typed_at w v)) (is_none (typed_at w (LUnary q AddressOf v))) (holds_not _ (first v) _ k.1) (ap is_some d.1))
   typed_of (LUnary q Minus v) h = sign_of q Minus v (split (expr_breaks w v) _ h).1 (typed_of v (split (expr_breaks w v) _ h).0)
   typed_of (LUnary q Plus v) h = sign_of q Plus v (split (expr_breaks w v) _ h).1 (typed_of v (split (expr_breaks w v) _ h).0)
   typed_of (LUnary q Not v) h = sign_of q Not v (split (expr_breaks w v) _ h).1 (typed_of v (split (expr_breaks w v) _ h).0)
@@ -133,17 +122,17 @@ module _ (w : Where) where
   typed_of (LAnd q v u) h =
       let k = split (expr_breaks w v) _ h in
       let l = split (expr_breaks w u) _ k.1 in
-      rule_some (is_some (typed_at w v) && is_some (typed_at w u)) _ q l.1 (both_of _ _ (ap is_some (typed_of v k.0).1) (ap is_some (typed_of u l.0).1))
+      rule_some (is_some (typed_at w v) && is_some (typed_at w u)) _ q l.1 (and_holds _ _ (ap is_some (typed_of v k.0).1) (ap is_some (typed_of u l.0).1))
   typed_of (LOr q v u) h =
       let k = split (expr_breaks w v) _ h in
       let l = split (expr_breaks w u) _ k.1 in
-      rule_some (is_some (typed_at w v) && is_some (typed_at w u)) _ q l.1 (both_of _ _ (ap is_some (typed_of v k.0).1) (ap is_some (typed_of u l.0).1))
+      rule_some (is_some (typed_at w v) && is_some (typed_at w u)) _ q l.1 (and_holds _ _ (ap is_some (typed_of v k.0).1) (ap is_some (typed_of u l.0).1))
   typed_of (LChoose q c v u) h =
       let j = split (expr_breaks w c) _ h in
       let k = split (expr_breaks w v) _ j.1 in
       let l = split (expr_breaks w u) _ k.1 in
       rule_some (is_some (typed_at w c) && (is_some (typed_at w v) && is_some (typed_at w u))) _ q l.1
-      (both_of _ _ (ap is_some (typed_of c j.0).1) (both_of _ _ (ap is_some (typed_of v k.0).1) (ap is_some (typed_of u l.0).1)))
+      (and_holds _ _ (ap is_some (typed_of c j.0).1) (and_holds _ _ (ap is_some (typed_of v k.0).1) (ap is_some (typed_of u l.0).1)))
   typed_of (LCast q t v) h =
       let k = split (expr_breaks w v) _ h in
       rule_some (is_some (typed_at w v)) _ q k.1 (ap is_some (typed_of v k.0).1)

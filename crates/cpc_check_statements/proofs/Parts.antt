@@ -1,6 +1,7 @@
 -- What plain statements break, by their parts.
-use Rattle.std.proofs.Common.{◌≡◌, Bool, true, false, ◌||◌, not, ◌++◌, Option, Some, None, option_map, refl, sym, ap, ◌∙◌}
+use Rattle.std.proofs.Common.{◌≡◌, Bool, false, ◌||◌, not, ◌++◌, Option, Some, None, option_map, refl, sym, ap, ◌∙◌}
 use Rattle.cpc_base.specs.declared.stop.Place.{Place}
+use Rattle.cpc_base.proofs.Truth.{or_with_false}
 use Rattle.cpc_num.specs.declared.kinds.Op.{Op}
 use Rattle.cpc_tree.specs.Syntax.{Ty, Expr}
 use Rattle.cpc_tree.specs.Typing as T
@@ -102,12 +103,8 @@ given_noted w o q v t = after_one o (S.target_breaks w v) (S.given_breaks (typed
 
 -- ---- returns
 
-or_false : (b : Bool) → (b || false) ≡ b
-or_false true = refl
-or_false false = refl
-
 pub unfit_is : (w : Where) (e : LExpr) (d : Option Typed) (x : Expr) → bare_expr e ≡ x → (S.is_void w.result || is_unfit w.result x d) ≡ S.unfit_return w e d
-unfit_is w e None x k = or_false (S.is_void w.result)
+unfit_is w e None x k = or_with_false (S.is_void w.result)
 unfit_is w e (Some d) x k = ap (λ y. S.is_void w.result || is_unfit w.result y (Some d)) (sym k)
 
 pub returned_noted : (w : Where) (o : Firsts) (q : Place) (e : LExpr) → noted (noted o (expr_breaks w e)) (at_if (S.unfit_return w e (typed_at w e)) q BadReturn) ≡ noted o (S.return_breaks w q (Some e))

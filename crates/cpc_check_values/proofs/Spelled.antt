@@ -1,19 +1,11 @@
 -- The primitive of a name.
-use Rattle.std.proofs.Common.{◌≡◌, Bool, true, false, List, [], ◌∷◌, map, Option, Some, option_map, refl, sym, ap, ◌∙◌}
+use Rattle.std.proofs.Common.{◌≡◌, Bool, true, false, List, [], ◌∷◌, map, Option, Some, option_map, refl, ap, ◌∙◌}
 use Rattle.std.specs.Prelude.{find, bytes_eq, if◌then◌else◌}
-use Rattle.std.proofs.lemmas.Slice.Eq.{bytes_eq-Decides}
 use Rattle.cpc_base.specs.Bytes.{Text}
+use Rattle.cpc_base.proofs.Truth.{bytes_eq_exchanged}
 use Rattle.cpc_tree.specs.Primitives as P
 use Rattle.cpc_check_values.specs.declared.primitives.Primitive.{Primitive}
 use Rattle.cpc_check_values.specs.Wants.{primitive_of, spelling_of, all_primitives, primitive_found}
-
-same_test : (a b : Text) → bytes_eq a b ≡ bytes_eq b a
-same_test a b = go (bytes_eq a b) (bytes_eq b a) (λ e. (bytes_eq-Decides b a).1 (sym ((bytes_eq-Decides a b).0 e))) (λ e. (bytes_eq-Decides a b).1 (sym ((bytes_eq-Decides b a).0 e)))
-  where
-    go : (x y : Bool) → (x ≡ true → y ≡ true) → (y ≡ true → x ≡ true) → x ≡ y
-    go true y f g = sym (f refl)
-    go false true f g = g refl
-    go false false f g = refl
 
 chosen : (b : Bool) (p : Primitive) (o : Option Primitive) (r : Option P.Primitive) → option_map primitive_of o ≡ r
     → option_map primitive_of (if b then Some p else o) ≡ (if b then Some (primitive_of p) else r)
@@ -24,7 +16,7 @@ named_in : (x : Text) (ps : List Primitive) → option_map primitive_of (find (�
 named_in x [] = refl
 named_in x (p ∷ ps) =
     chosen (bytes_eq x (spelling_of p)) p (find (λ q. bytes_eq x (spelling_of q)) ps) (P.primitive_in (map (λ q. (spelling_of q, primitive_of q)) ps) x) (named_in x ps)
-    ∙ ap (λ b. if b then Some (primitive_of p) else P.primitive_in (map (λ q. (spelling_of q, primitive_of q)) ps) x) (same_test x (spelling_of p))
+    ∙ ap (λ b. if b then Some (primitive_of p) else P.primitive_in (map (λ q. (spelling_of q, primitive_of q)) ps) x) (bytes_eq_exchanged x (spelling_of p))
 
 pub found_named : (x : Text) → option_map primitive_of (primitive_found x) ≡ P.primitive_named x
 unfolding primitive_found

@@ -1,5 +1,5 @@
 -- The numbers of a command are within their bounds.
-use Rattle.std.proofs.Common.{◌≡◌, ◌≤◌, ◌&&◌, ℕ, Bool, true, false, List, [], ◌∷◌, Option, Some, None, nat_le, codes, bytes_eq, refl, sym, arith, true≢false}
+use Rattle.std.proofs.Common.{◌≡◌, ◌≤◌, ◌&&◌, ℕ, Bool, true, false, List, [], ◌∷◌, Option, Some, None, nat_le, codes, bytes_eq, refl, arith}
 use Rattle.std.specs.Prelude.{if◌then◌else◌, option_and_then, option_map}
 use Rattle.std.specs.Option.{option_map_or}
 use Rattle.std.specs.Str.Parse.{digits_value}
@@ -20,10 +20,6 @@ IfThere P (Some a) = P a
 
 abbrev pub Within : (most n : ℕ) → Type 0
 Within most n = (1 ≤ n) × (n ≤ most)
-
-both_true : (a b : Bool) → (a && b) ≡ true → (a ≡ true) × (b ≡ true)
-both_true true b e = (refl, e)
-both_true false b e = absurd (true≢false (sym e))
 
 pub number_within : (most : ℕ) (text : Text) → IfThere (Within most) (number_of most text)
 number_within most text = go (is_numeral text) (nat_le 1 n) (nat_le n most) refl refl

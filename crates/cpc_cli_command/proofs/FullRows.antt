@@ -4,6 +4,7 @@ use Rattle.std.specs.Prelude.{if◌then◌else◌, encode_utf8, find, fold, slic
 use Rattle.std.specs.List.{list_all}
 use Rattle.std.specs.Option.{option_map_or}
 use Rattle.std.specs.Str.{bytes_eq, chars}
+use Rattle.cpc_base.proofs.Truth.{and_both}
 use Rattle.clap.specs.Lexer.{long_of, short_of}
 use Rattle.clap.specs.Facts.{unwrap_or_range}
 use Rattle.clap.specs.Matches.{count_text}
@@ -90,14 +91,10 @@ abbrev Fed : Option Rule → Type 0
 Fed None = Unit {0}
 Fed (Some a) = feeds a ≡ true
 
-both_true : (a b : Bool) → (a && b) ≡ true → (a ≡ true) × (b ≡ true)
-both_true true b e = (refl, e)
-both_true false b e = absurd (true≢false (sym e))
-
 find_fed : (p : Rule → Bool) (rules : List Rule) → IsFed rules → Fed (find p rules)
 find_fed p [] e = tt
 find_fed p (a ∷ rest) e =
-    let two = both_true (feeds a) (list_all feeds rest) e in
+    let two = and_both (feeds a) (list_all feeds rest) e in
     go (p a) two.0 (find_fed p rest two.1)
   where
     go : (b : Bool) → feeds a ≡ true → Fed (find p rest) → Fed (cond b (Some a) (find p rest))

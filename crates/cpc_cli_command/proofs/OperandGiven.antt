@@ -12,6 +12,7 @@ use Rattle.clap.specs.Simple.{App, Shape, built, entered, label_of, names_of, ro
 use Rattle.clap.specs.Faults.{check_fault, defaults_fault, entered_fault, fault_of, level_fault, settle_fault, walk_fault}
 use Rattle.clap.proofs.OnLiterals.{clap_on_literals}
 use Rattle.std.proofs.lemmas.Slice.Eq.{bytes_eq-Decides}
+use Rattle.cpc_base.proofs.Truth.{bytes_eq_exchanged}
 use Rattle.cpc_cli_command.specs.Commands.{Check, Command, Exec, Options, Run, Sample, Translate, command_in, cells_in, command_named, command_of, cpc_app, file_command_in, if_taken, is_given as was_given, options_with, sample_in, section_steps_in, steps_in, threads_in, workers_in}
 use Rattle.cpc_cli_command.specs.Usage.{BreaksNumber, EntersOperand, HasOperand, is_verb, operand_of}
 use Rattle.cpc_cli_command.proofs.CommandLemmas.{entered_command}
@@ -130,14 +131,6 @@ enters_operand words e = app_enters cpc_app words operand_app e
 
 -- ---- so only a number can be wrong
 
-same_test : (a b : Text) → bytes_eq a b ≡ bytes_eq b a
-same_test a b = go (bytes_eq a b) (bytes_eq b a) (λ e. (bytes_eq-Decides b a).1 (sym ((bytes_eq-Decides a b).0 e))) (λ e. (bytes_eq-Decides a b).1 (sym ((bytes_eq-Decides b a).0 e)))
-  where
-    go : (x y : Bool) → (x ≡ true → y ≡ true) → (y ≡ true → x ≡ true) → x ≡ y
-    go true y f g = sym (f refl)
-    go false true f g = g refl
-    go false false f g = refl
-
 -- what may be wrong with a number
 abbrev IsWrong : Text → List Row → Type 0
 IsWrong name rows = steps_in rows ≡ None ⊎ (cells_in rows ≡ None ⊎ (section_steps_in rows ≡ None ⊎ (workers_in rows ≡ None ⊎ ((name ≡ codes "sample") × (threads_in rows ≡ None)))))
@@ -145,7 +138,7 @@ IsWrong name rows = steps_in rows ≡ None ⊎ (cells_in rows ≡ None ⊎ (sect
 option_wrong : (name file : Text) (rows : List Row) → bytes_eq name (codes "sample") ≡ false → is_verb name ≡ true → command_named name file rows ≡ None → IsWrong name rows
 option_wrong name file rows other v e = go (bytes_eq name (codes "check")) (bytes_eq name (codes "translate")) (bytes_eq name (codes "run")) (bytes_eq name (codes "exec"))
     (bytes_eq name (codes "sample")) (steps_in rows) (cells_in rows) (section_steps_in rows) (workers_in rows) other
-    (rw (same_test name (codes "check"), same_test name (codes "translate"), same_test name (codes "run"), same_test name (codes "exec"), same_test name (codes "sample")) v) e
+    (rw (bytes_eq_exchanged name (codes "check"), bytes_eq_exchanged name (codes "translate"), bytes_eq_exchanged name (codes "run"), bytes_eq_exchanged name (codes "exec"), bytes_eq_exchanged name (codes "sample")) v) e
   where
     asks : (o p q w : Option ℕ) → Option Options
     asks o p q w = option_and_then (λ steps. option_and_then (λ cells. option_and_then (λ more. option_map (options_with rows steps cells more) w) q) p) o

@@ -1,8 +1,9 @@
 -- Words that clap takes for no option, and for no name of a command.
-use Rattle.std.proofs.Common.{◌≡◌, ◌==◌, Bool, true, false, true≢false, [], ◌∷◌, None, refl, sym, codes}
-use Rattle.std.specs.Prelude.{bytes_eq, not, ◌||◌}
+use Rattle.std.proofs.Common.{◌≡◌, ◌==◌, Bool, true, false, true≢false, [], ◌∷◌, None, refl, codes}
+use Rattle.std.specs.Prelude.{bytes_eq, ◌||◌}
 use Rattle.clap.specs.Lexer.{long_of, short_of}
 use Rattle.cpc_base.specs.Bytes.{Text}
+use Rattle.cpc_base.proofs.Truth.{not_holds}
 use Rattle.cpc_cli_command.specs.Usage.{IsPlain, is_verb}
 
 -- clap takes the word for no option
@@ -11,14 +12,10 @@ pub record IsValue (word : Text) : Type 0 where
   pub no_short : short_of word ≡ None
   pub no_end : bytes_eq word (45 ∷ 45 ∷ []) ≡ false
 
-is_false : (b : Bool) → not b ≡ true → b ≡ false
-is_false true e = sym e
-is_false false e = refl
-
 pub value_of : (word : Text) → IsPlain word → IsValue word
 value_of [] e = record { no_long = refl; no_short = refl; no_end = refl }
 value_of (x ∷ xs) e =
-    let other : (x == 45) ≡ false = is_false (x == 45) e in
+    let other : (x == 45) ≡ false = not_holds (x == 45) e in
     record { no_long = rw other refl; no_short = rw other refl; no_end = rw other refl }
 
 -- the word is none of the five names

@@ -11,18 +11,18 @@ use Rattle.std.proofs.lemmas.List.{map-append}
 use Rattle.std.proofs.lemmas.Bool.Decides.{nat_tests}
 use Rattle.std.proofs.lemmas.Map.Keys.{sorted_head, sorted_tail}
 use Rattle.cpc_base.specs.Waiting.{OnCondition, waits_on, without_first, without}
+use Rattle.cpc_base.proofs.Truth.{true_or_false}
 use Rattle.cpc_agenda_queues.specs.Queued as Q
 use Rattle.cpc_agenda_queues.specs.Queued.{Queued, first_of, put_key}
-use Rattle.cpc_agenda_queues.proofs.QueueLemmas.{bool_cases}
 use Rattle.cpc_agenda_queues.proofs.SeenLemmas.{first_map, without_map, any_same}
 use Rattle.cpc_conds.specs.Conditions as M
 use Rattle.cpc_conds.specs.Conditions.{waiter_of, conditions_of, AreMade}
 
 -- the tests of the map and of the definitions
 pub same_number : (c n : ℕ) → is_at (nat_cmp c) n ≡ (n == c)
-same_number c n = elim (bool_cases (nat_lt c n)) [
+same_number c n = elim (true_or_false (nat_lt c n)) [
   | inl t ↦ (let e : (n == c) ≡ false = grind (arith, nat_tests) in rw (t, e) refl)
-  | inr f ↦ elim (bool_cases (n == c)) [
+  | inr f ↦ elim (true_or_false (n == c)) [
     | inl t ↦ (let e : (c == n) ≡ true = grind (arith, nat_tests) in rw (f, e, t) refl)
     | inr h ↦ (let e : (c == n) ≡ false = grind (arith, nat_tests) in rw (f, e, h) refl)
   ]
@@ -97,12 +97,12 @@ AreMade-more n ms h = rw (put_last n ms h.0) (all_last (λ m. m < n + 1) n ms (a
 
 all_less : (P : ℕ → Type 0) (test : ℕ → Bool) (ms : List ℕ) → AllByRecursion P ms → AllByRecursion P (without_first test ms)
 all_less P test [] h = tt
-all_less P test (m ∷ ms) h = elim (bool_cases (test m)) [ inl t ↦ rw t h.1 | inr f ↦ rw f (h.0, all_less P test ms h.1) ]
+all_less P test (m ∷ ms) h = elim (true_or_false (test m)) [ inl t ↦ rw t h.1 | inr f ↦ rw f (h.0, all_less P test ms h.1) ]
 
 sorted_less : (test : ℕ → Bool) (ms : List ℕ) → IsStrictlySortedBy nat_cmp ms → IsStrictlySortedBy nat_cmp (without_first test ms)
 unfolding IsStrictlySortedBy
 sorted_less test [] s = tt
-sorted_less test (m ∷ ms) s = elim (bool_cases (test m)) [ inl t ↦ rw t s.1 | inr f ↦ rw f (all_less (λ y. nat_cmp m y ≡ Less) test ms s.0, sorted_less test ms s.1) ]
+sorted_less test (m ∷ ms) s = elim (true_or_false (test m)) [ inl t ↦ rw t s.1 | inr f ↦ rw f (all_less (λ y. nat_cmp m y ≡ Less) test ms s.0, sorted_less test ms s.1) ]
 
 pub AreMade-less : (c n : ℕ) (ms : List ℕ) → AreMade ms n → AreMade (Q.drop_key nat_cmp c ms) n
 AreMade-less c n ms h = (all_less (λ m. m < n) (is_at (nat_cmp c)) ms h.0, sorted_less (is_at (nat_cmp c)) ms h.1)
@@ -114,7 +114,7 @@ none_without c (m ∷ ms) h = let e : (m == c) ≡ false = sym (same_number c m)
 
 dropped : (c : ℕ) (ms : List ℕ) → IsStrictlySortedBy nat_cmp ms → Q.drop_key nat_cmp c ms ≡ without (λ n. n == c) ms
 dropped c [] s = refl
-dropped c (m ∷ ms) s = elim (bool_cases (m == c)) [
+dropped c (m ∷ ms) s = elim (true_or_false (m == c)) [
   | inl t ↦ (let u : is_at (nat_cmp c) m ≡ true = same_number c m ∙ t in let e : m ≡ c = grind (arith, nat_tests) in
       rw (t, u) (sym (none_without c ms (head e))))
   | inr f ↦ (let u : is_at (nat_cmp c) m ≡ false = same_number c m ∙ f in rw (f, u) (ap (λ ks. m ∷ ks) (dropped c ms (sorted_tail nat_cmp m ms s))))

@@ -1,9 +1,10 @@
 -- Names that are made have two underscores, and tell the function and what comes after.
-use Rattle.std.proofs.Common.{◌≡◌, ℕ, ◌<◌, ◌^◌, ◌==◌, Bool, true, false, [], ◌∷◌, ◌++◌, length, get_or, decimal, bytes_eq, cond, refl, sym, ◌∙◌, ap, subst, ◌≤◌, arith, codes}
+use Rattle.std.proofs.Common.{◌≡◌, ℕ, ◌<◌, ◌^◌, ◌==◌, Bool, true, false, [], ◌∷◌, ◌++◌, length, get_or, decimal, bytes_eq, cond, refl, sym, ◌∙◌, ap, subst, arith, codes}
 use Rattle.std.proofs.lemmas.Fmt.{decimal_injective, decimal_is_IsNumeral}
 use Rattle.std.specs.Str.Parse.{AllDigits}
 use Rattle.std.specs.Char.{digit_value}
 use Rattle.cpc_base.specs.Bytes.{Text}
+use Rattle.cpc_base.proofs.Truth.{true_not_false, not_under_ten}
 use Rattle.cpc_convert.specs.Converted.{marked}
 use Rattle.cpc_meaning.proofs.Functions.{texts_differ}
 use Rattle.cpc_convert.specs.Marks.{marks_in, has_marks}
@@ -23,15 +24,12 @@ marks_marked false (c ∷ f) rest = either_true (c == 95) (marks_in true (f ++ 9
 pub marked_has : (f rest : Text) → has_marks (marked f rest) ≡ true
 marked_has f rest = marks_marked false f rest
 
-apart : true ≡ false → ⊥
-apart e = absurd (cc)
-
 -- a name without marks is none that is made
 pub marked_differs : (f rest x : Text) → has_marks x ≡ false → bytes_eq (marked f rest) x ≡ false
-marked_differs f rest x h = texts_differ (marked f rest) x (λ (e : marked f rest ≡ x). apart (sym (marked_has f rest) ∙ ap has_marks e ∙ h))
+marked_differs f rest x h = texts_differ (marked f rest) x (λ (e : marked f rest ≡ x). true_not_false (sym (marked_has f rest) ∙ ap has_marks e ∙ h))
 
 pub differs_marked : (f rest x : Text) → has_marks x ≡ false → bytes_eq x (marked f rest) ≡ false
-differs_marked f rest x h = texts_differ x (marked f rest) (λ (e : x ≡ marked f rest). apart (sym (marked_has f rest) ∙ sym (ap has_marks e) ∙ h))
+differs_marked f rest x h = texts_differ x (marked f rest) (λ (e : x ≡ marked f rest). true_not_false (sym (marked_has f rest) ∙ sym (ap has_marks e) ∙ h))
 
 weaker : (x : Text) → marks_in true x ≡ false → marks_in false x ≡ false
 weaker [] h = refl
@@ -55,7 +53,7 @@ short_first : (d e : Text) (c : ℕ) (g : Text) → NoBar d → has_marks (c ∷
 short_first d e c [] n h k = let g : d ≡ 95 ∷ e = cc in n.none e g
 short_first d e c (b ∷ g) n h k =
     let m : c ∷ b ∷ g ≡ 95 ∷ 95 ∷ g = cc in
-    apart (sym (ap has_marks m) ∙ h)
+    true_not_false (sym (ap has_marks m) ∙ h)
 
 pub marked_is : (f g d e : Text) → has_marks f ≡ false → has_marks g ≡ false → NoBar d → NoBar e → marked f d ≡ marked g e → (f ≡ g) × (d ≡ e)
 marked_is [] [] d e hf hg nd ne k = (refl, cc)
@@ -80,17 +78,14 @@ no_bar_spawn = no_bar_of (codes "spawn") (number_apart 115 refl)
 not_digits : (c : ℕ) (d e : Text) → (digit_value c < 10 → ⊥) → AllDigits 10 d → d ≡ c ∷ e → ⊥
 not_digits c d e h a k = h (subst (AllDigits 10) k a).0
 
-too_large : (n : ℕ) → 10 ≤ n → n < 10 → ⊥
-too_large n h g = absurd (omega arith)
-
 digits_of : (n : ℕ) → n < 2 ^ 63 → AllDigits 10 (decimal n)
 digits_of n h = (decimal_is_IsNumeral n (omega arith)).0.1
 
 pub no_bar_decimal : (n : ℕ) → n < 2 ^ 63 → NoBar (decimal n)
-no_bar_decimal n h = record { none = λ e k. not_digits 95 (decimal n) e (too_large 36 (omega arith)) (digits_of n h) k }
+no_bar_decimal n h = record { none = λ e k. not_digits 95 (decimal n) e (not_under_ten 36 (omega arith)) (digits_of n h) k }
 
 pub decimal_no_spawn : (n : ℕ) → n < 2 ^ 63 → decimal n ≡ codes "spawn" → ⊥
-decimal_no_spawn n h k = not_digits 115 (decimal n) _ (too_large 28 (omega arith)) (digits_of n h) k
+decimal_no_spawn n h k = not_digits 115 (decimal n) _ (not_under_ten 28 (omega arith)) (digits_of n h) k
 
 pub decimal_is : (m n : ℕ) → m < 2 ^ 63 → n < 2 ^ 63 → decimal m ≡ decimal n → m ≡ n
 decimal_is m n h g k = decimal_injective m n (omega arith) (omega arith) k

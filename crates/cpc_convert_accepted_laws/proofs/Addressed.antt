@@ -1,7 +1,8 @@
 -- `&` is applied to boxes, globals and functions alone, in each function of an accepted program.
-use Rattle.std.proofs.Common.{◌≡◌, ◌⊎◌, inl, inr, ◌&&◌, ◌||◌, not, ℕ, zero, suc, ◌==◌, Bool, true, false, cond, List, [], ◌∷◌, ◌++◌, length, slice_get, Option, Some, None, bytes_eq, refl, sym, ◌∙◌, ap, subst}
+use Rattle.std.proofs.Common.{◌≡◌, ◌⊎◌, inl, inr, ◌&&◌, not, ℕ, zero, suc, ◌==◌, Bool, true, false, cond, List, [], ◌∷◌, ◌++◌, length, slice_get, Option, Some, None, bytes_eq, refl, sym, ◌∙◌, ap, subst}
 use Rattle.cpc_base.specs.Bytes.{Text}
 use Rattle.cpc_base.specs.declared.stop.Dialect.TheVariants as D
+use Rattle.cpc_base.proofs.Truth.{eq_reflexive, or_neither, and_holds}
 use Rattle.cpc_num.specs.declared.kinds.Op.{Op}
 use Rattle.cpc_store.specs.Store.{Unset}
 use Rattle.cpc_tree.specs.declared.program.Mode.{Mode}
@@ -26,7 +27,6 @@ use Rattle.cpc_convert_image_laws.specs.Locals.{reading_of}
 use Rattle.cpc_convert_event.specs.AddressLaws.{bars, avoids_simple, avoids_found}
 use Rattle.cpc_convert_event.specs.Names.{variable_name}
 use Rattle.cpc_convert_event.specs.Routines.{routine_of, readings_of, is_plain}
-use Rattle.cpc_graph_laws.proofs.Formed.{equal_self}
 use Rattle.cpc_lift_laws.specs.Boxes.{has_block, is_box_in}
 use Rattle.cpc_lift_laws.proofs.Lift.{boxes_exact}
 use Rattle.cpc_convert_accepted_laws.specs.Names.{HasNames}
@@ -52,15 +52,11 @@ others_boxed (suc k) zero h = tt
 others_boxed (suc k) (suc j) h = others_boxed k j (λ e. h (ap suc e))
 
 apart : (j k : ℕ) → (j == k) ≡ false → j ≡ k → ⊥
-apart j k e i = let z : true ≡ false = sym (equal_self k) ∙ ap (λ n. n == k) (sym i) ∙ e in cc
-
-neither : (a b : Bool) → (a || b) ≡ false → (a ≡ false) × (b ≡ false)
-neither true b e = absurd (cc)
-neither false b e = (refl, e)
+apart j k e i = let z : true ≡ false = sym (eq_reflexive k) ∙ ap (λ n. n == k) (sym i) ∙ e in cc
 
 all_boxed : (k : ℕ) (ks : List ℕ) → holds_number ks k ≡ false → AllBoxed (unboxed k) ks
 all_boxed k [] e = tt
-all_boxed k (j ∷ ks) e = let h = neither (j == k) (holds_number ks k) e in (others_boxed k j (apart j k h.0), all_boxed k ks h.1)
+all_boxed k (j ∷ ks) e = let h = or_neither (j == k) (holds_number ks k) e in (others_boxed k j (apart j k h.0), all_boxed k ks h.1)
 
 module _ (f : Function) where
   -- these are variables that have an address
@@ -89,9 +85,6 @@ module _ (f : Function) where
   path_held p path t = all_held _ (λ k e. function_boxed (unboxed k) D.Cpc p f path t (all_boxed k (addressed f) e))
 
 -- ---- names
-
-both : (a b : Bool) → a ≡ true → b ≡ true → (a && b) ≡ true
-both a b e f = ap (λ x. x && b) e ∙ f
 
 box_is : (a b : Bool) → b ≡ true → not (a && not b) ≡ true
 box_is true b e = ap (λ x. not (not x)) e
@@ -154,26 +147,26 @@ module _ (p : Program) (names : HasNames p) (f : Function) (is : function_named 
   typed_avoids (EUnary sign e) d h w = let k = sign_some sign (typing p scope e) d h in typed_avoids e k.0 k.1 w
   typed_avoids (EBinary op a b) d h w =
       let k = two_parts p names scope (typing p scope a) (typing p scope b) (λ t u. binary_type p op (is_null a) (is_null b) t u >>= λ r. Some (AValue r)) d h in
-      both _ _ (typed_avoids a k.0.0 k.0.1 (held_left f (addresses scope a) (addresses scope b) w)) (typed_avoids b k.1.0 k.1.1 (held_right f (addresses scope a) (addresses scope b) w))
+      and_holds _ _ (typed_avoids a k.0.0 k.0.1 (held_left f (addresses scope a) (addresses scope b) w)) (typed_avoids b k.1.0 k.1.1 (held_right f (addresses scope a) (addresses scope b) w))
   typed_avoids (EAnd a b) d h w =
       let k = then_some (tested_type (typing p scope a)) _ d h in
       let l = then_some (tested_type (typing p scope b)) _ d k.2 in
-      both _ _ (tested_avoids a k.0 (λ d h. typed_avoids a d h (held_left f (addresses scope a) (addresses scope b) w)) k.1) (tested_avoids b l.0 (λ d h. typed_avoids b d h (held_right f (addresses scope a) (addresses scope b) w)) l.1)
+      and_holds _ _ (tested_avoids a k.0 (λ d h. typed_avoids a d h (held_left f (addresses scope a) (addresses scope b) w)) k.1) (tested_avoids b l.0 (λ d h. typed_avoids b d h (held_right f (addresses scope a) (addresses scope b) w)) l.1)
   typed_avoids (EOr a b) d h w =
       let k = then_some (tested_type (typing p scope a)) _ d h in
       let l = then_some (tested_type (typing p scope b)) _ d k.2 in
-      both _ _ (tested_avoids a k.0 (λ d h. typed_avoids a d h (held_left f (addresses scope a) (addresses scope b) w)) k.1) (tested_avoids b l.0 (λ d h. typed_avoids b d h (held_right f (addresses scope a) (addresses scope b) w)) l.1)
+      and_holds _ _ (tested_avoids a k.0 (λ d h. typed_avoids a d h (held_left f (addresses scope a) (addresses scope b) w)) k.1) (tested_avoids b l.0 (λ d h. typed_avoids b d h (held_right f (addresses scope a) (addresses scope b) w)) l.1)
   typed_avoids (EChoose c a b) d h w =
       let o = then_some (tested_type (typing p scope c)) _ d h in
       let k = two_parts p names scope (typing p scope a) (typing p scope b) (λ t u. choice_type (is_null a) (is_null b) t u >>= λ r. Some (AValue r)) d o.2 in
       let front = held_left f (addresses scope c ++ addresses scope a) (addresses scope b) w in
-      both _ _ (tested_avoids c o.0 (λ d h. typed_avoids c d h (held_left f (addresses scope c) (addresses scope a) front)) o.1)
-      (both _ _ (typed_avoids a k.0.0 k.0.1 (held_right f (addresses scope c) (addresses scope a) front)) (typed_avoids b k.1.0 k.1.1 (held_right f (addresses scope c ++ addresses scope a) (addresses scope b) w)))
+      and_holds _ _ (tested_avoids c o.0 (λ d h. typed_avoids c d h (held_left f (addresses scope c) (addresses scope a) front)) o.1)
+      (and_holds _ _ (typed_avoids a k.0.0 k.0.1 (held_right f (addresses scope c) (addresses scope a) front)) (typed_avoids b k.1.0 k.1.1 (held_right f (addresses scope c ++ addresses scope a) (addresses scope b) w)))
   typed_avoids (ECast t e) d h w = let k = then_some (typing p scope e) _ d h in typed_avoids e k.0 k.1 w
   typed_avoids (ESizeOf t) d h w = refl
   typed_avoids (EIndex a i) d h w =
       let k = two_parts p names scope (typing p scope a) (typing p scope i) (λ t u. sum_type p t u >>= λ r. target r >>= λ v. Some (APlace v)) d h in
-      both _ _ (typed_avoids a k.0.0 k.0.1 (held_left f (addresses scope a) (addresses scope i) w)) (typed_avoids i k.1.0 k.1.1 (held_right f (addresses scope a) (addresses scope i) w))
+      and_holds _ _ (typed_avoids a k.0.0 k.0.1 (held_left f (addresses scope a) (addresses scope i) w)) (typed_avoids i k.1.0 k.1.1 (held_right f (addresses scope a) (addresses scope i) w))
   typed_avoids (EMember e x) d h w = let k = then_some (typing p scope e) _ d h in typed_avoids e k.0 k.1 w
   typed_avoids (EArrow e x) d h w = let k = then_some (typing p scope e) _ d h in typed_avoids e k.0 k.1 w
   typed_avoids (ECall g es) d h w = no_some d h
@@ -187,7 +180,7 @@ module _ (p : Program) (names : HasNames p) (f : Function) (is : function_named 
   gets_avoids t e h w = typed_avoids e h.typed h.is_typed w
 
   row_avoids : (e : Expr) (es : Exprs) → AllHeld f (addresses_all scope (AndExpr e es)) → (AllHeld f (addresses scope e) → Avoids e) → (AllHeld f (addresses_all scope es) → AllAvoid es) → AllAvoid (AndExpr e es)
-  row_avoids e es w h k = both _ _ (h (held_left f (addresses scope e) (addresses_all scope es) w)) (k (held_right f (addresses scope e) (addresses_all scope es) w))
+  row_avoids e es w h k = and_holds _ _ (h (held_left f (addresses scope e) (addresses_all scope es) w)) (k (held_right f (addresses scope e) (addresses_all scope es) w))
 
   all_get_avoid : (ts : List Ty) (es : Exprs) → AllGet p scope ts es → AllHeld f (addresses_all scope es) → AllAvoid es
   all_get_avoid [] NoExpr h w = refl
@@ -256,13 +249,13 @@ module _ (p : Program) (names : HasNames p) (f : Function) (is : function_named 
   simple_avoids (Declare x t (Some e)) h w = gets_avoids h.type e h.gets w
   simple_avoids (Assign x op e) h w =
       let k = right_typed op x e h.type h.gets in
-      both _ _ (typed_avoids x (APlace h.type) h.is_place (held_left f (addresses scope x) (addresses scope e) w)) (typed_avoids e k.0 k.1 (held_right f (addresses scope x) (addresses scope e) w))
+      and_holds _ _ (typed_avoids x (APlace h.type) h.is_place (held_left f (addresses scope x) (addresses scope e) w)) (typed_avoids e k.0 k.1 (held_right f (addresses scope x) (addresses scope e) w))
   simple_avoids (Call to g es) h w =
       let front = held_left f (addresses_if scope to ++ addresses scope g) (addresses_all scope es) w in
-      both _ _ (delivers_avoids h.0 to h.2 (held_left f (addresses_if scope to) (addresses scope g) front))
-      (both _ _ (callee_avoids f.mode g es h.0 h.1 (held_right f (addresses_if scope to) (addresses scope g) front)) (call_avoids f.mode g es h.0 h.1 (held_right f (addresses_if scope to ++ addresses scope g) (addresses_all scope es) w)))
+      and_holds _ _ (delivers_avoids h.0 to h.2 (held_left f (addresses_if scope to) (addresses scope g) front))
+      (and_holds _ _ (callee_avoids f.mode g es h.0 h.1 (held_right f (addresses_if scope to) (addresses scope g) front)) (call_avoids f.mode g es h.0 h.1 (held_right f (addresses_if scope to ++ addresses scope g) (addresses_all scope es) w)))
   simple_avoids (Detach to g es) h w =
-      both _ _ (delivers_avoids _ to h.2 (held_left f (addresses_if scope to) (addresses_all scope es) w))
+      and_holds _ _ (delivers_avoids _ to h.2 (held_left f (addresses_if scope to) (addresses_all scope es) w))
       (all_taken_avoid (section_takes (parameter_types h.1.function)) es h.1.arguments (held_right f (addresses_if scope to) (addresses_all scope es) w))
   simple_avoids (Spawn g es) h w = all_get_avoid (parameter_types h.1.0) es h.1.2 w
   simple_avoids (Return (Some e)) h w = gets_avoids f.result e h w

@@ -2,6 +2,7 @@
 use Rattle.std.proofs.Common.{◌≡◌, Bool, true, false, List, [], ◌∷◌, Option, Some, None, refl, sym, ◌∙◌, ap, subst}
 use Rattle.cpc_base.specs.Bytes.{Text}
 use Rattle.cpc_base.specs.declared.stop.Dialect.TheVariants as D
+use Rattle.cpc_base.proofs.Truth.{by_false_and_true}
 use Rattle.cpc_store.specs.Store.{Value, Unset, Store}
 use Rattle.cpc_tree.specs.declared.program.Mode.TheVariants.{Extern}
 use Rattle.cpc_tree.specs.Points.{Found, Simple, Test, Nothing}
@@ -29,9 +30,6 @@ use Rattle.cpc_convert_accepted_laws.proofs.Statements.{called_primitive}
 abbrev AsksSo : Stood → Act → Type 0
 AsksSo stood (AsksFor r) = IsAskedByNative stood r.asked
 AsksSo stood a = Unit {0}
-
-no_cps : {A : Type 0} (b : Bool) → b ≡ false → b ≡ true → A
-no_cps b e g = absurd (cc)
 
 module _ (p : Program) (names : HasNames p) (f : Function) (native : O.is_cps f.mode ≡ false) (scope : Scope) (slots : List Slot) (s : Store) where
   abbrev c : Context
@@ -77,7 +75,7 @@ module _ (p : Program) (names : HasNames p) (f : Function) (native : O.is_cps f.
     waits_not prim h = (h.0, go (gives_up prim) refl)
       where
         go : (b : Bool) → gives_up prim ≡ b → b ≡ false
-        go true e = no_cps (O.is_cps f.mode) native (h.1 e)
+        go true e = by_false_and_true (O.is_cps f.mode) native (h.1 e)
         go false e = refl
 
     call_so : (to : Option Expr) (g : Expr) (es : Exprs) → IsTyped D.Cpc p f scope (Call to g es) → So (calls_expr c g es)
@@ -96,7 +94,7 @@ module _ (p : Program) (names : HasNames p) (f : Function) (native : O.is_cps f.
   simple_so (Declare x t (Some v)) h = assigns_so _ (ENamed x) v
   simple_so (Assign x op v) h = assigns_so _ x (right_side op x v)
   simple_so (Call x g es) h = call_so _ x g es h
-  simple_so (Detach x y es) h = no_cps (O.is_cps f.mode) native h.3
+  simple_so (Detach x y es) h = by_false_and_true (O.is_cps f.mode) native h.3
   simple_so (Spawn g es) h = spawns_so g es
   simple_so (Return v) h = returns_so _ v
   simple_so t h = tt

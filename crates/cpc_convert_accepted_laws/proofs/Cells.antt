@@ -1,9 +1,9 @@
 -- The variables of each function of an accepted program have cells, one at least and 2^16 at most.
-use Rattle.std.proofs.Common.{◌≡◌, ◌<◌, ◌≤◌, ◌^◌, ◌&&◌, not, ℕ, zero, suc, true, List, [], ◌∷◌, ◌++◌, map, slice_get, nat_lt, Option, Some, None, refl, sym, ◌∙◌, subst, append_assoc, arith}
-use Rattle.std.proofs.lemmas.Bool.Decides.{nat_tests}
+use Rattle.std.proofs.Common.{◌≡◌, ◌<◌, ◌≤◌, ◌^◌, ◌&&◌, not, ℕ, zero, suc, true, List, [], ◌∷◌, ◌++◌, map, slice_get, nat_lt, Option, Some, None, refl, sym, ◌∙◌, subst, append_assoc}
 use Rattle.std.specs.Prelude.{is_some, nat_le}
 use Rattle.std.proofs.lemmas.List.{append-nil}
 use Rattle.cpc_base.specs.declared.stop.Dialect.TheVariants as D
+use Rattle.cpc_base.proofs.Truth.{by_false_true, and_both, lt_means, le_means}
 use Rattle.cpc_tree.specs.ItemGrammar.{all_named}
 use Rattle.cpc_tree.specs.Located.{Ident, LStmt, Block, Empty, Declare, Assign, Call, Detach, Spawn, If, While, DoWhile, For, Goto, Label, Break, Continue, Return, LStmts, NoLStmt, AndLStmt, MaybeLStmt, NoneLStmt, SomeLStmt, LParameter, LFunction, LItem, LStruct, LGlobal, LPrototype, LFunctionItem, bare_stmt, bare_stmts, bare_maybe, bare_parameter, bare_function, bare_item}
 use Rattle.cpc_tree.specs.Points.{locals, locals_in, locals_arm}
@@ -20,10 +20,8 @@ use Rattle.cpc_check_rules.specs.Scopes.{is_sized, has_cells, cell_limit, is_her
 use Rattle.cpc_check_rules.specs.StmtRules.{inner, behind, all_behind, test_breaks, maybe_test, stmt_breaks, stmts_breaks, maybe_breaks}
 use Rattle.cpc_check_sound_laws.proofs.Agendas.{Each}
 use Rattle.cpc_check_sound_laws.proofs.Agreement.{Grows, sizes_grow}
-use Rattle.cpc_check_sound_laws.proofs.Answers.{not_true}
 use Rattle.cpc_check_sound_laws.proofs.Growing.{IsFresh, grows_step, grows_same, grows_on}
 use Rattle.cpc_check_sound_laws.proofs.Programs.{BodyShape, ItemShape}
-use Rattle.cpc_check_sound_laws.proofs.Scalars.{both_true}
 use Rattle.cpc_check_sound_laws.proofs.Unbroken.{split, holds_not, holds_then}
 use Rattle.cpc_convert.specs.Members.{Has, OnTop, Below}
 use Rattle.cpc_convert_accepted_laws.specs.Pieces.{VariablesHaveCells}
@@ -40,20 +38,14 @@ all_have : (p : Program) (xs ys : List Variable) → AllHave p xs → AllHave p 
 all_have p [] ys h k = k
 all_have p (x ∷ xs) ys h k = (h.0, all_have p xs ys h.1 k)
 
-above : (m n : ℕ) → nat_lt m n ≡ true → m < n
-above m n e = grind (arith, nat_tests)
-
-within : (m n : ℕ) → nat_le m n ≡ true → m ≤ n
-within m n e = grind (arith, nat_tests)
-
 sized_has : (items p : Program) (s : R.Scope) (t : Ty) → s.items ≡ items → Grows items p → is_sized s t ≡ true → HasCells p t
 sized_has items p s t e g h = go (size s.items t) refl h
   where
     go : (o : Option ℕ) → size s.items t ≡ o → has_cells o ≡ true → HasCells p t
-    go None f h = not_true h
+    go None f h = by_false_true h
     go (Some n) f h =
-        let k = both_true (nat_lt 0 n) (nat_le n cell_limit) h in
-        (n, sizes_grow items p g t n (subst (λ items. size items t ≡ Some n) e f), above 0 n k.0, within n cell_limit k.1)
+        let k = and_both (nat_lt 0 n) (nat_le n cell_limit) h in
+        (n, sizes_grow items p g t n (subst (λ items. size items t ≡ Some n) e f), lt_means 0 n k.0, le_means n cell_limit k.1)
 
 -- ---- bodies
 
@@ -132,7 +124,7 @@ module _ (p : Program) where
     where
       one : (o : Option Ident) (t : Ty) → (is_some o && all_named (λ (p : LParameter). p.called) ps) ≡ true → sized_breaks s (record { called = o; type = t } ∷ ps) ≡ []
           → (all_named (λ (p : LParameter). p.called) ps ≡ true → sized_breaks s ps ≡ [] → AllHave p (map as_variable (map bare_parameter ps))) → AllHave p (map as_variable (map bare_parameter (record { called = o; type = t } ∷ ps)))
-      one None t n h rest = not_true n
+      one None t n h rest = by_false_true n
       one (Some x) t n h rest =
           let k = split (at_if (not (is_sized s t)) x.place Incomplete) (sized_breaks s ps) h in
           (sized_has items p s t e g (holds_then (is_sized s t) x.place Incomplete k.0), rest n k.1)

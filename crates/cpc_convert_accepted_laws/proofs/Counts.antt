@@ -4,6 +4,7 @@ use Rattle.std.proofs.lemmas.List.{length-map, length-append, length-drop}
 use Rattle.std.proofs.Math.Nat.{mul-suc}
 use Rattle.cpc_base.specs.declared.stop.Dialect.TheVariants as D
 use Rattle.cpc_base.specs.declared.stop.Place.{Place}
+use Rattle.cpc_base.proofs.Truth.{lt_not_means}
 use Rattle.cpc_tree.specs.Located.{Ident, LStmt, Block, If, While, DoWhile, For, Label, LStmts, NoLStmt, AndLStmt, MaybeLStmt, NoneLStmt, SomeLStmt, LParameter, LItem, LStruct, LGlobal, LPrototype, LFunctionItem, bare_stmt, bare_stmts, bare_maybe, bare_item}
 use Rattle.cpc_tree.specs.Points.{Point, Here, End, Part, Nth, TheTest, TheYes, TheNo, TheStep, TheBody}
 use Rattle.cpc_tree.specs.Syntax.{Function, FunctionItem}
@@ -71,13 +72,10 @@ broad_row false b x more rest c h = absurd (cc)
 broad_row true true x more rest c h = absurd (cc)
 broad_row true false x more rest c h = (refl, h)
 
-not_below : (m n : ℕ) → nat_lt m n ≡ false → n ≤ m
-not_below m n h = grind arith
-
 -- so its points are so few
 within_limit : (n a v k : ℕ) → nat_lt breadth_limit (n + a * suc v) ≡ false → k ≤ 2 * a + 1 → k ≤ 1000001
 within_limit n a v k h le =
-    let top = not_below breadth_limit (n + a * suc v) h in
+    let top = lt_not_means breadth_limit (n + a * suc v) h in
     let wide = mul-suc a v in
     omega (arith, top, wide, le)
 

@@ -3,6 +3,7 @@ use Rattle.std.proofs.Common.{◌≡◌, ◌⊎◌, ◌↔◌, inl, inr, ℕ, ze
 use Rattle.std.specs.Prelude.{is_some}
 use Rattle.std.proofs.lemmas.Bool.{cases_lt}
 use Rattle.cpc_base.specs.Bytes.{Text}
+use Rattle.cpc_base.proofs.Lists.{found_within}
 use Rattle.cpc_tree.specs.Lists.{holds_number}
 use Rattle.cpc_tree.specs.Points.{Point, Here, Arrival, End}
 use Rattle.cpc_tree.specs.Registers.{slot_of}
@@ -19,7 +20,7 @@ use Rattle.cpc_graph_laws.specs.Going.{IsHeld, OutOfGraphs, OwnedNode}
 use Rattle.cpc_graph_laws.specs.Laws.{flow_in}
 use Rattle.cpc_graph_laws.proofs.Formed.{node_comes}
 use Rattle.cpc_graph_laws.proofs.Holding.{positions_are_held}
-use Rattle.cpc_graph_laws.proofs.Splits.{node_there, owner_there}
+use Rattle.cpc_graph_laws.proofs.Splits.{owner_there}
 use Rattle.cpc_lift_laws.specs.Lift.{variables_in, variable_count}
 use Rattle.cpc_lift_laws.specs.Nodes.{Member, First, Later}
 use Rattle.cpc_lift_laws.proofs.Scopes.{scopes_are_below}
@@ -122,7 +123,7 @@ module _ (p : Program) (x : Text) where
     where
       by : (n < length (graph_of p f).nodes) ⊎ (length (graph_of p f).nodes ≤ n) → IsHeld p x (InGraph l n)
       by (inl less) =
-          let node = node_there (graph_of p f).nodes n less in
+          let node = found_within (graph_of p f).nodes n less in
           OwnedNode f l n node.0 e c node.1 (owned_is l (owner_of (flow_in p f) n) (sym (ap (λ o. is_owned_by l (owner_at o)) (owner_there (graph_of p f) n node.0 node.1)) ∙ h))
       by (inr le) = absurd (let g = ap (λ o. is_owned_by l (owner_at o)) (none_beyond (flow_in p f) 0 (length (graph_of p f).nodes) n le) in let i : true ≡ false = sym h ∙ g in cc)
 

@@ -1,5 +1,5 @@
 -- The functions of an accepted program.
-use Rattle.std.proofs.Common.{◌≡◌, ◌⊎◌, inl, inr, ◌&&◌, ◌||◌, ◌==◌, not, ℕ, arith, Bool, true, false, cond, List, [], ◌∷◌, ◌++◌, map, slice_get, Some, bytes_eq, codes, refl, sym, ◌∙◌, ap, subst}
+use Rattle.std.proofs.Common.{◌≡◌, ◌⊎◌, inl, inr, ◌&&◌, ◌==◌, not, ℕ, arith, Bool, true, false, cond, List, [], ◌∷◌, ◌++◌, map, slice_get, Some, bytes_eq, codes, refl, sym, ◌∙◌, ap, subst}
 use Rattle.cpc_base.specs.Bytes.{Text}
 use Rattle.cpc_base.specs.declared.stop.Place.{Place}
 use Rattle.cpc_num.specs.declared.kinds.Kind.TheVariants.{Int}
@@ -20,8 +20,7 @@ use Rattle.cpc_check_rules.specs.ItemRules.{items_breaks}
 use Rattle.cpc_check_rules.specs.Rule.{at_if}
 use Rattle.cpc_check_rules.specs.Rules.{is_main, has_main}
 use Rattle.cpc_base.specs.declared.stop.Dialect.TheVariants as D
-use Rattle.cpc_check_sound_laws.proofs.Answers.{not_true}
-use Rattle.cpc_check_sound_laws.proofs.Scalars.{both_true}
+use Rattle.cpc_base.proofs.Truth.{by_false_true, and_both, or_neither}
 use Rattle.cpc_check_sound_laws.proofs.Unbroken.{split, holds_then}
 use Rattle.cpc_convert.specs.Marks.{has_marks}
 use Rattle.cpc_convert.specs.Converted.{marked}
@@ -48,10 +47,6 @@ scopes_mean_variables p x f a is = scopes_like p x Means (meant_that p f [] tt) 
 
 -- ---- names in faults
 
-either_none : (a b : Bool) → (a || b) ≡ false → (a ≡ false) × (b ≡ false)
-either_none true b e = absurd (cc)
-either_none false b e = (refl, e)
-
 turned : (c : ℕ) → (95 == c) ≡ (c == 95)
 turned c = grind arith
 
@@ -69,7 +64,7 @@ whole : (x : Text) → holds_bars x ≡ false → before_bars x ≡ x
 whole [] h = refl
 whole (b ∷ []) h = refl
 whole (b ∷ c ∷ x) h =
-    let k = either_none (begins_with (95 ∷ 95 ∷ []) (b ∷ c ∷ x)) (holds_bars (c ∷ x)) h in
+    let k = or_neither (begins_with (95 ∷ 95 ∷ []) (b ∷ c ∷ x)) (holds_bars (c ∷ x)) h in
     ap (λ d. cut_where d (b ∷ before_bars (c ∷ x))) (two_bars b c x k.0) ∙ ap (λ y. b ∷ y) (whole (c ∷ x) k.1)
 
 -- what is behind the first two bars is not shown
@@ -111,12 +106,12 @@ record MainItem (f : Function) : Type 0 where
 
 main_is : (q : Place) (m : Mode) (x : Ident) (r : Ty) (ps : List LParameter) (body : LStmt) → is_main (record { place = q; mode = m; called = x; result = r; parameters = ps; body = body }) ≡ true
     → MainItem (bare_function (record { place = q; mode = m; called = x; result = r; parameters = ps; body = body }))
-main_is q Native x (TyInt Int) [] body h = record { called = same_text x.text main_name (both_true (bytes_eq x.text (codes "main")) true h).0; mode = inl refl; result = refl; parameters = refl }
-main_is q Cps x (TyInt Int) [] body h = record { called = same_text x.text main_name (both_true (bytes_eq x.text (codes "main")) true h).0; mode = inr refl; result = refl; parameters = refl }
-main_is q _ x _ _ body h = not_true (both_true (bytes_eq x.text (codes "main")) false h).1
+main_is q Native x (TyInt Int) [] body h = record { called = same_text x.text main_name (and_both (bytes_eq x.text (codes "main")) true h).0; mode = inl refl; result = refl; parameters = refl }
+main_is q Cps x (TyInt Int) [] body h = record { called = same_text x.text main_name (and_both (bytes_eq x.text (codes "main")) true h).0; mode = inr refl; result = refl; parameters = refl }
+main_is q _ x _ _ body h = by_false_true (and_both (bytes_eq x.text (codes "main")) false h).1
 
 main_there : (xs : List LItem) → has_main xs ≡ true → (f : Function) × Has (FunctionItem f) (map bare_item xs) × MainItem f
-main_there [] h = not_true h
+main_there [] h = by_false_true h
 main_there (LStruct tag fs ∷ xs) h = let k = main_there xs h in (k.0, Below _ _ _ k.1, k.2)
 main_there (LGlobal y t start ∷ xs) h = let k = main_there xs h in (k.0, Below _ _ _ k.1, k.2)
 main_there (LPrototype q m y r ps ∷ xs) h = let k = main_there xs h in (k.0, Below _ _ _ k.1, k.2)

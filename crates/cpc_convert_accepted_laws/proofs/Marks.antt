@@ -2,12 +2,12 @@
 use Rattle.std.proofs.Common.{◌≡◌, ℕ, zero, suc, arith, Bool, true, false, ◌||◌, ◌==◌, List, [], ◌∷◌, ◌++◌, cond, map, slice_get, Some, refl, ◌∙◌, subst}
 use Rattle.cpc_base.specs.Bytes.{Text}
 use Rattle.cpc_base.specs.declared.stop.Dialect.TheVariants as D
+use Rattle.cpc_base.proofs.Truth.{or_neither}
+use Rattle.cpc_base.proofs.Lists.{some_is}
 use Rattle.cpc_tree.specs.Located.{Ident}
 use Rattle.cpc_check_rules.specs.declared.rule.Rule.TheVariants.{Reserved}
 use Rattle.cpc_check_rules.specs.Rule.{at_if}
 use Rattle.cpc_check_rules.specs.FunctionRules.{begins_with, holds_bars, is_kept, is_reserved, reserved_breaks}
-use Rattle.cpc_check_sound_laws.proofs.Bodies.{either_false}
-use Rattle.cpc_check_sound_laws.proofs.Answers.{some_is}
 use Rattle.cpc_check_sound_laws.proofs.Unbroken.{split, holds_not}
 use Rattle.cpc_convert.specs.Marks.{marks_in}
 use Rattle.cpc_convert_accepted_laws.specs.Names.{IsPlain}
@@ -39,7 +39,7 @@ mutual
 -- ---- plain names
 
 plain : (x : Text) → is_reserved D.Cpc x ≡ false → IsPlain x
-plain x h = let k = either_false (is_kept x) (holds_bars x) h in record { unmarked = marks_are x ∙ k.1; unkept = k.0 }
+plain x h = let k = or_neither (is_kept x) (holds_bars x) h in record { unmarked = marks_are x ∙ k.1; unkept = k.0 }
 
 -- names of which none is reserved
 abbrev pub Unreserved : List Ident → Type 0

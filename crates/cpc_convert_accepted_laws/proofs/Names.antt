@@ -5,6 +5,7 @@ use Rattle.std.proofs.lemmas.List.{length-map, map-append}
 use Rattle.std.proofs.lemmas.Option.{slice_get-map}
 use Rattle.cpc_base.specs.Bytes.{Text}
 use Rattle.cpc_base.specs.declared.stop.Dialect.TheVariants as D
+use Rattle.cpc_base.proofs.Truth.{by_false_true, or_neither}
 use Rattle.cpc_tree.specs.ItemGrammar.{all_named}
 use Rattle.cpc_tree.specs.Located.{Ident, LStmt, Block, Declare, If, While, DoWhile, For, Label, LStmts, NoLStmt, AndLStmt, MaybeLStmt, NoneLStmt, SomeLStmt, LParameter, LFunction, LItem, LStruct, LGlobal, LPrototype, LFunctionItem, bare_stmt, bare_stmts, bare_maybe, bare_parameter, bare_function, bare_item, bare}
 use Rattle.cpc_tree.specs.Points.{locals, locals_in, locals_arm}
@@ -18,8 +19,6 @@ use Rattle.cpc_check_rules.specs.Rule.{at_if}
 use Rattle.cpc_check_rules.specs.Rules.{has_main, broad_breaks}
 use Rattle.cpc_meaning.proofs.Functions.{same_text, text_same}
 use Rattle.cpc_check_sound_laws.proofs.Agendas.{Each}
-use Rattle.cpc_check_sound_laws.proofs.Answers.{not_true}
-use Rattle.cpc_check_sound_laws.proofs.Bodies.{either_false}
 use Rattle.cpc_check_sound_laws.proofs.Items.{named_more, named_rest, agreed, Agreed, defined_rest}
 use Rattle.cpc_check_sound_laws.proofs.Grammar.{items_shape}
 use Rattle.cpc_check_sound_laws.proofs.Knowing.{primitive_kept}
@@ -74,7 +73,7 @@ parameters_named (q ∷ ps) h = one q.called q.type h (parameters_named ps)
   where
     one : (o : Option Ident) (t : Ty) → (is_some o && all_named (λ (p : LParameter). p.called) ps) ≡ true → (Named ps → names_of (map as_variable (map bare_parameter ps)) ≡ texts (parameter_names ps))
         → names_of (map as_variable (map bare_parameter (record { called = o; type = t } ∷ ps))) ≡ texts (parameter_names (record { called = o; type = t } ∷ ps))
-    one None t h rest = not_true h
+    one None t h rest = by_false_true h
     one (Some x) t h rest = ap (λ zs. x.text ∷ zs) (rest h)
 
 variables_named : (f : LFunction) → Named f.parameters → names_of (variables (bare_function f)) ≡ texts (names_of_variables f.parameters f.body)
@@ -98,15 +97,15 @@ module _ (f : LFunction) (named : Named f.parameters) where
 -- a second definition clashes
 module _ (x : Text) (new : Signature) (defines : new.is_defined ≡ true) where
   defined_clashes : (g : Function) → clashes new g.mode true ≡ false → ⊥
-  defined_clashes g e = let h = (either_false _ (new.is_defined && true) e).1 in let k = sym (ap (λ b. b && true) defines) ∙ h in not_true (sym k)
+  defined_clashes g e = let h = (or_neither _ (new.is_defined && true) e).1 in let k = sym (ap (λ b. b && true) defines) ∙ h in by_false_true (sym k)
 
   none_defined : (before : Program) → is_clash x new before ≡ false → function_named before x ≡ None
   none_defined [] h = refl
   none_defined (StructItem tag fs ∷ before) h = none_defined before h
-  none_defined (GlobalItem g t start ∷ before) h = none_defined before (either_false (bytes_eq g x) _ h).1
-  none_defined (PrototypeItem m f r ps ∷ before) h = none_defined before (either_false (bytes_eq f x && clashes new m false) _ h).1
+  none_defined (GlobalItem g t start ∷ before) h = none_defined before (or_neither (bytes_eq g x) _ h).1
+  none_defined (PrototypeItem m f r ps ∷ before) h = none_defined before (or_neither (bytes_eq f x && clashes new m false) _ h).1
   none_defined (FunctionItem g ∷ before) h =
-      let k = either_false (bytes_eq g.called x && clashes new g.mode true) (is_clash x new before) h in
+      let k = or_neither (bytes_eq g.called x && clashes new g.mode true) (is_clash x new before) h in
       go (bytes_eq g.called x) k.0 (none_defined before k.1)
     where
       go : (b : Bool) → (b && clashes new g.mode true) ≡ false → function_named before x ≡ None → cond b (Some g) (function_named before x) ≡ None
@@ -190,7 +189,7 @@ other : (x : Text) → is_kept x ≡ true → (g : Text) (a m : Meant) → is_ke
 other x k g a m h e = go (bytes_eq g x) refl
   where
     go : (b : Bool) → bytes_eq g x ≡ b → cond b a m ≡ NotMeant
-    go true i = not_true (sym (sym (ap is_kept (same_text g x i) ∙ k) ∙ h))
+    go true i = by_false_true (sym (sym (ap is_kept (same_text g x i) ∙ k) ∙ h))
     go false i = e
 
 -- no item is called as what the language keeps

@@ -4,6 +4,7 @@ use Rattle.std.specs.Prelude.{is_some}
 use Rattle.std.proofs.lemmas.Bool.Decides.{nat_tests}
 use Rattle.cpc_base.specs.Bytes.{Text}
 use Rattle.cpc_base.specs.declared.stop.Dialect.TheVariants as D
+use Rattle.cpc_base.proofs.Truth.{bytes_eq_fails_back}
 use Rattle.cpc_num.specs.declared.kinds.Kind.TheVariants.{Int}
 use Rattle.cpc_tree.specs.declared.program.Mode.TheVariants.{Native}
 use Rattle.cpc_tree.specs.Located.{bare}
@@ -61,16 +62,13 @@ struct_there p items k tag fs scalars s =
 
 -- ---- parameters
 
-turned : (x y : Text) → bytes_eq x y ≡ false → bytes_eq y x ≡ false
-turned x y h = texts_differ y x (λ (k : y ≡ x). absurd (let i : true ≡ false = sym (text_same x) ∙ (sym (ap (bytes_eq x) k) ∙ h) in cc))
-
 abbrev pub block_of : S.Block → List Variable → S.Block
 block_of b xs = parameter_block b (map parameter_here (map parameter_of xs))
 
 -- a name that no parameter has
 pub past : (x : Text) (b : S.Block) (xs : List Variable) → NotCalled x xs → in_block (block_of b xs) x ≡ in_block b x
 past x b _ NoneSo = refl
-past x b _ (NotSo y ys e h) = past x (y ∷ b) ys h ∙ ap (λ c. cond c (Some y.type) (in_block b x)) (turned x y.called e)
+past x b _ (NotSo y ys e h) = past x (y ∷ b) ys h ∙ ap (λ c. cond c (Some y.type) (in_block b x)) (bytes_eq_fails_back x y.called e)
 
 -- a parameter
 pub at_name : (b : S.Block) (xs : List Variable) → ScalarFields xs → (i : ℕ) (x : Variable) → slice_get xs i ≡ Some x → in_block (block_of b xs) x.called ≡ Some x.type

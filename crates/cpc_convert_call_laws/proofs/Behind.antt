@@ -1,6 +1,8 @@
 -- A call that is left over a frame: its line in the piece, and how control goes on behind it from where its value arrives.
 use Rattle.std.proofs.Common.{◌≡◌, ℕ, suc, ◌+◌, ◌<◌, ◌≤◌, Bool, true, false, ◌||◌, cond, List, [], ◌∷◌, ◌++◌, map, length, Option, Some, None, refl, sym, ◌∙◌, ap, subst, arith}
 use Rattle.cpc_base.specs.Bytes.{Text}
+use Rattle.cpc_base.proofs.Truth.{eq_reflexive, or_by_second}
+use Rattle.cpc_base.proofs.Lists.{length_of_map, append_empty}
 use Rattle.cpc_store.specs.declared.values.Class.TheVariants.{Frame}
 use Rattle.cpc_store.specs.Store.{Value, Unset, At as Pointer, Blocks, Store}
 use Rattle.cpc_tree.specs.Lists.{holds_number}
@@ -17,7 +19,7 @@ use Rattle.cpc_forms.specs.Flow.{Place, At, is_leader, owner_by, as_list}
 use Rattle.cpc_forms.specs.Graph.{graph_of, at_node}
 use Rattle.cpc_forms.specs.Split.{Position, InGraph, split_form}
 use Rattle.cpc_graph_laws.specs.Laws.{flow_in}
-use Rattle.cpc_graph_laws.proofs.Formed.{mapped, equal_self, in_right, that_is}
+use Rattle.cpc_graph_laws.proofs.Formed.{mapped, in_right, that_is}
 use Rattle.cpc_graph_laws.proofs.Splits.{owner_there}
 use Rattle.cpc_convert_image_laws.specs.Held.{beside}
 use Rattle.cpc_convert_chain_laws.specs.Chains.{frame_cells}
@@ -33,7 +35,6 @@ use Rattle.cpc_convert_event.specs.NameLaws.{IsOwner}
 use Rattle.cpc_convert_event.specs.Names.{piece_name}
 use Rattle.cpc_convert_event.specs.Routines.{Routine, routine_of, closure_of, local_of}
 use Rattle.cpc_convert_event.specs.Rows.{is_own, has_row, behind_call, onwards, Plain, Jump, is_next, put_line, put_lines, put_statement, leads, any_leads, is_wanted, row_statements}
-use Rattle.cpc_convert_event.proofs.Numbers.{later}
 use Rattle.cpc_convert_laws.specs.Bounds.{Bounds}
 use Rattle.cpc_convert_laws.specs.Items.{copied}
 use Rattle.cpc_convert_laws.proofs.Inside.{Onward, Stays, Jumps}
@@ -42,16 +43,12 @@ use Rattle.cpc_convert_piece_laws.specs.Known.{CpsKnown}
 use Rattle.cpc_convert_piece_laws.specs.Rows.{next_number, put_row, RowAt, row_index, row_point}
 use Rattle.cpc_convert_piece_laws.specs.Stood.{NodeAt, LocalsStand, NoneArrives, AtRow}
 use Rattle.cpc_convert_piece_laws.proofs.Filled.{row_filled}
-use Rattle.cpc_convert_piece_laws.proofs.Frames.{Target, code, body, scope, is_code, saves_of, with_frame, kept_number, map_length}
+use Rattle.cpc_convert_piece_laws.proofs.Frames.{Target, code, body, scope, is_code, saves_of, with_frame, kept_number}
 use Rattle.cpc_convert_piece_laws.proofs.Onwards.{z}
 use Rattle.cpc_convert_piece_laws.proofs.Places.{Before, FirstLine, ToRow, wanted_in, goes_row}
 use Rattle.cpc_convert_piece_laws.proofs.Rowed.{tail, row_puts, others, rest, first}
 use Rattle.cpc_convert_piece_laws.proofs.Stubs.{stub_walk}
 use Rattle.cpc_convert_piece_laws.proofs.Ways.{Next, way_next, own_stays, other_leads, stub_there, row_for, keeps_along, goes_is}
-
-append_nil : {X : Type 0} (xs : List X) → xs ++ [] ≡ xs
-append_nil [] = refl
-append_nil (x ∷ xs) = ap (λ us. x ∷ us) (append_nil xs)
 
 -- the call stands at n, and its value arrives at m
 module _ (p : Program) (fine : CallFrame Position → Option Value → Type 0) (given : Text → List Value → Type 0) (bounds : Bounds) (f : Function) (known : CpsKnown p f) (enough : 5 + length (variables f) ≤ bounds.onward) (begins : 0 < bounds.leads) (l : Place) (owner : IsOwner (routine_of p f) l)
@@ -97,7 +94,7 @@ module _ (p : Program) (fine : CallFrame Position → Option Value → Type 0) (
       jumps other =
           let led = other_leads p f l i next other in
           let few = kept_number p f known l owner (At i) in
-          let counted = map_length (λ j. save_of (local_of r j)) (closure_of r (At i)) in
+          let counted = length_of_map (λ j. save_of (local_of r j)) (closure_of r (At i)) in
           let within = to.within in
           Jumps i (to.steps + (suc (suc (suc (length (saves_of p f known l owner i)))) + 1)) (omega (arith, within, few, counted, enough))
           (λ w. walk_append to.steps (suc (suc (suc (length (saves_of p f known l owner i)))) + 1) _ _ _ (to.walk w (driving pointer result frame ∷ []) slots' (beside bs t))
@@ -143,7 +140,7 @@ module _ (p : Program) (fine : CallFrame Position → Option Value → Type 0) (
             let goes_next = next i there_is in
             let b' = its_row i there_is in
             let ps = put_line following (Goes i) in
-            let same_puts : put_lines following (goes there.node.yes) ≡ ps = ap (λ o. put_lines following (goes o)) there_is ∙ append_nil ps in
+            let same_puts : put_lines following (goes there.node.yes) ≡ ps = ap (λ o. put_lines following (goes o)) there_is ∙ append_empty ps in
             let left = before (map put_statement ps) after in
             let same_left : left_over ≡ left = ap (λ xs. before (map put_statement xs) after) same_puts in
             let line = call_line in
@@ -153,7 +150,7 @@ module _ (p : Program) (fine : CallFrame Position → Option Value → Type 0) (
             ap (is_wanted i) row.is_split
             ∙ wanted_in i row.front row.back (put_row p r l n row.back)
             (ap (any_leads i) puts
-            ∙ later (leads i (Plain x)) (any_leads i (put_lines following (goes there.node.yes))) (ap (any_leads i) same_puts ∙ (ap (λ d. any_leads i (cond d [] (Jump i ∷ []))) other ∙ ap (λ d. d || false) (equal_self i)))) in
+            ∙ or_by_second (leads i (Plain x)) (any_leads i (put_lines following (goes there.node.yes))) (ap (any_leads i) same_puts ∙ (ap (λ d. any_leads i (cond d [] (Jump i ∷ []))) other ∙ ap (λ d. d || false) (eq_reflexive i)))) in
             let st = subst (Before p f l (suc k)) same_left (line_passed (code p f known l owner) (body p f known l owner) k (scope p f known l owner) (piece_count p r l) x left_over line.line) in
             let to_row = goes_row p f l (Target p f known l owner) (is_code p f known l owner) known.few_nodes n row i b' (row_filled p f l i goes_next.node goes_next.is_node b') wanted (suc k) st
             (let y : suc k + length (map put_statement ps) ≡ k + length (row_statements (put_in p r l) (put_row p r l n row.back)) = omega (arith, counted, same_length) in y) in

@@ -1,9 +1,10 @@
 -- A name that no local of a piece has means in the piece what it means among the items: so does that of a spawner.
-use Rattle.std.proofs.Common.{◌≡◌, ◌⊎◌, inl, inr, ℕ, suc, ◌<◌, ◌≤◌, ◌^◌, Bool, true, false, not, ◌&&◌, ◌||◌, ◌==◌, cond, List, [], ◌∷◌, ◌++◌, map, length, decimal, bytes_eq, refl, sym, ◌∙◌, ap, subst, codes, arith}
+use Rattle.std.proofs.Common.{◌≡◌, ◌⊎◌, inl, inr, ℕ, suc, ◌<◌, ◌^◌, Bool, true, false, not, ◌&&◌, ◌||◌, ◌==◌, cond, List, [], ◌∷◌, ◌++◌, map, length, decimal, bytes_eq, refl, sym, ◌∙◌, ap, subst, codes, arith}
 use Rattle.std.proofs.lemmas.Fmt.{decimal_is_IsNumeral}
 use Rattle.std.specs.Str.Parse.{AllDigits}
 use Rattle.std.specs.Char.{digit_value}
 use Rattle.cpc_base.specs.Bytes.{Text}
+use Rattle.cpc_base.proofs.Truth.{eq_reflexive, or_by_second, not_under_ten}
 use Rattle.cpc_tree.specs.declared.program.Mode.TheVariants.{Native}
 use Rattle.cpc_tree.specs.Lists.{holds_number}
 use Rattle.cpc_tree.specs.Registers.{variables, outer_scope}
@@ -14,7 +15,7 @@ use Rattle.cpc_convert.specs.Marks.{has_marks}
 use Rattle.cpc_convert.specs.Converted.{marked, spawner_name}
 use Rattle.cpc_convert.proofs.Marks.{marked_is, no_bar_decimal}
 use Rattle.cpc_forms.specs.Flow.{Place, Start, At}
-use Rattle.cpc_graph_laws.proofs.Formed.{equal_self, in_either}
+use Rattle.cpc_graph_laws.proofs.Formed.{in_either}
 use Rattle.cpc_lift_laws.proofs.Boxes.{boxes_are_below}
 use Rattle.cpc_lift_laws.proofs.Lift.{boxes_exact}
 use Rattle.cpc_convert_chain_laws.specs.Driver.{any_pointer}
@@ -30,7 +31,7 @@ use Rattle.cpc_convert_event.specs.Routines.{Routine, routine_of, closure_of, is
 use Rattle.cpc_convert_event.proofs.Apart.{spawner_is, no_bar_spawn, no_bar_nothing, spawn_nothing}
 use Rattle.cpc_convert_event.proofs.Locals.{NoneCalled}
 use Rattle.cpc_convert_event.proofs.Meanings.{items_meant}
-use Rattle.cpc_convert_event.proofs.Numbers.{later, chosen_is}
+use Rattle.cpc_convert_event.proofs.Numbers.{chosen_is}
 use Rattle.cpc_convert_piece_laws.specs.Known.{CpsKnown}
 use Rattle.cpc_convert_piece_laws.proofs.Frames.{kept_small}
 use Rattle.cpc_convert_piece_laws.proofs.Scopes.{unmarked_name}
@@ -80,8 +81,8 @@ module _ (p : Program) (f : Function) (known : CpsKnown p f) (l : Place) (owner 
     locals_none [] h = tt
     locals_none (k ∷ ks) h =
         let few = known.few_variables in
-        let this = h k (ap (λ b. b || holds_number ks k) (equal_self k)) in
-        (variable k (variable_of r k).called (omega (arith, this, few)) (unmarked_name p f known k), locals_none ks (λ j i. h j (later (k == j) (holds_number ks j) i)))
+        let this = h k (ap (λ b. b || holds_number ks k) (eq_reflexive k)) in
+        (variable k (variable_of r k).called (omega (arith, this, few)) (unmarked_name p f known k), locals_none ks (λ j i. h j (or_by_second (k == j) (holds_number ks j) i)))
 
     words_none : (a b c : Bool) (t : Ty) → NoneCalled y (words_if a b c t)
     words_none true true true t = (word (codes "to") refl, (word (codes "under") refl, (word (codes "result") refl, tt)))
@@ -122,12 +123,9 @@ variable_is k x = refl
 not_digits : (c : ℕ) (d e : Text) → (digit_value c < 10 → ⊥) → AllDigits 10 d → d ≡ c ∷ e → ⊥
 not_digits c d e h a k = h (subst (AllDigits 10) k a).0
 
-too_large : (n : ℕ) → 10 ≤ n → n < 10 → ⊥
-too_large n h g = absurd (omega arith)
-
 -- no number is spelled so
 no_spawn : (k : ℕ) → k < 2 ^ 63 → decimal k ≡ codes "spawn" → ⊥
-no_spawn k h e = not_digits 115 (decimal k) _ (too_large 28 (omega arith)) (decimal_is_IsNumeral k (omega arith)).0.1 e
+no_spawn k h e = not_digits 115 (decimal k) _ (not_under_ten 28 (omega arith)) (decimal_is_IsNumeral k (omega arith)).0.1 e
 
 module _ (p : Program) (f : Function) (known : CpsKnown p f) (l : Place) (owner : IsOwner (routine_of p f) l) (g : Function) (cps : IsCps p g) where
   unmarked : has_marks g.called ≡ false

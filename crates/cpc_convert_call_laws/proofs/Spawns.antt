@@ -3,6 +3,7 @@ use Rattle.std.proofs.Common.{◌≡◌, ℕ, suc, ◌+◌, ◌*◌, ◌<◌, �
 use Rattle.std.specs.List.{All}
 use Rattle.cpc_base.specs.Bytes.{Text}
 use Rattle.cpc_base.specs.declared.stop.Dialect.TheVariants as D
+use Rattle.cpc_base.proofs.Lists.{length_of_map}
 use Rattle.cpc_check_rules.specs.Operators as O
 use Rattle.cpc_check_sound_laws.specs.Typed.{AllGet, IsTyped}
 use Rattle.cpc_store.specs.declared.values.Class.TheVariants.{Frame}
@@ -68,7 +69,7 @@ use Rattle.cpc_convert_piece_laws.specs.Rows.{RowAt, row_index}
 use Rattle.cpc_convert_piece_laws.specs.Stood.{NodeAt, LocalsStand, Stood}
 use Rattle.cpc_convert_piece_laws.proofs.Acting.{found_known, kept_here, source_act, lines_are}
 use Rattle.cpc_convert_piece_laws.proofs.Environment.{InLocal, Used, names_mean, scope_is}
-use Rattle.cpc_convert_piece_laws.proofs.Frames.{Target, code, body, scope, is_code, map_length}
+use Rattle.cpc_convert_piece_laws.proofs.Frames.{Target, code, body, scope, is_code}
 use Rattle.cpc_convert_piece_laws.proofs.Onwards.{z}
 use Rattle.cpc_convert_piece_laws.proofs.Places.{FirstLine}
 use Rattle.cpc_convert_piece_laws.proofs.Rowed.{DoesHere, standing_piece, row_puts, others, rest, first, first_fault, behind}
@@ -246,7 +247,7 @@ module _ (p : Program) (facts : ProgramKnown p) (h : Convertible p) (fine : Call
       cells_few : cells ≤ bounds.leads
       cells_few =
           let few = passed_few g in
-          let counted = map_length save_of (passed g) in
+          let counted = length_of_map save_of (passed g) in
           let r = spawner_runs p h g cps vs fits w bs c back (driving pointer result frame ∷ []) (Stood p) fine given in
           let e = r.1 in
           let i = r.2 in
@@ -256,7 +257,7 @@ module _ (p : Program) (facts : ProgramKnown p) (h : Convertible p) (fine : Call
       within : runs.steps + 1 < bounds.leads
       within =
           let few = passed_few g in
-          let counted = map_length save_of (passed g) in
+          let counted = length_of_map save_of (passed g) in
           few_steps (length (map save_of (passed g))) (length (variables g)) runs.steps bounds.leads (omega (arith, few, counted)) (spawner_runs p h g cps vs fits w bs c back (driving pointer result frame ∷ []) (Stood p) fine given).1 (wide g cps)
 
       does_spawn : Doing (Gives (AsksFor (record { asked = ToSpawn g.called; arguments = vs })))

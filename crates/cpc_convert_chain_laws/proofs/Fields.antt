@@ -1,8 +1,8 @@
 -- The fields of a frame block through a pointer to it: where they are, what they give, and what is written to them.
-use Rattle.std.proofs.Common.{◌≡◌, ℕ, zero, suc, ◌+◌, ◌<◌, ◌≤◌, true, List, [], ◌∷◌, length, slice_get, slice_set, Some, is_some, pos, ◌+ℤ◌, nat_le, refl, ◌∙◌, ap, arith}
-use Rattle.std.proofs.lemmas.Bool.Decides.{nat_tests}
+use Rattle.std.proofs.Common.{◌≡◌, ℕ, zero, suc, ◌+◌, ◌<◌, true, List, [], ◌∷◌, length, slice_get, slice_set, Some, is_some, pos, ◌+ℤ◌, refl, ◌∙◌, ap, arith}
 use Rattle.std.proofs.lemmas.Option.{slice_get_within}
 use Rattle.cpc_base.specs.Bytes.{Text}
+use Rattle.cpc_base.proofs.Truth.{le_holds}
 use Rattle.cpc_tree.specs.Syntax.{Ty, TyPointer, TyStruct, Expr, ENamed, ECast, EArrow, Program}
 use Rattle.cpc_tree.specs.Typing.{Scope, typing, APlace, AValue, field, is_scalar}
 use Rattle.cpc_store.specs.declared.values.Class.{Class}
@@ -46,15 +46,12 @@ module _ (q : Program) (scope : Scope) (slots : List Slot) (s : Store) where
 
 -- ---- fields
 
-le_true : (a b : ℕ) → a ≤ b → nat_le a b ≡ true
-le_true a b h = grind (arith, nat_tests)
-
 -- a cell of a block by its offset
 pub within : (cells : List Value) (c : Class) (n k : ℕ) → k < length cells → moved_within (Some cells) c n (pos 0 +ℤ pos k) ≡ Gives (At c n k)
 within cells c n k h =
     let e : 0 + k ≡ k = omega arith in
     ap (λ j. moved_within (Some cells) c n (pos j)) e
-    ∙ simp (le_true 0 k (omega arith), le_true k (length cells) (omega arith)) refl
+    ∙ simp (le_holds 0 k (omega arith), le_holds k (length cells) (omega arith)) refl
 
 get_there : (cells : List Value) (k : ℕ) → k < length cells → is_some (slice_get cells k) ≡ true
 get_there [] k h = absurd (omega arith)

@@ -1,10 +1,10 @@
 -- Where a goto leads in a flat block: to the first statement with its label.
 use Rattle.std.proofs.Common.{◌≡◌, ℕ, zero, suc, ◌+◌, Bool, true, false, cond, List, [], ◌∷◌, length, Option, Some, None, option_map, refl, sym, ◌∙◌, ap, subst, arith}
 use Rattle.cpc_base.specs.Bytes.{Text}
+use Rattle.cpc_base.proofs.Truth.{and_both}
 use Rattle.cpc_tree.specs.Syntax.{Stmt, Stmts, NoStmt, AndStmt}
 use Rattle.cpc_tree.specs.Points.{Nth, enter, labelled_in, path_under, path_later, or_else}
 use Rattle.cpc_convert_chain_laws.specs.Flat.{before, dropped, is_flat, are_flat, has_label, label_in}
-use Rattle.cpc_convert_chain_laws.proofs.Lines.{both_true}
 use Rattle.cpc_convert_chain_laws.proofs.Rows.{label_here}
 
 -- the k-th statement is the first with the label, and a goto leads to it
@@ -21,10 +21,10 @@ some_suc (Some j) k e = (j, refl, cc)
 
 pub label_at : (l : Text) (ss : Stmts) (k : ℕ) → are_flat ss ≡ true → label_in l ss ≡ Some k → LabelAt l ss k
 label_at l NoStmt k f e = absurd (cc)
-label_at l (AndStmt t ss) k f e = go (has_label l t) refl e (λ j i. label_at l ss j (both_true (is_flat t) (are_flat ss) f).1 i)
+label_at l (AndStmt t ss) k f e = go (has_label l t) refl e (λ j i. label_at l ss j (and_both (is_flat t) (are_flat ss) f).1 i)
   where
     parts : (is_flat t ≡ true) × (are_flat ss ≡ true)
-    parts = both_true (is_flat t) (are_flat ss) f
+    parts = and_both (is_flat t) (are_flat ss) f
 
     go : (b : Bool) → has_label l t ≡ b → cond b (Some 0) (option_map suc (label_in l ss)) ≡ Some k → ((j : ℕ) → label_in l ss ≡ Some j → LabelAt l ss j) → LabelAt l (AndStmt t ss) k
     go true h g deeper =

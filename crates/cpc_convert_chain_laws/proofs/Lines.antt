@@ -1,14 +1,10 @@
 -- One statement of a flat block: where it is entered, what stands there, and where control goes from it.
-use Rattle.std.proofs.Common.{◌≡◌, ℕ, Bool, true, false, ◌&&◌, ◌||◌, cond, [], ◌∷◌, ◌++◌, Some, None, bytes_eq, refl, sym, ◌∙◌, ap}
+use Rattle.std.proofs.Common.{◌≡◌, ℕ, Bool, true, false, ◌||◌, cond, [], ◌∷◌, ◌++◌, Some, None, bytes_eq, refl, sym, ◌∙◌, ap}
 use Rattle.cpc_base.specs.Bytes.{Text}
 use Rattle.cpc_tree.specs.Syntax.{Expr, Stmt, Block, Empty, Declare, Assign, Call, Detach, Spawn, If, While, DoWhile, For, Goto, Label, Break, Continue, Return, Absent, Present}
 use Rattle.cpc_tree.specs.Typing.{Scope}
 use Rattle.cpc_tree.specs.Points.{TheYes, TheBody, Path, found, Simple, enter, Move, Into, Out, under, if_holds, after, labelled, path_under, locals, extended, scope_at}
 use Rattle.cpc_convert_chain_laws.specs.Flat.{is_plain, is_line, is_flat, bare, standing, onward, has_label}
-
-pub both_true : (a b : Bool) → (a && b) ≡ true → (a ≡ true) × (b ≡ true)
-both_true true b e = (refl, e)
-both_true false b e = absurd (cc)
 
 -- ---- plain statements
 

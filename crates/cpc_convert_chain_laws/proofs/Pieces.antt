@@ -1,6 +1,7 @@
 -- Pieces: they are called with registers alone, and they give a pointer to the driver, which goes on.
 use Rattle.std.proofs.Common.{◌≡◌, ◌+◌, ◌≤◌, ℕ, zero, suc, true, not, ◌&&◌, List, [], ◌∷◌, ◌++◌, length, map, Some, refl, ◌∙◌, ap, arith}
 use Rattle.cpc_base.specs.Bytes.{Text}
+use Rattle.cpc_base.proofs.Truth.{and_both}
 use Rattle.cpc_num.specs.declared.kinds.Kind.TheVariants.{Int}
 use Rattle.cpc_tree.specs.Syntax.{TyInt, Expr, Return, Stmts, AndStmt, Variable, Function, Program}
 use Rattle.cpc_tree.specs.Typing.{Scope, function_named, is_scalar}
@@ -24,7 +25,6 @@ use Rattle.cpc_meaning_cell_laws.specs.Cells.{call_cells}
 use Rattle.cpc_meaning_cell_laws.proofs.Calls.{call_takes, leaving_gives_back}
 use Rattle.cpc_convert_chain_laws.specs.Walks.{World, at_line, Rise, Walk, Finishes, running, idle}
 use Rattle.cpc_convert_chain_laws.specs.Driver.{drive_name, DriverFacts, with_round, driving, entered, patched, IsPiece}
-use Rattle.cpc_convert_chain_laws.proofs.Lines.{both_true}
 use Rattle.cpc_convert_chain_laws.proofs.AtLine.{line_path, line_found, line_scope}
 use Rattle.cpc_convert_chain_laws.proofs.Steps.{step_returns}
 use Rattle.cpc_convert_chain_laws.proofs.Walks.{rise_one, rise_cons, level_cons, walk_one, walk_cons}
@@ -36,7 +36,7 @@ use Rattle.cpc_convert_chain_laws.proofs.Driver.{drive_taken, drive_declares, dr
 -- ---- calls of functions whose variables are registers
 
 register_scalar : (f : Function) (n : ℕ) (x : Variable) → is_register f n x ≡ true → is_scalar x.type ≡ true
-register_scalar f n x e = (both_true (is_scalar x.type) (not (holds_number (addressed f) n)) e).0
+register_scalar f n x e = (and_both (is_scalar x.type) (not (holds_number (addressed f) n)) e).0
 
 make_registers : (q : Program) (f : Function) (n : ℕ) (xs : List Variable) (vs : List Value) (s : Store) → AreRegisters f n xs → make_slots q f n xs vs s ≡ Gives (register_slots (length xs) vs, s)
 make_registers q f _ _ vs s (NoneAre n) = refl

@@ -1,11 +1,12 @@
 -- The statements of a flat block by their numbers: what stands at the k-th one, which scope, and where control goes from it.
 use Rattle.std.proofs.Common.{◌≡◌, ℕ, zero, suc, ◌+◌, Bool, true, cond, List, [], ◌∷◌, ◌++◌, length, Some, None, refl, sym, ◌∙◌, ap, arith}
 use Rattle.cpc_base.specs.Bytes.{Text}
+use Rattle.cpc_base.proofs.Truth.{and_both}
 use Rattle.cpc_tree.specs.Syntax.{Stmt, Block, Declare, Stmts, NoStmt, AndStmt, MaybeStmt, Absent, Present}
 use Rattle.cpc_tree.specs.Syntax as S
 use Rattle.cpc_tree.specs.Points.{Nth, Path, found, found_in, enter, Move, Into, Out, ToLabel, Broken, Continued, NoMove, under, later, or_out, enter_rest, after, after_all, labelled, arrived}
 use Rattle.cpc_convert_chain_laws.specs.Flat.{point_at, before, dropped, is_flat, are_flat, has_label}
-use Rattle.cpc_convert_chain_laws.proofs.Lines.{both_true, line_one}
+use Rattle.cpc_convert_chain_laws.proofs.Lines.{line_one}
 
 -- ---- rows
 
@@ -32,9 +33,9 @@ dropped_twice (suc k) j (AndStmt s ss) = ap (λ n. dropped n (AndStmt s ss)) (le
 -- each statement of a flat row is flat
 pub flat_here : (k : ℕ) (ss : Stmts) (s : Stmt) (rest : Stmts) → are_flat ss ≡ true → dropped k ss ≡ AndStmt s rest → is_flat s ≡ true
 flat_here zero NoStmt s rest f e = absurd (cc)
-flat_here zero (AndStmt t ss) s rest f e = let g : t ≡ s = cc in ap is_flat (sym g) ∙ (both_true (is_flat t) (are_flat ss) f).0
+flat_here zero (AndStmt t ss) s rest f e = let g : t ≡ s = cc in ap is_flat (sym g) ∙ (and_both (is_flat t) (are_flat ss) f).0
 flat_here (suc k) NoStmt s rest f e = absurd (cc)
-flat_here (suc k) (AndStmt t ss) s rest f e = flat_here k ss s rest (both_true (is_flat t) (are_flat ss) f).1 e
+flat_here (suc k) (AndStmt t ss) s rest f e = flat_here k ss s rest (and_both (is_flat t) (are_flat ss) f).1 e
 
 -- ---- what stands at the k-th
 

@@ -1,6 +1,7 @@
 -- Behind the declarations of a flat body the scope stays: at any line, and where a goto leads; and what the loaded names stand for.
 use Rattle.std.proofs.Common.{◌≡◌, ℕ, zero, suc, ◌+◌, Bool, true, false, ◌&&◌, cond, List, [], ◌∷◌, ◌++◌, length, map, slice_get, bytes_eq, Some, refl, ◌∙◌, ap, subst, arith}
 use Rattle.cpc_base.specs.Bytes.{Text}
+use Rattle.cpc_base.proofs.Truth.{and_both}
 use Rattle.cpc_tree.specs.Syntax.{Stmt, Stmts, NoStmt, AndStmt, Function, Program}
 use Rattle.cpc_tree.specs.Typing.{Scope, ALocal, named}
 use Rattle.cpc_store.specs.Store.{Value}
@@ -8,7 +9,7 @@ use Rattle.cpc_meaning.specs.Eval.{Slot, Register}
 use Rattle.cpc_meaning.proofs.Functions.{text_same}
 use Rattle.cpc_convert_chain_laws.specs.Flat.{before, dropped, bare, is_flat, is_line, are_flat, are_lines, has_label, label_in, Stands, LineAt}
 use Rattle.cpc_convert_chain_laws.specs.Frames.{Load, Holds, loaded_scope}
-use Rattle.cpc_convert_chain_laws.proofs.Lines.{both_true, line_flat}
+use Rattle.cpc_convert_chain_laws.proofs.Lines.{line_flat}
 use Rattle.cpc_convert_chain_laws.proofs.Rows.{dropped_twice, dropped_before}
 use Rattle.cpc_convert_chain_laws.proofs.Labels.{label_at, NoLabel, label_behind}
 use Rattle.cpc_convert_chain_laws.proofs.AtLine.{line_passed}
@@ -22,7 +23,7 @@ stands_on g body k scope n left zero s rest lines st e =
     subst (λ ss. Stands g body (k + 0) scope n ss) e (subst (λ i. Stands g body i scope n left) (let z : k ≡ k + 0 = omega arith in z) st)
 stands_on g body k scope n NoStmt (suc j) s rest lines st e = absurd (cc)
 stands_on g body k scope n (AndStmt t left) (suc j) s rest lines st e =
-    let both = both_true (is_line t) (are_lines left) lines in
+    let both = and_both (is_line t) (are_lines left) lines in
     let l : LineAt g body k scope n (bare t) left = record { statement = t; stands = st; is_bare = refl; is_line = both.0 } in
     subst (λ i. Stands g body i scope n (AndStmt s rest)) (let z : suc k + j ≡ k + suc j = omega arith in z)
     (stands_on g body (suc k) scope n left j s rest both.1 (line_passed g body k scope n (bare t) left l) e)
@@ -36,7 +37,7 @@ all_lines (s ∷ ss) = is_line s && all_lines ss
 pub past_lines : (g : Function) (body : Stmts) (k : ℕ) (scope : Scope) (n : ℕ) (ss : List Stmt) (rest : Stmts) → all_lines ss ≡ true → Stands g body k scope n (before ss rest) → Stands g body (k + length ss) scope n rest
 past_lines g body k scope n [] rest lines st = subst (λ j. Stands g body j scope n rest) (let z : k ≡ k + 0 = omega arith in z) st
 past_lines g body k scope n (s ∷ ss) rest lines st =
-    let both = both_true (is_line s) (all_lines ss) lines in
+    let both = and_both (is_line s) (all_lines ss) lines in
     let l : LineAt g body k scope n (bare s) (before ss rest) = record { statement = s; stands = st; is_bare = refl; is_line = both.0 } in
     subst (λ j. Stands g body j scope n rest) (let z : suc k + length ss ≡ k + suc (length ss) = omega arith in z)
     (past_lines g body (suc k) scope n ss rest both.1 (line_passed g body k scope n (bare s) (before ss rest) l))
@@ -66,7 +67,7 @@ leads_on g front scope n left l j none flat lines e st =
 -- lines are flat
 pub lines_flat : (ss : Stmts) → are_lines ss ≡ true → are_flat ss ≡ true
 lines_flat NoStmt e = refl
-lines_flat (AndStmt s ss) e = let both = both_true (is_line s) (are_lines ss) e in and_true (is_flat s) (are_flat ss) (line_flat s both.0) (lines_flat ss both.1)
+lines_flat (AndStmt s ss) e = let both = and_both (is_line s) (are_lines ss) e in and_true (is_flat s) (are_flat ss) (line_flat s both.0) (lines_flat ss both.1)
   where
     and_true : (a b : Bool) → a ≡ true → b ≡ true → (a && b) ≡ true
     and_true a b e f = ap (λ x. x && b) e ∙ f

@@ -2,6 +2,8 @@
 use Rattle.std.proofs.Common.{◌≡◌, inl, ℕ, zero, suc, ◌+◌, ◌*◌, ◌≤◌, Bool, true, false, not, ◌&&◌, ◌||◌, ◌==◌, List, [], ◌∷◌, ◌++◌, length, slice_get, slice_set, Option, Some, None, refl, sym, ◌∙◌, ap, subst, arith}
 use Rattle.std.proofs.lemmas.List.Sums.{sum_by_push}
 use Rattle.cpc_base.specs.Bytes.{Text}
+use Rattle.cpc_base.proofs.Truth.{eq_reflexive, or_by_second}
+use Rattle.cpc_base.proofs.Lists.{length_of_map}
 use Rattle.cpc_tree.specs.Lists.{holds_number}
 use Rattle.cpc_tree.specs.Registers.{variables}
 use Rattle.cpc_tree.specs.Syntax.{Ty, Function, Program}
@@ -20,7 +22,6 @@ use Rattle.cpc_forms.specs.Graph.{graph_of}
 use Rattle.cpc_forms.specs.Pieces.{is_owned_by}
 use Rattle.cpc_forms.specs.Split.{Position, InGraph, first_position, owner_or, split_form}
 use Rattle.cpc_graph_laws.specs.Laws.{flow_in}
-use Rattle.cpc_graph_laws.proofs.Formed.{equal_self}
 use Rattle.cpc_graph_laws.proofs.Leaders.{inside}
 use Rattle.cpc_graph_laws.proofs.Marked.{leaders_are_listed}
 use Rattle.cpc_lift_laws.specs.Lifted.{tidy_slot, tidy_slots}
@@ -38,7 +39,7 @@ use Rattle.cpc_convert_event.specs.Names.{piece_name}
 use Rattle.cpc_convert_event.specs.Routines.{Routine, routine_of, closure_of, is_plain, variable_of, local_of, passed, owner_number}
 use Rattle.cpc_convert_event.specs.Rows.{owner_at, is_own, onwards_all, rows_nodes, reached, stubs_of}
 use Rattle.cpc_convert_event.proofs.Heads.{pieces_begin}
-use Rattle.cpc_convert_event.proofs.Numbers.{chosen_has, later}
+use Rattle.cpc_convert_event.proofs.Numbers.{chosen_has}
 use Rattle.cpc_convert_laws.specs.Items.{value_in, copied, first_saved, saved_at}
 use Rattle.cpc_convert_laws.proofs.Entry.{Opens}
 use Rattle.cpc_convert_laws.proofs.Setting.{Setting}
@@ -49,7 +50,7 @@ use Rattle.cpc_convert_native_laws.proofs.SpawnerCall.{passed_few}
 use Rattle.cpc_convert_piece_laws.specs.Known.{CpsKnown}
 use Rattle.cpc_convert_piece_laws.specs.Rows.{row_point}
 use Rattle.cpc_convert_piece_laws.specs.Stood.{NodeAt, NoneArrives, AtRow}
-use Rattle.cpc_convert_piece_laws.proofs.Frames.{registers_all, code, saves_of, kept_number, map_length, with_frame}
+use Rattle.cpc_convert_piece_laws.proofs.Frames.{registers_all, code, saves_of, kept_number, with_frame}
 use Rattle.cpc_convert_piece_laws.proofs.Scopes.{q}
 use Rattle.cpc_convert_piece_laws.proofs.Stubs.{stub_walk}
 use Rattle.cpc_convert_piece_laws.proofs.Tidied.{closure_kept, stood_tidied}
@@ -93,7 +94,7 @@ kept_same slots slots' t k _ e (IsBlock n g) = IsBlock n (e ∙ g)
 copied_same : (slots slots' : List Slot) (ks : List ℕ) → ((k : ℕ) → holds_number ks k ≡ true → slice_get slots' k ≡ slice_get slots k) → copied slots' ks ≡ copied slots ks
 copied_same slots slots' [] h = refl
 copied_same slots slots' (k ∷ ks) h =
-    ap (λ o. value_in o ∷ copied slots' ks) (h k (ap (λ b. b || holds_number ks k) (equal_self k))) ∙ ap (λ vs. value_in (slice_get slots k) ∷ vs) (copied_same slots slots' ks (λ j i. h j (later (k == j) (holds_number ks j) i)))
+    ap (λ o. value_in o ∷ copied slots' ks) (h k (ap (λ b. b || holds_number ks k) (eq_reflexive k))) ∙ ap (λ vs. value_in (slice_get slots k) ∷ vs) (copied_same slots slots' ks (λ j i. h j (or_by_second (k == j) (holds_number ks j) i)))
 
 module _ (p : Program) (fine : CallFrame Position → Option Value → Type 0) (given : Text → List Value → Type 0) (f : Function) (known : CpsKnown p f) (sizes : VariablesHaveSizes p f) (vs : List Value) (call : CallTaken p f vs) where
   abbrev r : Routine
@@ -206,7 +207,7 @@ module _ (p : Program) (fine : CallFrame Position → Option Value → Type 0) (
       stub_there : holds_number (stubs_of r Start) entry ≡ true
       stub_there =
           chosen_has (λ n. holds_number (reached r Start) n && not (is_own r.split Start n)) r.split.leaders entry (leaders_are_listed (flow_in p f) (inside p f) entry ∙ leads)
-          (ap (λ c. (c || holds_number (onwards_all r (rows_nodes r.split Start)) entry) && not (is_own r.split Start entry)) (equal_self entry) ∙ ap (λ o. not (is_owned_by Start (owner_at o))) at.owned)
+          (ap (λ c. (c || holds_number (onwards_all r (rows_nodes r.split Start)) entry) && not (is_own r.split Start entry)) (eq_reflexive entry) ∙ ap (λ o. not (is_owned_by Start (owner_at o))) at.owned)
 
       first : FirstRow p r Start entry
       first = first_row p r Start entry [] ((pieces_begin p f).way leads)
@@ -217,7 +218,7 @@ module _ (p : Program) (fine : CallFrame Position → Option Value → Type 0) (
       steps_number : steps ≤ 10 + 4 * length (variables f)
       steps_number =
           let a = start_number p known.names f known.found.cps in
-          let c = map_length (λ k. save_of (local_of r k)) (closure_of r l) in
+          let c = length_of_map (λ k. save_of (local_of r k)) (closure_of r l) in
           let d = kept_number p f known Start TheStart l in
           omega (arith, a, c, d)
 
@@ -242,7 +243,7 @@ module _ (p : Program) (fine : CallFrame Position → Option Value → Type 0) (
 
       saves_few : saves_number ≤ 4 + length (variables f)
       saves_few =
-          let c = map_length (λ k. save_of (local_of r k)) (closure_of r l) in
+          let c = length_of_map (λ k. save_of (local_of r k)) (closure_of r l) in
           let d = kept_number p f known Start TheStart l in
           omega (arith, c, d)
 
@@ -288,7 +289,7 @@ module _ (p : Program) (fine : CallFrame Position → Option Value → Type 0) (
       saved_number : 3 + length (saved_at (cut_of p) f.called tidied entry).values ≤ 3 + length (variables f)
       saved_number =
           let e = ap (λ (x : Saved). length x.values) (saved_is p fine given f known tidied entry) in
-          let c = map_length (λ (k : ℕ). value_in (slice_get tidied k)) (closure_of r l) in
+          let c = length_of_map (λ (k : ℕ). value_in (slice_get tidied k)) (closure_of r l) in
           let d = kept_number p f known Start TheStart l in
           omega (arith, e, c, d)
 

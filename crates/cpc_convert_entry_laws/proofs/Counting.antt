@@ -1,6 +1,7 @@
 -- How many statements the start of a function has before its rows, by the number of the function's variables.
 use Rattle.std.proofs.Common.{◌≡◌, ℕ, zero, suc, ◌+◌, ◌*◌, ◌≤◌, Bool, true, false, not, ◌&&◌, cond, List, [], ◌∷◌, length, refl, sym, ◌∙◌, ap, arith}
 use Rattle.cpc_base.specs.Bytes.{Text}
+use Rattle.cpc_base.proofs.Lists.{length_of_map, length_of_append}
 use Rattle.cpc_tree.specs.Lists.{holds_number}
 use Rattle.cpc_tree.specs.Registers.{variables}
 use Rattle.cpc_tree.specs.Syntax.{Function, Program}
@@ -14,8 +15,6 @@ use Rattle.cpc_convert_event.specs.NameLaws.{IsNamed, IsCps}
 use Rattle.cpc_convert_event.specs.Pieces.{load_of, loads_of, loaded, words_of, begun, declares_of, box_lines, fills_if, boxing_lines, boxing_of}
 use Rattle.cpc_convert_event.specs.Routines.{Routine, routine_of, is_plain, is_parameter, number_before, chosen, closure_of, owner_number, keeper, locals_of, local_of, variable_of}
 use Rattle.cpc_convert_event.proofs.Locals.{counted}
-use Rattle.cpc_convert_piece_laws.proofs.Frames.{map_length}
-use Rattle.cpc_convert_entry_laws.proofs.Opening.{append_length}
 use Rattle.cpc_convert_entry_laws.proofs.Resuming.{words_of_number}
 
 -- of some numbers in a row those of which one or the other of two tests holds, and those of which a third holds: no two at once
@@ -84,7 +83,7 @@ module _ (p : Program) (ok : IsNamed p) (f : Function) (cps : IsCps p f) where
   boxing_number : (ks : List ℕ) → length (boxing_lines r ks) ≤ 2 * length ks
   boxing_number [] = omega arith
   boxing_number (k ∷ ks) =
-      let e = append_length (box_lines r k (variable_of r k)) (boxing_lines r ks) in
+      let e = length_of_append (box_lines r k (variable_of r k)) (boxing_lines r ks) in
       let g = fills_number (is_parameter f k && is_scalar (variable_of r k).type) (local_of r k).called (variable_of r k).called in
       let h = boxing_number ks in
       omega (arith, e, g, h)
@@ -94,22 +93,22 @@ module _ (p : Program) (ok : IsNamed p) (f : Function) (cps : IsCps p f) where
   pub start_locals : suc (suc (length (loads_of p r Start) + length (declares_of p r Start))) ≤ 7 + length (variables f)
   start_locals =
       let a = variables_shared in
-      let b = map_length load_of (locals_of r (loaded r Start)) in
-      let c = map_length (local_of r) (loaded r Start) in
-      let d = append_length (words_of p r Start) (locals_of r (begun r Start)) in
-      let e = map_length (local_of r) (begun r Start) in
-      let g = append_length (chosen begins (closure_of r Start)) r.boxes in
+      let b = length_of_map load_of (locals_of r (loaded r Start)) in
+      let c = length_of_map (local_of r) (loaded r Start) in
+      let d = length_of_append (words_of p r Start) (locals_of r (begun r Start)) in
+      let e = length_of_map (local_of r) (begun r Start) in
+      let g = length_of_append (chosen begins (closure_of r Start)) r.boxes in
       let h = words_of_number p r Start in
       omega (arith, a, b, c, d, e, g, h)
 
   pub start_number : suc (length (loads_of p r Start) + length (declares_of p r Start)) + (length (boxing_of r Start) + 1) ≤ 6 + 3 * length (variables f)
   start_number =
       let a = variables_shared in
-      let b = map_length load_of (locals_of r (loaded r Start)) in
-      let c = map_length (local_of r) (loaded r Start) in
-      let d = append_length (words_of p r Start) (locals_of r (begun r Start)) in
-      let e = map_length (local_of r) (begun r Start) in
-      let g = append_length (chosen begins (closure_of r Start)) r.boxes in
+      let b = length_of_map load_of (locals_of r (loaded r Start)) in
+      let c = length_of_map (local_of r) (loaded r Start) in
+      let d = length_of_append (words_of p r Start) (locals_of r (begun r Start)) in
+      let e = length_of_map (local_of r) (begun r Start) in
+      let g = length_of_append (chosen begins (closure_of r Start)) r.boxes in
       let h = words_of_number p r Start in
       let i = boxing_number r.boxes in
       omega (arith, a, b, c, d, e, g, h, i)

@@ -2,6 +2,7 @@
 -- arrives, and of calls that are to begin.
 use Rattle.std.proofs.Common.{◌≡◌, ℕ, suc, Bool, true, false, List, [], ◌∷◌, ◌++◌, map, length, slice_get, Option, Some, option_map, sym, ◌∙◌, ap, subst, arith, refl}
 use Rattle.cpc_base.specs.Bytes.{Text}
+use Rattle.cpc_base.proofs.Lists.{found_within}
 use Rattle.cpc_tree.specs.Lists.{holds_number}
 use Rattle.cpc_tree.specs.Points.{locals}
 use Rattle.cpc_tree.specs.Registers.{variables, is_register, as_variable}
@@ -14,7 +15,6 @@ use Rattle.cpc_meaning_kept_laws.specs.Fits.{FitAll}
 use Rattle.cpc_forms.specs.Flow.{Start, At}
 use Rattle.cpc_forms.specs.Graph.{graph_if, graph_where}
 use Rattle.cpc_forms.specs.Split.{InGraph, split_of}
-use Rattle.cpc_graph_laws.proofs.Splits.{node_there}
 use Rattle.cpc_convert_image_laws.specs.Stacks.{frame_of}
 use Rattle.cpc_convert_chain_laws.specs.Fits.{Fits}
 use Rattle.cpc_convert_event.specs.BoxingLaws.{VariablesHaveSizes}
@@ -88,7 +88,7 @@ module _ (p : Program) (names : HasNames p) (known : (f : Function) → IsCps p 
     variables_kept : (cps : IsCps p f) → (k : ℕ) → holds_number (closure_of (routine_of p f) (At n)) k ≡ true → KeptIn slots (variable_of (routine_of p f) k).type k (is_plain (routine_of p f) k)
     variables_kept cps k h =
         let its = known f cps in
-        let y = node_there (variables f) k (kept_small p f its Start TheStart (At n) k h) in
+        let y = found_within (variables f) k (kept_small p f its Start TheStart (At n) k h) in
         let keeps = subst (λ z. kept_of p z (InGraph (At n) n) k ≡ true) called (closure_kept p its.names f cps (At n) refl n k h) in
         let slot = fine.kept k y.0 y.1 keeps in
         subst (λ (z : Variable). KeptIn slots z.type k (is_plain (routine_of p f) k)) (sym (ap variable_or y.1)) (subst (KeptIn slots y.0.type k) (sym (plain_is p f its k y.0 y.1)) (kept_in C f slots k y.0 slot.0 slot.1 slot.2))

@@ -1,6 +1,8 @@
 -- Where pieces begin: at a leader, or at a first node of the start's own; and that these have rows.
 use Rattle.std.proofs.Common.{◌≡◌, ℕ, zero, suc, ◌<◌, true, false, not, ◌||◌, length, slice_get, Option, Some, None, refl, sym, ◌∙◌, ap, subst, arith}
 use Rattle.std.proofs.lemmas.Option.{slice_get_within}
+use Rattle.cpc_base.proofs.Truth.{eq_means}
+use Rattle.cpc_base.proofs.Lists.{found_within}
 use Rattle.cpc_tree.specs.Points.{Path, Point, Here, Arrival, End, begin}
 use Rattle.cpc_tree.specs.Syntax.{Function, Program}
 use Rattle.cpc_meaning.specs.Ways.{Manner, InPlace, ByFrame, AsCps, is_cps_statement, manner_at}
@@ -19,12 +21,11 @@ use Rattle.cpc_graph_laws.proofs.Graphs.{node_found}
 use Rattle.cpc_graph_laws.proofs.Leaders.{inside, two_sources}
 use Rattle.cpc_graph_laws.proofs.Marked.{leaders_are_listed}
 use Rattle.cpc_graph_laws.proofs.MoreFacts.{entries_are_first, owners_lead}
-use Rattle.cpc_graph_laws.proofs.Splits.{node_there, owner_there}
+use Rattle.cpc_graph_laws.proofs.Splits.{owner_there}
 use Rattle.cpc_graph_laws.proofs.Standing.{begin_is_in}
 use Rattle.cpc_convert_event.specs.NameLaws.{ALeader}
 use Rattle.cpc_convert_event.specs.Routines.{Routine, routine_of}
 use Rattle.cpc_convert_event.specs.Rows.{owner_at, is_own, stands_with, has_row}
-use Rattle.cpc_convert_event.proofs.Numbers.{equal_is}
 use Rattle.cpc_convert_piece_laws.specs.Stood.{NodeAt}
 use Rattle.cpc_convert_piece_laws.proofs.Frames.{held_has}
 use Rattle.cpc_convert_entry_laws.specs.Laws.{LeadersHaveRows}
@@ -33,7 +34,7 @@ owned_is : (n : ℕ) (o : Option (Option Place)) → is_owned_by (At n) (owner_a
 owned_is n None h = absurd (cc)
 owned_is n (Some None) h = absurd (cc)
 owned_is n (Some (Some Start)) h = absurd (cc)
-owned_is n (Some (Some (At m))) h = ap (λ k. Some (Some (At k))) (equal_is m n h)
+owned_is n (Some (Some (At m))) h = ap (λ k. Some (Some (At k))) (eq_means m n h)
 
 owners_number : (flow : Flow) (n k : ℕ) → length (owners_from flow n k) ≡ k
 owners_number flow n zero = refl
@@ -88,7 +89,7 @@ module _ (p : Program) (f : Function) where
       let owned = owned_is n (slice_get r.split.owners n) h in
       let within = slice_get_within r.split.owners n (Some (At n)) owned in
       let number = owners_number flow 0 (length (graph_of p f).nodes) in
-      let node = node_there (graph_of p f).nodes n (let z : n < length (graph_of p f).nodes = omega (arith, within, number) in z) in
+      let node = found_within (graph_of p f).nodes n (let z : n < length (graph_of p f).nodes = omega (arith, within, number) in z) in
       let owns : Some (owner_of flow n) ≡ Some (Some (At n)) = sym (owner_there (graph_of p f) n node.0 node.1) ∙ owned in
       let is : owner_of flow n ≡ Some (At n) = cc in
       let led : is_leader flow n ≡ true = (owners_lead p f).0 n (At n) is in
@@ -109,7 +110,7 @@ module _ (p : Program) (f : Function) where
   pub entry_at : EntryAt (owner_by (is_leader flow entry) Start entry)
   entry_at =
       let first = entries_are_first p f in
-      let node = node_there (graph_of p f).nodes entry (let e = first.0 in let h = first.1 in let z : entry < length (graph_of p f).nodes = omega (arith, e, h) in z) in
+      let node = found_within (graph_of p f).nodes entry (let e = first.0 in let h = first.1 in let z : entry < length (graph_of p f).nodes = omega (arith, e, h) in z) in
       let own : owner_of flow entry ≡ Some (owner_by (is_leader flow entry) Start entry) = subst (λ n. owner_of flow n ≡ Some (owner_by (is_leader flow n) Start n)) (sym first.0) first.3 in
       record { node = node.0; is_node = node.1; owned = owner_there (graph_of p f) entry node.0 node.1 ∙ ap (λ o. Some o) own }
 

@@ -1,6 +1,7 @@
 -- The opening of a piece: it takes up its frame, loads its locals, makes its boxes, gives the frame back, and stands before its first row.
 use Rattle.std.proofs.Common.{◌≡◌, ℕ, zero, suc, ◌+◌, Bool, true, false, ◌&&◌, cond, List, [], ◌∷◌, ◌++◌, map, length, slice_get, slice_set, option_map, Some, None, refl, sym, ◌∙◌, ap, subst, codes, arith}
 use Rattle.cpc_base.specs.Bytes.{Text}
+use Rattle.cpc_base.proofs.Lists.{length_of_map, length_of_append}
 use Rattle.cpc_tree.specs.Lists.{rest_of}
 use Rattle.cpc_tree.specs.Points.{Point}
 use Rattle.cpc_tree.specs.Primitives.{RtFrameFree}
@@ -43,12 +44,8 @@ use Rattle.cpc_convert_event.proofs.Flat.{boxes_done, pieces_flat}
 use Rattle.cpc_convert_event.proofs.Lines.{AreLines, bare_lines}
 use Rattle.cpc_convert_piece_laws.specs.Known.{CpsKnown}
 use Rattle.cpc_convert_piece_laws.specs.Rows.{next_number, put_row, RowAt, row_index, row_rest, row_point}
-use Rattle.cpc_convert_piece_laws.proofs.Frames.{Target, code, body, is_code, map_length}
+use Rattle.cpc_convert_piece_laws.proofs.Frames.{Target, code, body, is_code}
 use Rattle.cpc_convert_piece_laws.proofs.Scopes.{meant, primitive_meant}
-
-pub append_length : {X : Type 0} (xs ys : List X) → length (xs ++ ys) ≡ length xs + length ys
-append_length [] ys = let z : length ys ≡ 0 + length ys = omega arith in z
-append_length (x ∷ xs) ys = let e = append_length xs ys in let z : suc (length (xs ++ ys)) ≡ suc (length xs) + length ys = omega (arith, e) in z
 
 blank_more : (a b : ℕ) → blank (a + b) [] ≡ blank a (blank b [])
 blank_more zero b = ap (λ n. blank n []) (let z : 0 + b ≡ b = omega arith in z)
@@ -141,7 +138,7 @@ module _ (p : Program) (f : Function) (known : CpsKnown p f) (l : Place) (owner 
       xs = locals_of r (loaded r l)
 
       joined : length (xs ++ ds) ≡ length (map load_of xs) + length ds
-      joined = append_length xs ds ∙ ap (λ n. n + length ds) (sym (map_length load_of xs))
+      joined = length_of_append xs ds ∙ ap (λ n. n + length ds) (sym (length_of_map load_of xs))
 
       go : (b : Bool) → length (variable_if b (called_so value_name (arriving_type p r l)) (xs ++ ds)) ≡ length (cond b (record { variable = value_name; type = arriving_type p r l; field = codes "value__" } ∷ []) [] ++ map load_of xs) + length ds
       go true = let e = joined in let z : suc (length (xs ++ ds)) ≡ suc (length (map load_of xs)) + length ds = omega (arith, e) in z

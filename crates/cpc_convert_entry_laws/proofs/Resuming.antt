@@ -1,6 +1,7 @@
 -- A leader takes up a frame: its locals stand for the frame that was saved, and its piece stands before its row.
 use Rattle.std.proofs.Common.{◌≡◌, ◌⊎◌, inl, inr, ℕ, suc, ◌+◌, ◌*◌, ◌≤◌, Bool, true, false, cond, List, [], ◌∷◌, ◌++◌, map, length, slice_get, Option, Some, None, refl, sym, ◌∙◌, ap, subst, codes, arith}
 use Rattle.cpc_base.specs.Bytes.{Text}
+use Rattle.cpc_base.proofs.Lists.{length_of_map, length_of_append, item_in_front}
 use Rattle.cpc_tree.specs.Lists.{holds_number}
 use Rattle.cpc_tree.specs.Registers.{variables}
 use Rattle.cpc_tree.specs.Syntax.{Ty, Stmts, NoStmt, AndStmt, Function, Program}
@@ -39,12 +40,12 @@ use Rattle.cpc_convert_piece_laws.specs.Known.{CpsKnown}
 use Rattle.cpc_convert_piece_laws.specs.Rows.{row_point}
 use Rattle.cpc_convert_piece_laws.specs.Stood.{LocalsStand, Arrives, NoneArrives, OneArrives, Stood, AtRow}
 use Rattle.cpc_convert_piece_laws.proofs.Arrivals.{value_index}
-use Rattle.cpc_convert_piece_laws.proofs.Frames.{code, kept_number, map_length}
+use Rattle.cpc_convert_piece_laws.proofs.Frames.{code, kept_number}
 use Rattle.cpc_convert_piece_laws.proofs.Scopes.{q}
 use Rattle.cpc_convert_entry_laws.specs.Taken.{FrameTaken}
 use Rattle.cpc_convert_entry_laws.proofs.Leaders.{LeaderAt, leader_at}
-use Rattle.cpc_convert_entry_laws.proofs.Opening.{append_length, call_number, FirstRow, first_row, is_piece, locals_number, called_locals, is_called, opened, before_boxes, opening_steps, under, opening_walk}
-use Rattle.cpc_convert_entry_laws.proofs.Standing.{got_front, got_register, got_behind, all_registers, registers_number, loading_number, KeptOf, copies_fit, value_at, same_index, HasValue, locals_stand}
+use Rattle.cpc_convert_entry_laws.proofs.Opening.{call_number, FirstRow, first_row, is_piece, locals_number, called_locals, is_called, opened, before_boxes, opening_steps, under, opening_walk}
+use Rattle.cpc_convert_entry_laws.proofs.Standing.{got_register, got_behind, all_registers, registers_number, loading_number, KeptOf, copies_fit, value_at, same_index, HasValue, locals_stand}
 
 -- the pointer of a chain is one of any type
 pub chain_fits : (bs : Blocks) (fs : List Saved) (next : Value) (owned : List ℕ) → Chain bs fs next owned → Fits any_pointer next
@@ -82,14 +83,14 @@ module _ (p : Program) (f : Function) (known : CpsKnown p f) (n : ℕ) (leads : 
   loads_number = go (takes_value r l)
     where
       few : length (map load_of (locals_of r kept)) ≤ length (variables f)
-      few = let e = map_length load_of (locals_of r kept) in let g = map_length (local_of r) kept in let h = kept_number p f known l owner l in omega (arith, e, g, h)
+      few = let e = length_of_map load_of (locals_of r kept) in let g = length_of_map (local_of r) kept in let h = kept_number p f known l owner l in omega (arith, e, g, h)
 
       go : (b : Bool) → suc (length (cond b (record { variable = value_name; type = arriving_type p r l; field = codes "value__" } ∷ []) [] ++ map load_of (locals_of r kept))) ≤ 2 + length (variables f)
       go true = let h = few in omega (arith, h)
       go false = let h = few in omega (arith, h)
 
   declares_number : length (declares_of p r l) ≤ 3
-  declares_number = let e = append_length (words_of p r l) [] in let h = words_of_number p r l in omega (arith, e, h)
+  declares_number = let e = length_of_append (words_of p r l) [] in let h = words_of_number p r l in omega (arith, e, h)
 
   module _ (slots : List Slot) (next v : Value) where
     -- the values of its frame
@@ -112,7 +113,7 @@ module _ (p : Program) (f : Function) (known : CpsKnown p f) (n : ℕ) (leads : 
     values_there : (b k : ℕ) → holds_number kept k ≡ true → HasValue p f known l owner slots (locals b) k
     values_there b k h =
         let at = value_at r (λ j. value_in (slice_get slots j)) kept k h in
-        let there = got_behind (takes_value r l) (called_so value_name (arriving_type p r l)) (locals_of r kept ++ declares_of p r l) v values _ at.0 (local_of r k) _ (got_front (locals_of r kept) (declares_of p r l) at.0 (local_of r k) at.1) (got_register values _ at.0 _ at.2) in
+        let there = got_behind (takes_value r l) (called_so value_name (arriving_type p r l)) (locals_of r kept ++ declares_of p r l) v values _ at.0 (local_of r k) _ (item_in_front (locals_of r kept) (declares_of p r l) at.0 (local_of r k) at.1) (got_register values _ at.0 _ at.2) in
         (suc (suc (suc there.0)), there.1, there.2)
 
     stands : (b : ℕ) → length loaded_values ≡ length (loads_of p r l) → Fits any_pointer next → ((k : ℕ) → holds_number kept k ≡ true → KeptOf r slots k) → LocalsStand p r l slots (locals b) next
@@ -166,7 +167,7 @@ module _ (p : Program) (fine : CallFrame Position → Option Value → Type 0) (
         let c = declares_number p f known n at.leads in
         let d = call_number p f known (At n) owner in
         let e = kept_number p f known (At n) owner (At n) in
-        let g = map_length (λ (k : ℕ). value_in (slice_get slots k)) (closure_of rout (At n)) in
+        let g = length_of_map (λ (k : ℕ). value_in (slice_get slots k)) (closure_of rout (At n)) in
         omega (arith, a, c, d, e, g, high);
     leads = λ pointer result frame.
         opening_walk p f known (At n) owner w pointer result frame (beside bs s) b (cells p f known n at.leads slots next v) live (loaded_values p f known n at.leads slots next v) load there (beside bs s)

@@ -1,13 +1,13 @@
 -- The locals of a piece stand for the slots of the source where each variable that is kept is in its slot, and its local has its value.
 use Rattle.std.proofs.Common.{◌≡◌, ℕ, zero, suc, ◌+◌, Bool, true, false, ◌||◌, ◌==◌, List, [], ◌∷◌, ◌++◌, map, length, slice_get, Some, refl, sym, ◌∙◌, ap, subst, arith}
 use Rattle.cpc_base.specs.Bytes.{Text}
+use Rattle.cpc_base.proofs.Truth.{eq_reflexive, eq_means, or_by_second}
 use Rattle.cpc_tree.specs.Lists.{holds_number}
 use Rattle.cpc_tree.specs.Syntax.{Ty, TyPointer, TyStruct, Variable, Function, Program}
 use Rattle.cpc_tree.specs.Typing.{ALocal}
 use Rattle.cpc_store.specs.Store.{Value, Unset}
 use Rattle.cpc_meaning.specs.Eval.{Slot, Register}
 use Rattle.cpc_forms.specs.Flow.{Place}
-use Rattle.cpc_graph_laws.proofs.Formed.{equal_self}
 use Rattle.cpc_convert_image_laws.specs.Locals.{Stands, AsValue, AsBlock, FitsAt, local_type}
 use Rattle.cpc_convert_chain_laws.specs.Boxes.{AllRegisters, NoSlot, AndSlot}
 use Rattle.cpc_convert_chain_laws.specs.Driver.{any_pointer}
@@ -17,7 +17,6 @@ use Rattle.cpc_convert_event.specs.FillLaws.{AllFit, NoneFit, OneFits, value_bef
 use Rattle.cpc_convert_event.specs.LocalLaws.{piece_locals}
 use Rattle.cpc_convert_event.specs.NameLaws.{IsOwner}
 use Rattle.cpc_convert_event.specs.Routines.{Routine, routine_of, closure_of, is_plain, variable_of, local_of, locals_of, variable_if}
-use Rattle.cpc_convert_event.proofs.Numbers.{equal_is, later}
 use Rattle.cpc_convert_laws.specs.Items.{value_in, copied}
 use Rattle.cpc_convert_piece_laws.specs.Known.{CpsKnown}
 use Rattle.cpc_convert_piece_laws.specs.Stood.{LocalsStand}
@@ -25,11 +24,6 @@ use Rattle.cpc_convert_piece_laws.proofs.Scopes.{q, meant}
 use Rattle.cpc_convert_entry_laws.specs.Taken.{KeptIn, IsValue, IsBlock}
 
 -- ---- lists
-
-pub got_front : {X : Type 0} (xs ys : List X) (i : ℕ) (x : X) → slice_get xs i ≡ Some x → slice_get (xs ++ ys) i ≡ Some x
-got_front [] ys i x e = absurd (cc)
-got_front (y ∷ xs) ys zero x e = e
-got_front (y ∷ xs) ys (suc i) x e = got_front xs ys i x e
 
 pub got_register : (vs : List Value) (more : List Slot) (i : ℕ) (v : Value) → slice_get vs i ≡ Some v → slice_get (map Register vs ++ more) i ≡ Some (Register v)
 got_register [] more i v e = absurd (cc)
@@ -88,8 +82,8 @@ module _ (r : Routine) (slots : List Slot) where
   pub copies_fit : (ks : List ℕ) → ((k : ℕ) → holds_number ks k ≡ true → KeptOf k) → AllFit (locals_of r ks) (copied slots ks)
   copies_fit [] h = NoneFit
   copies_fit (k ∷ ks) h =
-      OneFits (local_of r k) (value_in (slice_get slots k)) (locals_of r ks) (copied slots ks) (kept_fits slots (variable_of r k).type k _ (is_plain r k) (h k (ap (λ b. b || holds_number ks k) (equal_self k))))
-      (copies_fit ks (λ j i. h j (later (k == j) (holds_number ks j) i)))
+      OneFits (local_of r k) (value_in (slice_get slots k)) (locals_of r ks) (copied slots ks) (kept_fits slots (variable_of r k).type k _ (is_plain r k) (h k (ap (λ b. b || holds_number ks k) (eq_reflexive k))))
+      (copies_fit ks (λ j i. h j (or_by_second (k == j) (holds_number ks j) i)))
 
 -- ---- where variables stand among others
 
@@ -103,7 +97,7 @@ module _ (r : Routine) (F : ℕ → Value) where
   value_at (j ∷ ks) k h = go (j == k) refl h (λ i. value_at ks k i)
     where
       go : (b : Bool) → (j == k) ≡ b → (b || holds_number ks k) ≡ true → (holds_number ks k ≡ true → ValueAt ks k) → ValueAt (j ∷ ks) k
-      go true e i deeper = let same = equal_is j k e in (0, ap (λ m. Some (local_of r m)) same, ap (λ m. Some (F m)) same)
+      go true e i deeper = let same = eq_means j k e in (0, ap (λ m. Some (local_of r m)) same, ap (λ m. Some (F m)) same)
       go false e i deeper = let d = deeper i in (suc d.0, d.1, d.2)
 
 -- ---- locals

@@ -1,8 +1,9 @@
 -- The start takes up the first frame of a call: its locals stand for the slots of the call when its boxes are made.
 use Rattle.std.proofs.Common.{◌≡◌, ℕ, zero, suc, ◌+◌, ◌<◌, ◌≤◌, ◌^◌, Bool, true, false, not, ◌&&◌, ◌==◌, List, [], ◌∷◌, ◌++◌, map, length, slice_get, get_or, is_some, nat_lt, bytes_eq, Option, Some, None, refl, sym, ◌∙◌, ap, subst, codes, arith}
-use Rattle.std.proofs.lemmas.Bool.Decides.{nat_tests}
 use Rattle.std.proofs.lemmas.Option.{slice_get_within}
 use Rattle.cpc_base.specs.Bytes.{Text}
+use Rattle.cpc_base.proofs.Truth.{eq_reflexive, eq_means, lt_means, lt_not_means}
+use Rattle.cpc_base.proofs.Lists.{found_within, length_of_map, item_in_front}
 use Rattle.cpc_tree.specs.Lists.{holds_number}
 use Rattle.cpc_tree.specs.Primitives.{RtBox}
 use Rattle.cpc_tree.specs.Registers.{variables, is_register}
@@ -16,8 +17,7 @@ use Rattle.cpc_meaning.proofs.Functions.{text_same}
 use Rattle.cpc_convert.specs.Marks.{has_marks}
 use Rattle.cpc_convert.specs.Converted.{marked}
 use Rattle.cpc_forms.specs.Flow.{Start}
-use Rattle.cpc_graph_laws.proofs.Formed.{equal_self, in_left}
-use Rattle.cpc_graph_laws.proofs.Splits.{node_there}
+use Rattle.cpc_graph_laws.proofs.Formed.{in_left}
 use Rattle.cpc_convert_image_laws.specs.Held.{beside}
 use Rattle.cpc_convert_chain_laws.specs.Boxes.{AllRegisters, AndSlot, with_boxes}
 use Rattle.cpc_convert_chain_laws.specs.Chains.{frame_cells, moved}
@@ -40,17 +40,17 @@ use Rattle.cpc_convert_event.specs.Rows.{piece_statements}
 use Rattle.cpc_convert_event.proofs.Boxing.{starts_box}
 use Rattle.cpc_convert_event.proofs.Fields.{variables_apart, word_apart}
 use Rattle.cpc_convert_event.proofs.Filling.{frames_filled, passed_at, fit_at}
-use Rattle.cpc_convert_event.proofs.Numbers.{equal_is, chosen_has}
+use Rattle.cpc_convert_event.proofs.Numbers.{chosen_has}
 use Rattle.cpc_convert_laws.specs.Items.{value_in}
 use Rattle.cpc_convert_piece_laws.specs.Known.{CpsKnown}
 use Rattle.cpc_convert_piece_laws.specs.Stood.{LocalsStand}
-use Rattle.cpc_convert_piece_laws.proofs.Frames.{code, body, is_code, kept_small, map_length}
+use Rattle.cpc_convert_piece_laws.proofs.Frames.{code, body, is_code, kept_small}
 use Rattle.cpc_convert_piece_laws.proofs.Scopes.{q, unmarked_name, primitive_meant, meant}
 use Rattle.cpc_convert_entry_laws.specs.Taken.{KeptIn, IsValue, IsBlock, CallTaken}
 use Rattle.cpc_convert_entry_laws.proofs.Boxes.{none_beyond, AtPlace, PassedAt, BoxedAt, places_number, places_at, boxes_other, boxes_at, boxes_registers, boxes_number}
 use Rattle.cpc_convert_entry_laws.proofs.Marks.{plain_is}
 use Rattle.cpc_convert_entry_laws.proofs.Opening.{locals_number, opened, before_boxes, Boxed as BoxesLead, under, boxes_stand}
-use Rattle.cpc_convert_entry_laws.proofs.Standing.{got_front, got_register, all_registers, registers_number, loading_number, KeptOf, value_at, HasValue, locals_stand}
+use Rattle.cpc_convert_entry_laws.proofs.Standing.{got_register, all_registers, registers_number, loading_number, KeptOf, value_at, HasValue, locals_stand}
 
 -- ---- lists
 
@@ -89,12 +89,6 @@ place_at p r k [] stand j i e = absurd (cc)
 place_at p r k (o ∷ places) stand zero i e = stand.0 i (cc) ∙ ap (λ m. Some (local_of r m)) (let z : k ≡ k + 0 = omega arith in z)
 place_at p r k (o ∷ places) stand (suc j) i e = place_at p r (suc k) places stand.1 j i e ∙ ap (λ m. Some (local_of r m)) (let z : suc k + j ≡ k + suc j = omega arith in z)
 
-less_true : (m n : ℕ) → nat_lt m n ≡ true → m < n
-less_true m n h = grind (arith, nat_tests)
-
-less_false : (m n : ℕ) → nat_lt m n ≡ false → n ≤ m
-less_false m n h = grind (arith, nat_tests)
-
 module _ (p : Program) (f : Function) (known : CpsKnown p f) (sizes : VariablesHaveSizes p f) (vs : List Value) (call : CallTaken p f vs) where
   abbrev r : Routine
   r = routine_of p f
@@ -121,10 +115,10 @@ module _ (p : Program) (f : Function) (known : CpsKnown p f) (sizes : VariablesH
   same_local j k h g e = go (j == k) refl
     where
       differ : (j == k) ≡ false → bytes_eq (local_of r j).called (local_of r k).called ≡ false
-      differ d = variables_apart j k (variable_of r j).called (variable_of r k).called (small j h) (small k g) (unmarked_name p f known j) (unmarked_name p f known k) (λ (i : j ≡ k). let z : true ≡ false = sym (equal_self k) ∙ (ap (λ m. m == k) (sym i) ∙ d) in absurd (cc))
+      differ d = variables_apart j k (variable_of r j).called (variable_of r k).called (small j h) (small k g) (unmarked_name p f known j) (unmarked_name p f known k) (λ (i : j ≡ k). let z : true ≡ false = sym (eq_reflexive k) ∙ (ap (λ m. m == k) (sym i) ∙ d) in absurd (cc))
 
       go : (b : Bool) → (j == k) ≡ b → j ≡ k
-      go true d = equal_is j k d
+      go true d = eq_means j k d
       go false d = absurd (let z : true ≡ false = sym (text_same (local_of r k).called) ∙ (ap (λ (x : Variable). bytes_eq x.called (local_of r k).called) (sym e) ∙ differ d) in cc)
 
   -- nor is it a word
@@ -135,12 +129,12 @@ module _ (p : Program) (f : Function) (known : CpsKnown p f) (sizes : VariablesH
   -- ---- variables
 
   there_is : (k : ℕ) → k < count → (x : Variable) × (slice_get (variables f) k ≡ Some x)
-  there_is k h = node_there (variables f) k h
+  there_is k h = found_within (variables f) k h
 
   -- a variable that is no parameter has no argument
   nothing_there : (k : ℕ) → nat_lt k (length f.parameters) ≡ false → get_or vs k Unset ≡ Unset
   nothing_there k h =
-      let a = less_false k (length f.parameters) h in
+      let a = lt_not_means k (length f.parameters) h in
       let b = all_number (passed f) vs call.fit in
       let c = passed_number 0 (length f.parameters) (variables f) in
       none_beyond vs k (omega (arith, a, b, c))
@@ -151,7 +145,7 @@ module _ (p : Program) (f : Function) (known : CpsKnown p f) (sizes : VariablesH
     where
       go : (b : Bool) → nat_lt k (length f.parameters) ≡ b → Fits x.type (get_or vs k Unset)
       go true h =
-          (fit_at p known.names f known.found.cps (passed f) vs k _ call.fit (passed_at p known.names f known.found.cps 0 (length f.parameters) (variables f) call.scalar k x (less_true k (length f.parameters) h) e)).1
+          (fit_at p known.names f known.found.cps (passed f) vs k _ call.fit (passed_at p known.names f known.found.cps 0 (length f.parameters) (variables f) call.scalar k x (lt_means k (length f.parameters) h) e)).1
       go false h = subst (Fits x.type) (sym (nothing_there k h)) refl
 
   -- ---- what is loaded
@@ -210,13 +204,13 @@ module _ (p : Program) (f : Function) (known : CpsKnown p f) (sizes : VariablesH
       first_at k h plain = go (is_parameter f k) refl
         where
           args_number : length args ≡ length (locals_of r (loaded r Start))
-          args_number = map_length (λ j. get_or vs j Unset) (loaded r Start) ∙ sym (map_length (local_of r) (loaded r Start))
+          args_number = length_of_map (λ j. get_or vs j Unset) (loaded r Start) ∙ sym (length_of_map (local_of r) (loaded r Start))
 
           go : (c : Bool) → is_parameter f k ≡ c → FirstAt k
           go true e =
               let held = chosen_has (λ j. is_parameter f j && is_plain r j) kept k h (ap (λ c. c && is_plain r k) e ∙ plain) in
               let at = value_at r (λ j. get_or vs j Unset) (loaded r Start) k held in
-              (suc (suc (suc at.0)), got_front (locals_of r (loaded r Start)) (declares_of p r Start) at.0 (local_of r k) at.1, got_register args _ at.0 _ at.2)
+              (suc (suc (suc at.0)), item_in_front (locals_of r (loaded r Start)) (declares_of p r Start) at.0 (local_of r k) at.1, got_register args _ at.0 _ at.2)
           go false e =
               let held = in_left k (chosen (λ j. not (is_parameter f j) && is_plain r j) kept) r.boxes (chosen_has (λ j. not (is_parameter f j) && is_plain r j) kept k h (ap (λ c. not c && is_plain r k) e ∙ plain)) in
               let at = value_at r (λ j. Unset) (begun r Start) k held in
@@ -248,7 +242,7 @@ module _ (p : Program) (f : Function) (known : CpsKnown p f) (sizes : VariablesH
         some_there i x e =
             let within = slice_get_within (piece_locals p r Start) i x e in
             let number = first_number in
-            ap is_some (node_there first_locals i (let z : i < length first_locals = omega (arith, within, number) in z)).1
+            ap is_some (found_within first_locals i (let z : i < length first_locals = omega (arith, within, number) in z)).1
 
         place_value : (k : ℕ) → k < count → holds_number kept k ≡ true → (c : Bool) → is_plain r k ≡ c → AtPlace p f slots boxing.places vs k c → HasValue p f known Start owner slots locals k
         place_value k less h _ plain (PassedAt a g) =

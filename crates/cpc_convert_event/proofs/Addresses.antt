@@ -1,6 +1,7 @@
 -- Pieces take the address of no local, so that their variables are registers.
-use Rattle.std.proofs.Common.{◌≡◌, ℕ, suc, Bool, true, false, not, ◌&&◌, cond, List, [], ◌∷◌, ◌++◌, map, slice_get, Option, Some, None, refl, sym, ◌∙◌, ap, subst}
+use Rattle.std.proofs.Common.{◌≡◌, ℕ, suc, Bool, true, false, not, ◌&&◌, cond, List, [], ◌∷◌, ◌++◌, map, slice_get, Option, Some, None, refl, sym, subst}
 use Rattle.cpc_base.specs.Bytes.{Text}
+use Rattle.cpc_base.proofs.Truth.{and_both, and_holds}
 use Rattle.cpc_tree.specs.declared.program.UnaryOp.TheVariants.{AddressOf}
 use Rattle.cpc_tree.specs.Syntax.{Expr, ENamed, EInteger, ECharacter, EText, EUnary, EBinary, EAnd, EOr, EChoose, ECast, ESizeOf, EIndex, EMember, EArrow, ECall, Exprs, NoExpr, AndExpr, Stmt, Block, Empty, Declare, Assign, Call, Detach, Spawn, If, While, DoWhile, For, Goto, Label, Break, Continue, Return, Stmts, NoStmt, AndStmt, Variable, Function, Program}
 use Rattle.cpc_tree.specs.Points.{Simple, Test, Nothing}
@@ -17,7 +18,6 @@ use Rattle.cpc_convert_chain_laws.specs.Driver.{drive_name}
 use Rattle.cpc_convert_chain_laws.specs.Flat.{before}
 use Rattle.cpc_convert_chain_laws.specs.Frames.{Load, loads_one, declares_one, frees_frame, gives_one, AreRegisters}
 use Rattle.cpc_convert_chain_laws.proofs.Addresses.{none_addressed}
-use Rattle.cpc_convert_chain_laws.proofs.Lines.{both_true}
 use Rattle.cpc_convert_chain_laws.proofs.Pieces.{registers_unaddressed}
 use Rattle.cpc_convert_event.specs.Names.{node_label, pointer_name, frame_name, to_name, under_name}
 use Rattle.cpc_convert_event.specs.Routines.{Routine, routine_of, readings_of, variable_of}
@@ -30,11 +30,8 @@ use Rattle.cpc_convert_event.proofs.Locals.{locals_meant}
 
 -- ---- tests
 
-and_true : (a b : Bool) → a ≡ true → b ≡ true → (a && b) ≡ true
-and_true a b e f = ap (λ x. x && b) e ∙ f
-
 both : (a b c d : Bool) → (a ≡ true → c ≡ true) → (b ≡ true → d ≡ true) → (a && b) ≡ true → (c && d) ≡ true
-both a b c d f g e = let t = both_true a b e in and_true c d (f t.0) (g t.1)
+both a b c d f g e = let t = and_both a b e in and_holds c d (f t.0) (g t.1)
 
 -- ---- images
 
@@ -141,7 +138,7 @@ module _ (names : Readings) where
   gives_done : (f : Expr) → avoids has_marks f ≡ true → (k : ℕ) (xs : List Variable) (es : Exprs) → AllFine es → AllAvoid (map (gives_one f) (gives_from k xs names es))
   gives_done f e k [] es h = tt
   gives_done f e k (x ∷ xs) NoExpr h = tt
-  gives_done f e k (x ∷ xs) (AndExpr v es) h = let t = both_true _ _ h in (and_true _ _ e (image_avoids names v t.0), gives_done f e (suc k) xs es t.1)
+  gives_done f e k (x ∷ xs) (AndExpr v es) h = let t = and_both _ _ h in (and_holds _ _ e (image_avoids names v t.0), gives_done f e (suc k) xs es t.1)
 
   call_done : (g : Function) (es : Exprs) → AllFine es → AllAvoid (call_lines g names es)
   call_done g es h = (refl, (refl, (refl, gives_done _ refl 0 (variables g) es h)))
@@ -167,7 +164,7 @@ module _ (names : Readings) where
   simple_done : (r : Routine) (s : Stmt) (o : Option ℕ) → avoids_simple (λ x. bars (names x) x) s ≡ true → LinesAvoid (simple_lines r names s o)
   simple_done r (Return e) o h = all_done (leave_lines r names e) (leave_done r e h)
   simple_done r (Spawn f es) o h = (images_avoid names es h, goes_done o)
-  simple_done r (Declare x t (Some e)) o h = (and_true _ _ (named_avoids names (names x) x) (image_avoids names e h), goes_done o)
+  simple_done r (Declare x t (Some e)) o h = (and_holds _ _ (named_avoids names (names x) x) (image_avoids names e h), goes_done o)
   simple_done r (Declare x t None) o h = passes_done o
   simple_done r (Assign e op v) o h = (both _ _ _ _ (λ i. image_avoids names e i) (λ i. image_avoids names v i) h, goes_done o)
   simple_done r (Call to f es) o h = (called_avoids to f es h, goes_done o)
@@ -219,8 +216,8 @@ module _ (names : Readings) where
   called_done p r to (ECall x y) es a h = tt
 
   cps_done : (p : Program) (r : Routine) (s : Stmt) (a : Option ℕ) → avoids_simple (λ x. bars (names x) x) s ≡ true → AllAvoid (cps_lines p r names s a)
-  cps_done p r (Call to f es) a h = called_done p r to f es a (both_true _ _ (both_true _ _ h).1).1
-  cps_done p r (Detach to f es) a h = avoid_append (frame_lines_if r to_name a) _ (frame_if_done r to_name a) (images_avoid names es (both_true _ _ h).1, (refl, tt))
+  cps_done p r (Call to f es) a h = called_done p r to f es a (and_both _ _ (and_both _ _ h).1).1
+  cps_done p r (Detach to f es) a h = avoid_append (frame_lines_if r to_name a) _ (frame_if_done r to_name a) (images_avoid names es (and_both _ _ h).1, (refl, tt))
   cps_done p r (Return e) a h = tt
   cps_done p r (Spawn f es) a h = tt
   cps_done p r (Declare x t e) a h = tt
@@ -243,11 +240,11 @@ module _ (names : Readings) where
 
   place_done : (o : Option Expr) (n : Option ℕ) → FineIf o → LinesAvoid (arrival_lines names (Some o) n)
   place_done None n h = passes_done n
-  place_done (Some e) n h = (and_true _ _ (image_avoids names e h) refl, goes_done n)
+  place_done (Some e) n h = (and_holds _ _ (image_avoids names e h) refl, goes_done n)
 
   arrival_done : (s : Stmt) (n : Option ℕ) → avoids_simple (λ x. bars (names x) x) s ≡ true → LinesAvoid (arrival_lines names (target_of (Simple s)) n)
-  arrival_done (Call to f es) n h = place_done to n (both_true _ _ h).0
-  arrival_done (Detach to f es) n h = place_done to n (both_true _ _ h).0
+  arrival_done (Call to f es) n h = place_done to n (and_both _ _ h).0
+  arrival_done (Detach to f es) n h = place_done to n (and_both _ _ h).0
   arrival_done (Spawn f es) n h = passes_done n
   arrival_done (Return e) n h = passes_done n
   arrival_done (Declare x t e) n h = passes_done n
@@ -291,7 +288,7 @@ put_done o (Goes n) h = go (is_next n o)
     go : (b : Bool) → AllAvoid (map put_statement (cond b [] (Jump n ∷ [])))
     go true = tt
     go false = (refl, tt)
-put_done o (Tests e n) h = (and_true _ _ h refl, tt)
+put_done o (Tests e n) h = (and_holds _ _ h refl, tt)
 put_done o (Passes n) h = go (is_next n o)
   where
     go : (b : Bool) → AllAvoid (map put_statement (cond b (Plain Empty ∷ []) (Jump n ∷ [])))
@@ -319,15 +316,15 @@ rows_done all (r ∷ rs) h = avoid_append _ _ (label_done (is_wanted r.number al
 
 before_avoids : (ss : List Stmt) (rest : Stmts) → AllAvoid ss → avoids_in has_marks rest ≡ true → avoids_in has_marks (before ss rest) ≡ true
 before_avoids [] rest h g = g
-before_avoids (s ∷ ss) rest h g = and_true _ _ h.0 (before_avoids ss rest h.1 g)
+before_avoids (s ∷ ss) rest h g = and_holds _ _ h.0 (before_avoids ss rest h.1 g)
 
 loads_avoid : (ls : List Load) → MarkedLoads ls → AllAvoid (map (loads_one frame_name) ls)
 loads_avoid [] h = tt
-loads_avoid (l ∷ ls) h = (and_true _ _ h.0 refl, loads_avoid ls h.1)
+loads_avoid (l ∷ ls) h = (and_holds _ _ h.0 refl, loads_avoid ls h.1)
 
 declares_avoid : (ds : List Variable) → MarkedVariables ds → AllAvoid (map declares_one ds)
 declares_avoid [] h = tt
-declares_avoid (d ∷ ds) h = (and_true _ _ h.0 refl, declares_avoid ds h.1)
+declares_avoid (d ∷ ds) h = (and_holds _ _ h.0 refl, declares_avoid ds h.1)
 
 fills_avoid : (b : Bool) (x y : Text) → AllAvoid (fills_if b x y)
 fills_avoid true x y = (refl, tt)

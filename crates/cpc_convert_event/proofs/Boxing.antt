@@ -1,7 +1,7 @@
 -- The boxes of a call, as the start of an event program makes them.
-use Rattle.std.proofs.Common.{◌≡◌, ℕ, zero, suc, ◌+◌, ◌<◌, ◌≤◌, Bool, true, false, not, ◌&&◌, ◌||◌, ◌==◌, cond, List, [], ◌∷◌, ◌++◌, length, slice_get, nat_lt, pos, Option, Some, None, refl, sym, ◌∙◌, ap, subst, arith}
-use Rattle.std.proofs.lemmas.Bool.Decides.{nat_tests}
+use Rattle.std.proofs.Common.{◌≡◌, ℕ, zero, suc, ◌+◌, ◌<◌, ◌≤◌, Bool, true, false, not, ◌&&◌, ◌||◌, ◌==◌, cond, List, [], ◌∷◌, ◌++◌, length, slice_get, pos, Option, Some, None, refl, sym, ◌∙◌, ap, subst, arith}
 use Rattle.cpc_base.specs.Bytes.{Text}
+use Rattle.cpc_base.proofs.Truth.{eq_means, lt_holds, lt_fails}
 use Rattle.cpc_num.specs.declared.kinds.Kind.TheVariants.{ULong}
 use Rattle.cpc_tree.specs.Lists.{holds_number, rest_of}
 use Rattle.cpc_tree.specs.Syntax.{TyPointer, TyStruct, ESizeOf, Stmt, Variable, Function, Program}
@@ -36,7 +36,6 @@ use Rattle.cpc_convert_event.proofs.BoxesThere.{box_there}
 use Rattle.cpc_convert_event.proofs.StructsThere.{start_there}
 use Rattle.cpc_convert_event.proofs.Locals.{meant, box_stands, locals_count, counted}
 use Rattle.cpc_convert_event.proofs.Filling.{passed_at}
-use Rattle.cpc_convert_event.proofs.Numbers.{equal_is}
 
 -- a number that is held stands in the list
 held_has : (ks : List ℕ) (k : ℕ) → holds_number ks k ≡ true → Has k ks
@@ -44,14 +43,8 @@ held_has [] k h = absurd (cc)
 held_has (j ∷ ks) k h = go (j == k) refl h (λ i. held_has ks k i)
   where
     go : (b : Bool) → (j == k) ≡ b → (b || holds_number ks k) ≡ true → (holds_number ks k ≡ true → Has k ks) → Has k (j ∷ ks)
-    go true e i deeper = subst (λ m. Has m (j ∷ ks)) (equal_is j k e) (OnTop j ks)
+    go true e i deeper = subst (λ m. Has m (j ∷ ks)) (eq_means j k e) (OnTop j ks)
     go false e i deeper = Below k j ks (deeper i)
-
-lt_true : (m n : ℕ) → m < n → nat_lt m n ≡ true
-lt_true m n h = grind (arith, nat_tests)
-
-lt_false : (m n : ℕ) → n ≤ m → nat_lt m n ≡ false
-lt_false m n h = grind (arith, nat_tests)
 
 -- the size of a type that is complete
 size_known : {A : Type 0} (a b : Option A) (x : A) → Less a b → a ≡ Some x → b ≡ Some x
@@ -169,7 +162,7 @@ module _ (p : Program) (ok : IsNamed p) (f : Function) (c : IsCps p f) (sc : Par
       is_x = ap variable_or e
 
       none : is_parameter f k ≡ false
-      none = lt_false k (length f.parameters) (let z : length f.parameters ≤ k = omega (arith, most) in z)
+      none = lt_fails k (length f.parameters) (let z : length f.parameters ≤ k = omega (arith, most) in z)
 
       go : (b : Bool) → is_box p f.called k ≡ b → From (suc k) xs [] (boxing_lines r (boxes_from p f.called (suc k) (length xs)))
           → From k (x ∷ xs) [] (boxing_lines r (cond b (k ∷ boxes_from p f.called (suc k) (length xs)) (boxes_from p f.called (suc k) (length xs))))
@@ -192,7 +185,7 @@ module _ (p : Program) (ok : IsNamed p) (f : Function) (c : IsCps p f) (sc : Par
       is_x = ap variable_or e
 
       some : is_parameter f k ≡ true
-      some = lt_true k (length f.parameters) h
+      some = lt_holds k (length f.parameters) h
 
       rest : List Stmt
       rest = boxing_lines r (boxes_from p f.called (suc k) (length xs))

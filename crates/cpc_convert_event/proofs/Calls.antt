@@ -2,6 +2,7 @@
 use Rattle.std.proofs.Common.{◌≡◌, ℕ, zero, suc, ◌+◌, ◌<◌, Bool, true, false, cond, List, [], ◌∷◌, ◌++◌, map, length, slice_get, Some, refl, sym, ◌∙◌, ap, subst, arith}
 use Rattle.std.proofs.lemmas.Option.{slice_get_within}
 use Rattle.cpc_base.specs.Bytes.{Text}
+use Rattle.cpc_base.proofs.Truth.{false_unless_true}
 use Rattle.cpc_num.specs.declared.kinds.Fault.{Fault}
 use Rattle.cpc_tree.specs.Lists.{holds_number}
 use Rattle.cpc_tree.specs.Syntax.{Ty, Exprs, NoExpr, AndExpr, Variable, Parameter, Function, Program}
@@ -27,7 +28,6 @@ use Rattle.cpc_convert_event.specs.CallLaws.{BoxesStand, BoxesAreReturned, Gives
 use Rattle.cpc_convert_event.proofs.StructsThere.{start_there}
 use Rattle.cpc_convert_event.proofs.Locals.{counted}
 use Rattle.cpc_convert_event.proofs.Filling.{passed_at}
-use Rattle.cpc_convert_event.proofs.Numbers.{not_true}
 
 -- ---- boxes
 
@@ -41,7 +41,7 @@ module _ (p : Program) (ok : IsNamed p) (f : Function) (c : IsCps p f) (q : Prog
   -- whether a variable is a box
   boxed_is : (k : ℕ) (b : Bool) → holds_number r.boxes k ≡ b → is_box p f.called k ≡ b
   boxed_is k true h = (boxes_exact p f.called k).0 h
-  boxed_is k false h = not_true (is_box p f.called k) (λ i. let z : true ≡ false = sym ((boxes_exact p f.called k).1 i) ∙ h in absurd (cc))
+  boxed_is k false h = false_unless_true (is_box p f.called k) (λ i. let z : true ≡ false = sym ((boxes_exact p f.called k).1 i) ∙ h in absurd (cc))
 
   unboxing_from : (k : ℕ) (xs : List Slot) → BoxesStand q scope slots r k xs → Unboxing q scope slots xs (called (boxes_from p f.called k (length xs)))
   unboxing_from k [] h = NoUnboxing

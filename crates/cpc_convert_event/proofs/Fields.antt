@@ -2,6 +2,7 @@
 use Rattle.std.proofs.Common.{◌≡◌, ℕ, zero, suc, ◌+◌, ◌<◌, ◌≤◌, ◌^◌, Bool, true, false, not, cond, List, [], ◌∷◌, ◌++◌, map, length, get_or, slice_get, decimal, bytes_eq, Some, refl, sym, ◌∙◌, ap, subst, codes, arith}
 use Rattle.std.proofs.lemmas.Option.{slice_get-get_or}
 use Rattle.cpc_base.specs.Bytes.{Text}
+use Rattle.cpc_base.proofs.Truth.{and_both}
 use Rattle.cpc_tree.specs.Lists.{holds_number}
 use Rattle.cpc_tree.specs.Syntax.{Ty, TyVoid, Variable, Function, Program}
 use Rattle.cpc_tree.specs.Typing.{is_scalar}
@@ -17,7 +18,6 @@ use Rattle.cpc_lift_laws.specs.Boxes.{is_box, has_block, is_box_in}
 use Rattle.cpc_lift_laws.specs.Search.{Link, keepers, closure_from}
 use Rattle.cpc_lift_laws.specs.Lift.{boxes}
 use Rattle.cpc_lift_laws.proofs.Lift.{boxes_exact}
-use Rattle.cpc_convert_chain_laws.proofs.Lines.{both_true}
 use Rattle.cpc_convert_chain_laws.specs.Structs.{NotCalled, NoneSo, NotSo, ScalarFields, NoFields, AndField}
 use Rattle.cpc_convert_chain_laws.specs.Driver.{head_fields}
 use Rattle.cpc_convert_event.specs.Names.{box_tag, variable_name}
@@ -90,7 +90,7 @@ local_scalar false t tag h = refl
 module _ (p : Program) (ok : IsNamed p) (f : Function) (c : IsCps p f) where
   -- a register is scalar
   pub plain_scalar : (k : ℕ) (x : Variable) → slice_get (variables f) k ≡ Some x → is_plain (routine_of p f) k ≡ true → is_scalar x.type ≡ true
-  plain_scalar k x e h = (both_true (is_scalar x.type) (not (holds_number (addressed f) k)) (by_box (is_register f k x) refl)).0
+  plain_scalar k x e h = (and_both (is_scalar x.type) (not (holds_number (addressed f) k)) (by_box (is_register f k x) refl)).0
     where
       is_boxed : is_box p f.called k ≡ not (is_register f k x)
       is_boxed = ap (λ o. is_box_in o k) (ok.found f c.has) ∙ ap (has_block f k) e

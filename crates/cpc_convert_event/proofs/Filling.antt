@@ -2,6 +2,7 @@
 use Rattle.std.proofs.Common.{◌≡◌, ℕ, zero, suc, ◌+◌, ◌<◌, Bool, true, false, ◌&&◌, ◌||◌, ◌==◌, cond, List, [], ◌∷◌, ◌++◌, map, length, slice_get, get_or, Some, refl, sym, ◌∙◌, ap, subst, codes, arith}
 use Rattle.std.proofs.lemmas.Option.{slice_get-get_or}
 use Rattle.cpc_base.specs.Bytes.{Text}
+use Rattle.cpc_base.proofs.Truth.{and_both, eq_reflexive, or_by_second, lt_means}
 use Rattle.cpc_num.specs.declared.kinds.Kind.TheVariants.{Int}
 use Rattle.cpc_tree.specs.Lists.{holds_number}
 use Rattle.cpc_tree.specs.Syntax.{Ty, TyVoid, TyInt, TyPointer, TyStruct, Variable, Function, Program}
@@ -17,8 +18,6 @@ use Rattle.cpc_convert_chain_laws.specs.Driver.{any_pointer, head_fields}
 use Rattle.cpc_convert_chain_laws.specs.Fits.{Fits}
 use Rattle.cpc_convert_chain_laws.specs.Frames.{Saving, NoSaving, AndSaving, Load, Loading, NoLoading, AndLoading, Scalars, AndScalar}
 use Rattle.cpc_convert_chain_laws.specs.Structs.{IsStruct}
-use Rattle.cpc_convert_chain_laws.proofs.Lines.{both_true}
-use Rattle.cpc_graph_laws.proofs.Formed.{equal_self}
 use Rattle.cpc_convert_event.specs.Names.{piece_name, value_tag, frame_name, variable_name, box_tag}
 use Rattle.cpc_convert_event.specs.Routines.{Routine, routine_of, closure_of, is_plain, variable_of, variable_or, local_of, locals_of, variable_if, passed_from, passed, is_parameter}
 use Rattle.cpc_convert_event.specs.Frames.{arriving_type}
@@ -29,7 +28,7 @@ use Rattle.cpc_convert_event.specs.NameLaws.{IsNamed, IsCps}
 use Rattle.cpc_convert_event.specs.FillLaws.{AllFit, NoneFit, OneFits, AllHold, NoneHold, OneHolds, value_before, ParametersAreScalar, AllFramesAreFilled}
 use Rattle.cpc_convert_event.proofs.StructsThere.{arriving_scalar, leader_there, start_there}
 use Rattle.cpc_convert_event.proofs.Locals.{NoneCalled, none_word, locals_scalar, closure_rise, loaded_below}
-use Rattle.cpc_convert_event.proofs.Numbers.{later, lt_is, chosen_is, AllBelow, NoneBelow, OneBelow, rises_below}
+use Rattle.cpc_convert_event.proofs.Numbers.{chosen_is, AllBelow, NoneBelow, OneBelow, rises_below}
 
 -- ---- values that fit
 
@@ -157,8 +156,8 @@ module _ (p : Program) (ok : IsNamed p) (f : Function) (c : IsCps p f) where
     -- a parameter that is a register
     one_taken : (k : ℕ) → k < length (variables f) → (is_parameter f k && is_plain r k) ≡ true → Loading (converted p) (piece_name f.called Start) frame_name cells (map load_of (locals_of r (k ∷ []))) (args (k ∷ []))
     one_taken k h t =
-        let parts = both_true (is_parameter f k) (is_plain r k) t in
-        let less : k < length f.parameters = lt_is k (length f.parameters) parts.0 in
+        let parts = and_both (is_parameter f k) (is_plain r k) t in
+        let less : k < length f.parameters = lt_means k (length f.parameters) parts.0 in
         let nothing : Variable = record { called = []; type = TyInt Int } in
         let there : slice_get (variables f) k ≡ Some (get_or (variables f) k nothing) = slice_get-get_or (variables f) k nothing h in
         let x = variable_of r k in
@@ -177,8 +176,8 @@ module _ (p : Program) (ok : IsNamed p) (f : Function) (c : IsCps p f) where
     all_taken : (ks : List ℕ) → AllBelow (length (variables f)) ks → ((k : ℕ) → holds_number ks k ≡ true → (is_parameter f k && is_plain r k) ≡ true) → Loading (converted p) (piece_name f.called Start) frame_name cells (map load_of (locals_of r ks)) (args ks)
     all_taken _ NoneBelow t = NoLoading
     all_taken _ (OneBelow k ks h more) t =
-        joined (piece_name f.called Start) (map load_of (locals_of r (k ∷ []))) (map load_of (locals_of r ks)) (args (k ∷ [])) (args ks) (one_taken k h (t k (ap (λ b. b || holds_number ks k) (equal_self k))))
-        (all_taken ks more (λ j i. t j (later (k == j) (holds_number ks j) i)))
+        joined (piece_name f.called Start) (map load_of (locals_of r (k ∷ []))) (map load_of (locals_of r ks)) (args (k ∷ [])) (args ks) (one_taken k h (t k (ap (λ b. b || holds_number ks k) (eq_reflexive k))))
+        (all_taken ks more (λ j i. t j (or_by_second (k == j) (holds_number ks j) i)))
 
     takes_start : Loading (converted p) (piece_name f.called Start) frame_name cells (loads_of p r Start) (next ∷ args (loaded r Start))
     takes_start =

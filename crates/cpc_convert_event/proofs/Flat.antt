@@ -1,6 +1,7 @@
 -- Pieces are flat, and their lines stand behind their openings.
-use Rattle.std.proofs.Common.{◌≡◌, ℕ, ◌+◌, Bool, true, false, ◌&&◌, List, [], ◌∷◌, ◌++◌, map, length, Some, refl, ◌∙◌, ap, subst, arith}
+use Rattle.std.proofs.Common.{◌≡◌, ℕ, ◌+◌, Bool, true, false, List, [], ◌∷◌, ◌++◌, map, length, Some, refl, ◌∙◌, ap, subst, arith}
 use Rattle.cpc_base.specs.Bytes.{Text}
+use Rattle.cpc_base.proofs.Truth.{and_holds}
 use Rattle.cpc_tree.specs.Syntax.{TyPointer, TyStruct, ENamed, Declare, Stmt, Stmts, NoStmt, AndStmt, Program}
 use Rattle.cpc_tree.specs.Typing.{Scope}
 use Rattle.cpc_tree.specs.Registers.{outer_scope}
@@ -35,24 +36,21 @@ boxes_done r (At n) = tt
 
 -- ---- rows of statements
 
-and_true : (a b : Bool) → a ≡ true → b ≡ true → (a && b) ≡ true
-and_true a b e f = ap (λ x. x && b) e ∙ f
-
 all_true : (ss : List Stmt) → AreLines ss → all_lines ss ≡ true
 all_true [] h = refl
-all_true (s ∷ ss) h = and_true (is_line s) (all_lines ss) h.0 (all_true ss h.1)
+all_true (s ∷ ss) h = and_holds (is_line s) (all_lines ss) h.0 (all_true ss h.1)
 
 lines_before : (ss : List Stmt) → AreLines ss → are_lines (before ss NoStmt) ≡ true
 lines_before [] h = refl
-lines_before (s ∷ ss) h = and_true (is_line s) (are_lines (before ss NoStmt)) h.0 (lines_before ss h.1)
+lines_before (s ∷ ss) h = and_holds (is_line s) (are_lines (before ss NoStmt)) h.0 (lines_before ss h.1)
 
 flat_before : (ss : List Stmt) (rest : Stmts) → AreLines ss → are_flat rest ≡ true → are_flat (before ss rest) ≡ true
 flat_before [] rest h e = e
-flat_before (s ∷ ss) rest h e = and_true (is_flat s) (are_flat (before ss rest)) (line_flat s h.0) (flat_before ss rest h.1 e)
+flat_before (s ∷ ss) rest h e = and_holds (is_flat s) (are_flat (before ss rest)) (line_flat s h.0) (flat_before ss rest h.1 e)
 
 flat_map : {X : Type 0} (f : X → Stmt) → ((x : X) → is_flat (f x) ≡ true) → (xs : List X) (rest : Stmts) → are_flat rest ≡ true → are_flat (before (map f xs) rest) ≡ true
 flat_map f h [] rest e = e
-flat_map f h (x ∷ xs) rest e = and_true (is_flat (f x)) (are_flat (before (map f xs) rest)) (h x) (flat_map f h xs rest e)
+flat_map f h (x ∷ xs) rest e = and_holds (is_flat (f x)) (are_flat (before (map f xs) rest)) (h x) (flat_map f h xs rest e)
 
 pub before_append : (xs ys : List Stmt) (rest : Stmts) → before (xs ++ ys) rest ≡ before xs (before ys rest)
 before_append [] ys rest = refl

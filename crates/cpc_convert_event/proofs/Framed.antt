@@ -1,6 +1,7 @@
 -- Which structs are made of the cps functions of a program, and that their tags are apart.
 use Rattle.std.proofs.Common.{◌≡◌, ℕ, ◌<◌, ◌^◌, ◌==◌, ◌||◌, ⊎_elim, Bool, true, false, List, [], ◌∷◌, ◌++◌, map, decimal, Some, refl, sym, ◌∙◌, ap, subst, codes, arith}
 use Rattle.cpc_base.specs.Bytes.{Text}
+use Rattle.cpc_base.proofs.Truth.{eq_reflexive, or_by_second}
 use Rattle.cpc_tree.specs.Syntax.{Function, Item, StructItem, GlobalItem, PrototypeItem, FunctionItem, Program}
 use Rattle.cpc_tree.specs.Typing.{is_scalar, function_named}
 use Rattle.cpc_meaning.specs.Threads.{is_cps_mode}
@@ -13,7 +14,6 @@ use Rattle.cpc_tree.specs.Lists.{holds_number}
 use Rattle.cpc_lift_laws.specs.Lift.{boxes}
 use Rattle.cpc_lift_laws.proofs.Lift.{boxes_exact}
 use Rattle.cpc_lift_laws.proofs.Boxes.{boxes_are_below}
-use Rattle.cpc_graph_laws.proofs.Formed.{equal_self}
 use Rattle.cpc_forms.specs.Flow.{Place, Start, At}
 use Rattle.cpc_convert_chain_laws.specs.Driver.{frame_tag}
 use Rattle.cpc_convert_event.specs.Names.{piece_name, value_tag, box_tag}
@@ -141,14 +141,10 @@ box_piece : (k : ℕ) (l : Place) → codes "box" ++ decimal k ≡ behind l → 
 box_piece k Start e = differ_at 0 (codes "box" ++ decimal k) (codes "start") (λ i. absurd (omega arith)) e
 box_piece k (At n) e = differ_at 0 (codes "box" ++ decimal k) (codes "at" ++ decimal n) (λ i. absurd (omega arith)) e
 
-either_true : (a b : Bool) → b ≡ true → (a || b) ≡ true
-either_true true b e = refl
-either_true false b e = e
-
 -- a number of a list is held by it
 held : (k : ℕ) (ks : List ℕ) → Has k ks → holds_number ks k ≡ true
-held k _ (OnTop _ ks) = ap (λ b. b || holds_number ks k) (equal_self k)
-held k _ (Below _ j ks h) = either_true (j == k) (holds_number ks k) (held k ks h)
+held k _ (OnTop _ ks) = ap (λ b. b || holds_number ks k) (eq_reflexive k)
+held k _ (Below _ j ks h) = or_by_second (j == k) (holds_number ks k) (held k ks h)
 
 no_bar_value : NoBar (codes "value")
 no_bar_value = no_bar _ (λ k. absurd (omega arith))

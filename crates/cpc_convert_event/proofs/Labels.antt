@@ -3,6 +3,8 @@ use Rattle.std.proofs.Common.{◌≡◌, ◌⊎◌, inl, inr, ⊎_elim, ℕ, zer
 use Rattle.std.proofs.lemmas.Bool.Decides.{nat_tests}
 use Rattle.std.proofs.lemmas.List.{reverse-append, reverse-reverse}
 use Rattle.cpc_base.specs.Bytes.{Text}
+use Rattle.cpc_base.proofs.Truth.{eq_reflexive, and_both, or_by_second, false_unless_true, or_neither, or_both_fail, eq_means, eq_fails}
+use Rattle.cpc_base.proofs.Lists.{length_of_map}
 use Rattle.cpc_tree.specs.Lists.{holds_number}
 use Rattle.cpc_tree.specs.Syntax.{TyPointer, TyStruct, ENamed, Stmt, Block, Empty, Declare, Assign, Call, Detach, Spawn, If, While, DoWhile, For, Goto, Label, Break, Continue, Return, Stmts, NoStmt, AndStmt, Function, Program}
 use Rattle.cpc_meaning.proofs.Functions.{text_same, texts_differ}
@@ -12,11 +14,9 @@ use Rattle.cpc_forms.specs.Graph.{graph_of}
 use Rattle.cpc_forms.specs.Flow.{Place, Flow, flow_of, is_leader}
 use Rattle.cpc_forms.specs.Split.{Split, number_if, owners_from, leaders_from}
 use Rattle.cpc_forms.specs.Pieces.{is_owned_by, owned_from, without, fronted, first_of, piece_nodes, Once, NoNumber, AndOther}
-use Rattle.cpc_graph_laws.proofs.Formed.{equal_self}
 use Rattle.cpc_graph_laws.proofs.Owning.{pieces_hold_once}
 use Rattle.cpc_convert_chain_laws.specs.Flat.{before, has_label, label_in}
 use Rattle.cpc_convert_chain_laws.specs.Frames.{loads_one, declares_one, frees_frame}
-use Rattle.cpc_convert_chain_laws.proofs.Lines.{both_true}
 use Rattle.cpc_convert_chain_laws.proofs.Labels.{NoLabel, NoneLeft, NotHere, label_behind, label_first}
 use Rattle.cpc_convert_event.specs.Names.{piece_name, node_label, pointer_name, frame_name}
 use Rattle.cpc_convert_event.specs.Routines.{Routine, routine_of, chosen}
@@ -26,7 +26,7 @@ use Rattle.cpc_convert_event.specs.FlatLaws.{opening}
 use Rattle.cpc_convert_event.specs.LabelLaws.{put_in, AllRowsStandOnce, LabelsLead}
 use Rattle.cpc_convert_event.proofs.Lines.{is_bare, AreBare, AllRows, rows_map, lines_done, puts_done}
 use Rattle.cpc_convert_event.proofs.Flat.{boxes_done, before_append}
-use Rattle.cpc_convert_event.proofs.Numbers.{later, not_true, or_false, false_or, equal_is, apart_is, held_append, held_either, not_in_append, once_append, chosen_is, chosen_has, chosen_out, once_chosen, Rises, NoneRise, OneRise, rises_lower, rises_once}
+use Rattle.cpc_convert_event.proofs.Numbers.{held_append, held_either, not_in_append, once_append, chosen_is, chosen_has, chosen_out, once_chosen, Rises, NoneRise, OneRise, rises_lower, rises_once}
 
 -- ---- nodes and leaders of a piece
 
@@ -41,7 +41,7 @@ module _ (l : Place) where
 
       here : (b : Bool) → (k == n) ≡ b → (b || holds_number (owned_from l (suc k) os) n) ≡ true → is_owned_by l o ≡ true → (holds_number (owned_from l (suc k) os) n ≡ true → (j : ℕ) × (n ≡ k + j) × (j < suc (length os)) × (is_owned_by l (owner_at (slice_get (o ∷ os) j)) ≡ true))
           → (j : ℕ) × (n ≡ k + j) × (j < suc (length os)) × (is_owned_by l (owner_at (slice_get (o ∷ os) j)) ≡ true)
-      here true e i is deeper = (0, (let z = equal_is k n e in let y : n ≡ k + 0 = omega (arith, z) in y), (let z : 0 < suc (length os) = omega arith in z), is)
+      here true e i is deeper = (0, (let z = eq_means k n e in let y : n ≡ k + 0 = omega (arith, z) in y), (let z : 0 < suc (length os) = omega arith in z), is)
       here false e i is deeper = deeper i
 
       go : (b : Bool) → is_owned_by l o ≡ b → holds_number (number_if b k (owned_from l (suc k) os)) n ≡ true → (holds_number (owned_from l (suc k) os) n ≡ true → (j : ℕ) × (n ≡ k + j) × (j < suc (length os)) × (is_owned_by l (owner_at (slice_get (o ∷ os) j)) ≡ true))
@@ -59,13 +59,13 @@ without_is m (k ∷ ns) n h = go (not (k == m)) h (λ i. without_is m ns n i)
         first : (c : Bool) → (c || holds_number (without m ns) n) ≡ true → (holds_number (without m ns) n ≡ true → holds_number ns n ≡ true) → (c || holds_number ns n) ≡ true
         first true j deeper = refl
         first false j deeper = deeper j
-    go false i deeper = later (k == n) (holds_number ns n) (deeper i)
+    go false i deeper = or_by_second (k == n) (holds_number ns n) (deeper i)
 
 fronted_is : (m : ℕ) (ns : List ℕ) (n : ℕ) → holds_number (fronted m ns) n ≡ true → holds_number ns n ≡ true
 fronted_is m ns n h = go (holds_number ns m) refl h
   where
     first : holds_number ns m ≡ true → (b : Bool) → (m == n) ≡ b → (b || holds_number (without m ns) n) ≡ true → holds_number ns n ≡ true
-    first e true i j = ap (holds_number ns) (sym (equal_is m n i)) ∙ e
+    first e true i j = ap (holds_number ns) (sym (eq_means m n i)) ∙ e
     first e false i j = without_is m ns n j
 
     go : (b : Bool) → holds_number ns m ≡ b → holds_number (cond b (m ∷ without m ns) ns) n ≡ true → holds_number ns n ≡ true
@@ -80,7 +80,7 @@ own_is s l n h =
     (ap (λ m. is_owned_by l (owner_at (slice_get s.owners m))) e ∙ d.3, let z = d.2 in let y : n < length s.owners = omega (arith, e, z) in y)
 
 le_lt : (m n : ℕ) → nat_le m n ≡ true → nat_lt n m ≡ false
-le_lt m n h = not_true (nat_lt n m) (λ g. absurd (grind (arith, nat_tests)))
+le_lt m n h = false_unless_true (nat_lt n m) (λ g. absurd (grind (arith, nat_tests)))
 
 turned_is : (m : ℕ) (ns : List ℕ) (n : ℕ) → holds_number (turned m ns) n ≡ true → holds_number ns n ≡ true
 turned_is m ns n h = held_either (chosen (λ k. nat_le m k) ns) (chosen (λ k. nat_lt k m) ns) n (holds_number ns n ≡ true) h (λ i. (chosen_is (λ k. nat_le m k) ns n i).0) (λ i. (chosen_is (λ k. nat_lt k m) ns n i).0)
@@ -100,7 +100,7 @@ where_is : (b : Bool) (n m : ℕ) → holds_number (number_where b n) m ≡ true
 where_is true n m h = (refl, one (n == m) refl h)
   where
     one : (c : Bool) → (n == m) ≡ c → (c || false) ≡ true → n ≡ m
-    one true e i = equal_is n m e
+    one true e i = eq_means n m e
     one false e i = absurd (cc)
 where_is false n m h = absurd (cc)
 
@@ -109,7 +109,7 @@ behind_is : (stubs placed : List ℕ) (o : Option ℕ) (m : ℕ) → holds_numbe
 behind_is stubs placed None m h = absurd (cc)
 behind_is stubs placed (Some n) m h =
     let w = where_is (holds_number stubs n && not (holds_number placed n)) n m h in
-    let t = both_true (holds_number stubs n) (not (holds_number placed n)) w.0 in
+    let t = and_both (holds_number stubs n) (not (holds_number placed n)) w.0 in
     (ap (holds_number stubs) (sym w.1) ∙ t.0, ap (holds_number placed) (sym w.1) ∙ unheld (holds_number placed n) t.1)
   where
     unheld : (b : Bool) → not b ≡ true → b ≡ false
@@ -135,7 +135,7 @@ module _ (p : Program) (r : Routine) (l : Place) (stubs : List ℕ) where
 
       rest : (holds_number (numbers_from p r l stubs (b ++ placed) ns) m ≡ true → (holds_number ns m ≡ true) ⊎ ((holds_number stubs m ≡ true) × (holds_number (b ++ placed) m ≡ false)))
           → holds_number (numbers_from p r l stubs (b ++ placed) ns) m ≡ true → (holds_number ns m ≡ true) ⊎ ((holds_number stubs m ≡ true) × (holds_number placed m ≡ false))
-      rest deeper i = ⊎_elim (λ a. inl a) (λ a. inr (a.0, (or_false (holds_number b m) (holds_number placed m) (sym (held_append b placed m) ∙ a.1)).1)) (deeper i)
+      rest deeper i = ⊎_elim (λ a. inl a) (λ a. inr (a.0, (or_neither (holds_number b m) (holds_number placed m) (sym (held_append b placed m) ∙ a.1)).1)) (deeper i)
 
       go : (c : Bool) → (n == m) ≡ c → (c || holds_number (b ++ numbers_from p r l stubs (b ++ placed) ns) m) ≡ true
           → (holds_number (numbers_from p r l stubs (b ++ placed) ns) m ≡ true → (holds_number ns m ≡ true) ⊎ ((holds_number stubs m ≡ true) × (holds_number (b ++ placed) m ≡ false)))
@@ -149,8 +149,8 @@ module _ (p : Program) (r : Routine) (l : Place) (stubs : List ℕ) where
   from_once : (placed ns : List ℕ) → Once ns → ((m : ℕ) → holds_number stubs m ≡ true → holds_number ns m ≡ false) → Once (numbers_from p r l stubs placed ns)
   from_once placed _ NoNumber apart = NoNumber
   from_once placed _ (AndOther n ns e o) apart =
-      AndOther n (b ++ xs) (not_in_append b xs n (not_true (holds_number b n) (λ h. not_stub (behind_is stubs placed o' n h).0)) (not_true (holds_number xs n) (λ h. not_later h)))
-      (once_append b xs (behind_once stubs placed o') (from_once (b ++ placed) ns o (λ m h. (or_false (n == m) (holds_number ns m) (apart m h)).1)) (λ m h. not_true (holds_number xs m) (λ i. not_twice m h i)))
+      AndOther n (b ++ xs) (not_in_append b xs n (false_unless_true (holds_number b n) (λ h. not_stub (behind_is stubs placed o' n h).0)) (false_unless_true (holds_number xs n) (λ h. not_later h)))
+      (once_append b xs (behind_once stubs placed o') (from_once (b ++ placed) ns o (λ m h. (or_neither (n == m) (holds_number ns m) (apart m h)).1)) (λ m h. false_unless_true (holds_number xs m) (λ i. not_twice m h i)))
     where
       o' : Option ℕ
       o' = falls (row_of p r l n).lines
@@ -162,15 +162,15 @@ module _ (p : Program) (r : Routine) (l : Place) (stubs : List ℕ) where
       xs = numbers_from p r l stubs (b ++ placed) ns
 
       not_stub : holds_number stubs n ≡ true → ⊥
-      not_stub h = let z : true ≡ false = sym (equal_self n) ∙ (or_false (n == n) (holds_number ns n) (apart n h)).0 in absurd (cc)
+      not_stub h = let z : true ≡ false = sym (eq_reflexive n) ∙ (or_neither (n == n) (holds_number ns n) (apart n h)).0 in absurd (cc)
 
       not_later : holds_number xs n ≡ true → ⊥
       not_later h = ⊎_elim (λ a. let z : true ≡ false = sym a ∙ e in absurd (cc)) (λ a. not_stub a.0) (from_is (b ++ placed) ns n h)
 
       not_twice : (m : ℕ) → holds_number b m ≡ true → holds_number xs m ≡ true → ⊥
       not_twice m h i =
-          ⊎_elim (λ a. let z : true ≡ false = sym a ∙ (or_false (n == m) (holds_number ns m) (apart m (behind_is stubs placed o' m h).0)).1 in absurd (cc))
-          (λ a. let z : true ≡ false = sym h ∙ (or_false (holds_number b m) (holds_number placed m) (sym (held_append b placed m) ∙ a.1)).0 in absurd (cc))
+          ⊎_elim (λ a. let z : true ≡ false = sym a ∙ (or_neither (n == m) (holds_number ns m) (apart m (behind_is stubs placed o' m h).0)).1 in absurd (cc))
+          (λ a. let z : true ≡ false = sym h ∙ (or_neither (holds_number b m) (holds_number placed m) (sym (held_append b placed m) ∙ a.1)).0 in absurd (cc))
           (from_is (b ++ placed) ns m i)
 
   -- the nodes are listed
@@ -183,10 +183,10 @@ module _ (p : Program) (r : Routine) (l : Place) (stubs : List ℕ) where
 
       go : (c : Bool) → (c || holds_number ns m) ≡ true → (holds_number ns m ≡ true → holds_number (numbers_from p r l stubs (b ++ placed) ns) m ≡ true) → (c || holds_number (b ++ numbers_from p r l stubs (b ++ placed) ns) m) ≡ true
       go true i deeper = refl
-      go false i deeper = held_append b _ m ∙ later (holds_number b m) _ (deeper i)
+      go false i deeper = held_append b _ m ∙ or_by_second (holds_number b m) _ (deeper i)
 
 not_own : (a b : Bool) → (a && not b) ≡ true → b ≡ false
-not_own a true e = absurd (let z = both_true a false e in cc)
+not_own a true e = absurd (let z = and_both a false e in cc)
 not_own a false e = refl
 
 pub leaders_rise : (flow : Flow) (k n : ℕ) → Rises (k + n) k (leaders_from flow k n)
@@ -202,7 +202,7 @@ held_below high low m _ (NoneRise _) h = absurd (cc)
 held_below high low m _ (OneRise _ n ns a b more) h = go (n == m) refl h (λ i. held_below high (suc n) m ns more i)
   where
     go : (c : Bool) → (n == m) ≡ c → (c || holds_number ns m) ≡ true → (holds_number ns m ≡ true → m < high) → m < high
-    go true e i deeper = let z = equal_is n m e in omega (arith, z, b)
+    go true e i deeper = let z = eq_means n m e in omega (arith, z, b)
     go false e i deeper = deeper i
 
 owners_length : (flow : Flow) (k n : ℕ) → length (owners_from flow k n) ≡ n
@@ -233,7 +233,7 @@ module _ (p : Program) (f : Function) (l : Place) where
       (d.0, omega (arith, b, e))
 
   apart : (m : ℕ) → holds_number (stubs_of r l) m ≡ true → holds_number (rows_nodes r.split l) m ≡ false
-  apart m h = not_true (holds_number (rows_nodes r.split l) m) (λ i. let z : true ≡ false = sym (node_is m i).0 ∙ (stub_is m h).0 in absurd (cc))
+  apart m h = false_unless_true (holds_number (rows_nodes r.split l) m) (λ i. let z : true ≡ false = sym (node_is m i).0 ∙ (stub_is m h).0 in absurd (cc))
 
   listed_once : Once listed
   listed_once = from_once p r l (stubs_of r l) [] (rows_nodes r.split l) (once_turned (first_of r.split l) _ (once_chosen (has_row r.split) (piece_nodes r.split l) (pieces_hold_once p f l))) apart
@@ -332,7 +332,7 @@ numbers_append (x ∷ xs) ys = ap (λ ns. x.number ∷ ns) (numbers_append xs ys
 
 once_middle : (xs : List ℕ) (n : ℕ) (ys : List ℕ) → Once (xs ++ n ∷ ys) → holds_number xs n ≡ false
 once_middle [] n ys o = refl
-once_middle (x ∷ xs) n ys (AndOther _ _ e o) = false_or (x == n) (holds_number xs n) (apart_is x n (λ (i : x ≡ n). let z : true ≡ false = sym (held_append xs (n ∷ ys) x ∙ later (holds_number xs x) _ (ap (λ b. b || holds_number ys x) (ap (λ m. m == x) (sym i) ∙ equal_self x))) ∙ e in absurd (cc))) (once_middle xs n ys o)
+once_middle (x ∷ xs) n ys (AndOther _ _ e o) = or_both_fail (x == n) (holds_number xs n) (eq_fails x n (λ (i : x ≡ n). let z : true ≡ false = sym (held_append xs (n ∷ ys) x ∙ or_by_second (holds_number xs x) _ (ap (λ b. b || holds_number ys x) (ap (λ m. m == x) (sym i) ∙ eq_reflexive x))) ∙ e in absurd (cc))) (once_middle xs n ys o)
 
 -- the lines of rows have no labels
 abbrev BarePuts : List PutRow → Type 0
@@ -349,17 +349,17 @@ bare_front (r ∷ front) back h = (h.0, bare_front front back h.1)
 
 none_labelled : (l m : Text) (b : Bool) (ss : List Stmt) → bytes_eq m l ≡ false → AreBare ss → NoLabel l (label_if b m ss)
 none_labelled l m true [] e h = NoneLeft
-none_labelled l m true (s ∷ ss) e h = NotHere (Label m s) ss (false_or (bytes_eq m l) (has_label l s) e (bare_has l s h.0)) (none_bare l ss h.1)
+none_labelled l m true (s ∷ ss) e h = NotHere (Label m s) ss (or_both_fail (bytes_eq m l) (has_label l s) e (bare_has l s h.0)) (none_bare l ss h.1)
 none_labelled l m false ss e h = none_bare l ss h
 
 none_front : (all front : List PutRow) (n : ℕ) → n < 2 ^ 63 → BarePuts front → holds_number (numbers front) n ≡ false → ((m : ℕ) → holds_number (numbers front) m ≡ true → m < 2 ^ 63) → NoLabel (node_label n) (rows_statements all front)
 none_front all [] n small h e below = NoneLeft
 none_front all (r ∷ front) n small h e below =
-    let d = or_false (r.number == n) (holds_number (numbers front) n) e in
+    let d = or_neither (r.number == n) (holds_number (numbers front) n) e in
     none_join (node_label n) (row_statements all r) (rows_statements all front)
     (none_labelled (node_label n) (node_label r.number) (is_wanted r.number all) (map put_statement r.puts)
-    (labels_apart r.number n (below r.number (ap (λ b. b || holds_number (numbers front) r.number) (equal_self r.number))) small (λ (i : r.number ≡ n). let z : true ≡ false = sym (equal_self n) ∙ (ap (λ m. m == n) (sym i) ∙ d.0) in absurd (cc))) h.0)
-    (none_front all front n small h.1 d.1 (λ m i. below m (later (r.number == m) (holds_number (numbers front) m) i)))
+    (labels_apart r.number n (below r.number (ap (λ b. b || holds_number (numbers front) r.number) (eq_reflexive r.number))) small (λ (i : r.number ≡ n). let z : true ≡ false = sym (eq_reflexive n) ∙ (ap (λ m. m == n) (sym i) ∙ d.0) in absurd (cc))) h.0)
+    (none_front all front n small h.1 d.1 (λ m i. below m (or_by_second (r.number == m) (holds_number (numbers front) m) i)))
 
 append_assoc : (xs ys zs : List Stmt) → (xs ++ ys) ++ zs ≡ xs ++ (ys ++ zs)
 append_assoc [] ys zs = refl
@@ -368,10 +368,6 @@ append_assoc (x ∷ xs) ys zs = ap (λ us. x ∷ us) (append_assoc xs ys zs)
 rows_apart : (all front back : List PutRow) → rows_statements all (front ++ back) ≡ rows_statements all front ++ rows_statements all back
 rows_apart all [] back = refl
 rows_apart all (r ∷ front) back = ap (λ ss. row_statements all r ++ ss) (rows_apart all front back) ∙ sym (append_assoc (row_statements all r) (rows_statements all front) (rows_statements all back))
-
-map_length : {X Y : Type 0} (F : X → Y) (xs : List X) → length (map F xs) ≡ length xs
-map_length F [] = refl
-map_length F (x ∷ xs) = ap suc (map_length F xs)
 
 -- the label of a row that is wanted
 wanted_label : (b : Bool) (l : Text) (x : Put) (xs : List Put) (rest : Stmts) → b ≡ true → label_in l (before (label_if b l (map put_statement (x ∷ xs))) rest) ≡ Some 0
@@ -397,7 +393,7 @@ module _ (p : Program) (f : Function) (l : Place) (few : length (graph_of p f).n
 
   front_none : all ≡ front ++ row ∷ back → NoLabel (node_label n) before_it
   front_none e =
-      none_front all front n (held_front e n (held_append (numbers front) (n ∷ numbers back) n ∙ later (holds_number (numbers front) n) _ (ap (λ b. b || holds_number (numbers back) n) (equal_self n))))
+      none_front all front n (held_front e n (held_append (numbers front) (n ∷ numbers back) n ∙ or_by_second (holds_number (numbers front) n) _ (ap (λ b. b || holds_number (numbers back) n) (eq_reflexive n))))
       (bare_front front (row ∷ back) (subst BarePuts e (bare_puts (rows_of p (routine_of p f) l) (rows_map (row_of p (routine_of p f) l) (λ m. lines_done (is_own (routine_of p f).split l m) p (routine_of p f) m) (numbers_of p (routine_of p f) l)))))
       (once_middle (numbers front) n (numbers back) (subst Once (numbers_are e) (numbers_once p f l)))
       (λ m h. held_front e m (held_append (numbers front) (n ∷ numbers back) m ∙ ap (λ b. b || holds_number (n ∷ numbers back) m) h))
@@ -423,8 +419,8 @@ module _ (p : Program) (f : Function) (l : Place) (few : length (graph_of p f).n
       let at_declares = label_behind key ds (before bs freed) _ (none_map key declares_one (λ d. refl) (declares_of p r l)) at_boxes in
       let at_loads = label_behind key ls (before ds (before bs freed)) _ (none_map key (loads_one frame_name) (λ d. refl) (loads_of p r l)) at_declares in
       let at_first = label_behind key (first ∷ []) (before ls (before ds (before bs freed))) _ (NotHere _ [] refl NoneLeft) at_loads in
-      let el = map_length (loads_one frame_name) (loads_of p r l) in
-      let ed = map_length declares_one (declares_of p r l) in
+      let el = length_of_map (loads_one frame_name) (loads_of p r l) in
+      let ed = length_of_map declares_one (declares_of p r l) in
       at_first ∙ ap Some (let z : 1 + (length ls + (length ds + (length bs + (1 + (length before_it + 0))))) ≡ opening p r l + length before_it = omega (arith, el, ed) in z)
 
 pub labels_lead : LabelsLead

@@ -2,25 +2,25 @@
 use Rattle.std.proofs.Common.{◌≡◌, ℕ, zero, suc, ◌+◌, ◌<◌, ◌≤◌, ◌^◌, Bool, true, false, not, ◌&&◌, ◌||◌, ◌==◌, cond, List, [], ◌∷◌, ◌++◌, map, length, get_or, slice_get, bytes_eq, Option, Some, None, refl, sym, ◌∙◌, ap, subst, codes, arith}
 use Rattle.std.proofs.lemmas.Option.{slice_get-get_or, slice_get_within}
 use Rattle.cpc_base.specs.Bytes.{Text}
+use Rattle.cpc_base.proofs.Truth.{eq_reflexive, and_both, or_by_second, or_neither, eq_means, bytes_eq_fails_back}
 use Rattle.cpc_num.specs.declared.kinds.Kind.TheVariants.{Int}
 use Rattle.cpc_tree.specs.Lists.{holds_number, is_empty}
 use Rattle.cpc_tree.specs.Syntax.{Ty, TyPointer, TyStruct, TyInt, Stmt, Stmts, NoStmt, AndStmt, Variable, Function, Program}
 use Rattle.cpc_tree.specs.Points.{locals_in}
 use Rattle.cpc_tree.specs.Registers.{variables}
 use Rattle.cpc_tree.specs.Typing.{Scope, ALocal, named, is_scalar}
-use Rattle.cpc_meaning.proofs.Functions.{texts_differ, text_same}
+use Rattle.cpc_meaning.proofs.Functions.{text_same}
 use Rattle.cpc_convert.specs.Marks.{has_marks}
 use Rattle.cpc_convert.specs.Converted.{marked}
 use Rattle.cpc_forms.specs.Flow.{Place, Start, At}
 use Rattle.cpc_forms.specs.Pieces.{Once, NoNumber, AndOther}
-use Rattle.cpc_graph_laws.proofs.Formed.{equal_self}
 use Rattle.cpc_lift_laws.specs.Search.{Link, keepers, closure_from}
 use Rattle.cpc_lift_laws.specs.Lift.{boxes_from, variables_in, variable_count}
 use Rattle.cpc_lift_laws.specs.Boxes.{is_box}
 use Rattle.cpc_convert_chain_laws.specs.Flat.{before}
 use Rattle.cpc_convert_chain_laws.specs.Frames.{Load, loads_one, loaded_scope, declares_one, declared_scope, frees_frame, Scalars, NoScalars, AndScalar}
 use Rattle.cpc_convert_chain_laws.specs.Driver.{value_field, any_pointer}
-use Rattle.cpc_convert_chain_laws.proofs.Lines.{both_true, line_one}
+use Rattle.cpc_convert_chain_laws.proofs.Lines.{line_one}
 use Rattle.cpc_convert_event.specs.Names.{piece_name, variable_name, pointer_name, frame_name, next_name, value_name, to_name, under_name, result_name}
 use Rattle.cpc_convert_event.specs.Routines.{Routine, routine_of, closure_of, is_plain, variable_of, variable_or, stood_variable, local_of, locals_of, variable_if, is_parameter, chosen}
 use Rattle.cpc_convert_event.specs.Frames.{arriving_type}
@@ -33,7 +33,7 @@ use Rattle.cpc_convert_event.proofs.Fields.{variables_apart, word_apart, local_s
 use Rattle.cpc_convert_event.proofs.Lines.{AreLines, bare_lines, piece_lines}
 use Rattle.cpc_convert_event.proofs.Flat.{boxes_done}
 use Rattle.cpc_convert_event.proofs.StructsThere.{arriving_scalar}
-use Rattle.cpc_convert_event.proofs.Numbers.{later, or_false, equal_is, held_append, not_in_append, once_append, chosen_is, chosen_has, chosen_out, once_chosen, AllBelow, NoneBelow, OneBelow, below_append, below_chosen, Rises, NoneRise, OneRise, rises_lower, rises_below, rises_once}
+use Rattle.cpc_convert_event.proofs.Numbers.{held_append, not_in_append, once_append, chosen_is, chosen_has, chosen_out, once_chosen, AllBelow, NoneBelow, OneBelow, below_append, below_chosen, Rises, NoneRise, OneRise, rises_lower, rises_below, rises_once}
 
 -- ---- names apart
 
@@ -58,10 +58,6 @@ none_if y false x rest e h = h
 apart_if : (b : Bool) (x : Variable) (rest : List Variable) → NoneCalled x.called rest → Apart rest → Apart (variable_if b x rest)
 apart_if true x rest h g = (h, g)
 apart_if false x rest h g = g
-
--- a text that is not another, the other way round
-turned_apart : (x y : Text) → bytes_eq x y ≡ false → bytes_eq y x ≡ false
-turned_apart x y e = texts_differ y x (λ (h : y ≡ x). let z : true ≡ false = sym (text_same y) ∙ (ap (λ w. bytes_eq w y) h ∙ e) in absurd (cc))
 
 -- ---- scopes
 
@@ -145,7 +141,7 @@ in_locals r k [] h = absurd (cc)
 in_locals r k (j ∷ ks) h = go (j == k) refl h (λ i. in_locals r k ks i)
   where
     go : (b : Bool) → (j == k) ≡ b → (b || holds_number ks k) ≡ true → (holds_number ks k ≡ true → StandsIn (local_of r k) (locals_of r ks)) → StandsIn (local_of r k) (local_of r j ∷ locals_of r ks)
-    go true e i deeper = (0, ap (λ m. Some (local_of r m)) (equal_is j k e))
+    go true e i deeper = (0, ap (λ m. Some (local_of r m)) (eq_means j k e))
     go false e i deeper = let d = deeper i in (suc d.0, d.1)
 
 -- ---- numbers of variables
@@ -182,7 +178,7 @@ all_none_if false x rest ys h g = g
 
 once_parts : (xs ys : List ℕ) → Once (xs ++ ys) → Once xs × Once ys
 once_parts [] ys o = (NoNumber, o)
-once_parts (x ∷ xs) ys (AndOther _ _ e o) = let h = once_parts xs ys o in (AndOther x xs (or_false (holds_number xs x) (holds_number ys x) (sym (held_append xs ys x) ∙ e)).0 h.0, h.1)
+once_parts (x ∷ xs) ys (AndOther _ _ e o) = let h = once_parts xs ys o in (AndOther x xs (or_neither (holds_number xs x) (holds_number ys x) (sym (held_append xs ys x) ∙ e)).0 h.0, h.1)
 
 below_more : (low high : ℕ) (ns : List ℕ) → low ≤ high → AllBelow low ns → AllBelow high ns
 below_more low high _ h NoneBelow = NoneBelow
@@ -232,13 +228,13 @@ module _ (p : Program) (ok : IsNamed p) (f : Function) (c : IsCps p f) where
   none_var : (k : ℕ) (ks : List ℕ) → k < count → AllBelow count ks → holds_number ks k ≡ false → NoneCalled (local_of r k).called (locals_of r ks)
   none_var k _ h NoneBelow e = tt
   none_var k _ h (OneBelow j js b more) e =
-      let d = or_false (j == k) (holds_number js k) e in
-      (variables_apart j k (variable_of r j).called (variable_of r k).called (small j b) (small k h) (unmarked_name j) (unmarked_name k) (λ (i : j ≡ k). let z : true ≡ false = sym (equal_self k) ∙ (ap (λ m. m == k) (sym i) ∙ d.0) in absurd (cc)), none_var k js h more d.1)
+      let d = or_neither (j == k) (holds_number js k) e in
+      (variables_apart j k (variable_of r j).called (variable_of r k).called (small j b) (small k h) (unmarked_name j) (unmarked_name k) (λ (i : j ≡ k). let z : true ≡ false = sym (eq_reflexive k) ∙ (ap (λ m. m == k) (sym i) ∙ d.0) in absurd (cc)), none_var k js h more d.1)
 
   pub none_word : (w : Text) (ks : List ℕ) → has_marks w ≡ false → AllBelow count ks → NoneCalled (marked w []) (locals_of r ks)
   none_word w _ m NoneBelow = tt
   none_word w _ m (OneBelow j js b more) =
-      (turned_apart (marked w []) (variable_name j (variable_of r j).called) (word_apart w j (variable_of r j).called m (unmarked_name j) (small j b)), none_word w js m more)
+      (bytes_eq_fails_back (marked w []) (variable_name j (variable_of r j).called) (word_apart w j (variable_of r j).called m (unmarked_name j) (small j b)), none_word w js m more)
 
   apart_vars : (ks : List ℕ) → Once ks → AllBelow count ks → Apart (locals_of r ks)
   apart_vars _ NoNumber b = tt
@@ -273,7 +269,7 @@ module _ (p : Program) (ok : IsNamed p) (f : Function) (c : IsCps p f) where
 
     vars_then : (ks js : List ℕ) → Once (ks ++ js) → AllBelow count ks → AllBelow count js → AllNone (locals_of r ks) (words ++ locals_of r js)
     vars_then _ js o NoneBelow b = tt
-    vars_then _ js (AndOther _ _ e o) (OneBelow k ks h more) b = (var_then k js h b (or_false (holds_number ks k) (holds_number js k) (sym (held_append ks js k) ∙ e)).1, vars_then ks js o more b)
+    vars_then _ js (AndOther _ _ e o) (OneBelow k ks h more) b = (var_then k js h b (or_neither (holds_number ks k) (holds_number js k) (sym (held_append ks js k) ∙ e)).1, vars_then ks js o more b)
 
     -- variables, words and variables
     tail_apart : (ks js : List ℕ) → Once (ks ++ js) → AllBelow count ks → AllBelow count js → Apart (locals_of r ks ++ (words ++ locals_of r js))
@@ -317,7 +313,7 @@ module _ (p : Program) (ok : IsNamed p) (f : Function) (c : IsCps p f) where
   begins_in k = not (is_parameter f k) && is_plain r k
 
   plain_unboxed : (b : Bool) (k : ℕ) → (b && is_plain r k) ≡ true → holds_number r.boxes k ≡ false
-  plain_unboxed b k e = go (holds_number r.boxes k) (both_true b (is_plain r k) e).1
+  plain_unboxed b k e = go (holds_number r.boxes k) (and_both b (is_plain r k) e).1
     where
       go : (h : Bool) → not h ≡ true → h ≡ false
       go true i = absurd (cc)
@@ -435,7 +431,7 @@ module _ (p : Program) (ok : IsNamed p) (f : Function) (c : IsCps p f) where
         (scalars_append (locals_of r (loaded r l)) _ (locals_scalar (loaded r l) (loaded_below l)) (scalars_append (words_of p r l) _ (words_scalar makes calls gives f.result h) (locals_scalar (begun r l) (begun_below l)))))))
 
   held_right : (xs ys : List ℕ) (k : ℕ) → holds_number ys k ≡ true → holds_number (xs ++ ys) k ≡ true
-  held_right xs ys k h = held_append xs ys k ∙ later (holds_number xs k) (holds_number ys k) h
+  held_right xs ys k h = held_append xs ys k ∙ or_by_second (holds_number xs k) (holds_number ys k) h
 
   held_left : (xs ys : List ℕ) (k : ℕ) → holds_number xs k ≡ true → holds_number (xs ++ ys) k ≡ true
   held_left xs ys k h = held_append xs ys k ∙ ap (λ b. b || holds_number ys k) h

@@ -1,40 +1,11 @@
 -- Lists of numbers: what they hold, and that each stands there once.
-use Rattle.std.proofs.Common.{◌≡◌, ℕ, suc, ◌<◌, ◌≤◌, Bool, true, false, ◌||◌, ◌==◌, List, [], ◌∷◌, ◌++◌, nat_lt, refl, sym, ◌∙◌, ap, arith}
-use Rattle.std.proofs.lemmas.Bool.Decides.{nat_tests}
+use Rattle.std.proofs.Common.{◌≡◌, ℕ, suc, ◌<◌, ◌≤◌, Bool, true, false, ◌||◌, ◌==◌, List, [], ◌∷◌, ◌++◌, refl, sym, ◌∙◌, ap, arith}
+use Rattle.cpc_base.proofs.Truth.{eq_reflexive, or_both_fail, eq_means, eq_fails, or_by_second, false_unless_true}
 use Rattle.cpc_tree.specs.Lists.{holds_number}
 use Rattle.cpc_forms.specs.Pieces.{Once, NoNumber, AndOther}
-use Rattle.cpc_graph_laws.proofs.Formed.{equal_self}
 use Rattle.cpc_convert_event.specs.Routines.{number_before, chosen}
 
 -- ---- tests
-
-pub or_false : (a b : Bool) → (a || b) ≡ false → (a ≡ false) × (b ≡ false)
-or_false true b e = absurd (cc)
-or_false false b e = (refl, e)
-
-pub false_or : (a b : Bool) → a ≡ false → b ≡ false → (a || b) ≡ false
-false_or a b e f = ap (λ x. x || b) e ∙ f
-
-pub equal_is : (m n : ℕ) → (m == n) ≡ true → m ≡ n
-equal_is m n e = grind (arith, nat_tests)
-
-pub lt_is : (m n : ℕ) → nat_lt m n ≡ true → m < n
-lt_is m n e = grind (arith, nat_tests)
-
-pub apart_is : (m n : ℕ) → (m ≡ n → ⊥) → (m == n) ≡ false
-apart_is m n d = go (m == n) refl
-  where
-    go : (b : Bool) → (m == n) ≡ b → b ≡ false
-    go true e = absurd (d (equal_is m n e))
-    go false e = refl
-
-pub later : (a b : Bool) → b ≡ true → (a || b) ≡ true
-later true b e = refl
-later false b e = e
-
-pub not_true : (b : Bool) → (b ≡ true → ⊥) → b ≡ false
-not_true true h = absurd (h refl)
-not_true false h = refl
 
 -- what is not held is not the number that is
 pub not_both : (ns : List ℕ) (m n : ℕ) → holds_number ns m ≡ true → holds_number ns n ≡ false → m ≡ n → ⊥
@@ -59,11 +30,11 @@ held_either xs ys n A h f g = go (holds_number xs n) refl (sym (held_append xs y
     go false e i = g i
 
 pub not_in_append : (xs ys : List ℕ) (n : ℕ) → holds_number xs n ≡ false → holds_number ys n ≡ false → holds_number (xs ++ ys) n ≡ false
-not_in_append xs ys n e f = held_append xs ys n ∙ false_or (holds_number xs n) (holds_number ys n) e f
+not_in_append xs ys n e f = held_append xs ys n ∙ or_both_fail (holds_number xs n) (holds_number ys n) e f
 
 pub once_append : (xs ys : List ℕ) → Once xs → Once ys → ((n : ℕ) → holds_number xs n ≡ true → holds_number ys n ≡ false) → Once (xs ++ ys)
 once_append _ ys NoNumber g h = g
-once_append _ ys (AndOther n ns e o) g h = AndOther n (ns ++ ys) (not_in_append ns ys n e (h n (ap (λ b. b || holds_number ns n) (equal_self n)))) (once_append ns ys o g (λ m i. h m (later (n == m) (holds_number ns m) i)))
+once_append _ ys (AndOther n ns e o) g h = AndOther n (ns ++ ys) (not_in_append ns ys n e (h n (ap (λ b. b || holds_number ns n) (eq_reflexive n)))) (once_append ns ys o g (λ m i. h m (or_by_second (n == m) (holds_number ns m) i)))
 
 -- ---- those of which a test holds
 
@@ -74,12 +45,12 @@ module _ (test : ℕ → Bool) where
   chosen_is (m ∷ ns) n h = go (test m) refl h (λ i. chosen_is ns n i)
     where
       here : (b : Bool) → (m == n) ≡ b → test m ≡ true → (b || holds_number (chosen test ns) n) ≡ true → (holds_number (chosen test ns) n ≡ true → (holds_number ns n ≡ true) × (test n ≡ true)) → ((b || holds_number ns n) ≡ true) × (test n ≡ true)
-      here true e f g deeper = (refl, ap test (sym (equal_is m n e)) ∙ f)
+      here true e f g deeper = (refl, ap test (sym (eq_means m n e)) ∙ f)
       here false e f g deeper = deeper g
 
       go : (b : Bool) → test m ≡ b → holds_number (number_before b m (chosen test ns)) n ≡ true → (holds_number (chosen test ns) n ≡ true → (holds_number ns n ≡ true) × (test n ≡ true)) → (((m == n) || holds_number ns n) ≡ true) × (test n ≡ true)
       go true f g deeper = here (m == n) refl f g deeper
-      go false f g deeper = let i = deeper g in (later (m == n) (holds_number ns n) i.0, i.1)
+      go false f g deeper = let i = deeper g in (or_by_second (m == n) (holds_number ns n) i.0, i.1)
 
   pub chosen_has : (ns : List ℕ) (n : ℕ) → holds_number ns n ≡ true → test n ≡ true → holds_number (chosen test ns) n ≡ true
   chosen_has [] n h e = absurd (cc)
@@ -87,16 +58,16 @@ module _ (test : ℕ → Bool) where
     where
       go : (b : Bool) → test m ≡ b → (c : Bool) → (m == n) ≡ c → (c || holds_number ns n) ≡ true → (holds_number ns n ≡ true → holds_number (chosen test ns) n ≡ true) → holds_number (number_before b m (chosen test ns)) n ≡ true
       go true f true g i deeper = ap (λ c. c || holds_number (chosen test ns) n) g
-      go true f false g i deeper = later (m == n) (holds_number (chosen test ns) n) (deeper i)
-      go false f true g i deeper = let z : false ≡ true = sym f ∙ (ap test (equal_is m n g) ∙ e) in absurd (cc)
+      go true f false g i deeper = or_by_second (m == n) (holds_number (chosen test ns) n) (deeper i)
+      go false f true g i deeper = let z : false ≡ true = sym f ∙ (ap test (eq_means m n g) ∙ e) in absurd (cc)
       go false f false g i deeper = deeper i
 
   -- none is held that is not among them all, or of which the test does not hold
   pub chosen_not : (ns : List ℕ) (n : ℕ) → holds_number ns n ≡ false → holds_number (chosen test ns) n ≡ false
-  chosen_not ns n e = not_true (holds_number (chosen test ns) n) (λ h. let z : true ≡ false = sym (chosen_is ns n h).0 ∙ e in absurd (cc))
+  chosen_not ns n e = false_unless_true (holds_number (chosen test ns) n) (λ h. let z : true ≡ false = sym (chosen_is ns n h).0 ∙ e in absurd (cc))
 
   pub chosen_out : (ns : List ℕ) (n : ℕ) → test n ≡ false → holds_number (chosen test ns) n ≡ false
-  chosen_out ns n e = not_true (holds_number (chosen test ns) n) (λ h. let z : true ≡ false = sym (chosen_is ns n h).1 ∙ e in absurd (cc))
+  chosen_out ns n e = false_unless_true (holds_number (chosen test ns) n) (λ h. let z : true ≡ false = sym (chosen_is ns n h).1 ∙ e in absurd (cc))
 
   pub once_chosen : (ns : List ℕ) → Once ns → Once (chosen test ns)
   once_chosen _ NoNumber = NoNumber
@@ -140,7 +111,7 @@ rises_below high low _ (OneRise _ n ns l b r) = OneBelow n ns b (rises_below hig
 
 not_lower : (high low m : ℕ) (ns : List ℕ) → m < low → Rises high low ns → holds_number ns m ≡ false
 not_lower high low m _ h (NoneRise _) = refl
-not_lower high low m _ h (OneRise _ n ns l b r) = false_or (n == m) (holds_number ns m) (apart_is n m (λ e. absurd (omega arith))) (not_lower high (suc n) m ns (omega arith) r)
+not_lower high low m _ h (OneRise _ n ns l b r) = or_both_fail (n == m) (holds_number ns m) (eq_fails n m (λ e. absurd (omega arith))) (not_lower high (suc n) m ns (omega arith) r)
 
 pub rises_once : (high low : ℕ) (ns : List ℕ) → Rises high low ns → Once ns
 rises_once high low _ (NoneRise _) = NoNumber

@@ -1,6 +1,6 @@
 -- Boxes that are live, and the first cell of one.
-use Rattle.std.proofs.Common.{◌≡◌, ℕ, ◌≤◌, true, List, Option, Some, None, is_some, length, pos, nat_le, refl, arith}
-use Rattle.std.proofs.lemmas.Bool.Decides.{nat_tests}
+use Rattle.std.proofs.Common.{◌≡◌, ℕ, true, List, Option, Some, None, is_some, length, pos, refl, arith}
+use Rattle.cpc_base.proofs.Truth.{le_holds}
 use Rattle.cpc_store.specs.declared.values.Class.TheVariants.{Auto}
 use Rattle.cpc_store.specs.Store.{Value, At, Store}
 use Rattle.cpc_meaning.specs.Answer.{Gives}
@@ -18,10 +18,7 @@ read_live s slots None h = tt
 read_live s slots (Some (AsField y f)) h = h
 read_live s slots (Some o) h = tt
 
-le_true : (a b : ℕ) → a ≤ b → nat_le a b ≡ true
-le_true a b h = grind (arith, nat_tests)
-
 -- the first cell of a live block is there
 pub starts : (o : Option (List Value)) (n : ℕ) → is_some o ≡ true → moved_within o Auto n (pos 0) ≡ Gives (At Auto n 0)
 starts None n h = absurd (cc)
-starts (Some cells) n h = simp (le_true 0 (length cells) (omega arith)) refl
+starts (Some cells) n h = simp (le_holds 0 (length cells) (omega arith)) refl

@@ -1,6 +1,7 @@
 -- What the number of a variable in scope says of it, and how its name is read.
 use Rattle.std.proofs.Common.{◌≡◌, ℕ, zero, suc, Bool, true, false, if◌then◌else◌, List, [], ◌∷◌, Option, Some, None, slice_get, bytes_eq, refl, sym, ap, ◌∙◌}
 use Rattle.cpc_base.specs.Bytes.{Text}
+use Rattle.cpc_base.proofs.Lists.{nil_not_cons}
 use Rattle.cpc_tree.specs.Erase.{Names}
 use Rattle.cpc_tree.specs.Registers.{slot_of}
 use Rattle.cpc_tree.specs.Typing.{Scope, Local}
@@ -9,14 +10,11 @@ use Rattle.cpc_forms_code.specs.Seen.{scope_within, scope_behind, local_seen}
 use Rattle.cpc_convert_image_laws.specs.Locals.{readings_in, reading_of}
 use Rattle.cpc_convert_names.specs.Counted.{called_of}
 
-none_some : {A : Type 0} (x : A) (xs : List A) → [] ≡ x ∷ xs → ⊥
-none_some x xs e = absurd cc
-
 -- ---- readings
 
 module _ (marks : ℕ → Bool) (spelled : ℕ → Text → Text) (x : Text) where
   none_here : (l : Local) (scope : Scope) → ([] ≡ slot_of scope x → readings_in marks spelled scope x ≡ None) → (b : Bool) → bytes_eq l.called x ≡ b → [] ≡ slot_of (l ∷ scope) x → readings_in marks spelled (l ∷ scope) x ≡ None
-  none_here l scope rest true is e = absurd (none_some l.slot [] (e ∙ ap (λ c. if c then l.slot ∷ [] else slot_of scope x) is))
+  none_here l scope rest true is e = absurd (nil_not_cons l.slot [] (e ∙ ap (λ c. if c then l.slot ∷ [] else slot_of scope x) is))
   none_here l scope rest false is e =
       ap (λ c. if c then Some (reading_of (marks l.slot) (spelled l.slot x) x) else readings_in marks spelled scope x) is ∙ rest (e ∙ ap (λ c. if c then l.slot ∷ [] else slot_of scope x) is)
 
@@ -34,7 +32,7 @@ module _ (marks : ℕ → Bool) (spelled : ℕ → Text → Text) (x : Text) whe
       ap (λ c. if c then Some (reading_of (marks l.slot) (spelled l.slot x) x) else readings_in marks spelled scope x) is ∙ rest (e ∙ ap (λ c. if c then l.slot ∷ [] else slot_of scope x) is)
 
   pub some_read : (scope : Scope) (k : ℕ) → k ∷ [] ≡ slot_of scope x → readings_in marks spelled scope x ≡ Some (reading_of (marks k) (spelled k x) x)
-  some_read [] k e = absurd (none_some k [] (sym e))
+  some_read [] k e = absurd (nil_not_cons k [] (sym e))
   some_read (l ∷ scope) k e = some_here l scope k (some_read scope k) (bytes_eq l.called x) refl e
 
 -- ---- variables
@@ -56,10 +54,10 @@ module _ (names : Names) (vs : List Variable) (x : Text) where
 
   found_behind : (d : ℕ) → ((o : Option ℕ) (k : ℕ) → k ∷ [] ≡ slot_of (scope_within names vs d o) x → Found names vs x k) → (j k : ℕ) (o : Option Variable) → slice_get vs j ≡ o
       → k ∷ [] ≡ slot_of (scope_behind names (scope_within names vs d) j o) x → Found names vs x k
-  found_behind d rest j k None at e = absurd (none_some k [] (sym e))
+  found_behind d rest j k None at e = absurd (nil_not_cons k [] (sym e))
   found_behind d rest j k (Some v) at e = found_here d rest j k v (bytes_eq (called_of names v) x) refl at e
 
   pub found_within : (d : ℕ) (o : Option ℕ) (k : ℕ) → k ∷ [] ≡ slot_of (scope_within names vs d o) x → Found names vs x k
-  found_within d None k e = absurd (none_some k [] (sym e))
-  found_within zero (Some j) k e = absurd (none_some k [] (sym e))
+  found_within d None k e = absurd (nil_not_cons k [] (sym e))
+  found_within zero (Some j) k e = absurd (nil_not_cons k [] (sym e))
   found_within (suc d) (Some j) k e = found_behind d (found_within d) j k (slice_get vs j) refl e

@@ -1,5 +1,5 @@
 -- Lists that grow by one in each turn of a loop.
-use Rattle.std.proofs.Common.{◌≡◌, ℕ, zero, suc, ◌+◌, ◌<◌, List, [], ◌∷◌, ◌++◌, map, length, get_or, take, add-one, append_assoc, refl, sym, ap, ◌∙◌, arith}
+use Rattle.std.proofs.Common.{◌≡◌, ℕ, ◌+◌, ◌<◌, List, [], ◌∷◌, ◌++◌, map, length, get_or, take, add-one, append_assoc, refl, sym, ap, ◌∙◌}
 use Rattle.std.proofs.lemmas.List.{map-append}
 use Rattle.std.proofs.Math.Seq.{take-suc}
 
@@ -22,9 +22,3 @@ copied_more g old new xs i x y lt is before one same =
 pub mapped_twice : {A B C : Type 0} (f : B → C) (g : A → B) (xs : List A) → map (λ x. f (g x)) xs ≡ map f (map g xs)
 mapped_twice f g [] = refl
 mapped_twice f g (x ∷ xs) = ap (λ u. f (g x) ∷ u) (mapped_twice f g xs)
-
--- what stands there does not depend on what would stand behind the end
-pub any_there : {A : Type 0} (xs : List A) (i : ℕ) (d e : A) → i < length xs → get_or xs i d ≡ get_or xs i e
-any_there [] i d e lt = absurd (omega (arith, lt))
-any_there (x ∷ xs) zero d e lt = refl
-any_there (x ∷ xs) (suc i) d e lt = any_there xs i d e (omega (arith, lt))

@@ -1,6 +1,7 @@
 -- What sections take: integers, and a pointer; and what code asks for where it submits one.
-use Rattle.std.proofs.Common.{◌≡◌, ℕ, suc, ◌&&◌, Bool, true, false, cond, List, [], ◌∷◌, map, Option, Some, None, Ok, Err, refl}
+use Rattle.std.proofs.Common.{◌≡◌, ℕ, suc, Bool, true, false, cond, List, [], ◌∷◌, map, Option, Some, None, Ok, Err, refl}
 use Rattle.cpc_base.specs.Bytes.{Text}
+use Rattle.cpc_base.proofs.Truth.{and_both}
 use Rattle.cpc_check_rules.specs.Calls as C
 use Rattle.cpc_num.specs.declared.kinds.Fault.TheVariants as F
 use Rattle.cpc_num.specs.declared.kinds.Kind.{Kind}
@@ -42,11 +43,6 @@ ints_more (At c n k) vs e h = absurd (cc)
 ints_more (Code f) vs e h = absurd (cc)
 ints_more (Cond n) vs e h = absurd (cc)
 
--- both halves of a test that holds
-both_hold : (a b : Bool) → (a && b) ≡ true → (a ≡ true) × (b ≡ true)
-both_hold true b e = (refl, e)
-both_hold false b e = absurd (cc)
-
 int_assigned : (t : Ty) (v : Value) → C.is_integer t ≡ true → Only (λ (w : Value). Ints (w ∷ [])) (assigned t v)
 int_assigned (TyInt kind) Unset e = refl
 int_assigned (TyInt kind) (Whole j z) e = refl
@@ -61,7 +57,7 @@ ints_taken [] [] e = refl
 ints_taken [] (v ∷ vs) e = tt
 ints_taken (t ∷ ts) [] e = tt
 ints_taken (t ∷ ts) (v ∷ vs) e =
-    let h = both_hold (C.is_integer t) (C.all_integers ts) e in
+    let h = and_both (C.is_integer t) (C.all_integers ts) e in
     only_then (λ (w : Value). Ints (w ∷ [])) Ints (assigned t v) _ (int_assigned t v h.0) λ w i.
     only_then Ints Ints (all_taken (map (λ t. FreeOf t) ts) vs) _ (ints_taken ts vs h.1) λ ws j. ints_more w ws i j
 

@@ -1,6 +1,7 @@
 -- The threads of a program as it is written, and the states of the lifted run of its split form: which frames and which needs are the same.
 use Rattle.std.proofs.Common.{◌≡◌, if◌then◌else◌, ℕ, zero, suc, ◌+◌, ◌≤◌, Bool, true, false, not, List, [], ◌∷◌, length, Option, Some, None, is_some, option_map, refl, ◌∙◌, ap, arith}
 use Rattle.cpc_base.specs.Bytes.{Text}
+use Rattle.cpc_base.proofs.Truth.{never_both}
 use Rattle.cpc_store.specs.Store.{Value}
 use Rattle.cpc_tree.specs.Lists.{holds_number}
 use Rattle.cpc_tree.specs.Points.{Point}
@@ -31,7 +32,7 @@ use Rattle.cpc_forms.specs.Split.{Position, InTree, InGraph, splits, split_of, s
 use Rattle.cpc_graph_laws.proofs.Positions.{InPiece, NotInPiece, OwnedBy, AtOwner, owners_meet}
 use Rattle.cpc_lift_laws.specs.Boxes.{is_box}
 use Rattle.cpc_lift_laws.specs.Lift.{variables_in, closure_in}
-use Rattle.cpc_lift_laws.proofs.Slots.{SlotMeets, SlotsMeet, not_both}
+use Rattle.cpc_lift_laws.proofs.Slots.{SlotMeets, SlotsMeet}
 use Rattle.cpc_lift_laws.proofs.Boxes.{programs_have_marks}
 use Rattle.cpc_lift_laws.proofs.Frames.{FramesAgree, FrameAgrees, StacksAgree, StackAgrees}
 use Rattle.cpc_lift_laws.proofs.Standing.{run_agrees}
@@ -148,7 +149,7 @@ module _ {P Q : Type 0} (K : Stack P → Stack Q → Type 0) (runs : List (Frame
 kept_slot : (keep box : Bool) (x y : Slot) → SlotMeets keep box x y → keep ≡ true → slot_registers y ≡ slot_registers x
 kept_slot keep box (Register v) (Register w) m e = refl
 kept_slot keep box (Boxed i) (Boxed j) m e = refl
-kept_slot keep box (Boxed i) (Register w) m e = absurd (not_both keep e m.1)
+kept_slot keep box (Boxed i) (Register w) m e = absurd (never_both keep e m.1)
 kept_slot keep box (Register v) (Boxed j) m e = absurd m
 
 kept_slots : (keep box : ℕ → Bool) (xs ys : List Slot) → SlotsMeet keep box xs ys → ((k : ℕ) → keep k ≡ true) → slots_registers ys ≡ slots_registers xs

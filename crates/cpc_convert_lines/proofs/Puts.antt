@@ -1,5 +1,6 @@
 -- Statements that are written one after the other.
 use Rattle.std.proofs.Common.{◌≡◌, ℕ, zero, suc, ◌<◌, ◌≤◌, true, false, Bool, List, [], ◌∷◌, ◌++◌, map, length, drop, get_or, Option, if◌then◌else◌, arith, refl, sym, ap, ◌∙◌}
+use Rattle.cpc_base.proofs.Lists.{get_or_within}
 use Rattle.cpc_tree.specs.Syntax.{Stmt, Empty, Goto}
 use Rattle.cpc_forms_code.specs.declared.boxed.Variable.{Variable}
 use Rattle.cpc_convert_event.specs.Names.{node_label}
@@ -42,15 +43,9 @@ pub one_put : {X : Type 0} (g : X → Stmt) (xs : List X) (i j : ℕ) (x : X) (w
     → puts w (map g (drop i xs)) ≡ u → v ≡ puts w (g x ∷ []) → puts v (map g (drop j xs)) ≡ u
 one_put g xs i j x w v u is lt e so p = ap (λ t. puts t (map g (drop j xs))) p ∙ (ap (λ l. puts w (map g l)) (sym (next xs i j x is lt e)) ∙ so)
 
--- whatever is taken where there is none
-same_at : {X : Type 0} (xs : List X) (i : ℕ) (d e : X) → i < length xs → get_or xs i d ≡ get_or xs i e
-same_at [] i d e lt = absurd (omega (arith, lt))
-same_at (x ∷ xs) zero d e lt = refl
-same_at (x ∷ xs) (suc i) d e lt = same_at xs i d e (omega (arith, lt))
-
 pub put_at : {X : Type 0} (g : X → Stmt) (xs : List X) (i j : ℕ) (d : X) (w v u : Written) → i < length xs → j ≡ suc i
     → puts w (map g (drop i xs)) ≡ u → v ≡ puts w (g (get_or xs i d) ∷ []) → puts v (map g (drop j xs)) ≡ u
-put_at g xs i j d w v u lt e so p = one_put g xs i j (get_or xs i d) w v u (same_at xs i d (get_or xs i d) lt) lt e so p
+put_at g xs i j d w v u lt e so p = one_put g xs i j (get_or xs i d) w v u (get_or_within xs i d (get_or xs i d) lt) lt e so p
 
 -- all are written
 pub all_put : {X : Type 0} (g : X → Stmt) (xs : List X) (i : ℕ) (w u : Written) → length xs ≤ i → puts w (map g (drop i xs)) ≡ u → w ≡ u

@@ -1,5 +1,5 @@
 -- What stands around lines: the function's name, its variables and its nodes.
-use Rattle.std.proofs.Common.{◌≡◌, ℕ, zero, suc, ◌<◌, true, nat_lt, List, [], ◌∷◌, map, length, Some, option_map, slice_get, get_or, arith, refl, sym, ap, ◌∙◌}
+use Rattle.std.proofs.Common.{◌≡◌, ℕ, ◌<◌, true, nat_lt, List, map, length, Some, option_map, slice_get, get_or, arith, refl, sym, ap, ◌∙◌}
 use Rattle.std.proofs.lemmas.Bool.Decides.{nat_tests}
 use Rattle.std.proofs.lemmas.Option.{slice_get-map, slice_get_read}
 use Rattle.cpc_tree.specs.Erase.{Names, Table}
@@ -11,12 +11,6 @@ use Rattle.cpc_convert_names.specs.Called.{name_in, variables_in}
 use Rattle.cpc_convert_lines.specs.declared.around.Around.{Around}
 use Rattle.cpc_convert_standing.specs.Known.{plain_seen}
 use Rattle.cpc_convert_lines.specs.Around.{Stands}
-
--- what is at a place of a list
-pub there : {X : Type 0} (xs : List X) (k : ℕ) → k < length xs → (x : X) × (slice_get xs k ≡ Some x)
-there [] k lt = absurd (omega (arith, lt))
-there (x ∷ xs) zero lt = (x, refl)
-there (x ∷ xs) (suc k) lt = there xs k (omega (arith, lt))
 
 pub read : {X : Type 0} (ys xs : List X) (k : ℕ) (x : X) → xs ≡ ys → true ≡ nat_lt k (length xs) → x ≡ get_or xs k x → slice_get ys k ≡ Some x
 read {X = X} ys xs k x same test is =

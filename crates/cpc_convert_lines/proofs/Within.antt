@@ -1,10 +1,11 @@
 -- The nodes of the function whose lines are written, the variables that its leaders keep, and what is found by a name.
-use Rattle.std.proofs.Common.{◌≡◌, ℕ, zero, suc, ◌+◌, ◌<◌, ◌≤◌, Bool, true, false, if◌then◌else◌, nat_lt, bytes_eq, List, [], ◌∷◌, length, Option, Some, None, option_map, slice_get, get_or, All, arith, sym, ap, subst, ◌∙◌}
+use Rattle.std.proofs.Common.{◌≡◌, ℕ, zero, suc, ◌+◌, ◌<◌, ◌≤◌, Bool, true, false, if◌then◌else◌, nat_lt, bytes_eq, List, [], ◌∷◌, length, Some, None, option_map, slice_get, get_or, All, arith, sym, ap, subst, ◌∙◌}
 use Rattle.std.proofs.lemmas.Bool.Decides.{nat_tests}
 use Rattle.std.proofs.lemmas.List.{length-map}
 use Rattle.std.proofs.lemmas.List.Elements.{All-get_or}
 use Rattle.std.proofs.lemmas.Option.{slice_get-map, slice_get_within, slice_get_past, get_or_from_slice_get}
 use Rattle.cpc_base.specs.Bytes.{Text}
+use Rattle.cpc_base.proofs.Lists.{none_not_some, if_some_gives}
 use Rattle.cpc_tree.specs.Erase.{Names, Table}
 use Rattle.cpc_tree.specs.Registers as R
 use Rattle.cpc_tree.specs.Lists.{holds_number}
@@ -68,13 +69,6 @@ kept_are source from to p r a st l i d h =
 
 -- ---- what is found
 
-nothing_is : {X : Type 0} (c : X) → None ≡ Some c → ⊥
-nothing_is c e = cc
-
-either_is : {X : Type 0} (P : X → Type 0) (d c : X) (b : Bool) (o : Option X) → P d → (o ≡ Some c → P c) → (if b then Some d else o) ≡ Some c → P c
-either_is P d c true o here later e = let same : d ≡ c = cc in subst P same here
-either_is P d c false o here later e = later e
-
 pub found : (P : Called → Type 0) (names : Names) (cs : List Called) (x : Text) (c : Called) → All P cs → find names cs x ≡ Some c → P c
-found P names [] x c all e = absurd (nothing_is c e)
-found P names (d ∷ cs) x c all e = either_is P d c (bytes_eq (name_in names d.lifted.now) x) (find names cs x) (all 0 d (omega arith)) (found P names cs x c (λ k u h. all (suc k) u (omega (arith, h)))) e
+found P names [] x c all e = absurd (none_not_some c e)
+found P names (d ∷ cs) x c all e = if_some_gives P d c (bytes_eq (name_in names d.lifted.now) x) (find names cs x) (all 0 d (omega arith)) (found P names cs x c (λ k u h. all (suc k) u (omega (arith, h)))) e

@@ -1,5 +1,5 @@
 -- The first function of a name, among those that are left to look at.
-use Rattle.std.proofs.Common.{◌≡◌, ℕ, suc, ◌+◌, ◌<◌, ◌≤◌, ◌==◌, ◌++◌, zero, All, subst, true, false, if◌then◌else◌, List, [], ◌∷◌, Some, None, get_or, drop, length, bytes_eq, add-one, arith, sym, ap, ◌∙◌}
+use Rattle.std.proofs.Common.{◌≡◌, ℕ, suc, ◌+◌, ◌<◌, ◌≤◌, ◌++◌, zero, All, subst, true, false, if◌then◌else◌, List, [], ◌∷◌, Some, None, get_or, drop, length, bytes_eq, add-one, arith, sym, ap, ◌∙◌}
 use Rattle.std.proofs.lemmas.List.Elements.{All-append}
 use Rattle.std.proofs.Math.ListN.{drop_of_length-le}
 use Rattle.std.proofs.Math.Seq.{drop-cons}
@@ -7,7 +7,6 @@ use Rattle.cpc_base.specs.Bytes.{Text}
 use Rattle.cpc_tree.specs.Erase.{Names}
 use Rattle.cpc_convert_names.specs.Called.{name_in}
 use Rattle.cpc_convert_names.specs.Book.{find}
-use Rattle.std.proofs.lemmas.Bool.Decides.{nat_tests}
 use Rattle.cpc_convert_names.specs.declared.called.Called.{Called}
 
 -- a function decides, or else those behind it
@@ -23,12 +22,6 @@ found_later names cs i c x lt is e = find_here names cs i c x lt is ∙ ap (λ b
 
 pub found_none : (names : Names) (cs : List Called) (i : ℕ) (x : Text) → length cs ≤ i → find names (drop i cs) x ≡ None
 found_none names cs i x le = ap (λ (l : List Called). find names l x) (drop_of_length-le cs le)
-
-pub same_number : (a b : ℕ) → a ≡ b → (a == b) ≡ true
-same_number a b e = grind (arith, nat_tests)
-
-pub other_number : (a b : ℕ) → (a ≡ b → ⊥) → (a == b) ≡ false
-other_number a b f = grind (arith, nat_tests)
 
 -- ---- all of them
 

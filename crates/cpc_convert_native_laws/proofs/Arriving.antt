@@ -1,6 +1,8 @@
 -- In each state of the lifted run, native frames stand where a value arrives only if the value of what stands there does.
 use Rattle.std.proofs.Common.{◌≡◌, ℕ, ◌&&◌, Bool, true, false, Option, Some, None, option_map, refl, ◌∙◌, ap, subst}
 use Rattle.cpc_base.specs.Bytes.{Text}
+use Rattle.cpc_base.proofs.Truth.{and_first, and_second, and_holds}
+use Rattle.cpc_base.proofs.Lists.{some_is}
 use Rattle.cpc_tree.specs.Points.{Path, Point, Here, Arrival, End, found, Move, Into, Out, ToLabel, Broken, Continued, NoMove, at_label, arrived, after, labelled}
 use Rattle.cpc_tree.specs.Syntax.{Stmt, Function, Program}
 use Rattle.cpc_tree.specs.Typing.{function_named}
@@ -19,21 +21,6 @@ use Rattle.cpc_convert_accepted_laws.specs.Lifted.{kept_of}
 use Rattle.cpc_convert_accepted_laws.proofs.Lifted.{programs_are_closed}
 use Rattle.cpc_convert_native_laws.specs.Instance.{may_be_at, may_be}
 use Rattle.cpc_convert_native_laws.specs.Laws.{FramesMayBe}
-
-and_left : (a b : Bool) → (a && b) ≡ true → a ≡ true
-and_left true b e = refl
-and_left false b e = absurd (cc)
-
-and_right : (a b : Bool) → (a && b) ≡ true → b ≡ true
-and_right true b e = e
-and_right false b e = absurd (cc)
-
-both : (a b : Bool) → a ≡ true → b ≡ true → (a && b) ≡ true
-both true b e f = f
-both false b e f = absurd (cc)
-
-some_same : {A : Type 0} (x y : A) → Some x ≡ Some y → x ≡ y
-some_same x y e = cc
 
 module _ (p : Program) (x : Text) where
   -- ---- points
@@ -77,12 +64,12 @@ module _ (p : Program) (x : Text) where
   -- control comes where it may be
   comes : (o : Option Point) (a : Position) → NoArrival o → option_map (λ to. InTree to) o ≡ Some a → may_be p x a ≡ true
   comes _ a Nowhere e = absurd (cc)
-  comes _ a (AtPath path) e = subst (λ a. may_be p x a ≡ true) (some_same (InTree (Here path)) a e) (here_may (function_named p x) path)
-  comes _ a AtTheEnd e = subst (λ a. may_be p x a ≡ true) (some_same (InTree End) a e) (end_may (function_named p x))
+  comes _ a (AtPath path) e = subst (λ a. may_be p x a ≡ true) (some_is (InTree (Here path)) a e) (here_may (function_named p x) path)
+  comes _ a AtTheEnd e = subst (λ a. may_be p x a ≡ true) (some_is (InTree End) a e) (end_may (function_named p x))
 
   -- a value arrives where code may be
   arrives_if : (f : Function) → function_named p x ≡ Some f → (path : Path) (b : Bool) → arrives_later (manner_at p f path) ≡ b → (a : Position) → option_map (λ to. InTree to) (only_if b (Some (Arrival path))) ≡ Some a → may_be p x a ≡ true
-  arrives_if f is path true i a e = subst (λ a. may_be p x a ≡ true) (some_same (InTree (Arrival path)) a e) (ap (λ o. may_be_at p o (Arrival path)) is ∙ i)
+  arrives_if f is path true i a e = subst (λ a. may_be p x a ≡ true) (some_is (InTree (Arrival path)) a e) (ap (λ o. may_be_at p o (Arrival path)) is ∙ i)
   arrives_if f is path false i a e = absurd (cc)
 
   arrives : (o : Option Function) → function_named p x ≡ o → (b : Point) (a : Position) → option_map (λ to. InTree to) (arrival_from p o b) ≡ Some a → may_be p x a ≡ true
@@ -95,8 +82,8 @@ module _ (p : Program) (x : Text) where
 
   node_may : (s : Option Split) (l : Place) (o : Option ℕ) (a : Position) → option_map (come_to s l) o ≡ Some a → may_be p x a ≡ true
   node_may s l None a e = absurd (cc)
-  node_may None l (Some n) a e = subst (λ a. may_be p x a ≡ true) (some_same (come_to None l n) a e) refl
-  node_may (Some s) l (Some n) a e = subst (λ a. may_be p x a ≡ true) (some_same (come_to (Some s) l n) a e) refl
+  node_may None l (Some n) a e = subst (λ a. may_be p x a ≡ true) (some_is (come_to None l n) a e) refl
+  node_may (Some s) l (Some n) a e = subst (λ a. may_be p x a ≡ true) (some_is (come_to (Some s) l n) a e) refl
 
   -- ---- positions
 
@@ -121,14 +108,14 @@ stays_closed : (p : Program) → Closed (split_form p) (is_box p) (there p) (kep
 stays_closed p = record {
   inside = λ x. let c = (programs_are_closed p).inside x in record {
     stands = record {
-      first = both _ _ c.stands.first (first_may p x (splits p x) (function_named p x) refl);
-      goes = λ a b t h e. both _ _ (c.stands.goes a b t (and_left _ _ h) e) (goes_may p x a b t e);
-      arrival = λ a b h e. both _ _ (c.stands.arrival a b (and_left _ _ h) e) (arrival_may p x a b e);
+      first = and_holds _ _ c.stands.first (first_may p x (splits p x) (function_named p x) refl);
+      goes = λ a b t h e. and_holds _ _ (c.stands.goes a b t (and_first _ _ h) e) (goes_may p x a b t e);
+      arrival = λ a b h e. and_holds _ _ (c.stands.arrival a b (and_first _ _ h) e) (arrival_may p x a b e);
     };
-    used = λ a k h u. c.used a k (and_left _ _ h) u;
-    left = λ a k h l b. c.left a k (and_left _ _ h) l b;
-    along = λ a b t k h e i. c.along a b t k (and_left _ _ h) e i;
-    over = λ a b k h e i. c.over a b k (and_left _ _ h) e i;
+    used = λ a k h u. c.used a k (and_first _ _ h) u;
+    left = λ a k h l b. c.left a k (and_first _ _ h) l b;
+    along = λ a b t k h e i. c.along a b t k (and_first _ _ h) e i;
+    over = λ a b k h e i. c.over a b k (and_first _ _ h) e i;
   };
 }
 
@@ -136,4 +123,4 @@ pub frames_may_be : FramesMayBe
 frames_may_be p h n frame below o e =
     let stands = lifted_stands Position (split_form p) (is_box p) (there p) (kept_of p) (programs_have_marks p) (stays_closed p) h n in
     let running = subst (RunningStands (split_form p) (is_box p) (there p) (kept_of p)) e stands.running in
-    and_right ((lifting p).there frame.function frame.point) (may_be p frame.function frame.point) running.0.at
+    and_second ((lifting p).there frame.function frame.point) (may_be p frame.function frame.point) running.0.at

@@ -4,6 +4,8 @@ use Rattle.std.specs.Prelude.{is_some}
 use Rattle.cpc_base.specs.Bytes.{Text}
 use Rattle.cpc_base.specs.declared.stop.Place.{Place}
 use Rattle.cpc_base.specs.declared.stop.Dialect.TheVariants as D
+use Rattle.cpc_base.proofs.Truth.{by_false_true, or_neither, and_not_fails}
+use Rattle.cpc_base.proofs.Lists.{some_is}
 use Rattle.cpc_tree.specs.declared.program.Mode.{Mode}
 use Rattle.cpc_tree.specs.declared.program.Mode.TheVariants.{Extern, Native, Cps, Detached}
 use Rattle.cpc_tree.specs.Syntax.{Ty, Function, FunctionItem, Program}
@@ -23,14 +25,14 @@ use Rattle.cpc_check_sound_laws.specs.Typed.{is_own}
 use Rattle.cpc_meaning.proofs.Functions.{text_same}
 use Rattle.cpc_check_sound_laws.proofs.Agendas.{Each}
 use Rattle.cpc_check_sound_laws.proofs.Agreement.{Matches, Grows, Facts, At}
-use Rattle.cpc_check_sound_laws.proofs.Answers.{some_is, no_some, not_true}
-use Rattle.cpc_check_sound_laws.proofs.Bodies.{either_false, at_name}
+use Rattle.cpc_check_sound_laws.proofs.Answers.{no_some}
+use Rattle.cpc_check_sound_laws.proofs.Bodies.{at_name}
 use Rattle.cpc_check_sound_laws.proofs.Grammar.{items_shape}
 use Rattle.cpc_check_sound_laws.proofs.Items.{signed, named_more, function_there}
 use Rattle.cpc_check_sound_laws.proofs.Knowing.{Same, Known, nothing_known, known_struct, known_global, known_function}
 use Rattle.cpc_check_sound_laws.proofs.Programs.{BodyShape, ItemShape}
 use Rattle.cpc_check_sound_laws.proofs.Accepted.{accepted_facts}
-use Rattle.cpc_check_sound_laws.proofs.Unbroken.{split, holds_not, have_all, negated}
+use Rattle.cpc_check_sound_laws.proofs.Unbroken.{split, holds_not}
 use Rattle.cpc_convert_image_laws.specs.Names.{AllNamesFound}
 use Rattle.cpc_convert_accepted_laws.specs.Names.{HasNames}
 use Rattle.cpc_convert_accepted_laws.proofs.Names.{accepted_has_names}
@@ -46,19 +48,16 @@ types_are [] = refl
 types_are (p ∷ ps) = ap (λ ts. p.type ∷ ts) (types_are ps)
 
 free_name : (x : Ident) → reserved_breaks D.Cpc (x ∷ []) ≡ [] → is_kept x.text ≡ false
-free_name x h = (either_false (is_kept x.text) _ (holds_not (is_reserved D.Cpc x.text) x.place Reserved (split (at_if (is_reserved D.Cpc x.text) x.place Reserved) [] h).0)).0
+free_name x h = (or_neither (is_kept x.text) _ (holds_not (is_reserved D.Cpc x.text) x.place Reserved (split (at_if (is_reserved D.Cpc x.text) x.place Reserved) [] h).0)).0
 
 no_extern : (m : Mode) → is_own m ≡ true → is_extern m ≡ false
 no_extern Native e = refl
 no_extern Cps e = refl
 no_extern Detached e = refl
-no_extern Extern e = not_true e
+no_extern Extern e = by_false_true e
 
 extern_is : (m : Mode) → m ≡ Extern → is_extern m ≡ true
 extern_is m e = ap is_extern e
-
-implied : (a b : Bool) → (a && not b) ≡ false → a ≡ true → b ≡ true
-implied a b h e = negated b (have_all a (not b) h e)
 
 abbrev signature : Mode → Ty → List LParameter → Bool → Signature
 signature mode r ps is_defined = record { mode = mode; result = r; parameters = types ps; is_defined = is_defined }
@@ -77,8 +76,8 @@ module _ (program before rest : Program) (known : Known program before) where
       (λ p y. ap (λ ts. cond (bytes_eq x.text y) (AFunction mode r ts) (in_items p y)) (sym (types_are ps)))
       (λ k y. ap (λ ts. cond (bytes_eq x.text y) (AFunction mode r ts) NotMeant) (sym (types_are ps)))
       (holds_not (is_clash x.text new before) x.place Twice c.0) (holds_not (is_disagreeing x.text new before) x.place Disagree c.1) (free_name x h1.0)
-      (λ e. implied (is_extern mode) (is_host_like r (types ps)) (holds_not (is_extern mode && not (is_host_like r (types ps))) x.place Disagree h4.0) (extern_is mode e))
-      (λ o. implied (not (is_extern mode)) (is_function x.text program) (holds_not (not (is_extern mode) && not (is_function x.text program)) x.place Undeclared h5.0) (ap not (no_extern mode o)))
+      (λ e. and_not_fails (is_extern mode) (is_host_like r (types ps)) (holds_not (is_extern mode && not (is_host_like r (types ps))) x.place Disagree h4.0) (extern_is mode e))
+      (λ o. and_not_fails (not (is_extern mode)) (is_function x.text program) (holds_not (not (is_extern mode) && not (is_function x.text program)) x.place Undeclared h5.0) (ap not (no_extern mode o)))
       (λ y g e. no_some g e)
 
   known_definition : (f : LFunction) → ItemShape (LFunctionItem f) → program ≡ before ++ bare_item (LFunctionItem f) ∷ rest → function_breaks D.Cpc before f ≡ [] → Known program (before ++ bare_item (LFunctionItem f) ∷ [])
@@ -92,7 +91,7 @@ module _ (program before rest : Program) (known : Known program before) where
       (λ p y. ap (λ ts. cond (bytes_eq f.called.text y) (AFunction f.mode f.result ts) (in_items p y)) (sym (types_are f.parameters)))
       (λ k y. ap (λ ts. cond (bytes_eq f.called.text y) (AFunction f.mode f.result ts) NotMeant) (sym (types_are f.parameters)))
       (holds_not (is_clash f.called.text new before) f.called.place Twice c.0) (holds_not (is_disagreeing f.called.text new before) f.called.place Disagree c.1) (free_name f.called h1.0)
-      (λ e. not_true (sym (no_extern f.mode shape.0) ∙ extern_is f.mode e))
+      (λ e. by_false_true (sym (no_extern f.mode shape.0) ∙ extern_is f.mode e))
       (λ o. subst (λ p. is_function f.called.text p ≡ true) (sym whole) (function_there before rest (bare_function f) f.called.text (text_same f.called.text)))
       (λ y g e. is_new f y g e)
     where
@@ -130,7 +129,7 @@ module _ (p : Program) (facts : Facts p) (f : Function) (items : Program) (mode 
       one : (o : Option Ident) (t : Ty) → (is_some o && all_named (λ (p : LParameter). p.called) ps) ≡ true
           → ((block : R.Block) (scope : Scope) → Named ps → At D.Cpc p f (among_block block) scope → At D.Cpc p f (among_block (parameter_block block ps)) (parameter_scope (suc n) (map bare_parameter ps) scope))
           → At D.Cpc p f (among_block (parameter_block block (record { called = o; type = t } ∷ ps))) (parameter_scope n (map bare_parameter (record { called = o; type = t } ∷ ps)) scope)
-      one None t e rest = not_true e
+      one None t e rest = by_false_true e
       one (Some x) t e rest = rest (record { called = x.text; type = t } ∷ block) (record { called = x.text; type = t; slot = n } ∷ scope) e (at_name D.Cpc p facts f (among_block block) scope n (record { called = x.text; type = t }) at)
 
 items_match : (p items rest : Program) (x : Text) → p ≡ items ++ rest → Known p items → HasNames p → Matches x (in_items (reverse items) x) (item_named 0 p x)

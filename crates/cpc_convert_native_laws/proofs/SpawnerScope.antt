@@ -1,13 +1,14 @@
 -- What names mean in a spawner: its parameters and its frame hide no name of an item.
-use Rattle.std.proofs.Common.{◌≡◌, ℕ, suc, ◌<◌, ◌≤◌, ◌^◌, Bool, true, false, cond, List, [], ◌∷◌, map, decimal, bytes_eq, refl, sym, ◌∙◌, ap, subst, codes, arith}
+use Rattle.std.proofs.Common.{◌≡◌, ℕ, suc, ◌<◌, ◌^◌, Bool, true, false, cond, List, [], ◌∷◌, map, decimal, bytes_eq, refl, sym, ◌∙◌, ap, subst, codes, arith}
 use Rattle.std.proofs.lemmas.Fmt.{decimal_is_IsNumeral}
 use Rattle.std.specs.Str.Parse.{AllDigits}
 use Rattle.std.specs.Char.{digit_value}
 use Rattle.cpc_base.specs.Bytes.{Text}
+use Rattle.cpc_base.proofs.Truth.{bytes_eq_fails_back, not_under_ten}
 use Rattle.cpc_tree.specs.Registers.{parameter_scope}
 use Rattle.cpc_tree.specs.Syntax.{Variable, Program}
 use Rattle.cpc_tree.specs.Typing.{Local, Scope, ALocal, named, item_named}
-use Rattle.cpc_meaning.proofs.Functions.{text_same, texts_differ}
+use Rattle.cpc_meaning.proofs.Functions.{texts_differ}
 use Rattle.cpc_convert.specs.Marks.{has_marks}
 use Rattle.cpc_convert.specs.Converted.{marked}
 use Rattle.cpc_convert.proofs.Marks.{differs_marked, marked_is, no_bar_decimal}
@@ -21,9 +22,6 @@ use Rattle.cpc_convert_event.proofs.Fields.{word_apart, Rising, NoneRises, OneRi
 
 -- ---- texts
 
-turned : (x y : Text) → bytes_eq x y ≡ false → bytes_eq y x ≡ false
-turned x y h = texts_differ y x (λ (k : y ≡ x). absurd (let i : true ≡ false = sym (text_same x) ∙ (sym (ap (bytes_eq x) k) ∙ h) in cc))
-
 variable_is : (k : ℕ) (x : Text) → variable_name k x ≡ marked x (decimal k)
 unfolding variable_name
 variable_is k x = refl
@@ -31,12 +29,9 @@ variable_is k x = refl
 not_digits : (c : ℕ) (d e : Text) → (digit_value c < 10 → ⊥) → AllDigits 10 d → d ≡ c ∷ e → ⊥
 not_digits c d e h a k = h (subst (AllDigits 10) k a).0
 
-too_large : (n : ℕ) → 10 ≤ n → n < 10 → ⊥
-too_large n h g = absurd (omega arith)
-
 -- a number is not spelled so
 no_start : (n : ℕ) → n < 2 ^ 63 → decimal n ≡ codes "start" → ⊥
-no_start n h k = not_digits 115 (decimal n) _ (too_large 28 (omega arith)) (decimal_is_IsNumeral n (omega arith)).0.1 k
+no_start n h k = not_digits 115 (decimal n) _ (not_under_ten 28 (omega arith)) (decimal_is_IsNumeral n (omega arith)).0.1 k
 
 -- ---- names that no variable has
 
@@ -71,7 +66,7 @@ frame_piece f hf =
 pub past : (q : Program) (y : Text) (k : ℕ) (xs : List Variable) (scope : Scope) → NotCalled y xs → named q (parameter_scope k (map parameter_of xs) scope) y ≡ named q scope y
 past q y k _ scope NoneSo = refl
 past q y k _ scope (NotSo v vs e more) =
-    past q y (suc k) vs (record { called = v.called; type = v.type; slot = k } ∷ scope) more ∙ ap (λ b. cond b (ALocal k v.type) (named q scope y)) (turned y v.called e)
+    past q y (suc k) vs (record { called = v.called; type = v.type; slot = k } ∷ scope) more ∙ ap (λ b. cond b (ALocal k v.type) (named q scope y)) (bytes_eq_fails_back y v.called e)
 
 -- nor the variable on top
 pub past_both : (q : Program) (top : Local) (xs : List Variable) (y : Text) → bytes_eq top.called y ≡ false → NotCalled y xs → named q (top ∷ parameter_scope 0 (map parameter_of xs) []) y ≡ item_named 0 q y

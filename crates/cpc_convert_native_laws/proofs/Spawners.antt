@@ -2,6 +2,7 @@
 use Rattle.std.proofs.Common.{◌≡◌, ℕ, suc, ◌+◌, ◌*◌, ◌<◌, ◌≤◌, true, false, List, [], ◌∷◌, ◌++◌, map, length, slice_get, slice_set, option_map, Option, Some, None, refl, sym, ◌∙◌, ap, subst, codes, arith}
 use Rattle.std.specs.List.{All}
 use Rattle.cpc_base.specs.Bytes.{Text}
+use Rattle.cpc_base.proofs.Lists.{length_of_map}
 use Rattle.cpc_num.specs.declared.kinds.Kind.TheVariants.{Int}
 use Rattle.cpc_check_rules.specs.Operators as O
 use Rattle.cpc_check_sound_laws.specs.Typed.{AllGet}
@@ -89,10 +90,6 @@ cps_mode Detached e = absurd (cc)
 enough : (n v steps leads : ℕ) → n ≤ v → steps ≡ suc (suc (suc (suc n)) + 2) → 7 + 2 * v < leads → steps + 1 < leads
 enough n v steps leads a b c = omega (arith, a, b, c)
 
-same_length : {A B : Type 0} (f : A → B) (xs : List A) → length (map f xs) ≡ length xs
-same_length f [] = refl
-same_length f (x ∷ xs) = ap suc (same_length f xs)
-
 -- ---- what is spawned
 
 request_same : (r s : Request) → Gives (AsksFor r) ≡ Gives (AsksFor s) → r ≡ s
@@ -163,14 +160,14 @@ module _ (p : Program) (h : Convertible p) (g : Function) (cps : IsCps p g) wher
   -- ---- the walk
 
   number : length (map save_of (passed g)) ≤ length (variables g)
-  number = let a = passed_few g in let c = same_length save_of (passed g) in omega (arith, a, c)
+  number = let a = passed_few g in let c = length_of_map save_of (passed g) in omega (arith, a, c)
 
   -- its registers and its steps, together
   pub spawner_fits : (steps registers leads : ℕ) → steps ≡ suc (suc (suc (suc (length (map save_of (passed g))))) + 2) → registers ≡ suc (length (passed g)) → 7 + 2 * length (variables g) < leads → registers + steps ≤ leads
-  spawner_fits steps registers leads e i wide = let a = passed_few g in let c = same_length save_of (passed g) in omega (arith, a, c, e, i, wide)
+  spawner_fits steps registers leads e i wide = let a = passed_few g in let c = length_of_map save_of (passed g) in omega (arith, a, c, e, i, wide)
 
   few : suc (suc (suc (length (map save_of (passed g))))) ≤ 258
-  few = let a = passed_few g in let b = (h.names.functions g cps.has).few in let c = same_length save_of (passed g) in omega (arith, a, b, c)
+  few = let a = passed_few g in let b = (h.names.functions g cps.has).few in let c = length_of_map save_of (passed g) in omega (arith, a, b, c)
 
   module _ (vs : List Value) (fits : AllFit (passed g) vs) (w : Shared) (bs : Blocks) (c : Agenda Callback) (frame : CallFrame Point) (others : List (CallFrame Point)) where
     abbrev slots : List Slot
@@ -212,12 +209,12 @@ module _ (p : Program) (h : Convertible p) (g : Function) (cps : IsCps p g) wher
                 (sym (ap first_point is_g))
                 (spawner_walk q (world_of w c) (spawner_name g.called) spawner body frame others is_g (outer_scope spawner) count (map Register vs) (beside bs w.store) frame_name tag code_field next_field tag (map save_of (passed g)) stands
                 vs (same_number (passed g) vs fits) (all_registers vs) means_frame means_ready means_driver
-                (struct.size ∙ ap (λ n. Some (suc (suc (suc n)))) (sym (same_length save_of (passed g)))) (let a = few in omega (arith, a))
+                (struct.size ∙ ap (λ n. Some (suc (suc (suc n)))) (sym (length_of_map save_of (passed g)))) (let a = few in omega (arith, a))
                 any_pointer any_pointer (any_pointer ∷ []) (AndTy any_pointer NoTy) means_piece (struct.field 0 _ refl) TyVoid (struct.field 1 _ refl)
                 (saves_all q scope_in pointed tag (TyInt Int) (passed g) vs struct (holds_all q top pointed 0 (passed g) vs (Register (Pointer Frame (length bs) 0) ∷ []) [] fields (no_frame 0 (passed g) rising) fits pointed_is)));
           },
           refl,
-          (let e = same_number (passed g) vs fits in let i = registers_of vs in let j = same_length parameter_of (passed g) in omega (arith, e, i, j)),
+          (let e = same_number (passed g) vs fits in let i = registers_of vs in let j = length_of_map parameter_of (passed g) in omega (arith, e, i, j)),
         )
 
 -- ---- the point of a spawn

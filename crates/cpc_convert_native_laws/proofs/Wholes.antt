@@ -1,6 +1,7 @@
 -- Native and detached functions are found by their names in both programs.
-use Rattle.std.proofs.Common.{◌≡◌, Bool, true, false, not, Option, Some, None, refl, sym, ◌∙◌, ap}
+use Rattle.std.proofs.Common.{◌≡◌, true, false, Option, Some, None, refl, sym, ◌∙◌, ap}
 use Rattle.cpc_base.specs.Bytes.{Text}
+use Rattle.cpc_base.proofs.Truth.{not_holds}
 use Rattle.cpc_tree.specs.Syntax.{Function, Program}
 use Rattle.cpc_tree.specs.Typing.{function_named}
 use Rattle.cpc_meaning.specs.Threads.{is_cps_mode}
@@ -10,10 +11,6 @@ use Rattle.cpc_convert_event.proofs.Lookups.{functions_found}
 use Rattle.cpc_convert_accepted_laws.specs.Names.{HasNames}
 use Rattle.cpc_convert_native_laws.specs.Instance.{stays_whole}
 use Rattle.cpc_convert_native_laws.specs.Laws.{IsWhole, WholesAreFound}
-
-not_cps : (b : Bool) → not b ≡ true → b ≡ false
-not_cps true e = absurd (cc)
-not_cps false e = refl
 
 -- a function that is there and not cps stays
 pub kept_there : (p : Program) → HasNames p → (x : Text) (f : Function) → function_named p x ≡ Some f → is_cps_mode f.mode ≡ false → IsKept p f
@@ -29,5 +26,5 @@ wholes_are_found p names ok x h = go (function_named p x) refl h
     go : (o : Option Function) → function_named p x ≡ o → stays_whole o ≡ true → IsWhole p x
     go None e h = absurd (cc)
     go (Some f) e h =
-        let c = not_cps (is_cps_mode f.mode) h in
+        let c = not_holds (is_cps_mode f.mode) h in
         record { function = f; named = e; kept = kept_there p names x f e c; called = (names.there x f e).1; stays = kept_named p names ok x f e c }

@@ -1,6 +1,7 @@
 -- What the names of a node mean in the piece of its owner, and that the locals stand after an act of both.
 use Rattle.std.proofs.Common.{◌≡◌, ℕ, suc, ◌<◌, ◌^◌, Bool, true, false, not, ◌==◌, cond, List, [], ◌∷◌, map, length, codes, slice_get, bytes_eq, Some, refl, sym, ◌∙◌, ap, subst, arith}
 use Rattle.cpc_base.specs.Bytes.{Text}
+use Rattle.cpc_base.proofs.Truth.{eq_reflexive, eq_means}
 use Rattle.cpc_tree.specs.declared.program.Mode.TheVariants.{Native, Detached, Extern, Cps}
 use Rattle.cpc_tree.specs.Lists.{holds_number}
 use Rattle.cpc_tree.specs.Registers.{variables}
@@ -20,7 +21,6 @@ use Rattle.cpc_convert_image_laws.proofs.Slots.{got_other}
 use Rattle.cpc_forms.specs.Flow.{Place}
 use Rattle.cpc_forms.specs.Graph.{at_node}
 use Rattle.cpc_forms.specs.Split.{InGraph, split_form, position_scope}
-use Rattle.cpc_graph_laws.proofs.Formed.{equal_self}
 use Rattle.cpc_convert_chain_laws.specs.Boxes.{AllRegisters}
 use Rattle.cpc_convert_chain_laws.proofs.Boxes.{registers_set, slots_length}
 use Rattle.cpc_convert_event.specs.LocalLaws.{piece_locals}
@@ -31,7 +31,6 @@ use Rattle.cpc_convert_event.specs.Routines.{Routine, routine_of, closure_of, is
 use Rattle.cpc_convert_event.proofs.BoxesThere.{structs_there}
 use Rattle.cpc_convert_event.proofs.Fields.{variables_apart, word_apart}
 use Rattle.cpc_convert_event.proofs.Meanings.{items_meant}
-use Rattle.cpc_convert_event.proofs.Numbers.{equal_is}
 use Rattle.cpc_convert_event.proofs.Scopes.{nothing_hidden}
 use Rattle.cpc_convert_accepted_laws.specs.Known.{Stays}
 use Rattle.cpc_convert_accepted_laws.specs.Points.{UsedName, IsVariable, IsItem}
@@ -89,9 +88,9 @@ module _ (p : Program) (f : Function) (known : CpsKnown p f) (l : Place) (owner 
   }
     where
       go : (k j : ℕ) (b : Bool) → (k == j) ≡ b → variable_name k (variable_of r k).called ≡ variable_name j (variable_of r j).called → k < 2 ^ 63 → j < 2 ^ 63 → k ≡ j
-      go k j true e same hk hj = equal_is k j e
+      go k j true e same hk hj = eq_means k j e
       go k j false e same hk hj =
-          let apart = variables_apart k j (variable_of r k).called (variable_of r j).called hk hj (unmarked_name p f known k) (unmarked_name p f known j) (λ (i : k ≡ j). let z : true ≡ false = sym (equal_self j) ∙ (ap (λ m. m == j) (sym i) ∙ e) in absurd (cc)) in
+          let apart = variables_apart k j (variable_of r k).called (variable_of r j).called hk hj (unmarked_name p f known k) (unmarked_name p f known j) (λ (i : k ≡ j). let z : true ≡ false = sym (eq_reflexive j) ∙ (ap (λ m. m == j) (sym i) ∙ e) in absurd (cc)) in
           let z : true ≡ false = sym (text_same (variable_name j (variable_of r j).called)) ∙ (ap (λ x. bytes_eq x (variable_name j (variable_of r j).called)) (sym same) ∙ apart) in
           absurd (cc)
 

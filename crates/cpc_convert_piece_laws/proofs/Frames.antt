@@ -1,6 +1,8 @@
 -- A piece makes the frame of a leader, and gives it to the driver.
 use Rattle.std.proofs.Common.{◌≡◌, ℕ, suc, ◌+◌, ◌<◌, ◌≤◌, ◌^◌, Bool, true, false, ◌||◌, ◌==◌, List, [], ◌∷◌, ◌++◌, map, length, slice_get, slice_set, bytes_eq, Option, Some, refl, sym, ◌∙◌, ap, subst, codes, arith}
 use Rattle.cpc_base.specs.Bytes.{Text}
+use Rattle.cpc_base.proofs.Truth.{eq_reflexive, eq_means, or_by_second}
+use Rattle.cpc_base.proofs.Lists.{length_of_map}
 use Rattle.cpc_tree.specs.Lists.{holds_number}
 use Rattle.cpc_tree.specs.Points.{Point}
 use Rattle.cpc_tree.specs.Registers.{variables}
@@ -20,7 +22,6 @@ use Rattle.cpc_convert_image_laws.specs.Locals.{Stands, AsValue, AsBlock, local_
 use Rattle.cpc_convert_image_laws.proofs.Locals.{stands_apart}
 use Rattle.cpc_convert_image_laws.proofs.Slots.{got_other}
 use Rattle.cpc_forms.specs.Flow.{Place, At}
-use Rattle.cpc_graph_laws.proofs.Formed.{equal_self}
 use Rattle.cpc_convert_chain_laws.specs.Boxes.{AllRegisters, NoSlot, AndSlot}
 use Rattle.cpc_convert_chain_laws.specs.Chains.{frame_cells}
 use Rattle.cpc_convert_chain_laws.specs.Driver.{code_field, next_field, any_pointer, frame_tag}
@@ -44,7 +45,7 @@ use Rattle.cpc_convert_event.proofs.Filling.{frames_filled}
 use Rattle.cpc_convert_event.proofs.Locals.{closure_rise}
 use Rattle.cpc_convert_event.proofs.Lookups.{functions_found}
 use Rattle.cpc_convert_event.proofs.BoxesThere.{structs_there}
-use Rattle.cpc_convert_event.proofs.Numbers.{equal_is, later, AllBelow, NoneBelow, OneBelow, Rises, NoneRise, OneRise, rises_below}
+use Rattle.cpc_convert_event.proofs.Numbers.{AllBelow, NoneBelow, OneBelow, Rises, NoneRise, OneRise, rises_below}
 use Rattle.cpc_convert_laws.specs.Items.{value_in, copied}
 use Rattle.cpc_convert_piece_laws.specs.Known.{CpsKnown}
 use Rattle.cpc_convert_piece_laws.specs.Stood.{LocalsStand}
@@ -73,7 +74,7 @@ held_has [] n h = absurd (cc)
 held_has (m ∷ ns) n h = go (m == n) refl h (λ i. held_has ns n i)
   where
     go : (b : Bool) → (m == n) ≡ b → (b || holds_number ns n) ≡ true → (holds_number ns n ≡ true → Has n ns) → Has n (m ∷ ns)
-    go true e i deeper = subst (λ k. Has k (m ∷ ns)) (equal_is m n e) (OnTop m ns)
+    go true e i deeper = subst (λ k. Has k (m ∷ ns)) (eq_means m n e) (OnTop m ns)
     go false e i deeper = Below n m ns (deeper i)
 
 below_held : (high : ℕ) (ns : List ℕ) (n : ℕ) → AllBelow high ns → holds_number ns n ≡ true → n < high
@@ -81,16 +82,12 @@ below_held high _ n NoneBelow h = absurd (cc)
 below_held high _ n (OneBelow m ns less more) h = go (m == n) refl h (λ i. below_held high ns n more i)
   where
     go : (b : Bool) → (m == n) ≡ b → (b || holds_number ns n) ≡ true → (holds_number ns n ≡ true → n < high) → n < high
-    go true e i deeper = let z = equal_is m n e in omega (arith, z, less)
+    go true e i deeper = let z = eq_means m n e in omega (arith, z, less)
     go false e i deeper = deeper i
 
 rises_length : (high low : ℕ) (ns : List ℕ) → Rises high low ns → low ≤ high → length ns + low ≤ high
 rises_length high low _ (NoneRise _) h = omega (arith, h)
 rises_length high low _ (OneRise _ n ns l b more) h = let d = rises_length high (suc n) ns more (omega (arith, b)) in omega (arith, d, l)
-
-pub map_length : {X Y : Type 0} (F : X → Y) (xs : List X) → length (map F xs) ≡ length xs
-map_length F [] = refl
-map_length F (x ∷ xs) = ap suc (map_length F xs)
 
 -- lines that do statements, put in their row
 pub puts_do : (o : Option ℕ) (ss : List Stmt) → map put_statement (put_lines o (all_do ss)) ≡ ss
@@ -180,10 +177,10 @@ module _ (p : Program) (f : Function) (known : CpsKnown p f) (l : Place) (owner 
     pub all_saved : (ks : List ℕ) → ((k : ℕ) → holds_number ks k ≡ true → holds_number (closure_of r l) k ≡ true) → AllHold Target scope slots' (locals_of r ks) (copied slots ks)
     all_saved [] h = NoneHold
     all_saved (k ∷ ks) h =
-        let kept = h k (ap (λ b. b || holds_number ks k) (equal_self k)) in
+        let kept = h k (ap (λ b. b || holds_number ks k) (eq_reflexive k)) in
         let at = (meant p f known l owner).kept k kept in
         let one = one_saved k at.0 kept at.1 (is_plain r k) refl (stands.kept k at.0 kept at.1) in
-        OneHolds (local_of r k) (value_in (slice_get slots k)) (locals_of r ks) (copied slots ks) one.0 one.1 (all_saved ks (λ j i. h j (later (k == j) (holds_number ks j) i)))
+        OneHolds (local_of r k) (value_in (slice_get slots k)) (locals_of r ks) (copied slots ks) one.0 one.1 (all_saved ks (λ j i. h j (or_by_second (k == j) (holds_number ks j) i)))
 
   -- ---- the frame of a leader
 
@@ -218,11 +215,11 @@ module _ (p : Program) (f : Function) (known : CpsKnown p f) (l : Place) (owner 
         let structs = structs_there p known.names in
         let head = structs.any f known.found.cps in
         let its = structs.leader f known.found.cps m leader in
-        let same : length (locals_of r (closure_of r (At m))) ≡ length (saves_of m) = map_length (local_of r) (closure_of r (At m)) ∙ sym (map_length (λ i. save_of (local_of r i)) (closure_of r (At m))) in
+        let same : length (locals_of r (closure_of r (At m))) ≡ length (saves_of m) = length_of_map (local_of r) (closure_of r (At m)) ∙ sym (length_of_map (λ i. save_of (local_of r i)) (closure_of r (At m))) in
         let all = kept_number (At m) in
         let some = known.few_variables in
         let few : length (closure_of r (At m)) ≤ 255 = omega (arith, all, some) in
-        let counted = map_length (λ i. save_of (local_of r i)) (closure_of r (At m)) in
+        let counted = length_of_map (λ i. save_of (local_of r i)) (closure_of r (At m)) in
         makes_frame Target w name code body below is_code k scope (piece_count p r l) rest slots' (beside bs t) to tag frame_tag code_field next_field tag (ENamed to) (frame_through to tag) (ENamed next_name) (saves_of m) (copied slots (closure_of r (At m))) line
         (primitive_meant p f known l (codes "rt_frame") RtFrame refl refl) (its.size ∙ ap (λ n. Some (suc (suc (suc n)))) same) (omega (arith, few, counted)) (TyStruct frame_tag) old.0 hold
         (λ u. named_pointer Target scope slots'' u to frame_tag (length bs) hold') (λ u. cast_pointer Target scope slots'' u to tag (TyStruct frame_tag) (length bs) hold')

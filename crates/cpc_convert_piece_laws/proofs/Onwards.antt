@@ -1,6 +1,7 @@
 -- Where control goes on in a piece: to the row of a node of its own, or through the row of another leader to the driver.
 use Rattle.std.proofs.Common.{◌≡◌, ℕ, suc, ◌+◌, ◌≤◌, Bool, true, false, List, [], ◌∷◌, ◌++◌, length, Option, Some, None, refl, sym, ◌∙◌, ap, subst, arith}
 use Rattle.cpc_base.specs.Bytes.{Text}
+use Rattle.cpc_base.proofs.Lists.{length_of_map}
 use Rattle.cpc_tree.specs.Points.{Point}
 use Rattle.cpc_tree.specs.Registers.{variables}
 use Rattle.cpc_tree.specs.Syntax.{Function, Program}
@@ -33,7 +34,7 @@ use Rattle.cpc_convert_native_laws.proofs.Instance.{setting_of}
 use Rattle.cpc_convert_piece_laws.specs.Known.{CpsKnown}
 use Rattle.cpc_convert_piece_laws.specs.Rows.{RowAt, row_point}
 use Rattle.cpc_convert_piece_laws.specs.Stood.{NodeAt, LocalsStand, NoneArrives, Stood, AtRow}
-use Rattle.cpc_convert_piece_laws.proofs.Frames.{Target, is_code, saves_of, with_frame, kept_number, map_length}
+use Rattle.cpc_convert_piece_laws.proofs.Frames.{Target, is_code, saves_of, with_frame, kept_number}
 use Rattle.cpc_convert_piece_laws.proofs.Places.{ToRow}
 use Rattle.cpc_convert_piece_laws.proofs.Stubs.{stub_walk}
 use Rattle.cpc_convert_piece_laws.proofs.Ways.{Next, way_next, onwards_way, own_stays, other_leads, stub_there, keeps_along}
@@ -72,7 +73,7 @@ module _ (p : Program) (fine : CallFrame Position → Option Value → Type 0) (
       jumps other =
           let leads = other_leads p f l m next other in
           let few = kept_number p f known l owner (At m) in
-          let counted = map_length (λ i. save_of (local_of r i)) (closure_of r (At m)) in
+          let counted = length_of_map (λ i. save_of (local_of r i)) (closure_of r (At m)) in
           let within = to.within in
           Jumps m (to.steps + (suc (suc (suc (length (saves_of p f known l owner m)))) + 1)) (omega (arith, within, few, counted, enough))
           (λ w. walk_append to.steps (suc (suc (suc (length (saves_of p f known l owner m)))) + 1) _ _ _ (to.walk w (driving pointer result frame ∷ []) slots' (beside bs t))

@@ -1,6 +1,7 @@
 -- Nodes at which nothing changes: the piece falls to the next row, or goes to another.
 use Rattle.std.proofs.Common.{◌≡◌, ℕ, suc, ◌+◌, ◌<◌, ◌≤◌, Bool, true, false, ◌||◌, cond, List, [], ◌∷◌, ◌++◌, length, Option, Some, None, option_map, refl, sym, ◌∙◌, ap, subst, arith}
 use Rattle.cpc_base.specs.Bytes.{Text}
+use Rattle.cpc_base.proofs.Truth.{eq_reflexive}
 use Rattle.cpc_tree.specs.Points.{Point, Simple, Test}
 use Rattle.cpc_tree.specs.Registers.{variables}
 use Rattle.cpc_tree.specs.Syntax.{Ty, Stmt, Empty, Declare, Assign, Call, Detach, Spawn, Goto, Return, Function, Program}
@@ -20,7 +21,6 @@ use Rattle.cpc_convert_image_laws.specs.Stacks.{frame_of}
 use Rattle.cpc_forms.specs.Flow.{Place, is_leader, owner_by}
 use Rattle.cpc_forms.specs.Split.{Position, InGraph, split_form}
 use Rattle.cpc_graph_laws.specs.Laws.{flow_in}
-use Rattle.cpc_graph_laws.proofs.Formed.{equal_self}
 use Rattle.cpc_convert_chain_laws.specs.Flat.{dropped, point_at}
 use Rattle.cpc_convert_chain_laws.specs.Walks.{frame_at}
 use Rattle.cpc_convert_chain_laws.proofs.AtLine.{line_next, line_goes}
@@ -128,7 +128,7 @@ module _ (p : Program) (facts : ProgramKnown p) (fine : CallFrame Position → O
         let line = first p fine given bounds f known enough begins l owner shown lower pointer result frame n at has row (Jump m) [] puts refl refl in
         let after = tail p fine given bounds f known enough begins l owner shown lower pointer result frame n at has row in
         let next = way_next p f l n at true m is_yes in
-        let wanted : is_wanted m (put_in p r l) ≡ true = ap (is_wanted m) row.is_split ∙ wanted_in m row.front row.back (put_row p r l n row.back) (ap (any_leads m) puts ∙ ap (λ d. d || false) (equal_self m)) in
+        let wanted : is_wanted m (put_in p r l) ≡ true = ap (is_wanted m) row.is_split ∙ wanted_in m row.front row.back (put_row p r l n row.back) (ap (any_leads m) puts ∙ ap (λ d. d || false) (eq_reflexive m)) in
         let j = row_index p r l m there in
         let label = row_label p f l known.few_nodes m there (row_filled p f l m next.node next.is_node there) wanted in
         Moves true w.store slots

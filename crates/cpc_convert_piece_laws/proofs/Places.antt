@@ -1,6 +1,8 @@
 -- The rows of a piece among its statements: where one stands, how control falls from one to the next, and where gotos lead.
 use Rattle.std.proofs.Common.{◌≡◌, ℕ, suc, ◌+◌, ◌<◌, ◌≤◌, ◌^◌, Bool, true, false, ◌||◌, cond, List, [], ◌∷◌, ◌++◌, map, length, Option, Some, None, refl, sym, ◌∙◌, ap, subst, arith}
 use Rattle.cpc_base.specs.Bytes.{Text}
+use Rattle.cpc_base.proofs.Truth.{eq_means, or_by_second}
+use Rattle.cpc_base.proofs.Lists.{append_grouped, length_of_append}
 use Rattle.cpc_store.specs.Store.{Store}
 use Rattle.cpc_tree.specs.Points.{Point}
 use Rattle.cpc_tree.specs.Syntax.{Stmt, Goto, Label, Stmts, NoStmt, AndStmt, Function, Program}
@@ -23,17 +25,8 @@ use Rattle.cpc_convert_event.specs.FlatLaws.{opening, piece_scope, piece_count}
 use Rattle.cpc_convert_event.specs.LabelLaws.{put_in}
 use Rattle.cpc_convert_event.proofs.Flat.{statements_stand}
 use Rattle.cpc_convert_event.proofs.Labels.{labels_lead}
-use Rattle.cpc_convert_event.proofs.Numbers.{equal_is, later}
 use Rattle.cpc_convert_piece_laws.specs.Rows.{next_number, put_row, RowAt, row_index, row_rest, row_point}
 use Rattle.cpc_convert_piece_laws.proofs.Rows.{rows_stand, only_row}
-
-pub append_assoc : {X : Type 0} (xs ys zs : List X) → (xs ++ ys) ++ zs ≡ xs ++ (ys ++ zs)
-append_assoc [] ys zs = refl
-append_assoc (x ∷ xs) ys zs = ap (λ us. x ∷ us) (append_assoc xs ys zs)
-
-append_length : {X : Type 0} (xs ys : List X) → length (xs ++ ys) ≡ length xs + length ys
-append_length [] ys = let z : length ys ≡ 0 + length ys = omega arith in z
-append_length (x ∷ xs) ys = let e = append_length xs ys in let z : suc (length (xs ++ ys)) ≡ suc (length xs) + length ys = omega (arith, e) in z
 
 -- behind the same rows stand the same
 same_behind : {X : Type 0} (xs : List X) (ys zs : List X) → xs ++ ys ≡ xs ++ zs → ys ≡ zs
@@ -42,11 +35,11 @@ same_behind (x ∷ xs) ys zs e = same_behind xs ys zs (cc)
 
 rows_apart : (all front back : List PutRow) → rows_statements all (front ++ back) ≡ rows_statements all front ++ rows_statements all back
 rows_apart all [] back = refl
-rows_apart all (r ∷ front) back = ap (λ ss. row_statements all r ++ ss) (rows_apart all front back) ∙ sym (append_assoc (row_statements all r) (rows_statements all front) (rows_statements all back))
+rows_apart all (r ∷ front) back = ap (λ ss. row_statements all r ++ ss) (rows_apart all front back) ∙ sym (append_grouped (row_statements all r) (rows_statements all front) (rows_statements all back))
 
 pub wanted_in : (n : ℕ) (front back : List PutRow) (r : PutRow) → any_leads n r.puts ≡ true → is_wanted n (front ++ r ∷ back) ≡ true
 wanted_in n [] back r e = ap (λ b. b || is_wanted n back) e
-wanted_in n (x ∷ front) back r e = later (any_leads n x.puts) (is_wanted n (front ++ r ∷ back)) (wanted_in n front back r e)
+wanted_in n (x ∷ front) back r e = or_by_second (any_leads n x.puts) (is_wanted n (front ++ r ∷ back)) (wanted_in n front back r e)
 
 module _ (p : Program) (f : Function) (l : Place) where
   abbrev r : Routine
@@ -93,11 +86,11 @@ module _ (p : Program) (f : Function) (l : Place) where
       go [] i h = absurd (cc)
       go (x ∷ back) i h =
           let is_m : x.number ≡ m = cc in
-          let split : all ≡ (at.front ++ this ∷ []) ++ x ∷ back = at.is_split ∙ (ap (λ bs. at.front ++ this ∷ bs) i ∙ sym (append_assoc at.front (this ∷ []) (x ∷ back))) in
+          let split : all ≡ (at.front ++ this ∷ []) ++ x ∷ back = at.is_split ∙ (ap (λ bs. at.front ++ this ∷ bs) i ∙ sym (append_grouped at.front (this ∷ []) (x ∷ back))) in
           let one = (only_row p f l m b (at.front ++ this ∷ []) back x split is_m).0 in
           let behind : at.back ≡ put_row p r l m b.back ∷ b.back = i ∙ same_behind (at.front ++ this ∷ []) (x ∷ back) (put_row p r l m b.back ∷ b.back) (sym split ∙ (b.is_split ∙ ap (λ fs. fs ++ put_row p r l m b.back ∷ b.back) one)) in
           let counted : length (rows_statements all (at.front ++ this ∷ [])) ≡ length (rows_statements all at.front) + length (row_statements all this) =
-          ap length (rows_apart all at.front (this ∷ [])) ∙ (append_length (rows_statements all at.front) (row_statements all this ++ []) ∙ ap (λ k. length (rows_statements all at.front) + k) (append_length (row_statements all this) [] ∙ (let z : length (row_statements all this) + 0 ≡ length (row_statements all this) = omega arith in z))) in
+          ap length (rows_apart all at.front (this ∷ [])) ∙ (length_of_append (rows_statements all at.front) (row_statements all this ++ []) ∙ ap (λ k. length (rows_statements all at.front) + k) (length_of_append (row_statements all this) [] ∙ (let z : length (row_statements all this) + 0 ≡ length (row_statements all this) = omega arith in z))) in
           let counted_b : length (rows_statements all b.front) ≡ length (rows_statements all at.front) + length (row_statements all this) = ap (λ fs. length (rows_statements all fs)) one ∙ counted in
           ((let z : opening p r l + length (rows_statements all b.front) ≡ (opening p r l + length (rows_statements all at.front)) + length (row_statements all this) = omega (arith, counted_b) in z), ap (λ bs. before (rows_statements all bs) NoStmt) (sym behind))
 
@@ -134,7 +127,7 @@ module _ (p : Program) (f : Function) (l : Place) where
 
   pub next_is : (m : ℕ) (o : Option ℕ) → is_next m o ≡ true → o ≡ Some m
   next_is m None e = absurd (cc)
-  next_is m (Some k) e = ap Some (equal_is k m e)
+  next_is m (Some k) e = ap Some (eq_means k m e)
 
   module _ (q : Program) (is_code : function_named q name ≡ Some code) (few : length (graph_of p f).nodes < 2 ^ 63) where
     -- some steps from a point of the piece to the row of a number

@@ -1,6 +1,8 @@
 -- A piece stands before the row of a node: its first line does what the node does, and control goes on behind it.
-use Rattle.std.proofs.Common.{◌≡◌, ℕ, suc, ◌+◌, ◌<◌, ◌≤◌, Bool, true, false, ◌||◌, cond, List, [], ◌∷◌, ◌++◌, map, length, Option, Some, None, refl, sym, ◌∙◌, ap, subst, arith}
+use Rattle.std.proofs.Common.{◌≡◌, ℕ, suc, ◌+◌, ◌<◌, ◌≤◌, Bool, true, false, ◌||◌, cond, List, [], ◌∷◌, map, length, Option, Some, None, refl, sym, ◌∙◌, ap, subst, arith}
 use Rattle.cpc_base.specs.Bytes.{Text}
+use Rattle.cpc_base.proofs.Truth.{eq_reflexive, or_by_second}
+use Rattle.cpc_base.proofs.Lists.{append_empty}
 use Rattle.cpc_num.specs.declared.kinds.Fault.{Fault}
 use Rattle.cpc_tree.specs.Points.{Point, Here, Found, Simple, Out, enter, next_point}
 use Rattle.cpc_tree.specs.Registers.{variables}
@@ -23,7 +25,7 @@ use Rattle.cpc_forms.specs.Graph.{way, at_node}
 use Rattle.cpc_forms.specs.Pieces.{is_owned_by}
 use Rattle.cpc_forms.specs.Split.{Position, InGraph, split_form}
 use Rattle.cpc_graph_laws.specs.Laws.{flow_in}
-use Rattle.cpc_graph_laws.proofs.Formed.{mapped, equal_self}
+use Rattle.cpc_graph_laws.proofs.Formed.{mapped}
 use Rattle.cpc_convert_chain_laws.specs.Driver.{driving}
 use Rattle.cpc_convert_chain_laws.specs.Flat.{before, point_at, bare, is_line, is_test, standing, onward}
 use Rattle.cpc_convert_chain_laws.specs.Frames.{at as Here_at}
@@ -38,7 +40,6 @@ use Rattle.cpc_convert_event.specs.NameLaws.{IsOwner}
 use Rattle.cpc_convert_event.specs.Names.{piece_name}
 use Rattle.cpc_convert_event.specs.Routines.{Routine, routine_of}
 use Rattle.cpc_convert_event.specs.Rows.{owner_at, is_own, has_row, lines_by, Put, Plain, Jump, is_next, put_line, put_lines, put_statement, leads, any_leads, is_wanted, row_statements, rows_statements}
-use Rattle.cpc_convert_event.proofs.Numbers.{later}
 use Rattle.cpc_convert_accepted_laws.specs.Known.{Stays}
 use Rattle.cpc_convert_laws.specs.Bounds.{Bounds}
 use Rattle.cpc_convert_laws.proofs.Inside.{Onward, Does as Performs, Sticks, Breaks, Moves}
@@ -53,10 +54,6 @@ use Rattle.cpc_convert_piece_laws.proofs.Frames.{same_registers, Target, code, b
 use Rattle.cpc_convert_piece_laws.proofs.Onwards.{z, goes_onward}
 use Rattle.cpc_convert_piece_laws.proofs.Places.{Before, FirstLine, first_line, wanted_in, goes_row}
 use Rattle.cpc_convert_piece_laws.proofs.Ways.{way_next, onwards_way, row_for, goes_is, place_self}
-
-append_nil : {X : Type 0} (xs : List X) → xs ++ [] ≡ xs
-append_nil [] = refl
-append_nil (x ∷ xs) = ap (λ us. x ∷ us) (append_nil xs)
 
 -- what an answer gives is that control goes on, as a test holds
 abbrev pub OnlyGoes : Answer Act → Type 0
@@ -151,7 +148,7 @@ module _ (p : Program) (fine : CallFrame Position → Option Value → Type 0) (
             let next = way_next p f l n at h m there_is in
             let there = row_for p f l n at has m (onwards_way p f at.node h m there_is) next in
             let ps = put_line following (Goes m) in
-            let same_puts : put_lines following (goes (way at.node h)) ≡ ps = ap (λ o. put_lines following (goes o)) there_is ∙ append_nil ps in
+            let same_puts : put_lines following (goes (way at.node h)) ≡ ps = ap (λ o. put_lines following (goes o)) there_is ∙ append_empty ps in
             let left = before (map put_statement ps) tail in
             let same_left : left_over ≡ left = ap (λ xs. before (map put_statement xs) tail) same_puts in
             let line = first y (goes (way at.node h)) puts is_bare lined in
@@ -161,7 +158,7 @@ module _ (p : Program) (fine : CallFrame Position → Option Value → Type 0) (
             ap (is_wanted m) row.is_split
             ∙ wanted_in m row.front row.back (put_row p r l n row.back)
             (ap (any_leads m) puts
-            ∙ later (leads m y) (any_leads m (put_lines following (goes (way at.node h)))) (ap (any_leads m) same_puts ∙ (ap (λ d. any_leads m (cond d [] (Jump m ∷ []))) other ∙ ap (λ d. d || false) (equal_self m)))) in
+            ∙ or_by_second (leads m y) (any_leads m (put_lines following (goes (way at.node h)))) (ap (any_leads m) same_puts ∙ (ap (λ d. any_leads m (cond d [] (Jump m ∷ []))) other ∙ ap (λ d. d || false) (eq_reflexive m)))) in
             let st = subst (Before p f l (suc k)) same_left (line_passed (code p f known l owner) (body p f known l owner) k (scope p f known l owner) (piece_count p r l) (put_statement y) left_over line.line) in
             let to_row = goes_row p f l q (is_code p f known l owner) known.few_nodes n row m there (row_filled p f l m next.node next.is_node there) wanted (suc k) st
             (let z : suc k + length (map put_statement ps) ≡ k + length (row_statements (put_in p r l) (put_row p r l n row.back)) = omega (arith, counted, same_length) in z) in

@@ -1,15 +1,14 @@
 -- Each number of a piece has one row.
 use Rattle.std.proofs.Common.{◌≡◌, ℕ, Bool, true, false, ◌||◌, ◌==◌, List, [], ◌∷◌, ◌++◌, map, refl, sym, ◌∙◌, ap, subst}
+use Rattle.cpc_base.proofs.Truth.{eq_reflexive, eq_means, or_by_second}
 use Rattle.cpc_tree.specs.Lists.{holds_number}
 use Rattle.cpc_tree.specs.Syntax.{Function, Program}
 use Rattle.cpc_forms.specs.Flow.{Place}
 use Rattle.cpc_forms.specs.Pieces.{Once, AndOther}
-use Rattle.cpc_graph_laws.proofs.Formed.{equal_self}
 use Rattle.cpc_convert_event.specs.Routines.{Routine, routine_of}
 use Rattle.cpc_convert_event.specs.Rows.{is_own, lines_by, Row, row_of, numbers_of, first_number, put_lines, PutRow, put_rows}
 use Rattle.cpc_convert_event.specs.LabelLaws.{put_in}
 use Rattle.cpc_convert_event.proofs.Labels.{rows_stand_once}
-use Rattle.cpc_convert_event.proofs.Numbers.{equal_is, later}
 use Rattle.cpc_convert_piece_laws.specs.Rows.{next_number, put_row, RowAt}
 use Rattle.cpc_convert_piece_laws.specs.Laws.{AllRowsStand}
 
@@ -43,22 +42,22 @@ module _ (p : Program) (r : Routine) (l : Place) where
 
       go : (b : Bool) → (m == n) ≡ b → (b || holds_number ns n) ≡ true → (holds_number ns n ≡ true → (front : List PutRow) × (back : List PutRow) × (rows ns ≡ front ++ put_row p r l n back ∷ back))
           → (front : List PutRow) × (back : List PutRow) × (rows (m ∷ ns) ≡ front ++ put_row p r l n back ∷ back)
-      go true e i deeper = ([], rows ns, ap (λ k. rows (k ∷ ns)) (equal_is m n e) ∙ first)
+      go true e i deeper = ([], rows ns, ap (λ k. rows (k ∷ ns)) (eq_means m n e) ∙ first)
       go false e i deeper = let d = deeper i in (this ∷ d.0, d.1, ap (λ rs. this ∷ rs) d.2)
 
 holds_last : (front : List PutRow) (x : PutRow) (back : List PutRow) (n : ℕ) → (x.number == n) ≡ true → holds_number (numbers (front ++ x ∷ back)) n ≡ true
 holds_last [] x back n e = ap (λ b. b || holds_number (numbers back) n) e
-holds_last (f ∷ front) x back n e = later (f.number == n) (holds_number (numbers (front ++ x ∷ back)) n) (holds_last front x back n e)
+holds_last (f ∷ front) x back n e = or_by_second (f.number == n) (holds_number (numbers (front ++ x ∷ back)) n) (holds_last front x back n e)
 
 -- where no number stands twice, a row of a number is the only one
 one_row : (front front' back back' : List PutRow) (x y : PutRow) → front ++ x ∷ back ≡ front' ++ y ∷ back' → x.number ≡ y.number → Once (numbers (front ++ x ∷ back)) → (front ≡ front') × (back ≡ back')
 one_row [] [] back back' x y e i o = let z : back ≡ back' = cc in (refl, z)
 one_row [] (f ∷ front') back back' x y e i (AndOther _ _ none o) =
     let z : back ≡ front' ++ y ∷ back' = cc in
-    absurd (let w : true ≡ false = sym (holds_last front' y back' x.number (ap (λ n. n == x.number) (sym i) ∙ equal_self x.number)) ∙ (ap (λ rs. holds_number (numbers rs) x.number) (sym z) ∙ none) in cc)
+    absurd (let w : true ≡ false = sym (holds_last front' y back' x.number (ap (λ n. n == x.number) (sym i) ∙ eq_reflexive x.number)) ∙ (ap (λ rs. holds_number (numbers rs) x.number) (sym z) ∙ none) in cc)
 one_row (f ∷ front) [] back back' x y e i (AndOther _ _ none o) =
     let z : f ≡ y = cc in
-    absurd (let w : true ≡ false = sym (holds_last front x back f.number (ap (λ (r : PutRow). x.number == r.number) z ∙ (ap (λ n. n == y.number) i ∙ equal_self y.number))) ∙ none in cc)
+    absurd (let w : true ≡ false = sym (holds_last front x back f.number (ap (λ (r : PutRow). x.number == r.number) z ∙ (ap (λ n. n == y.number) i ∙ eq_reflexive y.number))) ∙ none in cc)
 one_row (f ∷ front) (g ∷ front') back back' x y e i (AndOther _ _ none o) =
     let z : front ++ x ∷ back ≡ front' ++ y ∷ back' = cc in
     let h : f ≡ g = cc in

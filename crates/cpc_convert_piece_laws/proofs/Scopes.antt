@@ -1,9 +1,10 @@
 -- What names mean in a piece: words, primitives, pieces, the driver and spawners; and what its locals hold.
-use Rattle.std.proofs.Common.{◌≡◌, ℕ, zero, suc, ◌+◌, ◌<◌, ◌≤◌, ◌^◌, Bool, true, false, cond, List, [], ◌∷◌, ◌++◌, map, length, decimal, slice_get, bytes_eq, Option, Some, None, refl, sym, ◌∙◌, ap, subst, codes, arith}
+use Rattle.std.proofs.Common.{◌≡◌, ℕ, zero, suc, ◌+◌, ◌<◌, ◌^◌, Bool, true, false, cond, List, [], ◌∷◌, ◌++◌, map, length, decimal, slice_get, bytes_eq, Option, Some, None, refl, sym, ◌∙◌, ap, subst, codes, arith}
 use Rattle.std.proofs.lemmas.Fmt.{decimal_is_IsNumeral}
 use Rattle.std.specs.Str.Parse.{AllDigits}
 use Rattle.std.specs.Char.{digit_value}
 use Rattle.cpc_base.specs.Bytes.{Text}
+use Rattle.cpc_base.proofs.Truth.{not_under_ten}
 use Rattle.cpc_tree.specs.declared.program.Mode.TheVariants.{Native}
 use Rattle.cpc_tree.specs.Primitives.{Primitive, primitive_named}
 use Rattle.cpc_tree.specs.Registers.{variables, outer_scope}
@@ -49,13 +50,10 @@ variable_is k x = refl
 not_digits : (c : ℕ) (d e : Text) → (digit_value c < 10 → ⊥) → AllDigits 10 d → d ≡ c ∷ e → ⊥
 not_digits c d e h a k = h (subst (AllDigits 10) k a).0
 
-too_large : (n : ℕ) → 10 ≤ n → n < 10 → ⊥
-too_large n h g = absurd (omega arith)
-
 -- what stands behind the bars of a piece's name is no number
 piece_number : (k : ℕ) (m : Place) → k < 2 ^ 63 → decimal k ≡ behind m → ⊥
-piece_number k Start h e = not_digits 115 (decimal k) _ (too_large 28 (omega arith)) (decimal_is_IsNumeral k (omega arith)).0.1 e
-piece_number k (At n) h e = not_digits 97 (decimal k) _ (too_large 10 (omega arith)) (decimal_is_IsNumeral k (omega arith)).0.1 e
+piece_number k Start h e = not_digits 115 (decimal k) _ (not_under_ten 28 (omega arith)) (decimal_is_IsNumeral k (omega arith)).0.1 e
+piece_number k (At n) h e = not_digits 97 (decimal k) _ (not_under_ten 10 (omega arith)) (decimal_is_IsNumeral k (omega arith)).0.1 e
 
 variable_piece : (k : ℕ) (x f : Text) (m : Place) → k < 2 ^ 63 → has_marks x ≡ false → has_marks f ≡ false → bytes_eq (variable_name k x) (marked f (behind m)) ≡ false
 variable_piece k x f m h hx hf =

@@ -1,5 +1,6 @@
 -- A piece goes to another leader: its row makes the leader's frame, and gives it to the driver.
 use Rattle.std.proofs.Common.{◌≡◌, ℕ, suc, ◌+◌, Bool, true, false, not, ◌&&◌, ◌||◌, List, [], ◌∷◌, ◌++◌, map, length, slice_get, Some, None, refl, sym, ◌∙◌, ap, subst, codes}
+use Rattle.cpc_base.proofs.Truth.{and_both}
 use Rattle.cpc_tree.specs.Lists.{holds_number, is_empty}
 use Rattle.cpc_tree.specs.Syntax.{Ty, ENamed, Stmt, Stmts, NoStmt, AndStmt, Function, Program}
 use Rattle.cpc_store.specs.declared.values.Class.TheVariants.{Frame}
@@ -18,7 +19,6 @@ use Rattle.cpc_convert_chain_laws.proofs.Fields.{held}
 use Rattle.cpc_convert_chain_laws.proofs.Pieces.{return_step}
 use Rattle.cpc_convert_chain_laws.proofs.Rows.{before_append}
 use Rattle.cpc_convert_chain_laws.proofs.Walks.{walk_append}
-use Rattle.cpc_convert_chain_laws.proofs.Lines.{both_true}
 use Rattle.cpc_convert_event.specs.FlatLaws.{piece_count}
 use Rattle.cpc_convert_event.specs.LabelLaws.{put_in}
 use Rattle.cpc_convert_event.specs.Lines.{hands_over, frame_lines}
@@ -66,7 +66,7 @@ module _ (p : Program) (f : Function) (known : CpsKnown p f) (l : Place) (owner 
     listed = chosen_is (λ n. holds_number (reached r l) n && not (is_own r.split l n)) r.split.leaders m h
 
     other : is_own r.split l m ≡ false
-    other = go (is_own r.split l m) (both_true (holds_number (reached r l) m) (not (is_own r.split l m)) listed.1).1
+    other = go (is_own r.split l m) (and_both (holds_number (reached r l) m) (not (is_own r.split l m)) listed.1).1
       where
         go : (b : Bool) → not b ≡ true → b ≡ false
         go true e = absurd (cc)

@@ -2,6 +2,7 @@
 use Rattle.std.proofs.Common.{◌≡◌, ℕ, suc, ◌+◌, ◌<◌, ◌≤◌, Bool, true, false, ◌||◌, List, ◌∷◌, length, Option, Some, None, option_map, refl, sym, ◌∙◌, ap, subst, arith}
 use Rattle.std.specs.List.{All}
 use Rattle.cpc_base.specs.Bytes.{Text}
+use Rattle.cpc_base.proofs.Truth.{eq_reflexive}
 use Rattle.cpc_tree.specs.Points.{Point, Here, Nth, Simple, Test}
 use Rattle.cpc_tree.specs.Registers.{variables}
 use Rattle.cpc_tree.specs.Syntax.{Ty, Expr, Stmt, Stmts, If, Goto, Absent, Function, Program}
@@ -24,7 +25,6 @@ use Rattle.cpc_forms.specs.Flow.{Place, is_leader, owner_by}
 use Rattle.cpc_forms.specs.Graph.{way}
 use Rattle.cpc_forms.specs.Split.{Position, InGraph, split_form}
 use Rattle.cpc_graph_laws.specs.Laws.{flow_in}
-use Rattle.cpc_graph_laws.proofs.Formed.{equal_self}
 use Rattle.cpc_convert_chain_laws.specs.Flat.{point_at, dropped, arm}
 use Rattle.cpc_convert_chain_laws.specs.Frames.{at as Here_at}
 use Rattle.cpc_convert_chain_laws.specs.Walks.{Walk, running, frame_at}
@@ -123,7 +123,7 @@ module _ (p : Program) (facts : ProgramKnown p) (fine : CallFrame Position → O
   jumps : ToRow p f l q (is_code p f known l owner) known.few_nodes m there 1 at_jump
   jumps =
       let next = way_next p f l n at true m is_yes in
-      let wanted : is_wanted m (put_in p r l) ≡ true = ap (is_wanted m) row.is_split ∙ wanted_in m row.front row.back (put_row p r l n row.back) (ap (any_leads m) puts ∙ ap (λ d. d || any_leads m (put_lines following (goes at.node.no))) (equal_self m)) in
+      let wanted : is_wanted m (put_in p r l) ≡ true = ap (is_wanted m) row.is_split ∙ wanted_in m row.front row.back (put_row p r l n row.back) (ap (any_leads m) puts ∙ ap (λ d. d || any_leads m (put_lines following (goes at.node.no))) (eq_reflexive m)) in
       let j = row_index p r l m there in
       let label = row_label p f l known.few_nodes m there (row_filled p f l m next.node next.is_node there) wanted in
       let g = code p f known l owner in

@@ -1,6 +1,7 @@
 -- The names that occur at a node are of variables that its owner keeps, or of items that stay.
 use Rattle.std.proofs.Common.{◌≡◌, ℕ, Bool, true, false, ◌||◌, ◌==◌, cond, List, [], ◌∷◌, ◌++◌, bytes_eq, Option, Some, None, sym, ◌∙◌, ap}
 use Rattle.cpc_base.specs.Bytes.{Text}
+use Rattle.cpc_base.proofs.Truth.{eq_reflexive}
 use Rattle.cpc_tree.specs.Lists.{holds_number}
 use Rattle.cpc_tree.specs.Points.{Nothing}
 use Rattle.cpc_tree.specs.Registers.{slot_of}
@@ -13,7 +14,7 @@ use Rattle.cpc_meaning.specs.Ways.{ways}
 use Rattle.cpc_forms.specs.Flow.{Place}
 use Rattle.cpc_forms.specs.Graph.{at_node}
 use Rattle.cpc_forms.specs.Split.{InGraph, split_form, position_stood}
-use Rattle.cpc_graph_laws.proofs.Formed.{in_left, in_right, equal_self}
+use Rattle.cpc_graph_laws.proofs.Formed.{in_left, in_right}
 use Rattle.cpc_lift_laws.specs.Used.{used_in, used_among, used_if, used_at}
 use Rattle.cpc_convert_image_laws.specs.Names.{AllNames, AllNamesIf, AllNamesAmong}
 use Rattle.cpc_convert_event.specs.NameLaws.{IsOwner}
@@ -30,7 +31,7 @@ slot_held p [] x k t e = absurd (not_local 0 p x k t e)
 slot_held p (l ∷ scope) x k t e = go (bytes_eq l.called x) e (λ i. slot_held p scope x k t i)
   where
     go : (b : Bool) → cond b (ALocal l.slot l.type) (named p scope x) ≡ ALocal k t → (named p scope x ≡ ALocal k t → holds_number (slot_of scope x) k ≡ true) → holds_number (cond b (l.slot ∷ []) (slot_of scope x)) k ≡ true
-    go true i deeper = let same : l.slot ≡ k = cc in ap (λ b. b || false) (ap (λ m. m == k) same ∙ equal_self k)
+    go true i deeper = let same : l.slot ≡ k = cc in ap (λ b. b || false) (ap (λ m. m == k) same ∙ eq_reflexive k)
     go false i deeper = deeper i
 
 -- names of one family that occur among variables that are kept are of another

@@ -1,6 +1,7 @@
 -- Where ways lead in a piece: to a node of the piece, or to another leader, each of which has its row; and what is kept along them.
 use Rattle.std.proofs.Common.{◌≡◌, ℕ, Bool, true, false, not, ◌&&◌, ◌||◌, ◌==◌, cond, List, [], ◌∷◌, slice_get, is_some, nat_le, nat_lt, Some, option_map, refl, sym, ◌∙◌, ap, subst, arith}
 use Rattle.std.proofs.lemmas.Bool.Decides.{nat_tests}
+use Rattle.cpc_base.proofs.Truth.{eq_reflexive, eq_means, or_by_second}
 use Rattle.cpc_tree.specs.Lists.{holds_number}
 use Rattle.cpc_tree.specs.Points.{Point, Here, Arrival, End}
 use Rattle.cpc_tree.specs.Syntax.{Function, Program}
@@ -11,7 +12,7 @@ use Rattle.cpc_forms.specs.Order.{number_of}
 use Rattle.cpc_forms.specs.Pieces.{same_place, is_owned_by, piece_nodes}
 use Rattle.cpc_forms.specs.Split.{InGraph, split_of, splits, position_goes, split_form}
 use Rattle.cpc_graph_laws.specs.Laws.{flow_in}
-use Rattle.cpc_graph_laws.proofs.Formed.{in_left, in_right, that_is, equal_self, exits_way, mapped, node_comes, way_numbers}
+use Rattle.cpc_graph_laws.proofs.Formed.{in_left, in_right, that_is, exits_way, mapped, node_comes, way_numbers}
 use Rattle.cpc_graph_laws.proofs.Graphs.{node_found}
 use Rattle.cpc_graph_laws.proofs.Leaders.{inside}
 use Rattle.cpc_graph_laws.proofs.Marked.{leaders_are_listed}
@@ -26,7 +27,7 @@ use Rattle.cpc_convert_event.specs.Routines.{Routine, routine_of, keeper, closur
 use Rattle.cpc_convert_event.specs.Rows.{owner_at, is_own, stands_with, has_row, turned, rows_nodes, onwards, onwards_all, reached, stubs_of}
 use Rattle.cpc_convert_event.proofs.Closures.{closures_lifted}
 use Rattle.cpc_convert_event.proofs.Labels.{rows_stand_once}
-use Rattle.cpc_convert_event.proofs.Numbers.{equal_is, later, chosen_has}
+use Rattle.cpc_convert_event.proofs.Numbers.{chosen_has}
 use Rattle.cpc_convert_accepted_laws.specs.Lifted.{kept_of}
 use Rattle.cpc_convert_accepted_laws.proofs.Lifted.{programs_are_closed}
 use Rattle.cpc_convert_piece_laws.specs.Known.{CpsKnown}
@@ -38,11 +39,11 @@ place_same : (k l : Place) → same_place k l ≡ true → k ≡ l
 place_same Start Start e = refl
 place_same Start (At n) e = absurd (cc)
 place_same (At m) Start e = absurd (cc)
-place_same (At m) (At n) e = ap At (equal_is m n e)
+place_same (At m) (At n) e = ap At (eq_means m n e)
 
 pub place_self : (l : Place) → same_place l l ≡ true
 place_self Start = refl
-place_self (At n) = equal_self n
+place_self (At n) = eq_reflexive n
 
 lt_other : (m n : ℕ) → nat_le m n ≡ false → nat_lt n m ≡ true
 lt_other m n h = grind (arith, nat_tests)
@@ -105,7 +106,7 @@ module _ (p : Program) (f : Function) where
   all_onwards (k ∷ ns) n m node e h i = go (k == n) refl h (λ g. all_onwards ns n m node e g i)
     where
       go : (b : Bool) → (k == n) ≡ b → (b || holds_number ns n) ≡ true → (holds_number ns n ≡ true → holds_number (onwards_all r ns) m ≡ true) → holds_number (onwards_all r (k ∷ ns)) m ≡ true
-      go true j g deeper = in_left m (at_node [] (onwards r) (slice_get (graph_of p f).nodes k)) (onwards_all r ns) (ap (λ o. holds_number (at_node [] (onwards r) o) m) (ap (slice_get (graph_of p f).nodes) (equal_is k n j) ∙ e) ∙ i)
+      go true j g deeper = in_left m (at_node [] (onwards r) (slice_get (graph_of p f).nodes k)) (onwards_all r ns) (ap (λ o. holds_number (at_node [] (onwards r) o) m) (ap (slice_get (graph_of p f).nodes) (eq_means k n j) ∙ e) ∙ i)
       go false j g deeper = in_right m (at_node [] (onwards r) (slice_get (graph_of p f).nodes k)) (onwards_all r ns) (deeper g)
 
   own_by : (l m' : Place) (m : ℕ) → owner_of flow m ≡ Some m' → (node : Node) → slice_get (graph_of p f).nodes m ≡ Some node → is_own r.split l m ≡ same_place m' l
@@ -126,7 +127,7 @@ module _ (p : Program) (f : Function) where
   pub stub_there : (l : Place) (n : ℕ) (at : NodeAt p f l n) → has_row r.split n ≡ true → (m : ℕ) → holds_number (onwards r at.node) m ≡ true → Next l m → is_own r.split l m ≡ false → holds_number (stubs_of r l) m ≡ true
   stub_there l n at has m goes next other =
       chosen_has (λ k. holds_number (reached r l) k && not (is_own r.split l k)) r.split.leaders m (leaders_are_listed flow (inside p f) m ∙ (other_leads l m next other).0)
-      (ap (λ b. b && not (is_own r.split l m)) (later _ (holds_number (onwards_all r (rows_nodes r.split l)) m) (all_onwards (rows_nodes r.split l) n m at.node at.is_node (listed l n (owner_is l n at) has) goes)) ∙ ap not other)
+      (ap (λ b. b && not (is_own r.split l m)) (or_by_second _ (holds_number (onwards_all r (rows_nodes r.split l)) m) (all_onwards (rows_nodes r.split l) n m at.node at.is_node (listed l n (owner_is l n at) has) goes)) ∙ ap not other)
 
   -- and has its row
   pub row_for : (l : Place) (n : ℕ) (at : NodeAt p f l n) → has_row r.split n ≡ true → (m : ℕ) → holds_number (onwards r at.node) m ≡ true → Next l m → RowAt p r l m

@@ -1,5 +1,6 @@
 -- The words of a piece: for the frame that it gives, for one below that, and for the value that it returns, where a node uses them.
 use Rattle.std.proofs.Common.{◌≡◌, ℕ, Bool, true, false, not, ◌||◌, ◌==◌, List, [], ◌∷◌, slice_get, Some, refl, ◌∙◌, ap, codes}
+use Rattle.cpc_base.proofs.Truth.{eq_means, or_by_second}
 use Rattle.cpc_tree.specs.Lists.{holds_number, is_empty}
 use Rattle.cpc_tree.specs.Syntax.{Ty, Function, Program}
 use Rattle.cpc_forms.specs.Flow.{Place}
@@ -11,7 +12,6 @@ use Rattle.cpc_convert_event.specs.Pieces.{called_so, to_frame, words_if, any_no
 use Rattle.cpc_convert_event.specs.Routines.{Routine, routine_of}
 use Rattle.cpc_convert_event.specs.Rows.{has_row, rows_nodes, stubs_of}
 use Rattle.cpc_convert_event.proofs.Fields.{word_apart}
-use Rattle.cpc_convert_event.proofs.Numbers.{equal_is, later}
 use Rattle.cpc_convert_piece_laws.specs.Known.{CpsKnown}
 use Rattle.cpc_convert_piece_laws.specs.Stood.{NodeAt}
 use Rattle.cpc_convert_piece_laws.proofs.Frames.{Word}
@@ -24,8 +24,8 @@ any_has r test [] n node e h t = absurd (cc)
 any_has r test (k ∷ ns) n node e h t = go (k == n) refl h (λ i. any_has r test ns n node e i t)
   where
     go : (b : Bool) → (k == n) ≡ b → (b || holds_number ns n) ≡ true → (holds_number ns n ≡ true → any_node r test ns ≡ true) → any_node r test (k ∷ ns) ≡ true
-    go true i j deeper = ap (λ b. b || any_node r test ns) (ap (λ m. at_node false test (slice_get r.split.graph.nodes m)) (equal_is k n i) ∙ (ap (at_node false test) e ∙ t))
-    go false i j deeper = later (at_node false test (slice_get r.split.graph.nodes k)) (any_node r test ns) (deeper j)
+    go true i j deeper = ap (λ b. b || any_node r test ns) (ap (λ m. at_node false test (slice_get r.split.graph.nodes m)) (eq_means k n i) ∙ (ap (at_node false test) e ∙ t))
+    go false i j deeper = or_by_second (at_node false test (slice_get r.split.graph.nodes k)) (any_node r test ns) (deeper j)
 
 second_word : (a b c : Bool) (t : Ty) → b ≡ true → StandsIn (called_so under_name to_frame) (words_if a b c t)
 second_word true true c t e = (1, refl)
@@ -60,7 +60,7 @@ module _ (p : Program) (f : Function) (known : CpsKnown p f) (l : Place) (owner 
         (meant p f known l owner).words (called_so to_name to_frame) (
           0,
           first_word _ (any_node r (λ node. is_entry p node.stood) (rows_nodes r.split l)) (any_node r (λ node. is_result node.stood) (rows_nodes r.split l)) f.result
-              (later (not (is_empty (stubs_of r l))) (any_node r (λ node. is_wait node.manner node.stood) (rows_nodes r.split l)) (some_node (λ node. is_wait node.manner node.stood) e)),
+              (or_by_second (not (is_empty (stubs_of r l))) (any_node r (λ node. is_wait node.manner node.stood) (rows_nodes r.split l)) (some_node (λ node. is_wait node.manner node.stood) e)),
         )
 
     pub entry_word : is_entry p at.node.stood ≡ true → StandsIn (called_so under_name to_frame) (piece_locals p r l)

@@ -1,8 +1,9 @@
 -- What is written of a piece is its body, and what is made of it its function.
-use Rattle.std.proofs.Common.{◌≡◌, ℕ, suc, ◌+◌, ◌<◌, ◌≤◌, ◌||◌, not, Bool, List, [], ◌∷◌, ◌++◌, map, length, drop, get_or, Some, refl, sym, ◌∙◌, ap, arith}
+use Rattle.std.proofs.Common.{◌≡◌, ℕ, suc, ◌+◌, ◌<◌, ◌≤◌, ◌||◌, not, Bool, List, [], ◌∷◌, ◌++◌, map, length, drop, get_or, Some, sym, ◌∙◌, ap, arith}
 use Rattle.std.proofs.lemmas.List.{append_assoc, drop_all}
 use Rattle.std.proofs.Math.Seq.{drop-cons}
 use Rattle.cpc_base.specs.Bytes.{Text}
+use Rattle.cpc_base.proofs.Lists.{append_empty}
 use Rattle.cpc_tree.specs.declared.program.Mode.TheVariants.{Native}
 use Rattle.cpc_tree.specs.Lists.{is_empty}
 use Rattle.cpc_tree.specs.Syntax.{Ty, TyPointer, TyStruct, ENamed, Stmt, Block, Declare, Stmts, NoStmt, AndStmt, Item, FunctionItem, Program}
@@ -18,10 +19,6 @@ use Rattle.cpc_convert_event.specs.Rows.{rows_nodes, stubs_of, piece_statements}
 use Rattle.cpc_convert_lines.specs.Written.{Written, puts}
 use Rattle.cpc_convert_pieces.specs.Parts.{loading_of, declaring_of, opening_of}
 use Rattle.cpc_convert_pieces.proofs.Written.{two_written, map_both, before_both}
-
-with_none : {A : Type 0} (xs : List A) → xs ++ [] ≡ xs
-with_none [] = refl
-with_none (x ∷ xs) = ap (λ l. x ∷ l) (with_none xs)
 
 -- the same words
 pub words_same : (w : Written) (t : Ty) (a b c d e f : Bool) → a ≡ d → b ≡ e → c ≡ f → puts w (map declares_one (words_if a b c t)) ≡ puts w (map declares_one (words_if d e f t))
@@ -83,4 +80,4 @@ leader_more p r ns i items new total lt e before =
 
 -- when none is left
 pub leaders_done : (p : Program) (r : Routine) (ns : List ℕ) (i : ℕ) (items total : List Item) → length ns ≤ i → items ++ map function_item (map (leader_function p r) (drop i ns)) ≡ total → items ≡ total
-leaders_done p r ns i items total past e = sym (with_none items) ∙ (ap (λ xs. items ++ map function_item (map (leader_function p r) xs)) (sym (drop_all i ns past)) ∙ e)
+leaders_done p r ns i items total past e = sym (append_empty items) ∙ (ap (λ xs. items ++ map function_item (map (leader_function p r) xs)) (sym (drop_all i ns past)) ∙ e)

@@ -2,6 +2,7 @@
 use Rattle.std.proofs.Common.{◌≡◌, ℕ, zero, suc, ◌+◌, ◌<◌, ◌≤◌, Bool, List, [], ◌∷◌, ◌++◌, map, length, drop, slice_get, get_or, Option, None, refl, sym, ◌∙◌, ap, arith}
 use Rattle.std.proofs.lemmas.List.{append_assoc, drop_all}
 use Rattle.std.proofs.Math.Seq.{drop-cons}
+use Rattle.cpc_base.proofs.Lists.{append_empty}
 use Rattle.cpc_tree.specs.Syntax.{Stmt, Program}
 use Rattle.cpc_forms.specs.Flow.{Place}
 use Rattle.cpc_convert_event.specs.Names.{node_label}
@@ -15,10 +16,6 @@ first_left p r l [] zero = refl
 first_left p r l [] (suc j) = refl
 first_left p r l (n ∷ ns) zero = refl
 first_left p r l (n ∷ ns) (suc j) = first_left p r l ns j
-
-with_none : {A : Type 0} (xs : List A) → xs ++ [] ≡ xs
-with_none [] = refl
-with_none (x ∷ xs) = ap (λ l. x ∷ l) (with_none xs)
 
 -- one row more
 pub row_more : (p : Program) (r : Routine) (l : Place) (ns : List ℕ) (i : ℕ) (all : List PutRow) (d new : List Stmt) (o : Option ℕ) (b : Bool) → i < length ns → o ≡ slice_get ns (suc i)
@@ -38,4 +35,4 @@ row_more p r l ns i all d new o b lt next want e =
 pub rows_done : (p : Program) (r : Routine) (l : Place) (ns : List ℕ) (i : ℕ) (all : List PutRow) (w : Written) (x : List Stmt) → length ns ≤ i → w.label ≡ None
     → w.done ++ rows_statements all (put_rows (map (row_of p r l) (drop i ns))) ≡ x → w ≡ plain x
 rows_done p r l ns i all w x past none e =
-    ap (labelled_by w.done) none ∙ ap plain (sym (with_none w.done) ∙ (ap (λ xs. w.done ++ rows_statements all (put_rows (map (row_of p r l) xs))) (sym (drop_all i ns past)) ∙ e))
+    ap (labelled_by w.done) none ∙ ap plain (sym (append_empty w.done) ∙ (ap (λ xs. w.done ++ rows_statements all (put_rows (map (row_of p r l) xs))) (sym (drop_all i ns past)) ∙ e))

@@ -1,6 +1,7 @@
 -- What a piece keeps, begins and goes over are variables and nodes of its function.
 use Rattle.std.proofs.Common.{◌≡◌, ℕ, suc, ◌+◌, ◌<◌, ◌≤◌, ◌==◌, ◌||◌, ◌&&◌, not, if◌then◌else◌, nat_le, nat_lt, Bool, true, false, List, [], ◌∷◌, ◌++◌, length, slice_get, All, Option, Some, None, refl, subst, arith}
 use Rattle.std.proofs.lemmas.List.Elements.{All-nil, All-cons, All-append}
+use Rattle.cpc_base.proofs.Truth.{eq_means, and_first}
 use Rattle.cpc_tree.specs.Lists.{holds_number}
 use Rattle.cpc_tree.specs.Syntax.{Program}
 use Rattle.cpc_forms.specs.Flow.{Place, Start, At}
@@ -11,13 +12,6 @@ use Rattle.cpc_convert_event.specs.Routines.{Routine, closure_of, is_parameter, 
 use Rattle.cpc_convert_event.specs.Pieces.{loaded, begun}
 use Rattle.cpc_convert_event.specs.Rows.{owner_at, is_own, has_row, turned, rows_nodes, reached, stubs_of, row_of, falls, number_where, stub_behind, numbers_from, numbers_of}
 use Rattle.cpc_convert_standing.specs.Known.{number_unless, boxes_among}
-
-number_is : (a b : ℕ) → (a == b) ≡ true → a ≡ b
-number_is a b e = grind (arith, e)
-
-and_left : (a b : Bool) → (a && b) ≡ true → a ≡ true
-and_left true b e = refl
-and_left false b e = e
 
 module _ (Q : ℕ → Type 0) where
   rest_all : (k : ℕ) (ks : List ℕ) → All Q (k ∷ ks) → All Q ks
@@ -40,7 +34,7 @@ module _ (Q : ℕ → Type 0) where
   held_all (n ∷ ns) k all e = go (n == k) refl e (λ h. held_all ns k (rest_all n ns all) h)
     where
       go : (b : Bool) → (n == k) ≡ b → (b || holds_number ns k) ≡ true → (holds_number ns k ≡ true → Q k) → Q k
-      go true i h rest = subst Q (number_is n k i) (first_all n ns all)
+      go true i h rest = subst Q (eq_means n k i) (first_all n ns all)
       go false i h rest = rest h
 
   -- ---- nodes
@@ -84,7 +78,7 @@ module _ (Q : ℕ → Type 0) where
   behind_all : (stubs placed : List ℕ) (o : Option ℕ) → All Q stubs → All Q (stub_behind stubs placed o)
   behind_all stubs placed None all = All-nil Q
   behind_all stubs placed (Some n) all =
-      where_all (holds_number stubs n && not (holds_number placed n)) n (λ e. held_all stubs n all (and_left (holds_number stubs n) (not (holds_number placed n)) e))
+      where_all (holds_number stubs n && not (holds_number placed n)) n (λ e. held_all stubs n all (and_first (holds_number stubs n) (not (holds_number placed n)) e))
 
   from_all : (p : Program) (r : Routine) (l : Place) (stubs placed ns : List ℕ) → All Q stubs → All Q ns → All Q (numbers_from p r l stubs placed ns)
   from_all p r l stubs placed [] led all = All-nil Q

@@ -2,6 +2,7 @@
 use Rattle.std.proofs.Common.{◌≡◌, ℕ, Bool, true, false, List, [], ◌∷◌, ◌++◌, map, Option, None, refl, sym, ◌∙◌, ap}
 use Rattle.std.proofs.lemmas.List.{append_assoc}
 use Rattle.cpc_base.specs.Bytes.{Text}
+use Rattle.cpc_base.proofs.Lists.{append_empty}
 use Rattle.cpc_tree.specs.Syntax.{Stmt, Label, Stmts, AndStmt}
 use Rattle.cpc_convert_chain_laws.specs.Flat.{before}
 use Rattle.cpc_convert_event.specs.Names.{node_label}
@@ -9,16 +10,12 @@ use Rattle.cpc_convert_event.specs.Rows.{label_if}
 use Rattle.cpc_convert_lines.specs.Written.{Written, put, puts}
 use Rattle.cpc_convert_pieces.specs.Labels.{label_where}
 
-with_none : {A : Type 0} (xs : List A) → xs ++ [] ≡ xs
-with_none [] = refl
-with_none (x ∷ xs) = ap (λ l. x ∷ l) (with_none xs)
-
 -- statements without a label
 abbrev pub plain : List Stmt → Written
 plain d = record { done = d; label = None }
 
 pub puts_plain : (d ss : List Stmt) → puts (plain d) ss ≡ plain (d ++ ss)
-puts_plain d [] = ap plain (sym (with_none d))
+puts_plain d [] = ap plain (sym (append_empty d))
 puts_plain d (s ∷ ss) = puts_plain (d ++ s ∷ []) ss ∙ ap plain (append_assoc d (s ∷ []) ss)
 
 pub puts_both : (w : Written) (xs ys : List Stmt) → puts (puts w xs) ys ≡ puts w (xs ++ ys)
@@ -27,8 +24,8 @@ puts_both w (x ∷ xs) ys = puts_both (put w x) xs ys
 
 -- a row behind its label
 pub row_done : (d ss : List Stmt) (b : Bool) (n : ℕ) → (puts (record { done = d; label = label_where b n }) ss).done ≡ d ++ label_if b (node_label n) ss
-row_done d [] true n = sym (with_none d)
-row_done d [] false n = sym (with_none d)
+row_done d [] true n = sym (append_empty d)
+row_done d [] false n = sym (append_empty d)
 row_done d (s ∷ ss) true n = ap (λ (w : Written). w.done) (puts_plain (d ++ Label (node_label n) s ∷ []) ss) ∙ append_assoc d (Label (node_label n) s ∷ []) ss
 row_done d (s ∷ ss) false n = ap (λ (w : Written). w.done) (puts_plain (d ++ s ∷ []) ss) ∙ append_assoc d (s ∷ []) ss
 

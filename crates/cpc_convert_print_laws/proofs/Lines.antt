@@ -2,6 +2,7 @@
 use Rattle.std.proofs.Common.{◌≡◌, ℕ, suc, ◌+◌, ◌≤◌, ◌<◌, ◌^◌, Bool, true, false, ◌||◌, if◌then◌else◌, List, [], ◌∷◌, ◌++◌, map, length, slice_get, pos, codes, bytes_eq, Option, Some, None, refl, subst, ap, arith}
 use Rattle.cpc_base.specs.Bytes.{Text}
 use Rattle.cpc_base.specs.declared.stop.Dialect.TheVariants as D
+use Rattle.cpc_base.proofs.Truth.{eq_reflexive}
 use Rattle.cpc_num.specs.declared.kinds.Kind.TheVariants.{Int}
 use Rattle.cpc_tree.specs.Lists.{holds_number}
 use Rattle.cpc_tree.specs.Spelling.{IsName}
@@ -23,7 +24,6 @@ use Rattle.cpc_convert_chain_laws.specs.Driver.{drive_name, code_field, next_fie
 use Rattle.cpc_convert_event.specs.Names.{start_name, variable_name, next_name, value_name, to_name, under_name, result_name}
 use Rattle.cpc_convert_event.specs.Routines.{Routine, routine_of, is_plain, readings_of, closure_of, local_of}
 use Rattle.cpc_convert_event.specs.Lines.{Line, Does, Goes, Tests, Passes, goes, passes, all_do, save_of, frame_lines, frame_lines_if, gives_from, call_lines, hands_over, hands_nothing, runtime_name, wait_lines, section_lines, enter_lines, waits_lines, unbox_lines, result_lines, patch_lines, leave_lines, simple_lines, cps_lines, test_lines, arrival_lines, behind_arrival, framed_lines, stood_lines}
-use Rattle.cpc_graph_laws.proofs.Formed.{equal_self}
 use Rattle.cpc_convert_print_laws.proofs.Names as N
 use Rattle.cpc_convert_print_laws.proofs.Names.{IsSmall, name_widened, spawner_is_name, start_is_name, piece_is_name, variable_is_name}
 use Rattle.cpc_convert_print_laws.proofs.Images.{ReadingSpelled, ReadingsSpelled, image_no_call}
@@ -52,7 +52,7 @@ readings_spelled r scope small x n = go scope (small x)
         by : (b : Bool) → ((k : ℕ) → holds_number (if b then l.slot ∷ [] else slot_of scope x) k ≡ true → k < 2 ^ 64)
             → (((k : ℕ) → holds_number (slot_of scope x) k ≡ true → k < 2 ^ 64) → ReadingSpelled (readings_in (is_plain r) variable_name scope x))
             → ReadingSpelled (if b then Some (reading_of (is_plain r l.slot) (variable_name l.slot x) x) else readings_in (is_plain r) variable_name scope x)
-        by true s deeper = read (is_plain r l.slot) l.slot (s l.slot (ap (λ b. b || false) (equal_self l.slot)))
+        by true s deeper = read (is_plain r l.slot) l.slot (s l.slot (ap (λ b. b || false) (eq_reflexive l.slot)))
         by false s deeper = deeper s
 
 -- ---- what is no call

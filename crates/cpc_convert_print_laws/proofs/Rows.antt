@@ -1,6 +1,7 @@
 -- The rows of a piece can be printed: each of its numbers is small, and each line.
 use Rattle.std.proofs.Common.{◌≡◌, ℕ, suc, ◌+◌, ◌≤◌, ◌<◌, ◌^◌, Bool, true, false, not, ◌&&◌, ◌||◌, ◌==◌, if◌then◌else◌, List, [], ◌∷◌, ◌++◌, map, length, slice_get, nat_le, nat_lt, Option, Some, None, refl, arith}
 use Rattle.cpc_base.specs.Bytes.{Text}
+use Rattle.cpc_base.proofs.Truth.{eq_means}
 use Rattle.cpc_tree.specs.Lists.{holds_number}
 use Rattle.cpc_tree.specs.Registers.{variables}
 use Rattle.cpc_tree.specs.Syntax.{Empty, Goto, Function, Program}
@@ -14,7 +15,7 @@ use Rattle.cpc_convert_event.specs.Names.{node_label}
 use Rattle.cpc_convert_event.specs.Routines.{Routine, routine_of, closure_of, chosen}
 use Rattle.cpc_convert_event.specs.Lines.{Line, Does, Goes, Tests, Passes, node_lines, behind_arrival}
 use Rattle.cpc_convert_event.specs.Rows.{is_own, has_row, turned, rows_nodes, reached, stubs_of, Row, lines_by, row_of, falls, number_where, stub_behind, numbers_from, numbers_of, rows_of, Put, Plain, Jump, JumpIf, is_next, put_line, put_lines, PutRow, first_number, put_rows, is_wanted, put_statement, label_if, row_statements, rows_statements, piece_statements}
-use Rattle.cpc_convert_event.proofs.Numbers.{AllBelow, NoneBelow, OneBelow, below_append, below_chosen, equal_is}
+use Rattle.cpc_convert_event.proofs.Numbers.{AllBelow, NoneBelow, OneBelow, below_append, below_chosen}
 use Rattle.cpc_convert_print_laws.proofs.Names.{label_is_name}
 use Rattle.cpc_convert_print_laws.proofs.Known.{FunctionReads, StoodPrints}
 use Rattle.cpc_convert_print_laws.proofs.Made.{ExprMade, RowMade, EachIn, both_in, row_in, label_made, line_row, empty_made, goto_made, if_made}
@@ -32,7 +33,7 @@ below_held high _ n NoneBelow h = absurd (cc)
 below_held high _ n (OneBelow m ns less more) h = go (m == n) refl h (λ i. below_held high ns n more i)
   where
     go : (b : Bool) → (m == n) ≡ b → (b || holds_number ns n) ≡ true → (holds_number ns n ≡ true → n < high) → n < high
-    go true e i deeper = let z = equal_is m n e in omega (arith, z, less)
+    go true e i deeper = let z = eq_means m n e in omega (arith, z, less)
     go false e i deeper = deeper i
 
 below_if : (high : ℕ) (b : Bool) (n : ℕ) (ns : List ℕ) → n < high → AllBelow high ns → AllBelow high (number_if b n ns)

@@ -1,5 +1,6 @@
 -- The boxes of a frame, as the piece gives them back where the function is left.
 use Rattle.std.proofs.Common.{◌≡◌, ℕ, suc, ◌+◌, Bool, true, false, not, List, [], ◌∷◌, map, slice_get, Some, refl, sym, ◌∙◌, ap, subst, arith}
+use Rattle.cpc_base.proofs.Truth.{false_unless_true, not_fails}
 use Rattle.cpc_tree.specs.Lists.{holds_number}
 use Rattle.cpc_tree.specs.Syntax.{Function, Program}
 use Rattle.cpc_store.specs.declared.values.Class.TheVariants.{Auto}
@@ -17,7 +18,6 @@ use Rattle.cpc_convert_event.specs.LocalLaws.{piece_locals}
 use Rattle.cpc_convert_event.specs.NameLaws.{IsOwner}
 use Rattle.cpc_convert_event.specs.Routines.{Routine, routine_of, closure_of, is_plain, local_of}
 use Rattle.cpc_convert_event.proofs.Calls.{boxes_returned}
-use Rattle.cpc_convert_event.proofs.Numbers.{not_true}
 use Rattle.cpc_convert_accepted_laws.proofs.Lifted.{programs_are_closed}
 use Rattle.cpc_convert_piece_laws.specs.Known.{CpsKnown}
 use Rattle.cpc_convert_piece_laws.specs.Stood.{NodeAt, LocalsStand}
@@ -30,10 +30,6 @@ use Rattle.cpc_convert_return_laws.specs.Kept.{KeepsBoxes}
 no_plain : (b : Bool) → not b ≡ true → b ≡ true → ⊥
 no_plain true e f = absurd (cc)
 no_plain false e f = absurd (cc)
-
-is_marked : (b : Bool) → not b ≡ false → b ≡ true
-is_marked true e = refl
-is_marked false e = absurd (cc)
 
 module _ (p : Program) (f : Function) (known : CpsKnown p f) (l : Place) (owner : IsOwner (routine_of p f) l) (n : ℕ) (at : NodeAt p f l n) (slots slots' : List Slot) (lower : Value) (stands : LocalsStand p (routine_of p f) l slots slots' lower) where
   abbrev r : Routine
@@ -64,14 +60,14 @@ module _ (p : Program) (f : Function) (known : CpsKnown p f) (l : Place) (owner 
     where
       by : (i : ℕ) (m : Bool) → is_plain r k ≡ m → Stands slots slots' m k i → holds_number r.boxes k ≡ true
       by i m i' (AsValue _ _ v a c) = absurd (let z : Some (Boxed b) ≡ Some (Register v) = sym e ∙ a in cc)
-      by i m i' (AsBlock _ _ block a c) = is_marked (holds_number r.boxes k) i'
+      by i m i' (AsBlock _ _ block a c) = not_fails (holds_number r.boxes k) i'
 
   module _ (boxes : KeepsBoxes p f l slots) (left : is_left at.node.stood ≡ true) where
     -- the boxes from a slot on
     stand_from : (k : ℕ) (xs : List Slot) → ((i : ℕ) → slice_get xs i ≡ slice_get slots (k + i)) → BoxesStand (Target p f known l owner) (scope p f known l owner) slots' r k xs
     stand_from k [] same = tt
     stand_from k (Register v ∷ xs) same = (
-      not_true (holds_number r.boxes k)
+      false_unless_true (holds_number r.boxes k)
           (λ box. let z : Some (Register v) ≡ Some (Boxed (pointed k (left_kept left k box) box).block) = same 0 ∙ (ap (slice_get slots) (let y : k + 0 ≡ k = omega arith in y) ∙ (pointed k (left_kept left k box) box).boxed) in absurd (cc)),
       stand_from (suc k) xs (λ i. same (suc i) ∙ ap (slice_get slots) (let y : k + suc i ≡ suc k + i = omega arith in y)),
     )

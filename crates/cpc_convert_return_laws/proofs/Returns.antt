@@ -1,5 +1,7 @@
 -- What a piece does where its function is left: it evaluates the value, gives back the boxes, writes the value to the frame below, and gives this to the driver.
 use Rattle.cpc_base.specs.Bytes.{Text}
+use Rattle.cpc_base.proofs.Truth.{eq_means, or_by_second}
+use Rattle.cpc_base.proofs.Lists.{length_of_map}
 use Rattle.cpc_convert_accepted_laws.specs.Known.{Stays}
 use Rattle.cpc_convert_accepted_laws.specs.Points.{UsedName}
 use Rattle.cpc_convert_chain_laws.proofs.AtLine.{line_next, line_passed}
@@ -21,7 +23,6 @@ use Rattle.cpc_convert_chain_laws.specs.Frames.{Holds, at as Here_at}
 use Rattle.cpc_convert_chain_laws.specs.Walks.{FaultsAfter, Here, Walk, World, at_line, frame_at, running}
 use Rattle.cpc_convert_event.proofs.BoxesThere.{structs_there}
 use Rattle.cpc_convert_event.proofs.Locals.{counted}
-use Rattle.cpc_convert_event.proofs.Numbers.{equal_is, later}
 use Rattle.cpc_convert_event.specs.FlatLaws.{piece_count}
 use Rattle.cpc_convert_event.specs.Lines.{all_do, hands_over, node_lines, unbox_lines}
 use Rattle.cpc_convert_event.specs.LocalLaws.{StandsIn, piece_locals}
@@ -44,7 +45,7 @@ use Rattle.cpc_convert_laws.specs.Bounds.{Bounds}
 use Rattle.cpc_convert_native_laws.specs.Instance.{StaysAs}
 use Rattle.cpc_convert_piece_laws.proofs.Acting.{found_known, kept_here, lines_are, source_act}
 use Rattle.cpc_convert_piece_laws.proofs.Environment.{InLocal, Used, names_mean}
-use Rattle.cpc_convert_piece_laws.proofs.Frames.{Target, body, code, is_code, map_length, puts_do, scope, word_set}
+use Rattle.cpc_convert_piece_laws.proofs.Frames.{Target, body, code, is_code, puts_do, scope, word_set}
 use Rattle.cpc_convert_piece_laws.proofs.Onwards.{z}
 use Rattle.cpc_convert_piece_laws.proofs.Places.{FirstLine, first_line}
 use Rattle.cpc_convert_piece_laws.proofs.Rowed.{DoesHere, first_fault, first_step, row_puts, standing_piece, tail}
@@ -102,8 +103,8 @@ any_has r test [] n node e h t = absurd (cc)
 any_has r test (k ∷ ns) n node e h t = go (k == n) refl h (λ i. any_has r test ns n node e i t)
   where
     go : (b : Bool) → (k == n) ≡ b → (b || holds_number ns n) ≡ true → (holds_number ns n ≡ true → any_node r test ns ≡ true) → any_node r test (k ∷ ns) ≡ true
-    go true i j deeper = ap (λ b. b || any_node r test ns) (ap (λ m. at_node false test (slice_get r.split.graph.nodes m)) (equal_is k n i) ∙ (ap (at_node false test) e ∙ t))
-    go false i j deeper = later (at_node false test (slice_get r.split.graph.nodes k)) (any_node r test ns) (deeper j)
+    go true i j deeper = ap (λ b. b || any_node r test ns) (ap (λ m. at_node false test (slice_get r.split.graph.nodes m)) (eq_means k n i) ∙ (ap (at_node false test) e ∙ t))
+    go false i j deeper = or_by_second (at_node false test (slice_get r.split.graph.nodes k)) (any_node r test ns) (deeper j)
 
 -- the statements that give back boxes, by the names of their locals
 same_lines : (r : Routine) (ks : List ℕ) → map (λ k. unboxes_one (local_of r k).called) ks ≡ map unboxes_one (map (λ k. (local_of r k).called) ks)
@@ -133,7 +134,7 @@ module _ (p : Program) (fine : CallFrame Position → Option Value → Type 0) (
   names = map (λ k. (local_of r k).called) r.boxes
 
   few : length names ≤ length (variables f)
-  few = let one = few_boxes p f known in let same = map_length (λ k. (local_of r k).called) r.boxes in omega (arith, one, same)
+  few = let one = few_boxes p f known in let same = length_of_map (λ k. (local_of r k).called) r.boxes in omega (arith, one, same)
 
   abbrev hands : Stmt
   hands = hands_over next_name
@@ -247,7 +248,7 @@ module _ (p : Program) (fine : CallFrame Position → Option Value → Type 0) (
         let passed = past_lines (code p f known l owner) (body p f known l owner) (suc k) (scope p f known l owner) (piece_count p r l) (map unboxes_one ys) (AndStmt hands behind) (unboxes_lines ys)
         (line_passed (code p f known l owner) (body p f known l owner) k (scope p f known l owner) (piece_count p r l) (unboxes_one y) left_behind first.line) in
         let counted_names : length names ≡ suc (length ys) = ap length are in
-        let counted_lines = map_length unboxes_one ys in
+        let counted_lines = length_of_map unboxes_one ys in
         handed (suc (length ys)) (let z : suc (length ys) ≤ length (variables f) = omega (arith, few, counted_names) in z) (subst (λ j. Left j (AndStmt hands behind)) (let z : suc k + length (map unboxes_one ys) ≡ k + suc (length ys) = omega (arith, counted_lines) in z) passed) (free_slots slots w.store)
         (subst (Steps k slots' (suc (length ys)) (AndStmt hands behind) inside) freed
         (subst (λ rest. Steps k slots' (suc (length ys)) (AndStmt hands behind) (running world (beside bs w.store) (frame_at name (point_at k rest) slots' ∷ below) None) (free_slots slots (beside bs w.store))) (sym first.is_rest) come))
@@ -385,7 +386,7 @@ module _ (p : Program) (fine : CallFrame Position → Option Value → Type 0) (
     after_value v fits is_act =
         let st = line_passed (code p f known l owner) (body p f known l owner) k (scope p f known l owner) (piece_count p r l) x left_behind first.line in
         let passed = past_lines (code p f known l owner) (body p f known l owner) (suc k) (scope p f known l owner) (piece_count p r l) (map unboxes_one names) (AndStmt patch (AndStmt hands behind)) (unboxes_lines names) st in
-        let counted_lines = map_length unboxes_one names in
+        let counted_lines = length_of_map unboxes_one names in
         let come = unboxes_come q world name (code p f known l owner) (body p f known l owner) below (is_code p f known l owner) (scope p f known l owner) (piece_count p r l) (with_value v) unbox_meant (suc k) slots names (AndStmt patch (AndStmt hands behind)) (beside bs w.store)
         (unboxing p f known l owner n at slots (with_value v) lower (after v) boxes left) st in
         does_leave v (free_slots slots w.store)

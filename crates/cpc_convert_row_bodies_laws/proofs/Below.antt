@@ -1,5 +1,6 @@
 -- The numbers of a piece's rows are numbers of nodes.
 use Rattle.std.proofs.Common.{◌≡◌, ℕ, suc, ◌+◌, ◌≤◌, ◌<◌, Bool, true, false, not, ◌&&◌, ◌||◌, ◌==◌, if◌then◌else◌, List, [], ◌∷◌, ◌++◌, length, nat_le, nat_lt, Option, Some, None, refl, arith}
+use Rattle.cpc_base.proofs.Truth.{eq_means}
 use Rattle.cpc_tree.specs.Lists.{holds_number}
 use Rattle.cpc_tree.specs.Syntax.{Program}
 use Rattle.cpc_forms.specs.Flow.{Place}
@@ -7,7 +8,7 @@ use Rattle.cpc_forms.specs.Split.{number_if}
 use Rattle.cpc_forms.specs.Pieces.{is_owned_by, owned_from, without, fronted, first_of}
 use Rattle.cpc_convert_event.specs.Routines.{Routine, chosen}
 use Rattle.cpc_convert_event.specs.Rows.{is_own, has_row, turned, rows_nodes, reached, stubs_of, row_of, falls, number_where, stub_behind, numbers_from, numbers_of}
-use Rattle.cpc_convert_event.proofs.Numbers.{AllBelow, NoneBelow, OneBelow, below_append, below_chosen, equal_is}
+use Rattle.cpc_convert_event.proofs.Numbers.{AllBelow, NoneBelow, OneBelow, below_append, below_chosen}
 
 -- a number that is held
 pub below_held : (high : ℕ) (ns : List ℕ) (n : ℕ) → AllBelow high ns → holds_number ns n ≡ true → n < high
@@ -15,7 +16,7 @@ below_held high _ n NoneBelow h = absurd (cc)
 below_held high _ n (OneBelow m ns less more) h = go (m == n) refl h (λ i. below_held high ns n more i)
   where
     go : (b : Bool) → (m == n) ≡ b → (b || holds_number ns n) ≡ true → (holds_number ns n ≡ true → n < high) → n < high
-    go true e i deeper = let z = equal_is m n e in omega (arith, z, less)
+    go true e i deeper = let z = eq_means m n e in omega (arith, z, less)
     go false e i deeper = deeper i
 
 below_if : (high : ℕ) (b : Bool) (n : ℕ) (ns : List ℕ) → n < high → AllBelow high ns → AllBelow high (number_if b n ns)

@@ -2,6 +2,7 @@
 use Rattle.std.proofs.Common.{◌≡◌, ⊎_elim, ℕ, zero, suc, ◌+◌, ◌≤◌, Bool, true, false, not, ◌&&◌, if◌then◌else◌, List, [], ◌∷◌, ◌++◌, map, length, slice_get, decimal, Option, Some, None, codes, refl, sym, ◌∙◌, ap, subst, arith}
 use Rattle.cpc_base.specs.Bytes.{Text}
 use Rattle.cpc_base.specs.declared.stop.Dialect.TheVariants as D
+use Rattle.cpc_base.proofs.Lists.{length_of_map, append_grouped, length_of_append}
 use Rattle.cpc_tree.specs.declared.program.Mode.TheVariants.{Native}
 use Rattle.cpc_tree.specs.Registers.{variables}
 use Rattle.cpc_tree.specs.Syntax.{Ty, TyPointer, TyStruct, ENamed, Stmt, Block, Empty, Declare, Assign, Call, Detach, Spawn, If, While, DoWhile, For, Goto, Label, Break, Continue, Return, Stmts, NoStmt, AndStmt, Variable, Function, FunctionItem, Program}
@@ -35,7 +36,7 @@ use Rattle.cpc_convert_event.proofs.Flat.{boxes_done, before_append, pieces_flat
 use Rattle.cpc_convert_event.proofs.Lines.{AreLines, bare_lines, lines_append, piece_lines, puts_done, lines_done}
 use Rattle.cpc_convert_accepted_laws.specs.Pieces.{VariablesHaveCells}
 use Rattle.cpc_convert_piece_laws.specs.Known.{CpsKnown}
-use Rattle.cpc_convert_piece_laws.proofs.Frames.{kept_number, map_length}
+use Rattle.cpc_convert_piece_laws.proofs.Frames.{kept_number}
 use Rattle.cpc_convert_rules_laws.specs.Laws.{Knows, BodyFine}
 use Rattle.cpc_convert_rules_laws.proofs.KeptRows.{Source}
 use Rattle.cpc_convert_rules_laws.proofs.Names.{made_unkept}
@@ -105,13 +106,9 @@ lines_declare : (ss : List Stmt) → AreLines ss → stmt_locals ss ≡ []
 lines_declare [] h = refl
 lines_declare (s ∷ ss) h = ap (λ xs. xs ++ stmt_locals ss) (line_declares s h.0) ∙ lines_declare ss h.1
 
-append_assoc : {X : Type 0} (us vs ws : List X) → (us ++ vs) ++ ws ≡ us ++ (vs ++ ws)
-append_assoc [] vs ws = refl
-append_assoc (u ∷ us) vs ws = ap (λ xs. u ∷ xs) (append_assoc us vs ws)
-
 locals_append : (xs ys : List Stmt) → stmt_locals (xs ++ ys) ≡ stmt_locals xs ++ stmt_locals ys
 locals_append [] ys = refl
-locals_append (x ∷ xs) ys = ap (λ ls. line_locals x ++ ls) (locals_append xs ys) ∙ sym (append_assoc (line_locals x) (stmt_locals xs) (stmt_locals ys))
+locals_append (x ∷ xs) ys = ap (λ ls. line_locals x ++ ls) (locals_append xs ys) ∙ sym (append_grouped (line_locals x) (stmt_locals xs) (stmt_locals ys))
 
 loads_declare : (e : Text) (ls : List Load) → stmt_locals (map (loads_one e) ls) ≡ names_of (map Flat.loaded ls)
 loads_declare e [] = refl
@@ -160,10 +157,6 @@ names_append [] ys = refl
 names_append (x ∷ xs) ys = ap (λ zs. x.called ∷ zs) (names_append xs ys)
 
 -- ---- lengths
-
-length_append : {X : Type 0} (xs ys : List X) → length (xs ++ ys) ≡ length xs + length ys
-length_append [] ys = let z : length ys ≡ 0 + length ys = omega arith in z
-length_append (x ∷ xs) ys = let h = length_append xs ys in let z : suc (length (xs ++ ys)) ≡ suc (length xs) + length ys = omega (arith, h) in z
 
 chosen_few : (test : ℕ → Bool) (ns : List ℕ) → length (chosen test ns) ≤ length ns
 chosen_few test [] = omega arith
@@ -320,7 +313,7 @@ module _ (p : Program) (source : Source p) (f : Function) (known : CpsKnown p f)
       let a = chosen_few (λ j. not (is_parameter f j) && is_plain r j) (closure_of r Start) in
       let b = kept_few Start in
       let c = all_boxes_few in
-      let d = length_append (chosen (λ j. not (is_parameter f j) && is_plain r j) (closure_of r Start)) r.boxes in
+      let d = length_of_append (chosen (λ j. not (is_parameter f j) && is_plain r j) (closure_of r Start)) r.boxes in
       omega (arith, a, b, c, d)
   begun_few (At n) = omega arith
 
@@ -333,15 +326,15 @@ module _ (p : Program) (source : Source p) (f : Function) (known : CpsKnown p f)
 
   declared_few : length declared_names ≤ 1000
   declared_few =
-      let a = length_append (names_of (map Flat.loaded (loads_of p r l))) (names_of (declares_of p r l)) in
-      let b = map_length (λ (x : Variable). x.called) (map Flat.loaded (loads_of p r l)) in
-      let c = map_length Flat.loaded (loads_of p r l) in
-      let d = length_append (value_load p r l) (map load_of (locals_of r (P.loaded r l))) in
-      let e = map_length load_of (locals_of r (P.loaded r l)) in
-      let h = map_length (local_of r) (P.loaded r l) in
-      let i = map_length (λ (x : Variable). x.called) (declares_of p r l) in
-      let j = length_append (words_of p r l) (locals_of r (begun r l)) in
-      let m = map_length (local_of r) (begun r l) in
+      let a = length_of_append (names_of (map Flat.loaded (loads_of p r l))) (names_of (declares_of p r l)) in
+      let b = length_of_map (λ (x : Variable). x.called) (map Flat.loaded (loads_of p r l)) in
+      let c = length_of_map Flat.loaded (loads_of p r l) in
+      let d = length_of_append (value_load p r l) (map load_of (locals_of r (P.loaded r l))) in
+      let e = length_of_map load_of (locals_of r (P.loaded r l)) in
+      let h = length_of_map (local_of r) (P.loaded r l) in
+      let i = length_of_map (λ (x : Variable). x.called) (declares_of p r l) in
+      let j = length_of_append (words_of p r l) (locals_of r (begun r l)) in
+      let m = length_of_map (local_of r) (begun r l) in
       let n1 = loaded_few l in
       let n2 = begun_few l in
       let n3 = value_few in

@@ -1,6 +1,8 @@
 -- Frames that a piece makes for a leader, and those that it makes for a call, break no rule.
 use Rattle.std.proofs.Common.{◌≡◌, ℕ, zero, suc, ◌+◌, ◌<◌, ◌≤◌, ◌^◌, true, ◌||◌, ◌==◌, List, [], ◌∷◌, ◌++◌, map, length, slice_get, Some, refl, ◌∙◌, ap, subst, arith}
 use Rattle.cpc_base.specs.Bytes.{Text}
+use Rattle.cpc_base.proofs.Truth.{eq_reflexive, or_by_second}
+use Rattle.cpc_base.proofs.Lists.{length_of_map}
 use Rattle.cpc_num.specs.declared.kinds.Kind.TheVariants.{Int}
 use Rattle.cpc_tree.specs.Lists.{holds_number}
 use Rattle.cpc_tree.specs.Registers.{variables, as_variable}
@@ -18,7 +20,6 @@ use Rattle.cpc_check_complete_laws.proofs.Kept.{typed_scalar}
 use Rattle.cpc_convert.specs.Members.{Has}
 use Rattle.cpc_convert_image_laws.specs.Images.{Readings, image, images}
 use Rattle.cpc_forms.specs.Flow.{Place, At}
-use Rattle.cpc_graph_laws.proofs.Formed.{equal_self}
 use Rattle.cpc_convert_chain_laws.specs.Driver.{frame_tag, head_fields}
 use Rattle.cpc_convert_chain_laws.specs.Frames.{Scalars, AndScalar}
 use Rattle.cpc_convert_chain_laws.specs.Structs.{IsStruct}
@@ -33,10 +34,10 @@ use Rattle.cpc_convert_event.specs.Rows.{stub_lines}
 use Rattle.cpc_convert_event.proofs.BoxesThere.{structs_there}
 use Rattle.cpc_convert_event.proofs.Fields.{frame_fields, NoneRises, passed_rise}
 use Rattle.cpc_convert_event.proofs.Locals.{closure_rise, locals_scalar}
-use Rattle.cpc_convert_event.proofs.Numbers.{later, rises_below}
+use Rattle.cpc_convert_event.proofs.Numbers.{rises_below}
 use Rattle.cpc_convert_native_laws.proofs.SpawnerCall.{passed_few}
 use Rattle.cpc_convert_piece_laws.specs.Known.{CpsKnown}
-use Rattle.cpc_convert_piece_laws.proofs.Frames.{kept_number, map_length}
+use Rattle.cpc_convert_piece_laws.proofs.Frames.{kept_number}
 use Rattle.cpc_convert_piece_laws.proofs.Scopes as scopes
 use Rattle.cpc_convert_rules_laws.specs.Laws.{Knows}
 use Rattle.cpc_convert_rules_laws.proofs.KeptRows.{Source}
@@ -83,17 +84,17 @@ module _ (p : Program) (source : Source p) (f : Function) (known : CpsKnown p f)
     leader_size =
         let few = known.few_variables in
         let kept_few = kept_number p f known l owner (At n) in
-        let counted = map_length (local_of r) (closure_of r (At n)) in
+        let counted = length_of_map (local_of r) (closure_of r (At n)) in
         measured_is at.scope (TyStruct tag) (length (head_fields (arriving_type p r (At n)) (kept p f known all k (At n)))) its.size
         (let z : suc (suc (suc (length (locals_of r (closure_of r (At n)))))) ≤ 2 ^ 16 = omega (arith, few, kept_few, counted) in z)
 
     saves : (js : List ℕ) → Scalars (locals_of r js) → ((j : ℕ) → holds_number js j ≡ true → holds_number (closure_of r (At n)) j ≡ true) → Savable at tag (map (λ j. save_of (local_of r j)) js)
     saves [] s h = NoSave
     saves (j ∷ js) (AndScalar _ _ e s) h =
-        let here = h j (ap (λ b. b || holds_number js j) (equal_self j)) in
+        let here = h j (ap (λ b. b || holds_number js j) (eq_reflexive j)) in
         let stands = in_locals r j (closure_of r (At n)) here in
         AndSave (save_of (local_of r j)) (map (λ j. save_of (local_of r j)) js) (suc (suc (suc stands.0))) 0 (local_of r j).type (its.field (suc (suc (suc stands.0))) (local_of r j) stands.1) e
-        (local p f known l owner all k (local_of r j) ((scopes.meant p f known l owner).kept j (keeps j here))) (saves js s (λ i g. h i (later (j == i) (holds_number js i) g)))
+        (local p f known l owner all k (local_of r j) ((scopes.meant p f known l owner).kept j (keeps j here))) (saves js s (λ i g. h i (or_by_second (j == i) (holds_number js i) g)))
 
     all_scalars : Scalars (locals_of r (closure_of r (At n)))
     all_scalars = locals_scalar p known.names f known.found.cps (closure_of r (At n)) (rises_below (length (variables f)) 0 (closure_of r (At n)) (closure_rise p known.names f known.found.cps (At n)))

@@ -1,6 +1,8 @@
 -- Each goto of a piece leads to the label of a row: where a node goes a row stands, which has a line before which the label can stand.
 use Rattle.std.proofs.Common.{◌≡◌, ℕ, Bool, true, false, ◌||◌, ◌==◌, List, [], ◌∷◌, ◌++◌, map, slice_get, Option, Some, None, refl, sym, ◌∙◌, ap, subst}
 use Rattle.cpc_base.specs.Bytes.{Text}
+use Rattle.cpc_base.proofs.Truth.{eq_reflexive, or_by_second}
+use Rattle.cpc_base.proofs.Lists.{found_within}
 use Rattle.cpc_tree.specs.Lists.{holds_number}
 use Rattle.cpc_tree.specs.Syntax.{Stmt, Function, Program}
 use Rattle.cpc_tree.specs.Points.{Found, Simple}
@@ -12,17 +14,16 @@ use Rattle.cpc_forms.specs.Flow.{Place, Start, At, Flow, is_leader, owner_of, ow
 use Rattle.cpc_forms.specs.Graph.{graph_of, way, at_node}
 use Rattle.cpc_forms.specs.Split.{owner_or}
 use Rattle.cpc_graph_laws.specs.Laws.{flow_in}
-use Rattle.cpc_graph_laws.proofs.Formed.{in_right, that_is, equal_self}
+use Rattle.cpc_graph_laws.proofs.Formed.{in_right, that_is}
 use Rattle.cpc_graph_laws.proofs.MoreFacts.{entries_are_first}
 use Rattle.cpc_graph_laws.proofs.Owners.{owner_owns}
-use Rattle.cpc_graph_laws.proofs.Splits.{node_there, owner_there}
+use Rattle.cpc_graph_laws.proofs.Splits.{owner_there}
 use Rattle.cpc_convert_event.specs.Lines.{behind_arrival, node_lines}
 use Rattle.cpc_convert_event.specs.LabelLaws.{put_in}
 use Rattle.cpc_convert_event.specs.NameLaws.{IsOwner}
 use Rattle.cpc_convert_event.specs.Names.{node_label}
 use Rattle.cpc_convert_event.specs.Routines.{Routine, routine_of, keeper, readings_of}
 use Rattle.cpc_convert_event.specs.Rows.{is_own, has_row, behind_call, onwards, lines_by, row_of, numbers_of, first_number, Put, Plain, Jump, JumpIf, put_lines, PutRow, put_rows, put_statement, leads, any_leads, is_wanted, label_if, row_statements, rows_statements, piece_statements}
-use Rattle.cpc_convert_event.proofs.Numbers.{later}
 use Rattle.cpc_convert_piece_laws.specs.Rows.{put_row, RowAt}
 use Rattle.cpc_convert_piece_laws.specs.Stood.{NodeAt}
 use Rattle.cpc_convert_piece_laws.proofs.Filled.{row_filled}
@@ -101,13 +102,13 @@ module _ (p : Program) (f : Function) (l : Place) (owner : IsOwner (routine_of p
       let first = entries_are_first p f in
       let w = owner_owns flow Start n e in
       let stays = first_stays w.0 (At n) w.1 n refl in
-      let node = node_there (graph_of p f).nodes 0 first.1 in
+      let node = found_within (graph_of p f).nodes 0 first.1 in
       ap (owner_or Start) (ap (slice_get r.split.owners) first.0 ∙ (owner_there (graph_of p f) 0 node.0 node.1 ∙ ap (λ o. Some o) (first.3 ∙ ap (λ b. Some (owner_by b Start 0)) stays)))
 
   -- a node that the owner owns
   pub node_at : (n : ℕ) → owner_of flow n ≡ Some l → NodeAt p f l n
   node_at n e =
-      let node = node_there (graph_of p f).nodes n (owned_below p f l n l e) in
+      let node = found_within (graph_of p f).nodes n (owned_below p f l n l e) in
       record { owner = owner; keeps = keeps l n e; owned = owner_there (graph_of p f) n node.0 node.1 ∙ ap (λ o. Some o) e; node = node.0; is_node = node.1 }
 
   -- ---- where rows go
@@ -165,8 +166,8 @@ module _ (p : Program) (f : Function) (l : Place) (owner : IsOwner (routine_of p
   puts_known : (xs : List Put) → AllPut HasRow xs → ((m : ℕ) → any_leads m xs ≡ true → is_wanted m all ≡ true) → AllOf known (gotos_of (map put_statement xs))
   puts_known [] h w = NoneAsked
   puts_known (Plain s ∷ xs) h w = subst (λ ls. AllOf known (ls ++ gotos_of (map put_statement xs))) (sym h.0) (puts_known xs h.1 (λ m i. w m i))
-  puts_known (Jump n ∷ xs) h w = AndKnown (node_label n) _ (wanted_known n h.0 (w n (ap (λ b. b || any_leads n xs) (equal_self n)))) (puts_known xs h.1 (λ m i. w m (later (n == m) (any_leads m xs) i)))
-  puts_known (JumpIf e n ∷ xs) h w = AndKnown (node_label n) _ (wanted_known n h.0 (w n (ap (λ b. b || any_leads n xs) (equal_self n)))) (puts_known xs h.1 (λ m i. w m (later (n == m) (any_leads m xs) i)))
+  puts_known (Jump n ∷ xs) h w = AndKnown (node_label n) _ (wanted_known n h.0 (w n (ap (λ b. b || any_leads n xs) (eq_reflexive n)))) (puts_known xs h.1 (λ m i. w m (or_by_second (n == m) (any_leads m xs) i)))
+  puts_known (JumpIf e n ∷ xs) h w = AndKnown (node_label n) _ (wanted_known n h.0 (w n (ap (λ b. b || any_leads n xs) (eq_reflexive n)))) (puts_known xs h.1 (λ m i. w m (or_by_second (n == m) (any_leads m xs) i)))
 
   -- the rows of these numbers, behind others
   rows_known : (ns : List ℕ) (front : List PutRow) → all ≡ front ++ put_rows (map (row_of p r l) ns) → ((n : ℕ) → holds_number ns n ≡ true → AllGo HasRow (row_of p r l n).lines) → AllOf known (gotos_of (rows_statements all (put_rows (map (row_of p r l) ns))))
@@ -175,8 +176,8 @@ module _ (p : Program) (f : Function) (l : Place) (owner : IsOwner (routine_of p
       subst (AllOf known) (sym (gotos_append (row_statements all this) (rows_statements all rest)))
       (all_both known (gotos_of (row_statements all this)) (gotos_of (rows_statements all rest))
       (subst (AllOf known) (sym (gotos_labelled (is_wanted n all) (node_label n) (map put_statement this.puts)))
-      (puts_known this.puts (puts_go HasRow (first_number (map (row_of p r l) ns)) (row_of p r l n).lines (h n (ap (λ b. b || holds_number ns n) (equal_self n)))) (λ m i. ap (is_wanted m) e ∙ wanted_in m front rest this i)))
-      (rows_known ns (front ++ this ∷ []) (e ∙ sym (assoc front (this ∷ []) rest)) (λ m i. h m (later (n == m) (holds_number ns m) i))))
+      (puts_known this.puts (puts_go HasRow (first_number (map (row_of p r l) ns)) (row_of p r l n).lines (h n (ap (λ b. b || holds_number ns n) (eq_reflexive n)))) (λ m i. ap (is_wanted m) e ∙ wanted_in m front rest this i)))
+      (rows_known ns (front ++ this ∷ []) (e ∙ sym (assoc front (this ∷ []) rest)) (λ m i. h m (or_by_second (n == m) (holds_number ns m) i))))
     where
       this : PutRow
       this = record { number = n; puts = put_lines (first_number (map (row_of p r l) ns)) (row_of p r l n).lines }

@@ -1,6 +1,7 @@
 -- The rows of the nodes of a piece that are left in place, over a frame, or at an end break no rule.
 use Rattle.std.proofs.Common.{◌≡◌, ℕ, Bool, true, false, not, ◌&&◌, ◌||◌, ◌==◌, cond, List, [], ◌∷◌, map, reverse, bytes_eq, Option, Some, None, refl, sym, ◌∙◌, ap, subst}
 use Rattle.cpc_base.specs.Bytes.{Text}
+use Rattle.cpc_base.proofs.Truth.{eq_reflexive, or_by_second}
 use Rattle.cpc_tree.specs.declared.program.Mode.{Mode}
 use Rattle.cpc_tree.specs.declared.program.Mode.TheVariants.{Extern, Native, Cps, Detached}
 use Rattle.cpc_tree.specs.Lists.{holds_number}
@@ -37,7 +38,6 @@ use Rattle.cpc_convert.specs.Converted.{spawner_name}
 use Rattle.cpc_convert_image_laws.specs.Images.{Readings, image, images, image_if, image_stmt}
 use Rattle.cpc_convert_image_laws.specs.Locals.{local_type}
 use Rattle.cpc_forms.specs.Flow.{Place}
-use Rattle.cpc_graph_laws.proofs.Formed.{equal_self}
 use Rattle.cpc_lift_laws.specs.Used.{used_in, used_among, used_if, used_by}
 use Rattle.cpc_convert_chain_laws.specs.Boxes.{unboxes_one}
 use Rattle.cpc_convert_chain_laws.specs.Driver.{value_field, head_fields, patches}
@@ -49,7 +49,6 @@ use Rattle.cpc_convert_event.specs.Pieces.{called_so, below_if}
 use Rattle.cpc_convert_event.specs.Routines.{Routine, routine_of, closure_of, is_plain, variable_of, local_of, readings_of}
 use Rattle.cpc_convert_event.proofs.BoxesThere.{structs_there}
 use Rattle.cpc_convert_event.proofs.Fields.{frame_fields, NoneRises}
-use Rattle.cpc_convert_event.proofs.Numbers.{later}
 use Rattle.cpc_convert_piece_laws.specs.Known.{CpsKnown}
 use Rattle.cpc_convert_piece_laws.proofs.Scopes as scopes
 use Rattle.cpc_convert_rules_laws.specs.Laws.{Knows}
@@ -102,8 +101,8 @@ module _ (p : Program) (source : Source p) (f : Function) (known : CpsKnown p f)
   unboxable [] h b = NoUnbox
   unboxable (j ∷ js) h b =
       AndUnbox (local_of r j).called (map (λ (j : ℕ). (local_of r j).called) js) 0 (TyStruct (box_tag f.called j))
-      (kept_local j (h j (ap (λ c. c || holds_number js j) (equal_self j))) ∙ ap (λ c. ALocal 0 (local_type (not c) (variable_of r j).type (box_tag f.called j))) (b j (ap (λ c. c || holds_number js j) (equal_self j))))
-      (unboxable js (λ i e. h i (later (j == i) (holds_number js i) e)) (λ i e. b i (later (j == i) (holds_number js i) e)))
+      (kept_local j (h j (ap (λ c. c || holds_number js j) (eq_reflexive j))) ∙ ap (λ c. ALocal 0 (local_type (not c) (variable_of r j).type (box_tag f.called j))) (b j (ap (λ c. c || holds_number js j) (eq_reflexive j))))
+      (unboxable js (λ i e. h i (or_by_second (j == i) (holds_number js i) e)) (λ i e. b i (or_by_second (j == i) (holds_number js i) e)))
 
   unbox_map : (js : List ℕ) → map unboxes_one (map (λ (j : ℕ). (local_of r j).called) js) ≡ map (λ j. unboxes_one (local_of r j).called) js
   unbox_map [] = refl

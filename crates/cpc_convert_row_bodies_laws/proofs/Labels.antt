@@ -2,6 +2,7 @@
 use Rattle.std.proofs.Common.{◌≡◌, ◌⊎◌, inl, inr, ⊎_elim, ℕ, zero, suc, ◌+◌, ◌<◌, ◌^◌, Bool, true, false, ◌==◌, List, [], ◌∷◌, ◌++◌, map, reverse, length, decimal, bytes_eq, codes, refl, sym, ◌∙◌, ap, subst, arith}
 use Rattle.std.proofs.lemmas.List.{reverse-append, reverse-reverse}
 use Rattle.cpc_base.specs.Bytes.{Text}
+use Rattle.cpc_base.proofs.Truth.{eq_reflexive, or_neither}
 use Rattle.cpc_tree.specs.Lists.{holds_number}
 use Rattle.cpc_tree.specs.Syntax.{Stmt, Label, Function, Program}
 use Rattle.cpc_meaning.proofs.Functions.{texts_differ}
@@ -12,13 +13,12 @@ use Rattle.cpc_forms.specs.Flow.{Place, Flow, flow_of}
 use Rattle.cpc_forms.specs.Split.{owners_from}
 use Rattle.cpc_forms.specs.Graph.{graph_of}
 use Rattle.cpc_forms.specs.Pieces as P
-use Rattle.cpc_graph_laws.proofs.Formed.{equal_self}
 use Rattle.cpc_convert_event.specs.Names.{node_label}
 use Rattle.cpc_convert_event.specs.Routines.{Routine, routine_of}
 use Rattle.cpc_convert_event.specs.Rows.{is_own, row_of, PutRow, numbers_of, first_number, put_rows, put_statement, is_wanted, label_if, row_statements, rows_statements, piece_statements}
 use Rattle.cpc_convert_event.proofs.Lines.{is_bare, AreBare, lines_done, puts_done}
 use Rattle.cpc_convert_event.proofs.Labels.{leaders_rise, rows_stand_once}
-use Rattle.cpc_convert_event.proofs.Numbers.{or_false, AllBelow, NoneBelow, OneBelow, Rises, rises_below}
+use Rattle.cpc_convert_event.proofs.Numbers.{AllBelow, NoneBelow, OneBelow, Rises, rises_below}
 use Rattle.cpc_convert_piece_laws.proofs.Rows.{numbers}
 use Rattle.cpc_convert_row_bodies_laws.specs.Laws.{LabelsStandOnce}
 use Rattle.cpc_convert_row_bodies_laws.proofs.Below.{below_numbers}
@@ -76,9 +76,9 @@ module _ (all : List PutRow) where
   none_of : (rs : List PutRow) (n : ℕ) → n < 2 ^ 63 → Plainly rs → holds_number (numbers rs) n ≡ false → NoneOf (node_label n) (labels_of (rows_statements all rs))
   none_of [] n small h e = NoText
   none_of (r ∷ rs) n small h e =
-      let parts = or_false (r.number == n) (holds_number (numbers rs) n) e in
+      let parts = or_neither (r.number == n) (holds_number (numbers rs) n) e in
       let rest = none_of rs n small h.1.1 parts.1 in
-      let apart = labels_apart r.number n h.1.0 small (λ (i : r.number ≡ n). let z : true ≡ false = sym (equal_self n) ∙ (ap (λ m. m == n) (sym i) ∙ parts.0) in absurd (cc)) in
+      let apart = labels_apart r.number n h.1.0 small (λ (i : r.number ≡ n). let z : true ≡ false = sym (eq_reflexive n) ∙ (ap (λ m. m == n) (sym i) ∙ parts.0) in absurd (cc)) in
       subst (NoneOf (node_label n)) (sym (labels_append (row_statements all r) (rows_statements all rs))) (⊎_elim
       (λ i. subst (λ ls. NoneOf (node_label n) (ls ++ labels_of (rows_statements all rs))) (sym i) rest)
       (λ i. subst (λ ls. NoneOf (node_label n) (ls ++ labels_of (rows_statements all rs))) (sym i) (AndOther (node_label r.number) _ apart rest))

@@ -3,6 +3,7 @@
 use Rattle.std.proofs.Common.{◌≡◌, ℕ, Bool, true, false, not, ◌||◌, cond, if◌then◌else◌, List, [], ◌∷◌, ◌++◌, reverse, slice_get, bytes_eq, Option, Some, None, refl, sym, ◌∙◌, ap, subst}
 use Rattle.cpc_base.specs.Bytes.{Text}
 use Rattle.cpc_base.specs.declared.stop.Dialect.TheVariants as D
+use Rattle.cpc_base.proofs.Truth.{eq_reflexive}
 use Rattle.cpc_tree.specs.declared.program.Mode.{Mode}
 use Rattle.cpc_tree.specs.declared.program.Mode.TheVariants.{Extern, Native, Cps, Detached}
 use Rattle.cpc_tree.specs.ItemGrammar.{all_named}
@@ -32,7 +33,6 @@ use Rattle.cpc_convert.proofs.Members.{has_left}
 use Rattle.cpc_convert_image_laws.specs.Images.{Reading, AsLocal, Readings}
 use Rattle.cpc_convert_image_laws.specs.Locals.{reading_of, readings_in, local_type}
 use Rattle.cpc_forms.specs.Flow.{Place}
-use Rattle.cpc_graph_laws.proofs.Formed.{equal_self}
 use Rattle.cpc_convert_chain_laws.specs.Driver.{any_pointer}
 use Rattle.cpc_convert_event.specs.NameLaws.{IsOwner}
 use Rattle.cpc_convert_event.specs.Names.{piece_name, box_tag, variable_name, frame_name}
@@ -95,7 +95,7 @@ module _ (p : Program) (held : ℕ → Bool) (marks : ℕ → Bool) (other : Ty)
     where
       go : (b : Bool) → AreHeld (cond b (y.slot ∷ []) (slot_of ys x)) → (AreHeld (slot_of ys x) → local_or (local_named ys x) m ≡ local_or (local_named (narrowed ys) x) m)
           → local_or (cond b (Some y) (local_named ys x)) m ≡ local_or (cond b (Some (narrow_one y)) (local_named (narrowed ys) x)) m
-      go true g rest = ap (λ c. ALocal 0 (kept_type c y.type)) (sym (g y.slot (ap (λ c. c || false) (equal_self y.slot))))
+      go true g rest = ap (λ c. ALocal 0 (kept_type c y.type)) (sym (g y.slot (ap (λ c. c || false) (eq_reflexive y.slot))))
       go false g rest = rest g
 
   pub narrow_reads : (xs : T.Scope) (x : Text) → AreHeld (slot_of xs x) → readings_in marks variable_name xs x ≡ narrow xs x
@@ -104,7 +104,7 @@ module _ (p : Program) (held : ℕ → Bool) (marks : ℕ → Bool) (other : Ty)
     where
       go : (b : Bool) → AreHeld (cond b (y.slot ∷ []) (slot_of ys x)) → (AreHeld (slot_of ys x) → readings_in marks variable_name ys x ≡ narrow ys x)
           → cond b (Some (reading_of (marks y.slot) (variable_name y.slot x) x)) (readings_in marks variable_name ys x) ≡ cond b (Some (read_one (held y.slot) y.slot x)) (narrow ys x)
-      go true g rest = ap (λ c. Some (read_one c y.slot x)) (sym (g y.slot (ap (λ c. c || false) (equal_self y.slot))))
+      go true g rest = ap (λ c. Some (read_one c y.slot x)) (sym (g y.slot (ap (λ c. c || false) (eq_reflexive y.slot))))
       go false g rest = rest g
 
   -- a variable in scope

@@ -2,6 +2,7 @@
 use Rattle.std.proofs.Common.{◌≡◌, ℕ, zero, suc, ◌+◌, ◌<◌, ◌≤◌, ◌^◌, Bool, true, false, not, ◌&&◌, ◌==◌, ◌||◌, cond, List, [], ◌∷◌, ◌++◌, map, length, slice_get, nat_le, bytes_eq, Option, Some, None, refl, sym, ◌∙◌, ap, subst, arith}
 use Rattle.std.proofs.lemmas.Bool.Decides.{nat_tests}
 use Rattle.cpc_base.specs.Bytes.{Text}
+use Rattle.cpc_base.proofs.Truth.{eq_reflexive, eq_means, lt_means, or_by_second, bytes_eq_fails_back, and_both}
 use Rattle.cpc_num.specs.declared.kinds.Kind.TheVariants.{Int}
 use Rattle.cpc_tree.specs.Lists.{holds_number}
 use Rattle.cpc_tree.specs.Points.{locals}
@@ -18,11 +19,10 @@ use Rattle.cpc_check_complete_laws.specs.Flat.{Runs, NoRow, AndLine, NoneOf, NoT
 use Rattle.cpc_check_complete_laws.proofs.Flat.{opens_run, fresh_in, runs_both}
 use Rattle.cpc_check_complete_laws.proofs.Frames.{boxes_fine, fills_fine, frees_fine}
 use Rattle.cpc_check_complete_laws.proofs.Makers.{takes_itself}
-use Rattle.cpc_meaning.proofs.Functions.{same_text, text_same, texts_differ}
+use Rattle.cpc_meaning.proofs.Functions.{same_text, texts_differ}
 use Rattle.cpc_convert_image_laws.specs.Locals.{local_type}
 use Rattle.cpc_convert_image_laws.specs.Relations.{Less, AsIs, Untold}
 use Rattle.cpc_forms.specs.Flow.{Place, Start, At}
-use Rattle.cpc_graph_laws.proofs.Formed.{equal_self}
 use Rattle.cpc_lift_laws.specs.Boxes.{is_box, has_block, is_box_in}
 use Rattle.cpc_lift_laws.proofs.Lift.{boxes_exact}
 use Rattle.cpc_convert_chain_laws.specs.Driver.{next_field, value_field, any_pointer, head_fields}
@@ -42,7 +42,7 @@ use Rattle.cpc_convert_event.specs.StructLaws.{IsBox}
 use Rattle.cpc_convert_event.proofs.BoxesThere.{structs_there}
 use Rattle.cpc_convert_event.proofs.Fields.{frame_fields, passed_rise, kept_rises, plain_scalar}
 use Rattle.cpc_convert_event.proofs.Locals.{locals_meant}
-use Rattle.cpc_convert_event.proofs.Numbers.{equal_is, lt_is, later, chosen_is}
+use Rattle.cpc_convert_event.proofs.Numbers.{chosen_is}
 use Rattle.cpc_convert_event.proofs.StructsThere.{arriving_scalar}
 use Rattle.cpc_convert_accepted_laws.specs.Pieces.{VariablesHaveCells}
 use Rattle.cpc_convert_piece_laws.specs.Known.{CpsKnown}
@@ -53,9 +53,6 @@ use Rattle.cpc_convert_bodies_laws.proofs.Spawners.{struct_there}
 use Rattle.cpc_convert_row_bodies_laws.proofs.Inside.{first_blocks, begins, declared, inside, is_inside, local, free}
 
 -- ---- names apart
-
-turned : (x y : Text) → bytes_eq x y ≡ false → bytes_eq y x ≡ false
-turned x y h = texts_differ y x (λ (k : y ≡ x). absurd (let i : true ≡ false = sym (text_same x) ∙ (sym (ap (bytes_eq x) k) ∙ h) in cc))
 
 not_same : (j n : ℕ) → j < n → j ≡ n + 0 → ⊥
 not_same j n h e = absurd (omega (arith, h, e))
@@ -80,7 +77,7 @@ none_left x [] ys h = NoText
 none_left x (z ∷ xs) ys (AndOther _ _ e h) = AndOther z.called (names_of xs) e (none_left x xs ys h)
 
 one_none : (y x : Text) (xs : List Text) → NoneOf y xs → OneOf x xs → bytes_eq y x ≡ false
-one_none y x _ (AndOther z _ e h) (IsFirst _ _ i) = turned x y (subst (λ w. bytes_eq w y ≡ false) (same_text z x i) e)
+one_none y x _ (AndOther z _ e h) (IsFirst _ _ i) = bytes_eq_fails_back x y (subst (λ w. bytes_eq w y ≡ false) (same_text z x i) e)
 one_none y x _ (AndOther z _ e h) (IsLater _ _ o) = one_none y x _ h o
 one_none y x _ NoText o = elim o [ ]
 
@@ -131,7 +128,7 @@ in_locals r k [] h = absurd (cc)
 in_locals r k (j ∷ ks) h = go (j == k) refl h (λ i. in_locals r k ks i)
   where
     go : (b : Bool) → (j == k) ≡ b → (b || holds_number ks k) ≡ true → (holds_number ks k ≡ true → StandsIn (local_of r k) (locals_of r ks)) → StandsIn (local_of r k) (local_of r j ∷ locals_of r ks)
-    go true e i deeper = (0, ap (λ m. Some (local_of r m)) (equal_is j k e))
+    go true e i deeper = (0, ap (λ m. Some (local_of r m)) (eq_means j k e))
     go false e i deeper = let d = deeper i in (suc d.0, d.1)
 
 scalars_past : (b : Bool) (x : Variable) (xs : List Variable) → Scalars (variable_if b x xs) → Scalars xs
@@ -184,10 +181,6 @@ same_fields : (a b : Program) → ((t : Ty) → size a t ≡ size b t) → (x : 
 same_fields a b h x None = refl
 same_fields a b h x (Some xs) = field_same a b h x 0 xs
 
-both_hold : (a b : Bool) → (a && b) ≡ true → (a ≡ true) × (b ≡ true)
-both_hold true b e = (refl, e)
-both_hold false b e = absurd (cc)
-
 missing : (xs : List Parameter) (ys : List Variable) (j : ℕ) → j < length xs → slice_get (map as_variable xs ++ ys) j ≡ None → ⊥
 missing [] ys j h i = absurd (omega (arith, h))
 missing (x ∷ xs) ys zero h i = absurd (cc)
@@ -223,10 +216,10 @@ module _ (p : Program) (f : Function) (known : CpsKnown p f) (all : Program) (k 
   parameter_passed j e = go (slice_get (variables f) j) refl
     where
       parts : (is_parameter f j ≡ true) × (is_plain r j ≡ true)
-      parts = both_hold (is_parameter f j) (is_plain r j) e
+      parts = and_both (is_parameter f j) (is_plain r j) e
 
       less : j < length f.parameters
-      less = lt_is j (length f.parameters) parts.0
+      less = lt_means j (length f.parameters) parts.0
 
       go : (o : Option Variable) → slice_get (variables f) j ≡ o → StandsIn (stood_variable r j (variable_or (slice_get (variables f) j))) (passed f)
       go None i = absurd (missing f.parameters (locals f.body) j less i)
@@ -242,7 +235,7 @@ module _ (p : Program) (f : Function) (known : CpsKnown p f) (all : Program) (k 
 
   all_loaded : (l : Place) → IsOwner r l → (js : List ℕ) → Scalars (locals_of r js) → ((j : ℕ) → holds_number js j ≡ true → StandsIn (local_of r j) (kept l)) → AllLoad all (piece_name f.called l) (map load_of (locals_of r js))
   all_loaded l o [] s h = tt
-  all_loaded l o (j ∷ js) (AndScalar _ _ e s) h = (local_load l o (local_of r j) e (h j (ap (λ b. b || holds_number js j) (equal_self j))), all_loaded l o js s (λ i e. h i (later (j == i) (holds_number js i) e)))
+  all_loaded l o (j ∷ js) (AndScalar _ _ e s) h = (local_load l o (local_of r j) e (h j (ap (λ b. b || holds_number js j) (eq_reflexive j))), all_loaded l o js s (λ i e. h i (or_by_second (j == i) (holds_number js i) e)))
 
   -- each number that is loaded is kept
   loaded_kept : (l : Place) (j : ℕ) → holds_number (P.loaded r l) j ≡ true → StandsIn (local_of r j) (kept l)
@@ -367,11 +360,11 @@ module _ (p : Program) (f : Function) (known : CpsKnown p f) (all : Program) (k 
     argument : (j : ℕ) → holds_number r.boxes j ≡ true → (is_parameter f j && is_scalar (variable_of r j).type) ≡ true → StandsIn (record { called = (local_of r j).called; type = (variable_of r j).type }) (passed f)
     argument j h e =
         let x = boxed_there j h in
-        let parts = both_hold (is_parameter f j) (is_scalar (variable_of r j).type) e in
+        let parts = and_both (is_parameter f j) (is_scalar (variable_of r j).type) e in
         let is : variable_of r j ≡ x.0 = ap variable_or x.1 in
         subst (λ (w : Variable). StandsIn (record { called = variable_name j w.called; type = w.type }) (passed f)) (sym is)
         (subst (λ m. StandsIn (record { called = variable_name m x.0.called; type = x.0.type }) (passed f)) (let z : 0 + j ≡ j = omega arith in z)
-        (passed_has 0 (length f.parameters) (variables f) j x.0 (lt_is j (length f.parameters) parts.0) x.1 (ap (λ (w : Variable). is_scalar w.type) (sym is) ∙ parts.1)))
+        (passed_has 0 (length f.parameters) (variables f) j x.0 (lt_means j (length f.parameters) parts.0) x.1 (ap (λ (w : Variable). is_scalar w.type) (sym is) ∙ parts.1)))
 
     fills_run : (j : ℕ) → holds_number r.boxes j ≡ true → (b : Bool) → (is_parameter f j && is_scalar (variable_of r j).type) ≡ b → Runs v (fills_if b (local_of r j).called (variable_of r j).called) v
     fills_run j h false e = NoRow v
@@ -381,16 +374,16 @@ module _ (p : Program) (f : Function) (known : CpsKnown p f) (all : Program) (k 
         AndLine v v _ [] refl
         (fills_fine v refl refl (free p f known Start TheStart all k) (local_of r j).called (variable_of r j).called frame_name (local_of r j).called (box_tag f.called j) (piece_name f.called Start) 0 0 0 (suc (suc (suc at.0))) (variable_of r j).type (box_local j h)
         (box_field (box_tag f.called j) (variable_of r j) b) (local p f known Start TheStart all k (called_so frame_name (TyPointer (TyStruct (piece_name f.called Start)))) (1, refl))
-        ((struct Start TheStart).field (suc (suc (suc at.0))) (record { called = (local_of r j).called; type = (variable_of r j).type }) at.1) (both_hold (is_parameter f j) (is_scalar (variable_of r j).type) e).1)
+        ((struct Start TheStart).field (suc (suc (suc at.0))) (record { called = (local_of r j).called; type = (variable_of r j).type }) at.1) (and_both (is_parameter f j) (is_scalar (variable_of r j).type) e).1)
         (NoRow v)
 
     boxes_run : (js : List ℕ) → ((j : ℕ) → holds_number js j ≡ true → holds_number r.boxes j ≡ true) → Runs v (boxing_lines r js) v
     boxes_run [] h = NoRow v
     boxes_run (j ∷ js) h =
-        let here = h j (ap (λ b. b || holds_number js j) (equal_self j)) in
+        let here = h j (ap (λ b. b || holds_number js j) (eq_reflexive j)) in
         let m = box_size j here in
         AndLine v v _ _ refl (boxes_fine v refl refl (free p f known Start TheStart all k) (local_of r j).called 0 m.0 _ (TyStruct (box_tag f.called j)) (box_local j here) m.1)
-        (runs_both v v v _ _ (fills_run j here (is_parameter f j && is_scalar (variable_of r j).type) refl) (boxes_run js (λ i e. h i (later (j == i) (holds_number js i) e))))
+        (runs_both v v v _ _ (fills_run j here (is_parameter f j && is_scalar (variable_of r j).type) refl) (boxes_run js (λ i e. h i (or_by_second (j == i) (holds_number js i) e))))
 
   -- the boxes that a piece makes
   pub boxing_runs : VariablesHaveCells p f → (l : Place) (owner : IsOwner r l) → Runs (inside p f known l owner all k) (boxing_of r l) (inside p f known l owner all k)

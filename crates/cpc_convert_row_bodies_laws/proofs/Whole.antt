@@ -1,6 +1,8 @@
 -- All rows of a piece break no rule: those of its nodes, and those that go to other leaders.
 use Rattle.std.proofs.Common.{◌≡◌, ◌⊎◌, inl, inr, ⊎_elim, ℕ, Bool, true, false, not, ◌&&◌, ◌||◌, ◌==◌, List, [], ◌∷◌, ◌++◌, map, length, slice_get, nat_le, nat_lt, Option, Some, None, option_map, refl, sym, ◌∙◌, ap, subst}
 use Rattle.std.proofs.lemmas.Option.{slice_get-map}
+use Rattle.cpc_base.proofs.Truth.{eq_reflexive, eq_means, or_by_second, and_both, by_true_false}
+use Rattle.cpc_base.proofs.Lists.{found_within}
 use Rattle.cpc_tree.specs.Lists.{holds_number, is_empty}
 use Rattle.cpc_tree.specs.Points.{Point, Here, Arrival, End, found}
 use Rattle.cpc_tree.specs.Registers.{variables}
@@ -17,12 +19,12 @@ use Rattle.cpc_forms.specs.Order.{points}
 use Rattle.cpc_forms.specs.Pieces.{is_owned_by, piece_nodes, first_of}
 use Rattle.cpc_forms.specs.Split.{owner_or}
 use Rattle.cpc_graph_laws.specs.Laws.{flow_in}
-use Rattle.cpc_graph_laws.proofs.Formed.{equal_self, node_comes}
+use Rattle.cpc_graph_laws.proofs.Formed.{node_comes}
 use Rattle.cpc_graph_laws.proofs.Leaders.{inside as flow_inside}
 use Rattle.cpc_graph_laws.proofs.Marked.{leaders_are_listed}
 use Rattle.cpc_graph_laws.proofs.MoreFacts.{entries_are_first}
 use Rattle.cpc_graph_laws.proofs.Owning.{pieces_hold_theirs}
-use Rattle.cpc_graph_laws.proofs.Splits.{node_there, owner_there}
+use Rattle.cpc_graph_laws.proofs.Splits.{owner_there}
 use Rattle.cpc_lift_laws.specs.Search.{closure}
 use Rattle.cpc_convert_event.specs.Lines.{node_lines, behind_arrival}
 use Rattle.cpc_convert_event.specs.LabelLaws.{put_in}
@@ -33,7 +35,7 @@ use Rattle.cpc_convert_event.specs.Pieces.{called_so, to_frame, any_node, is_ent
 use Rattle.cpc_convert_event.specs.Routines.{Routine, routine_of, chosen, closure_of, owner_number}
 use Rattle.cpc_convert_event.specs.Rows.{owner_at, is_own, stands_with, has_row, turned, rows_nodes, behind_call, onwards, onwards_all, reached, stubs_of, lines_by, row_of, falls, number_where, stub_behind, numbers_from, numbers_of, first_number, PutRow, put_rows, put_lines, put_statement, is_wanted, row_statements, rows_statements, piece_statements}
 use Rattle.cpc_convert_event.proofs.Lines.{puts_done, lines_done}
-use Rattle.cpc_convert_event.proofs.Numbers.{equal_is, held_either, chosen_is, later}
+use Rattle.cpc_convert_event.proofs.Numbers.{held_either, chosen_is}
 use Rattle.cpc_convert_piece_laws.specs.Known.{CpsKnown}
 use Rattle.cpc_convert_piece_laws.specs.Stood.{NodeAt}
 use Rattle.cpc_convert_piece_laws.proofs.Frames.{held_has}
@@ -58,7 +60,7 @@ where_is : (a b : Bool) (n m : ℕ) → holds_number (number_where (a && b) n) m
 where_is true true n m h = (refl, one (n == m) refl h)
   where
     one : (c : Bool) → (n == m) ≡ c → (c || false) ≡ true → n ≡ m
-    one true e i = equal_is n m e
+    one true e i = eq_means n m e
     one false e i = absurd (cc)
 where_is true false n m h = absurd (cc)
 where_is false b n m h = absurd (cc)
@@ -90,27 +92,16 @@ list_is None n h = absurd (cc)
 list_is (Some m) n h = one (m == n) refl h
   where
     one : (c : Bool) → (m == n) ≡ c → (c || false) ≡ true → Some m ≡ Some n
-    one true e i = ap (λ j. Some j) (equal_is m n e)
+    one true e i = ap (λ j. Some j) (eq_means m n e)
     one false e i = absurd (cc)
 
 has_held : (ns : List ℕ) (n : ℕ) → Has n ns → holds_number ns n ≡ true
-has_held _ n (OnTop _ ns) = ap (λ b. b || holds_number ns n) (equal_self n)
-has_held _ n (Below _ m ns h) = later (m == n) (holds_number ns n) (has_held ns n h)
+has_held _ n (OnTop _ ns) = ap (λ b. b || holds_number ns n) (eq_reflexive n)
+has_held _ n (Below _ m ns h) = or_by_second (m == n) (holds_number ns n) (has_held ns n h)
 
 some_there : (xs : List ℕ) (n : ℕ) → holds_number xs n ≡ true → not (is_empty xs) ≡ true
 some_there [] n h = absurd (cc)
 some_there (x ∷ xs) n h = refl
-
-both_hold : (a b : Bool) → (a && b) ≡ true → (a ≡ true) × (b ≡ true)
-both_hold true b e = (refl, e)
-both_hold false b e = absurd (cc)
-
-is_not : (b : Bool) → not b ≡ true → b ≡ false
-is_not true e = absurd (cc)
-is_not false e = refl
-
-never : {A : Type 0} (b : Bool) → b ≡ true → b ≡ false → A
-never b e i = absurd (let z : true ≡ false = sym e ∙ i in cc)
 
 module _ (p : Program) (f : Function) (known : CpsKnown p f) (l : Place) (owner : IsOwner (routine_of p f) l) where
   abbrev r : Routine
@@ -124,7 +115,7 @@ module _ (p : Program) (f : Function) (known : CpsKnown p f) (l : Place) (owner 
 
   own_true : (n : ℕ) → owner_of flow n ≡ Some l → is_own r.split l n ≡ true
   own_true n e =
-      let node = node_there (graph_of p f).nodes n (owned_below p f l n l e) in
+      let node = found_within (graph_of p f).nodes n (owned_below p f l n l e) in
       ap (λ o. is_owned_by l (owner_at o)) (owner_there (graph_of p f) n node.0 node.1) ∙ (ap (is_owned_by l) e ∙ place_self l)
 
   node_owned : (m : ℕ) → holds_number (rows_nodes r.split l) m ≡ true → (owner_of flow m ≡ Some l) × (has_row r.split m ≡ true)
@@ -133,7 +124,7 @@ module _ (p : Program) (f : Function) (known : CpsKnown p f) (l : Place) (owner 
   -- a row that is not of a node of the piece goes to another leader
   pub stub_is : (n : ℕ) → holds_number (numbers_of p r l) n ≡ true → is_own r.split l n ≡ false → holds_number (stubs_of r l) n ≡ true
   stub_is n h other = held_either from (chosen (λ m. not (holds_number from m)) (stubs_of r l)) n (holds_number (stubs_of r l) n ≡ true) h
-      (λ i. ⊎_elim (λ a. never (is_own r.split l n) (own_true n (node_owned n a).0) other) (λ a. a) (from_is p r l (stubs_of r l) [] (rows_nodes r.split l) n i))
+      (λ i. ⊎_elim (λ a. by_true_false (is_own r.split l n) (own_true n (node_owned n a).0) other) (λ a. a) (from_is p r l (stubs_of r l) [] (rows_nodes r.split l) n i))
       (λ i. (chosen_is (λ m. not (holds_number from m)) (stubs_of r l) n i).0)
     where
       from : List ℕ
@@ -155,10 +146,10 @@ module _ (p : Program) (f : Function) (known : CpsKnown p f) (l : Place) (owner 
     where
       here : (o : Option Node) → slice_get (graph_of p f).nodes m ≡ o → holds_number (at_node [] (onwards r) o) n ≡ true → LeadsOn n (m ∷ ns)
       here None e i = absurd (cc)
-      here (Some node) e i = record { from = m; held = ap (λ b. b || holds_number ns m) (equal_self m); node = node; is_node = e; leads = i }
+      here (Some node) e i = record { from = m; held = ap (λ b. b || holds_number ns m) (eq_reflexive m); node = node; is_node = e; leads = i }
 
       more : LeadsOn n ns → LeadsOn n (m ∷ ns)
-      more d = record { from = d.from; held = later (m == d.from) (holds_number ns d.from) d.held; node = d.node; is_node = d.is_node; leads = d.leads }
+      more d = record { from = d.from; held = or_by_second (m == d.from) (holds_number ns d.from) d.held; node = d.node; is_node = d.is_node; leads = d.leads }
 
   module _ (n : ℕ) (other : is_own r.split l n ≡ false) where
     along : (m : ℕ) (at : NodeAt p f l m) (h : Bool) → way at.node h ≡ Some n → Kept n
@@ -173,7 +164,7 @@ module _ (p : Program) (f : Function) (known : CpsKnown p f) (l : Place) (owner 
             let there = node_at p f l owner fr.arrival (fr.owner ∙ owner_is p f l m at) in
             along fr.arrival there true (sym (ap (behind_arrival r) fr.is_arrival ∙ ap (at_node None (λ node. node.yes)) there.is_node) ∙ i)
         framed w (Arrival path) is i =
-            never (has_row r.split m) has
+            by_true_false (has_row r.split m) has
             (ap (at_node true (λ (d : Node). not (stands_with d.stood d.manner))) at.is_node ∙ (ap (λ (d : Node). not (stands_with d.stood d.manner)) (sym is) ∙ ap (λ c. not (stands_with (AtArrival (found f.body path)) c)) (ap (λ (d : Node). d.manner) is ∙ w)))
         framed w End is i = absurd (let z : InPlace ≡ ByFrame = ap (λ (d : Node). d.manner) is ∙ w in cc)
 
@@ -192,24 +183,24 @@ module _ (p : Program) (f : Function) (known : CpsKnown p f) (l : Place) (owner 
     first_keeps _ TheStart e i = by (is_leader flow 0) refl
       where
         zero_is : 0 ≡ n
-        zero_is = sym (entries_are_first p f).0 ∙ equal_is (graph_of p f).entry n i
+        zero_is = sym (entries_are_first p f).0 ∙ eq_means (graph_of p f).entry n i
 
         by : (b : Bool) → is_leader flow 0 ≡ b → Kept n
-        by false g = never (is_own r.split l n) (own_true n (subst (λ c. owner_of flow c ≡ Some l) zero_is ((entries_are_first p f).3 ∙ (ap (λ b. Some (owner_by b Start 0)) g ∙ ap (λ c. Some c) e)))) other
+        by false g = by_true_false (is_own r.split l n) (own_true n (subst (λ c. owner_of flow c ≡ Some l) zero_is ((entries_are_first p f).3 ∙ (ap (λ b. Some (owner_by b Start 0)) g ∙ ap (λ c. Some c) e)))) other
         by true g = λ j h.
             let first = entries_are_first p f in
-            let node = node_there (graph_of p f).nodes 0 first.1 in
+            let node = found_within (graph_of p f).nodes 0 first.1 in
             let keeper_is : owner_or Start (slice_get r.split.owners (graph_of p f).entry) ≡ At n =
             ap (owner_or Start) (ap (slice_get r.split.owners) first.0 ∙ (owner_there (graph_of p f) 0 node.0 node.1 ∙ ap (λ o. Some o) (first.3 ∙ ap (λ b. Some (owner_by b Start 0)) g))) ∙ ap At zero_is in
             ap (λ c. holds_number (closure_of r c) j) (sym e) ∙ (ap (λ c. holds_number (closure r.ways r.uses (length (variables f)) (owner_number c)) j) keeper_is ∙ h)
     first_keeps _ (ALeader m has) e i =
-        let same = equal_is m n i in
+        let same = eq_means m n i in
         let leads : is_leader flow m ≡ true = sym (leaders_are_listed flow (flow_inside p f) m) ∙ has_held r.split.leaders m has in
         let own : owner_of flow m ≡ Some l = ap (λ b. owner_step flow (owner_within flow flow.size) b (At m)) leads ∙ ap (λ c. Some c) e in
-        never (is_own r.split l n) (own_true n (subst (λ c. owner_of flow c ≡ Some l) same own)) other
+        by_true_false (is_own r.split l n) (own_true n (subst (λ c. owner_of flow c ≡ Some l) same own)) other
 
     pub stub_keeps : holds_number (stubs_of r l) n ≡ true → Kept n
-    stub_keeps h = by (first_of r.split l == n) refl (both_hold (holds_number (reached r l) n) (not (is_own r.split l n)) (chosen_is (λ m. holds_number (reached r l) m && not (is_own r.split l m)) r.split.leaders n h).1).0
+    stub_keeps h = by (first_of r.split l == n) refl (and_both (holds_number (reached r l) n) (not (is_own r.split l n)) (chosen_is (λ m. holds_number (reached r l) m && not (is_own r.split l m)) r.split.leaders n h).1).0
       where
         from : LeadsOn n (rows_nodes r.split l) → Kept n
         from d =
@@ -262,8 +253,8 @@ module _ (p : Program) (source : Source p) (f : Function) (known : CpsKnown p f)
       let o = first_number (map (row_of p u l) ns) in
       let its = (row_of p u l n).lines in
       runs_both at at at (row_statements rs (record { number = n; puts = put_lines o its })) _
-      (labelled_run at (is_wanted n rs) (node_label n) (map put_statement (put_lines o its)) (puts_done o its (lines_done (is_own u.split l n) p u n)) (h n (ap (λ b. b || holds_number ns n) (equal_self n)) o))
-      (rows_run rs ns (λ m i. h m (later (n == m) (holds_number ns m) i)))
+      (labelled_run at (is_wanted n rs) (node_label n) (map put_statement (put_lines o its)) (puts_done o its (lines_done (is_own u.split l n) p u n)) (h n (ap (λ b. b || holds_number ns n) (eq_reflexive n)) o))
+      (rows_run rs ns (λ m i. h m (or_by_second (n == m) (holds_number ns m) i)))
 
   -- what stands behind the opening of a piece breaks no rule
   pub statements_run : Runs at (piece_statements p u l) at

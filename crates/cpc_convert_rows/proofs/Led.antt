@@ -1,5 +1,6 @@
 -- The ways of a node are those of its lines.
 use Rattle.std.proofs.Common.{◌≡◌, ℕ, Bool, true, false, not, ◌||◌, ◌&&◌, ◌==◌, if◌then◌else◌, List, [], ◌∷◌, ◌++◌, Option, Some, None, refl, ap}
+use Rattle.cpc_base.proofs.Truth.{or_with_false}
 use Rattle.cpc_tree.specs.Syntax.{Expr, Stmt, Block, Empty, Declare, Assign, Call, Detach, Spawn, If, While, DoWhile, For, Goto, Label, Break, Continue, Return, Program}
 use Rattle.cpc_tree.specs.Points.{Simple, Test, Nothing}
 use Rattle.cpc_meaning.specs.Act.{Stood, AtStatement, AtArrival, AtEnd, target_of}
@@ -29,24 +30,20 @@ done_leads k o (s ∷ ss) = done_leads k o ss
 done : (ss : List Stmt) → HasWays (all_do ss) None None
 done ss = record { falls = done_falls ss; leads = λ k o. done_leads k o ss }
 
-or_false : (b : Bool) → (b || false) ≡ b
-or_false true = refl
-or_false false = refl
-
 -- a goto, unless the number stands next
 jump_leads : (k n : ℕ) (o : Option ℕ) → any_leads k (put_lines o (Goes n ∷ [])) ≡ jumps_to k o (Some n)
 jump_leads k n o = go (is_next n o)
   where
     go : (b : Bool) → any_leads k ((if b then [] else Jump n ∷ []) ++ []) ≡ (not b && (n == k))
     go true = refl
-    go false = or_false (n == k)
+    go false = or_with_false (n == k)
 
 pass_leads : (k n : ℕ) (o : Option ℕ) → any_leads k (put_lines o (Passes n ∷ [])) ≡ jumps_to k o (Some n)
 pass_leads k n o = go (is_next n o)
   where
     go : (b : Bool) → any_leads k ((if b then Plain Empty ∷ [] else Jump n ∷ []) ++ []) ≡ (not b && (n == k))
     go true = refl
-    go false = or_false (n == k)
+    go false = or_with_false (n == k)
 
 passed : (n : Option ℕ) → HasWays (passes n ∷ []) None n
 passed None = record { falls = refl; leads = λ k o. refl }

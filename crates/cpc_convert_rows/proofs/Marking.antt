@@ -1,46 +1,26 @@
 -- Numbers in lists, and marks that are set.
 use Rattle.std.proofs.Common.{◌≡◌, ℕ, ◌<◌, ◌≤◌, ◌==◌, ◌||◌, Bool, true, false, List, [], ◌∷◌, ◌++◌, length, get_or, set, refl, sym, ◌∙◌, ap, arith}
 use Rattle.std.proofs.lemmas.List.{get_or-set_same, get_or-set_other, length-set}
+use Rattle.cpc_base.proofs.Truth.{eq_means, eq_not_means, eq_reflexive, or_regrouped, or_with_false, or_with_true}
 use Rattle.cpc_tree.specs.Lists.{holds_number}
 use Rattle.cpc_convert_rows.specs.Marks.{AreMarked}
-
-pub number_is : (a b : ℕ) → (a == b) ≡ true → a ≡ b
-number_is a b e = grind (arith, e)
-
-pub not_number : (a b : ℕ) → (a == b) ≡ false → ¬ (a ≡ b)
-not_number a b e = λ i. absurd (grind (arith, e, i))
-
-pub equal_self : (n : ℕ) → (n == n) ≡ true
-equal_self n = grind arith
 
 pub unequal : (a b : ℕ) → ¬ (a ≡ b) → (a == b) ≡ false
 unequal a b h = go (a == b) refl
   where
     go : (x : Bool) → (a == b) ≡ x → (a == b) ≡ false
-    go true e = absurd (h (number_is a b e))
+    go true e = absurd (h (eq_means a b e))
     go false e = e
-
-pub or_later : (a b c : Bool) → (a || (b || c)) ≡ ((a || b) || c)
-or_later true b c = refl
-or_later false b c = refl
-
-pub or_false : (b : Bool) → (b || false) ≡ b
-or_false true = refl
-or_false false = refl
-
-pub or_true : (b : Bool) → (b || true) ≡ true
-or_true true = refl
-or_true false = refl
 
 pub holds_both : (xs ys : List ℕ) (k : ℕ) → holds_number (xs ++ ys) k ≡ (holds_number xs k || holds_number ys k)
 holds_both [] ys k = refl
-holds_both (x ∷ xs) ys k = ap (λ b. (x == k) || b) (holds_both xs ys k) ∙ or_later (x == k) (holds_number xs k) (holds_number ys k)
+holds_both (x ∷ xs) ys k = ap (λ b. (x == k) || b) (holds_both xs ys k) ∙ or_regrouped (x == k) (holds_number xs k) (holds_number ys k)
 
 pub holds_end : (ns : List ℕ) (n : ℕ) → holds_number (ns ++ n ∷ []) n ≡ true
-holds_end ns n = holds_both ns (n ∷ []) n ∙ (ap (λ b. holds_number ns n || (b || false)) (equal_self n) ∙ or_true (holds_number ns n))
+holds_end ns n = holds_both ns (n ∷ []) n ∙ (ap (λ b. holds_number ns n || (b || false)) (eq_reflexive n) ∙ or_with_true (holds_number ns n))
 
 pub holds_before : (ns : List ℕ) (n k : ℕ) → ¬ (n ≡ k) → holds_number (ns ++ n ∷ []) k ≡ holds_number ns k
-holds_before ns n k h = holds_both ns (n ∷ []) k ∙ (ap (λ b. holds_number ns k || (b || false)) (unequal n k h) ∙ or_false (holds_number ns k))
+holds_before ns n k h = holds_both ns (n ∷ []) k ∙ (ap (λ b. holds_number ns k || (b || false)) (unequal n k h) ∙ or_with_false (holds_number ns k))
 
 -- one more mark
 pub marked_more : (marks : List Bool) (n : ℕ) (ns : List ℕ) → n < length marks → AreMarked marks ns → AreMarked (set marks n true) (ns ++ n ∷ [])
@@ -48,10 +28,10 @@ marked_more marks n ns within are = λ k below. go k below (n == k) refl
   where
     go : (k : ℕ) → k < length (set marks n true) → (b : Bool) → (n == k) ≡ b → get_or (set marks n true) k false ≡ holds_number (ns ++ n ∷ []) k
     go k below true e =
-        let i = number_is n k e in
+        let i = eq_means n k e in
         ap (λ j. get_or (set marks n true) j false) (sym i) ∙ (get_or-set_same marks n true false within ∙ (sym (holds_end ns n) ∙ ap (holds_number (ns ++ n ∷ [])) i))
     go k below false e =
-        let ne = not_number n k e in
+        let ne = eq_not_means n k e in
         let other : ¬ (k ≡ n) = λ i. ne (sym i) in
         get_or-set_other marks n k true false other ∙ (are k (omega (arith, below, length-set marks n true)) ∙ sym (holds_before ns n k ne))
 
@@ -64,11 +44,11 @@ pub mark_each : (marks : List Bool) (n : ℕ) (k : ℕ) → n < length marks →
 mark_each marks n k within below = go (n == k) refl
   where
     go : (b : Bool) → (n == k) ≡ b → get_or (set marks n true) k false ≡ (get_or marks k false || b)
-    go true e = ap (λ j. get_or (set marks n true) j false) (sym (number_is n k e)) ∙ (get_or-set_same marks n true false within ∙ sym (or_true (get_or marks k false)))
+    go true e = ap (λ j. get_or (set marks n true) j false) (sym (eq_means n k e)) ∙ (get_or-set_same marks n true false within ∙ sym (or_with_true (get_or marks k false)))
     go false e =
-        let ne = not_number n k e in
+        let ne = eq_not_means n k e in
         let other : ¬ (k ≡ n) = λ i. ne (sym i) in
-        get_or-set_other marks n k true false other ∙ sym (or_false (get_or marks k false))
+        get_or-set_other marks n k true false other ∙ sym (or_with_false (get_or marks k false))
 
 pub mark_past : (marks : List Bool) (n : ℕ) (k : ℕ) → length marks ≤ n → k < length marks → get_or marks k false ≡ (get_or marks k false || (n == k))
-mark_past marks n k past below = sym (ap (λ b. get_or marks k false || b) (unequal n k (λ e. absurd (omega (arith, past, below, e)))) ∙ or_false (get_or marks k false))
+mark_past marks n k past below = sym (ap (λ b. get_or marks k false || b) (unequal n k (λ e. absurd (omega (arith, past, below, e)))) ∙ or_with_false (get_or marks k false))

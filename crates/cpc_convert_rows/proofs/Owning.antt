@@ -2,6 +2,7 @@
 use Rattle.std.proofs.Common.{◌≡◌, ℕ, suc, ◌+◌, ◌<◌, ◌==◌, Bool, true, false, List, [], ◌∷◌, ◌++◌, map, length, get_or, set, drop, Option, option_map, refl, sym, ◌∙◌, ap, arith}
 use Rattle.std.proofs.lemmas.List.{get_or-map, get_or-set_same, get_or-set_other, length-set, append_assoc}
 use Rattle.std.proofs.Math.Seq.{drop-cons}
+use Rattle.cpc_base.proofs.Truth.{eq_means, eq_not_means, eq_reflexive}
 use Rattle.cpc_forms.specs.Flow.{Place, Start, At}
 use Rattle.cpc_forms.specs.Pieces.{same_place, is_owned_by, owned_from}
 use Rattle.cpc_forms.specs.Split.{number_if}
@@ -9,7 +10,7 @@ use Rattle.cpc_forms_code.specs.declared.split.Owner.{Owner}
 use Rattle.cpc_forms_code.specs.Splits.{place_of, places_of}
 use Rattle.cpc_convert_event.specs.Routines.{owner_number}
 use Rattle.cpc_convert_event.specs.Rows.{number_where}
-use Rattle.cpc_convert_rows.proofs.Marking.{number_is, not_number, equal_self, unequal}
+use Rattle.cpc_convert_rows.proofs.Marking.{unequal}
 
 with_none : (xs : List ℕ) → xs ++ [] ≡ xs
 with_none [] = refl
@@ -29,13 +30,13 @@ module _ {X : Type 0} (items : X → List ℕ) where
 
       go : (b : Bool) → (to == m) ≡ b → get_or (map items (set rows to new)) m [] ≡ get_or (map items rows) m [] ++ number_where b node
       go true i =
-          let q = sym (number_is to m i) in
+          let q = sym (eq_means to m i) in
           let here : get_or (map items (set rows to new)) m [] ≡ items old ++ node ∷ [] =
           at_new ∙ ap (λ n. items (get_or (set rows to new) n new)) q ∙ ap items (get_or-set_same rows to new new lt) ∙ f in
           let before : get_or (map items rows) m [] ≡ items old = read rows m old lm ∙ ap (λ n. items (get_or rows n old)) q ∙ ap items (sym e) in
           here ∙ ap (λ r. r ++ node ∷ []) (sym before)
       go false i =
-          let ne = not_number to m i in
+          let ne = eq_not_means to m i in
           let other : ¬ (m ≡ to) = λ j. ne (sym j) in
           at_new ∙ ap items (get_or-set_other rows to m new new other) ∙ sym (read rows m new lm) ∙ sym (with_none (get_or (map items rows) m []))
 
@@ -47,8 +48,8 @@ same_numbers (At m) Start = unequal (suc m) 0 (λ e. absurd (omega (arith, e)))
 same_numbers (At m) (At n) = go (m == n) refl
   where
     go : (b : Bool) → (m == n) ≡ b → (suc m == suc n) ≡ (m == n)
-    go true e = ap (λ k. suc k == suc n) (number_is m n e) ∙ (equal_self (suc n) ∙ sym e)
-    go false e = unequal (suc m) (suc n) (λ i. not_number m n e (omega (arith, i))) ∙ sym e
+    go true e = ap (λ k. suc k == suc n) (eq_means m n e) ∙ (eq_reflexive (suc n) ∙ sym e)
+    go false e = unequal (suc m) (suc n) (λ i. eq_not_means m n e (omega (arith, i))) ∙ sym e
 
 -- the nodes that are left, behind one more
 pub owned_left : (l : Place) (os : List (Option Owner)) (i : ℕ) (d : Option Owner) (row new : List ℕ) → i < length os

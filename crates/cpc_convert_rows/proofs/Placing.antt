@@ -2,6 +2,7 @@
 use Rattle.std.proofs.Common.{◌≡◌, ℕ, zero, suc, ◌+◌, ◌<◌, ◌≤◌, ◌==◌, ◌||◌, ◌&&◌, not, if◌then◌else◌, Bool, true, false, List, [], ◌∷◌, ◌++◌, length, drop, slice_get, get_or, All, Option, Some, None, refl, sym, ◌∙◌, ap, subst, arith}
 use Rattle.std.proofs.lemmas.List.{append_assoc, drop_all}
 use Rattle.std.proofs.Math.Seq.{drop-cons}
+use Rattle.cpc_base.proofs.Truth.{eq_means, eq_reflexive, or_by_first, or_by_second, not_holds, and_second, or_exchanged, false_unless_true, true_not_false}
 use Rattle.cpc_tree.specs.Lists.{holds_number}
 use Rattle.cpc_tree.specs.Syntax.{Program}
 use Rattle.cpc_forms.specs.Graph.{Node, at_node}
@@ -15,7 +16,7 @@ use Rattle.cpc_convert_rows.specs.declared.stepped.Stepped.{Stepped}
 use Rattle.cpc_convert_rows.specs.Numbers.{AreLeaders}
 use Rattle.cpc_convert_rows.specs.Steps.{step_at, no_step, step_of, IsStepped}
 use Rattle.cpc_convert_rows.proofs.Led.{node_falls}
-use Rattle.cpc_convert_rows.proofs.Marking.{number_is, equal_self, holds_both, holds_before}
+use Rattle.cpc_convert_rows.proofs.Marking.{holds_both, holds_before}
 use Rattle.cpc_convert_rows.proofs.Turned.{owned_are}
 
 -- ---- what a list holds
@@ -24,27 +25,20 @@ or_case : {P : Type 0} (a b : Bool) → (a || b) ≡ true → (a ≡ true → P)
 or_case true b e f g = f refl
 or_case false b e f g = g e
 
-or_left : (a b : Bool) → a ≡ true → (a || b) ≡ true
-or_left a b e = ap (λ x. x || b) e
-
-or_right : (a b : Bool) → b ≡ true → (a || b) ≡ true
-or_right true b e = refl
-or_right false b e = e
-
 pub holds_at : (ns : List ℕ) (i : ℕ) → i < length ns → holds_number ns (get_or ns i 0) ≡ true
 holds_at [] i lt = absurd (omega arith)
-holds_at (n ∷ ns) zero lt = or_left (n == n) (holds_number ns n) (equal_self n)
-holds_at (n ∷ ns) (suc i) lt = or_right (n == get_or ns i 0) (holds_number ns (get_or ns i 0)) (holds_at ns i (omega arith))
+holds_at (n ∷ ns) zero lt = or_by_first (n == n) (holds_number ns n) (eq_reflexive n)
+holds_at (n ∷ ns) (suc i) lt = or_by_second (n == get_or ns i 0) (holds_number ns (get_or ns i 0)) (holds_at ns i (omega arith))
 
 holds_chosen : (test : ℕ → Bool) (ns : List ℕ) (k : ℕ) → holds_number (chosen test ns) k ≡ true → (test k ≡ true) × (holds_number ns k ≡ true)
 holds_chosen test [] k e = absurd (cc)
 holds_chosen test (n ∷ ns) k e = go (test n) refl e (λ h. holds_chosen test ns k h)
   where
     later : (test k ≡ true) × (holds_number ns k ≡ true) → (test k ≡ true) × (((n == k) || holds_number ns k) ≡ true)
-    later p = (p.0, or_right (n == k) (holds_number ns k) p.1)
+    later p = (p.0, or_by_second (n == k) (holds_number ns k) p.1)
 
     go : (b : Bool) → test n ≡ b → holds_number (number_before b n (chosen test ns)) k ≡ true → (holds_number (chosen test ns) k ≡ true → (test k ≡ true) × (holds_number ns k ≡ true)) → (test k ≡ true) × (((n == k) || holds_number ns k) ≡ true)
-    go true t h rest = or_case (n == k) (holds_number (chosen test ns) k) h (λ i. (ap test (sym (number_is n k i)) ∙ t, or_left (n == k) (holds_number ns k) i)) (λ i. later (rest i))
+    go true t h rest = or_case (n == k) (holds_number (chosen test ns) k) h (λ i. (ap test (sym (eq_means n k i)) ∙ t, or_by_first (n == k) (holds_number ns k) i)) (λ i. later (rest i))
     go false t h rest = later (rest h)
 
 holds_without : (m : ℕ) (ns : List ℕ) (k : ℕ) → holds_number (without m ns) k ≡ true → holds_number ns k ≡ true
@@ -52,14 +46,14 @@ holds_without m [] k e = e
 holds_without m (n ∷ ns) k e = go (not (n == m)) e (λ h. holds_without m ns k h)
   where
     go : (b : Bool) → holds_number (number_if b n (without m ns)) k ≡ true → (holds_number (without m ns) k ≡ true → holds_number ns k ≡ true) → ((n == k) || holds_number ns k) ≡ true
-    go true h rest = or_case (n == k) (holds_number (without m ns) k) h (λ i. or_left (n == k) (holds_number ns k) i) (λ i. or_right (n == k) (holds_number ns k) (rest i))
-    go false h rest = or_right (n == k) (holds_number ns k) (rest h)
+    go true h rest = or_case (n == k) (holds_number (without m ns) k) h (λ i. or_by_first (n == k) (holds_number ns k) i) (λ i. or_by_second (n == k) (holds_number ns k) (rest i))
+    go false h rest = or_by_second (n == k) (holds_number ns k) (rest h)
 
 holds_fronted : (m : ℕ) (ns : List ℕ) (k : ℕ) → holds_number (fronted m ns) k ≡ true → holds_number ns k ≡ true
 holds_fronted m ns k e = go (holds_number ns m) refl e
   where
     go : (b : Bool) → holds_number ns m ≡ b → holds_number (if b then m ∷ without m ns else ns) k ≡ true → holds_number ns k ≡ true
-    go true i h = or_case (m == k) (holds_number (without m ns) k) h (λ j. ap (holds_number ns) (sym (number_is m k j)) ∙ i) (λ j. holds_without m ns k j)
+    go true i h = or_case (m == k) (holds_number (without m ns) k) h (λ j. ap (holds_number ns) (sym (eq_means m k j)) ∙ i) (λ j. holds_without m ns k j)
     go false i h = h
 
 holds_turned : (m : ℕ) (ns : List ℕ) (k : ℕ) → holds_number (turned m ns) k ≡ true → holds_number ns k ≡ true
@@ -71,17 +65,9 @@ rows_own s l k e =
     sym (owned_are l s.owners k)
     ∙ holds_fronted (first_of s l) (owned_from l 0 s.owners) k (holds_chosen (has_row s) (piece_nodes s l) k (holds_turned (first_of s l) (chosen (has_row s) (piece_nodes s l)) k e)).1
 
-not_both : (b : Bool) → not b ≡ true → b ≡ false
-not_both true e = absurd (cc)
-not_both false e = refl
-
-and_right : (a b : Bool) → (a && b) ≡ true → b ≡ true
-and_right true b e = e
-and_right false b e = absurd (cc)
-
 -- the leaders to which it goes are not
 pub leaders_not_own : (r : Routine) (l : Place) (k : ℕ) → holds_number (stubs_of r l) k ≡ true → is_own r.split l k ≡ false
-leaders_not_own r l k e = not_both (is_own r.split l k) (and_right (holds_number (reached r l) k) (not (is_own r.split l k)) (holds_chosen (λ n. holds_number (reached r l) n && not (is_own r.split l n)) r.split.leaders k e).0)
+leaders_not_own r l k e = not_holds (is_own r.split l k) (and_second (holds_number (reached r l) k) (not (is_own r.split l k)) (holds_chosen (λ n. holds_number (reached r l) n && not (is_own r.split l n)) r.split.leaders k e).0)
 
 pub leaders_led : (r : Routine) (l : Place) (k : ℕ) → holds_number (stubs_of r l) k ≡ true → holds_number r.split.leaders k ≡ true
 leaders_led r l k e = (holds_chosen (λ n. holds_number (reached r l) n && not (is_own r.split l n)) r.split.leaders k e).1
@@ -115,12 +101,6 @@ from_same p r l stubs (n ∷ ns) a b same =
     ap (λ x. n ∷ (x ++ numbers_from p r l stubs (x ++ a) ns)) (behind_same stubs a b (falls (row_of p r l n).lines) same)
     ∙ ap (λ x. n ∷ (s ++ x)) (from_same p r l stubs ns (s ++ a) (s ++ b) (λ k h. holds_both s a k ∙ (ap (λ x. holds_number s k || x) (same k h) ∙ sym (holds_both s b k))))
 
-or_swap : (a b : Bool) → (a || b) ≡ (b || a)
-or_swap true true = refl
-or_swap true false = refl
-or_swap false true = refl
-or_swap false false = refl
-
 -- a node and the leader behind it
 node_more : (p : Program) (r : Routine) (l : Place) (stubs all new ns : List ℕ) (n : ℕ) (o : Option ℕ) → holds_number stubs n ≡ false → falls (row_of p r l n).lines ≡ o
     → new ≡ (all ++ n ∷ []) ++ stub_behind stubs (all ++ n ∷ []) o → new ++ numbers_from p r l stubs new ns ≡ all ++ numbers_from p r l stubs all (n ∷ ns)
@@ -131,18 +111,11 @@ node_more p r l stubs all new ns n o absent fe e =
     let same : Same stubs (all ++ n ∷ []) all = λ k h. holds_before all n k (differs k h) in
     let is : new ≡ (all ++ n ∷ []) ++ s = e ∙ ap (λ x. (all ++ n ∷ []) ++ x) (behind_same stubs (all ++ n ∷ []) all o same ∙ ap (stub_behind stubs all) (sym fe)) in
     ap (λ x. new ++ x) (ap (λ x. numbers_from p r l stubs x ns) is
-    ∙ from_same p r l stubs ns ((all ++ n ∷ []) ++ s) (s ++ all) (λ k h. holds_both (all ++ n ∷ []) s k ∙ (ap (λ b. b || holds_number s k) (same k h) ∙ (or_swap (holds_number all k) (holds_number s k) ∙ sym (holds_both s all k)))))
+    ∙ from_same p r l stubs ns ((all ++ n ∷ []) ++ s) (s ++ all) (λ k h. holds_both (all ++ n ∷ []) s k ∙ (ap (λ b. b || holds_number s k) (same k h) ∙ (or_exchanged (holds_number all k) (holds_number s k) ∙ sym (holds_both s all k)))))
     ∙ (ap (λ x. x ++ rest) is ∙ (append_assoc (all ++ n ∷ []) s rest ∙ append_assoc all (n ∷ []) (s ++ rest)))
   where
     no : true ≡ false → ⊥
     no e = absurd (cc)
-
-not_true : (b : Bool) → (b ≡ true → ⊥) → b ≡ false
-not_true true h = absurd (h refl)
-not_true false h = refl
-
-true_false : true ≡ false → ⊥
-true_false e = absurd (cc)
 
 -- one node more of the piece
 pub one_more : (p : Program) (r : Routine) (l : Place) (nodes all new total : List ℕ) (i : ℕ) → i < length nodes → nodes ≡ rows_nodes r.split l
@@ -152,7 +125,7 @@ pub one_more : (p : Program) (r : Routine) (l : Place) (nodes all new total : Li
 one_more p r l nodes all new total i lt are e before =
     let n = get_or nodes i 0 in
     let own : is_own r.split l n ≡ true = rows_own r.split l n (subst (λ ns. holds_number ns n ≡ true) are (holds_at nodes i lt)) in
-    let absent : holds_number (stubs_of r l) n ≡ false = not_true (holds_number (stubs_of r l) n) (λ h. true_false (sym own ∙ leaders_not_own r l n h)) in
+    let absent : holds_number (stubs_of r l) n ≡ false = false_unless_true (holds_number (stubs_of r l) n) (λ h. true_not_false (sym own ∙ leaders_not_own r l n h)) in
     let step : suc i ≡ i + 1 = omega arith in
     node_more p r l (stubs_of r l) all new (drop (i + 1) nodes) n (step_at r n).falls absent (row_falls p r l n own) e
     ∙ (ap (λ x. all ++ numbers_from p r l (stubs_of r l) all (n ∷ drop x nodes)) (sym step) ∙ (ap (λ x. all ++ numbers_from p r l (stubs_of r l) all x) (sym (drop-cons nodes i 0 lt)) ∙ before))
@@ -160,7 +133,7 @@ one_more p r l nodes all new total i lt are e before =
 all_holds : (count : ℕ) (ns : List ℕ) → All (λ n. n < count) ns → (k : ℕ) → holds_number ns k ≡ true → k < count
 all_holds count [] all k e = absurd (cc)
 all_holds count (n ∷ ns) all k e =
-    or_case (n == k) (holds_number ns k) e (λ i. subst (λ m. m < count) (number_is n k i) (all 0 0 (omega arith)))
+    or_case (n == k) (holds_number ns k) e (λ i. subst (λ m. m < count) (eq_means n k i) (all 0 0 (omega arith)))
     (λ i. all_holds count ns (λ j d lt. all (suc j) d (omega arith)) k i)
 
 -- the leaders to which a piece goes are nodes

@@ -2,6 +2,7 @@
 use Rattle.std.proofs.Common.{◌≡◌, ℕ, zero, suc, ◌+◌, ◌<◌, ◌==◌, ◌||◌, ◌&&◌, not, nat_lt, nat_le, if◌then◌else◌, Bool, true, false, List, [], ◌∷◌, ◌++◌, length, get_or, drop, slice_get, All, Option, refl, sym, ◌∙◌, ap, subst, arith}
 use Rattle.std.proofs.lemmas.List.{append_assoc}
 use Rattle.std.proofs.Math.Seq.{drop-cons}
+use Rattle.cpc_base.proofs.Truth.{eq_means, eq_reflexive, or_with_false, and_with_true, le_reflexive}
 use Rattle.cpc_tree.specs.Lists.{holds_number}
 use Rattle.cpc_forms.specs.Flow.{Place}
 use Rattle.cpc_forms.specs.Pieces.{is_owned_by, owned_from, without, fronted, first_of}
@@ -9,7 +10,7 @@ use Rattle.cpc_forms.specs.Split.{Split, number_if}
 use Rattle.cpc_convert_event.specs.Routines.{Routine, number_before, chosen}
 use Rattle.cpc_convert_event.specs.Rows.{number_where, turned, owner_at, is_own, has_row, rows_nodes, reached, onwards_all}
 use Rattle.cpc_convert_rows.specs.Marks.{AreMarked}
-use Rattle.cpc_convert_rows.proofs.Marking.{number_is, equal_self, unequal, or_false}
+use Rattle.cpc_convert_rows.proofs.Marking.{unequal}
 
 pub before_where : (b : Bool) (n : ℕ) (rest : List ℕ) → number_before b n rest ≡ number_where b n ++ rest
 before_where true n rest = refl
@@ -44,18 +45,14 @@ owned_above l n (o ∷ os) k lt =
     go true = refl
     go false = refl
 
-and_true : (b : Bool) → (b && true) ≡ b
-and_true true = refl
-and_true false = refl
-
 -- a number is there where its owner is l
 owned_holds : (l : Place) (n : ℕ) (os : List (Option Place)) (j : ℕ) → holds_number (owned_from l n os) (n + j) ≡ is_owned_by l (owner_at (slice_get os j))
 owned_holds l n [] j = refl
 owned_holds l n (o ∷ os) zero =
     let z : n + 0 ≡ n = omega arith in
     ap (holds_number (number_if (is_owned_by l o) n (owned_from l (suc n) os))) z
-    ∙ (holds_if (is_owned_by l o) n (owned_from l (suc n) os) n ∙ (ap (λ b. (is_owned_by l o && b) || holds_number (owned_from l (suc n) os) n) (equal_self n)
-    ∙ (ap (λ b. (is_owned_by l o && true) || b) (owned_above l (suc n) os n (omega arith)) ∙ (or_false (is_owned_by l o && true) ∙ and_true (is_owned_by l o)))))
+    ∙ (holds_if (is_owned_by l o) n (owned_from l (suc n) os) n ∙ (ap (λ b. (is_owned_by l o && b) || holds_number (owned_from l (suc n) os) n) (eq_reflexive n)
+    ∙ (ap (λ b. (is_owned_by l o && true) || b) (owned_above l (suc n) os n (omega arith)) ∙ (or_with_false (is_owned_by l o && true) ∙ and_with_true (is_owned_by l o)))))
 owned_holds l n (o ∷ os) (suc j) =
     let s : suc n + j ≡ n + suc j = omega arith in
     let ne : ¬ (n ≡ n + suc j) = λ e. absurd (omega (arith, e)) in
@@ -73,7 +70,7 @@ owned_are l os j = let z : 0 + j ≡ j = omega arith in ap (holds_number (owned_
 -- ---- the order
 
 filter_in : (a : ℕ → Bool) (t : Bool) (n : ℕ) (rest : List ℕ) → chosen a (number_before t n rest) ≡ number_before (a n && t) n (chosen a rest)
-filter_in a true n rest = ap (λ b. number_before b n (chosen a rest)) (sym (and_true (a n)))
+filter_in a true n rest = ap (λ b. number_before b n (chosen a rest)) (sym (and_with_true (a n)))
 filter_in a false n rest = go (a n)
   where
     go : (b : Bool) → chosen a rest ≡ number_before (b && false) n (chosen a rest)
@@ -82,9 +79,6 @@ filter_in a false n rest = go (a n)
 
 le_is : (m n : ℕ) → (n == m) ≡ false → nat_le m n ≡ nat_lt m n
 le_is m n e = grind (arith, e)
-
-le_self : (m : ℕ) → nat_le m m ≡ true
-le_self m = grind arith
 
 lt_self : (m : ℕ) → nat_lt m m ≡ false
 lt_self m = grind arith
@@ -106,7 +100,7 @@ module _ (test : ℕ → Bool) (m : ℕ) where
     where
       go : (b : Bool) → (n == m) ≡ b → chosen a (chosen test (without m ns)) ≡ chosen (λ k. c k && test k) ns
           → chosen a (chosen test (number_if (not b) n (without m ns))) ≡ number_before (c n && test n) n (chosen (λ k. c k && test k) ns)
-      go true e rest = rest ∙ sym (ap (λ b. number_before (b && test n) n (chosen (λ k. c k && test k) ns)) (ap c (number_is n m e) ∙ self))
+      go true e rest = rest ∙ sym (ap (λ b. number_before (b && test n) n (chosen (λ k. c k && test k) ns)) (ap c (eq_means n m e) ∙ self))
       go false e rest =
           filter_in a (test n) n (chosen test (without m ns))
           ∙ (ap (λ b. number_before (b && test n) n (chosen a (chosen test (without m ns)))) (agree n e) ∙ ap (number_before (c n && test n) n) rest)
@@ -122,7 +116,7 @@ module _ (test : ℕ → Bool) (m : ℕ) where
   in_order b ns = (number_where (b && test m) m ++ chosen (λ n. nat_lt m n && test n) ns) ++ chosen (λ n. nat_lt n m && test n) ns
 
   front : (b : Bool) (ys : List ℕ) → turned m (number_before b m ys) ≡ (number_where b m ++ chosen (λ n. nat_le m n) ys) ++ chosen (λ n. nat_lt n m) ys
-  front true ys = ap (λ b. number_before b m (chosen (λ n. nat_le m n) ys) ++ number_before (nat_lt m m) m (chosen (λ n. nat_lt n m) ys)) (le_self m) ∙ ap (λ b. (m ∷ chosen (λ n. nat_le m n) ys) ++ number_before b m (chosen (λ n. nat_lt n m) ys)) (lt_self m)
+  front true ys = ap (λ b. number_before b m (chosen (λ n. nat_le m n) ys) ++ number_before (nat_lt m m) m (chosen (λ n. nat_lt n m) ys)) (le_reflexive m) ∙ ap (λ b. (m ∷ chosen (λ n. nat_le m n) ys) ++ number_before b m (chosen (λ n. nat_lt n m) ys)) (lt_self m)
   front false ys = refl
 
   pub turned_by : (ns : List ℕ) → turned m (chosen test (fronted m ns)) ≡ in_order (holds_number ns m) ns

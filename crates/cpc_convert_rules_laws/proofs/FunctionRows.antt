@@ -2,6 +2,7 @@
 use Rattle.std.proofs.Common.{◌≡◌, ℕ, zero, suc, ◌==◌, ◌&&◌, not, Bool, true, false, List, [], ◌∷◌, map, length, decimal, slice_get, Some, refl, ◌∙◌, ap, codes}
 use Rattle.cpc_base.specs.Bytes.{Text}
 use Rattle.cpc_base.specs.declared.stop.Dialect.TheVariants as D
+use Rattle.cpc_base.proofs.Truth.{eq_reflexive, and_holds}
 use Rattle.cpc_num.specs.declared.kinds.Kind.{Kind}
 use Rattle.cpc_num.specs.declared.kinds.Kind.TheVariants.{Char, UChar, Int, UInt, Long, ULong}
 use Rattle.cpc_num.specs.Number.{same_kind}
@@ -19,7 +20,6 @@ use Rattle.cpc_check_laws.proofs.OnePlace.{here, ident_here, variable_here, para
 use Rattle.cpc_meaning.proofs.Functions.{text_same}
 use Rattle.cpc_convert.specs.Converted.{prototype, function_item}
 use Rattle.cpc_convert.specs.Members.{Has}
-use Rattle.cpc_graph_laws.proofs.Formed.{equal_self}
 use Rattle.cpc_convert_chain_laws.specs.Structs.{ScalarFields, NoFields, AndField}
 use Rattle.cpc_convert_chain_laws.specs.Driver.{head_fields}
 use Rattle.cpc_convert_event.specs.Names.{variable_name}
@@ -45,27 +45,23 @@ kind_itself UInt = refl
 kind_itself Long = refl
 kind_itself ULong = refl
 
-both_hold : (a b : Bool) → a ≡ true → b ≡ true → (a && b) ≡ true
-both_hold true b e f = f
-both_hold false b e f = absurd (cc)
-
 mutual
   type_itself : (t : Ty) → same_type t t ≡ true
   type_itself TyVoid = refl
   type_itself (TyInt k) = kind_itself k
   type_itself TyCondvar = refl
   type_itself (TyPointer t) = type_itself t
-  type_itself (TyCode r ps) = both_hold (same_type r r) (same_types ps ps) (type_itself r) (types_itself ps)
+  type_itself (TyCode r ps) = and_holds (same_type r r) (same_types ps ps) (type_itself r) (types_itself ps)
   type_itself (TyStruct tag) = text_same tag
-  type_itself (TyArray t n) = both_hold (same_type t t) (n == n) (type_itself t) (equal_self n)
+  type_itself (TyArray t n) = and_holds (same_type t t) (n == n) (type_itself t) (eq_reflexive n)
 
   types_itself : (ts : Tys) → same_types ts ts ≡ true
   types_itself NoTy = refl
-  types_itself (AndTy t ts) = both_hold (same_type t t) (same_types ts ts) (type_itself t) (types_itself ts)
+  types_itself (AndTy t ts) = and_holds (same_type t t) (same_types ts ts) (type_itself t) (types_itself ts)
 
 list_itself : (ts : List Ty) → same_list ts ts ≡ true
 list_itself [] = refl
-list_itself (t ∷ ts) = both_hold (same_type t t) (same_list ts ts) (type_itself t) (list_itself ts)
+list_itself (t ∷ ts) = and_holds (same_type t t) (same_list ts ts) (type_itself t) (list_itself ts)
 
 -- ---- heads
 
@@ -80,7 +76,7 @@ pub record HeadFine (g : Function) : Type 0 where
 pub agrees_itself : (g : Function) (is_defined : Bool) → g.mode ≡ Native → agrees (signature g.mode g.result g.parameters is_defined) g.mode g.result (map parameter_type g.parameters) ≡ true
 agrees_itself g is_defined e =
     ap (λ m. same_mode m m && (same_type g.result g.result && same_list (types (map parameter_here g.parameters)) (map parameter_type g.parameters))) e
-    ∙ both_hold (same_type g.result g.result) _ (type_itself g.result) (ap (λ ts. same_list ts (map parameter_type g.parameters)) (types_here g.parameters) ∙ list_itself (map parameter_type g.parameters))
+    ∙ and_holds (same_type g.result g.result) _ (type_itself g.result) (ap (λ ts. same_list ts (map parameter_type g.parameters)) (types_here g.parameters) ∙ list_itself (map parameter_type g.parameters))
 
 free_name : (x : Text) → is_kept x ≡ false → reserved_breaks D.Event (ident_here x ∷ []) ≡ []
 free_name x e = both_none _ _ (ap (λ b. at_if b here Reserved) e) refl

@@ -2,6 +2,7 @@
 use Rattle.std.proofs.Common.{◌≡◌, inl, inr, ℕ, ◌+◌, ◌==◌, ◌||◌, Bool, true, false, List, [], ◌∷◌, ◌++◌, map, bytes_eq, refl, sym, ◌∙◌, ap, subst, append_assoc, codes}
 use Rattle.cpc_base.specs.Bytes.{Text}
 use Rattle.cpc_base.specs.declared.stop.Dialect.TheVariants as D
+use Rattle.cpc_base.proofs.Truth.{eq_reflexive, or_by_second, never_both}
 use Rattle.cpc_tree.specs.Lists.{holds_number}
 use Rattle.cpc_tree.specs.Syntax.{Function, StructItem, GlobalItem, PrototypeItem, FunctionItem, Program}
 use Rattle.cpc_meaning.specs.Threads.{is_cps_mode}
@@ -14,7 +15,6 @@ use Rattle.cpc_convert.proofs.Marks.{NoBar, marked_is}
 use Rattle.cpc_forms.specs.Flow.{Place, Start, At, flow_of}
 use Rattle.cpc_forms.specs.Graph.{graph_of}
 use Rattle.cpc_forms.specs.Pieces as P
-use Rattle.cpc_graph_laws.proofs.Formed.{equal_self}
 use Rattle.cpc_convert_event.specs.Names.{piece_name}
 use Rattle.cpc_convert_event.specs.Routines.{Routine, routine_of}
 use Rattle.cpc_convert_event.specs.Pieces.{piece_function, leader_function, spawner_function, made_of}
@@ -30,17 +30,9 @@ use Rattle.cpc_convert_rules_laws.proofs.Source.{signature, defined_once}
 
 -- ---- numbers each once
 
-either_true : (a b : Bool) → b ≡ true → (a || b) ≡ true
-either_true true b e = refl
-either_true false b e = e
-
 pub held : (k : ℕ) (ks : List ℕ) → Has k ks → holds_number ks k ≡ true
-held k _ (OnTop _ ks) = ap (λ b. b || holds_number ks k) (equal_self k)
-held k _ (Below _ j ks h) = either_true (j == k) (holds_number ks k) (held k ks h)
-
-true_false : (b : Bool) → b ≡ true → b ≡ false → ⊥
-true_false true e f = absurd (cc)
-true_false false e f = absurd (cc)
+held k _ (OnTop _ ks) = ap (λ b. b || holds_number ks k) (eq_reflexive k)
+held k _ (Below _ j ks h) = or_by_second (j == k) (holds_number ks k) (held k ks h)
 
 -- what is made of numbers each of which stands once, where it tells them by its names
 pub once_map : {A : Type 0} (called : A → Text) (F : ℕ → A) (ns : List ℕ) → P.Once ns → ((m n : ℕ) → Has m ns → Has n ns → called (F m) ≡ called (F n) → m ≡ n) → Once called (map F ns)
@@ -49,7 +41,7 @@ once_map called F _ (P.AndOther n ns e o) tells =
     AndOnce (F n) (map F ns) (λ y h k. other y (map_has F y ns h) k) (once_map called F ns o (λ i j a b k. tells i j (Below i n ns a) (Below j n ns b) k))
   where
     other : (y : _) → Mapped F ns y → called (F n) ≡ called y → ⊥
-    other _ (OfNumber m h) k = true_false (holds_number ns n) (held n ns (subst (λ i. Has i ns) (sym (tells n m (OnTop n ns) (Below m n ns h) k)) h)) e
+    other _ (OfNumber m h) k = never_both (holds_number ns n) (held n ns (subst (λ i. Has i ns) (sym (tells n m (OnTop n ns) (Below m n ns h) k)) h)) e
 
 -- the leaders of a function
 pub leaders_once : (p : Program) (f : Function) → P.Once (routine_of p f).split.leaders
@@ -75,7 +67,7 @@ module _ (p : Program) (fine : rows D.Cpc p [] p ≡ []) where
       or_true false i = absurd (cc)
 
       go : Beside g.called (signature g.mode g.result g.parameters true) (FunctionItem f) → ⊥
-      go (inl i) = true_false (bytes_eq f.called g.called) (ap (bytes_eq f.called) (sym k) ∙ text_same f.called) i
+      go (inl i) = never_both (bytes_eq f.called g.called) (ap (bytes_eq f.called) (sym k) ∙ text_same f.called) i
       go (inr i) = or_true _ i.0
 
 -- ---- names that are made

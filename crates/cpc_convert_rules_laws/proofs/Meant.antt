@@ -2,6 +2,7 @@
 use Rattle.std.proofs.Common.{◌≡◌, ⊎_elim, Bool, true, false, cond, List, [], ◌∷◌, ◌++◌, reverse, map, bytes_eq, refl, sym, ◌∙◌, ap, subst}
 use Rattle.std.proofs.lemmas.List.{reverse-append}
 use Rattle.cpc_base.specs.Bytes.{Text}
+use Rattle.cpc_base.proofs.Truth.{never_both}
 use Rattle.cpc_tree.specs.Syntax.{Item, StructItem, GlobalItem, PrototypeItem, FunctionItem, Program}
 use Rattle.cpc_tree.specs.Typing.{Meant, AGlobal, AFunction, NotMeant, parameter_type}
 use Rattle.cpc_check_rules.specs.Scopes.{in_items}
@@ -61,20 +62,16 @@ agree_one : (b : Bool) (a rest m : Meant) → (b ≡ true → a ≡ m) → (b �
 agree_one true a rest m h g = h refl
 agree_one false a rest m h g = g refl
 
-true_false : (b : Bool) → b ≡ true → b ≡ false → ⊥
-true_false true e f = absurd (cc)
-true_false false e f = absurd (cc)
-
 -- where all items that declare a name say the same of it, and one does, it stands for that
 one_said : (x : Text) (m : Meant) (xs : Program) → ((i : Item) → Has i xs → Declares x i → said i ≡ m) → (i : Item) → Has i xs → Declares x i → in_items xs x ≡ m
 one_said x m [] all i h d = elim h [ ]
 one_said x m (StructItem t fs ∷ xs) all _ (OnTop _ _) d = absurd d
 one_said x m (StructItem t fs ∷ xs) all i (Below _ _ _ h) d = one_said x m xs (λ j k. all j (Below _ _ xs k)) i h d
-one_said x m (GlobalItem g t s ∷ xs) all _ (OnTop _ _) d = agree_one (bytes_eq g x) _ _ m (all _ (OnTop _ xs)) (λ e. absurd (true_false (bytes_eq g x) d e))
+one_said x m (GlobalItem g t s ∷ xs) all _ (OnTop _ _) d = agree_one (bytes_eq g x) _ _ m (all _ (OnTop _ xs)) (λ e. absurd (never_both (bytes_eq g x) d e))
 one_said x m (GlobalItem g t s ∷ xs) all i (Below _ _ _ h) d = agree_one (bytes_eq g x) _ _ m (all _ (OnTop _ xs)) (λ e. one_said x m xs (λ j k. all j (Below _ _ xs k)) i h d)
-one_said x m (PrototypeItem n f r ps ∷ xs) all _ (OnTop _ _) d = agree_one (bytes_eq f x) _ _ m (all _ (OnTop _ xs)) (λ e. absurd (true_false (bytes_eq f x) d e))
+one_said x m (PrototypeItem n f r ps ∷ xs) all _ (OnTop _ _) d = agree_one (bytes_eq f x) _ _ m (all _ (OnTop _ xs)) (λ e. absurd (never_both (bytes_eq f x) d e))
 one_said x m (PrototypeItem n f r ps ∷ xs) all i (Below _ _ _ h) d = agree_one (bytes_eq f x) _ _ m (all _ (OnTop _ xs)) (λ e. one_said x m xs (λ j k. all j (Below _ _ xs k)) i h d)
-one_said x m (FunctionItem f ∷ xs) all _ (OnTop _ _) d = agree_one (bytes_eq f.called x) _ _ m (all _ (OnTop _ xs)) (λ e. absurd (true_false (bytes_eq f.called x) d e))
+one_said x m (FunctionItem f ∷ xs) all _ (OnTop _ _) d = agree_one (bytes_eq f.called x) _ _ m (all _ (OnTop _ xs)) (λ e. absurd (never_both (bytes_eq f.called x) d e))
 one_said x m (FunctionItem f ∷ xs) all i (Below _ _ _ h) d = agree_one (bytes_eq f.called x) _ _ m (all _ (OnTop _ xs)) (λ e. one_said x m xs (λ j k. all j (Below _ _ xs k)) i h d)
 
 pub all_said : (x : Text) (m : Meant) (xs : Program) → ((i : Item) → Has i xs → Declares x i → said i ≡ m) → (i : Item) → Has i xs → Declares x i → in_items (reverse xs) x ≡ m

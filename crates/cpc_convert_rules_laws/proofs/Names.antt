@@ -1,10 +1,10 @@
 -- Names that are made are not kept, where the name that they are made from is not.
 use Rattle.std.proofs.Common.{◌≡◌, Bool, true, false, ◌&&◌, not, [], ◌∷◌, ◌++◌, bytes_eq, codes, refl}
 use Rattle.cpc_base.specs.Bytes.{Text}
+use Rattle.cpc_base.proofs.Truth.{or_neither, or_both_fail}
 use Rattle.cpc_check_rules.specs.FunctionRules.{begins_with, is_kept}
 use Rattle.cpc_convert.specs.Converted.{marked}
 use Rattle.cpc_convert.proofs.Marks.{marked_differs}
-use Rattle.cpc_convert_rules_laws.proofs.Items.{neither, or_none}
 
 -- a word without underscores
 abbrev barless : Text → Bool
@@ -46,8 +46,8 @@ one_bar_made (a ∷ w) (c ∷ f) rest g h =
 -- a name that is made from one that is not kept is not kept
 pub made_unkept : (f rest : Text) → is_kept f ≡ false → is_kept (marked f rest) ≡ false
 made_unkept f rest h =
-    let a = neither (one_bar (codes "cpc") f) _ h in
-    let b = neither (one_bar (codes "rt") f) _ a.1 in
-    or_none (one_bar (codes "cpc") (marked f rest)) _ (one_bar_made (codes "cpc") f rest refl a.0)
-    (or_none (one_bar (codes "rt") (marked f rest)) _ (one_bar_made (codes "rt") f rest refl b.0)
-    (or_none (bytes_eq (marked f rest) (codes "malloc")) _ (marked_differs f rest (codes "malloc") refl) (marked_differs f rest (codes "free") refl)))
+    let a = or_neither (one_bar (codes "cpc") f) _ h in
+    let b = or_neither (one_bar (codes "rt") f) _ a.1 in
+    or_both_fail (one_bar (codes "cpc") (marked f rest)) _ (one_bar_made (codes "cpc") f rest refl a.0)
+    (or_both_fail (one_bar (codes "rt") (marked f rest)) _ (one_bar_made (codes "rt") f rest refl b.0)
+    (or_both_fail (bytes_eq (marked f rest) (codes "malloc")) _ (marked_differs f rest (codes "malloc") refl) (marked_differs f rest (codes "free") refl)))

@@ -3,6 +3,8 @@ use Rattle.std.proofs.Common.{◌≡◌, Bool, true, false, ◌&&◌, not, cond,
 use Rattle.cpc_base.specs.Bytes.{Text}
 use Rattle.cpc_base.specs.declared.stop.Dialect.{Dialect}
 use Rattle.cpc_base.specs.declared.stop.Dialect.TheVariants as D
+use Rattle.cpc_base.proofs.Truth.{by_false_true, or_neither, and_not_fails}
+use Rattle.cpc_base.proofs.Lists.{some_is}
 use Rattle.cpc_tree.specs.declared.program.Mode.{Mode}
 use Rattle.cpc_tree.specs.declared.program.Mode.TheVariants.{Extern, Native, Cps, Detached}
 use Rattle.cpc_tree.specs.Syntax.{Ty, Variable, Parameter, Function, Item, StructItem, GlobalItem, PrototypeItem, FunctionItem, Program}
@@ -16,12 +18,11 @@ use Rattle.cpc_check_laws.proofs.NativeValues.{left_none, right_none}
 use Rattle.cpc_check_laws.proofs.OnePlace.{here, ident_here, parameter_here, item_here}
 use Rattle.cpc_meaning.proofs.Functions.{text_same}
 use Rattle.cpc_check_sound_laws.specs.Typed.{is_own}
-use Rattle.cpc_check_sound_laws.proofs.Answers.{some_is, no_some, not_true}
-use Rattle.cpc_check_sound_laws.proofs.Unbroken.{holds_not, have_all, negated}
+use Rattle.cpc_check_sound_laws.proofs.Answers.{no_some}
+use Rattle.cpc_check_sound_laws.proofs.Unbroken.{holds_not}
 use Rattle.cpc_check_sound_laws.proofs.Items.{signed, function_there}
 use Rattle.cpc_check_sound_laws.proofs.Knowing.{Known, nothing_known, known_struct, known_global, known_function}
 use Rattle.cpc_convert.specs.Members.{Has}
-use Rattle.cpc_convert_rules_laws.proofs.Items.{neither}
 use Rattle.cpc_convert_rules_laws.proofs.Rows.{rows, row_first, row_rest, has_at}
 
 -- ---- rows
@@ -46,7 +47,7 @@ signature m r ps is_defined = record { mode = m; result = r; parameters = types 
 
 -- a name that is not reserved
 pub free_name : (x : Text) → reserved_breaks D.Cpc (ident_here x ∷ []) ≡ [] → is_kept x ≡ false
-free_name x h = (neither (is_kept x) (holds_bars x) (holds_not (is_reserved D.Cpc x) here Reserved (left_none _ _ h))).0
+free_name x h = (or_neither (is_kept x) (holds_bars x) (holds_not (is_reserved D.Cpc x) here Reserved (left_none _ _ h))).0
 
 -- what a name may be declared beside
 pub settles : (before : Program) (x : Text) (new : Signature) → declared_breaks before (ident_here x) new ≡ [] → (is_clash x new before ≡ false) × (is_disagreeing x new before ≡ false)
@@ -59,10 +60,7 @@ no_extern : (m : Mode) → is_own m ≡ true → is_extern m ≡ false
 no_extern Native e = refl
 no_extern Cps e = refl
 no_extern Detached e = refl
-no_extern Extern e = not_true e
-
-implied : (a b : Bool) → (a && not b) ≡ false → a ≡ true → b ≡ true
-implied a b h e = negated b (have_all a (not b) h e)
+no_extern Extern e = by_false_true e
 
 -- ---- what is known
 
@@ -80,8 +78,8 @@ module _ (p before rest : Program) (known : Known p before) where
       known_function p before known (PrototypeItem m x r ps) x new
       (λ q y. ap (λ ts. cond (bytes_eq x y) (AFunction m r ts) (in_items q y)) (sym (types_here ps)))
       (λ k y. ap (λ ts. cond (bytes_eq x y) (AFunction m r ts) NotMeant) (sym (types_here ps)))
-      s.0 s.1 (free_name x (left_none _ _ h)) (λ e. implied (is_extern m) (is_host_like r (types (map parameter_here ps))) host (ap is_extern e))
-      (λ o. implied (not (is_extern m)) (is_function x p) there (ap not (no_extern m o))) (λ y g e. no_some g e)
+      s.0 s.1 (free_name x (left_none _ _ h)) (λ e. and_not_fails (is_extern m) (is_host_like r (types (map parameter_here ps))) host (ap is_extern e))
+      (λ o. and_not_fails (not (is_extern m)) (is_function x p) there (ap not (no_extern m o))) (λ y g e. no_some g e)
 
   known_definition : (f : Function) → is_own f.mode ≡ true → p ≡ before ++ FunctionItem f ∷ rest → item_breaks D.Cpc p before (item_here (FunctionItem f)) ≡ [] → Known p (before ++ FunctionItem f ∷ [])
   known_definition f own whole h =
@@ -92,7 +90,7 @@ module _ (p before rest : Program) (known : Known p before) where
       known_function p before known (FunctionItem f) f.called new
       (λ q y. ap (λ ts. cond (bytes_eq f.called y) (AFunction f.mode f.result ts) (in_items q y)) (sym (types_here f.parameters)))
       (λ k y. ap (λ ts. cond (bytes_eq f.called y) (AFunction f.mode f.result ts) NotMeant) (sym (types_here f.parameters)))
-      s.0 s.1 (free_name f.called (left_none _ _ h)) (λ e. not_true (sym (no_extern f.mode own) ∙ ap is_extern e))
+      s.0 s.1 (free_name f.called (left_none _ _ h)) (λ e. by_false_true (sym (no_extern f.mode own) ∙ ap is_extern e))
       (λ o. subst (λ q. is_function f.called q ≡ true) (sym whole) (function_there before rest f f.called (text_same f.called))) (λ y g e. is_new y g e)
     where
       is_new : (y : Text) (g : Function) → function_named (FunctionItem f ∷ []) y ≡ Some g → (bytes_eq f.called y ≡ true) × (signed (signature f.mode f.result f.parameters true) ≡ AFunction g.mode g.result (parameter_types g))

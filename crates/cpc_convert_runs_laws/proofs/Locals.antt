@@ -3,6 +3,7 @@ use Rattle.std.proofs.Common.{◌≡◌, ℕ, ◌+◌, ◌≤◌, Bool, true, fa
 use Rattle.cpc_tree.specs.Registers.{variables}
 use Rattle.cpc_tree.specs.Syntax.{Variable, Function, Program}
 use Rattle.cpc_base.specs.Bytes.{Text}
+use Rattle.cpc_base.proofs.Lists.{length_of_map, length_of_append}
 use Rattle.cpc_store.specs.Store.{Value}
 use Rattle.cpc_tree.specs.Points.{Point}
 use Rattle.cpc_meaning.specs.Eval.{Slot, Register, Boxed}
@@ -18,9 +19,8 @@ use Rattle.cpc_convert_event.specs.Routines.{Routine, routine_of, closure_of, lo
 use Rattle.cpc_convert_laws.specs.Running.{Places}
 use Rattle.cpc_convert_piece_laws.specs.Known.{CpsKnown}
 use Rattle.cpc_convert_piece_laws.specs.Stood.{Stood, AtRow, AtCall}
-use Rattle.cpc_convert_piece_laws.proofs.Frames.{kept_number, map_length}
+use Rattle.cpc_convert_piece_laws.proofs.Frames.{kept_number}
 use Rattle.cpc_convert_entry_laws.proofs.Counting.{variables_shared}
-use Rattle.cpc_convert_entry_laws.proofs.Opening.{append_length}
 use Rattle.cpc_convert_entry_laws.proofs.Resuming.{words_of_number}
 use Rattle.cpc_convert_runs_laws.proofs.Bounds.{most_within}
 
@@ -45,17 +45,17 @@ module _ (p : Program) (named : IsNamed p) (known : (f : Function) → IsCps p f
   loaded_begun : (l : Place) → IsOwner r l → length (loaded r l) + length (begun r l) ≤ length (variables f)
   loaded_begun Start owner =
       let h = variables_shared p named f cps in
-      let e = append_length (chosen (λ k. not (is_parameter f k) && is_plain r k) (closure_of r Start)) r.boxes in
+      let e = length_of_append (chosen (λ k. not (is_parameter f k) && is_plain r k) (closure_of r Start)) r.boxes in
       omega (arith, h, e)
   loaded_begun (At n) owner = let h = kept_number p f (known f cps) (At n) owner (At n) in omega (arith, h)
 
   locals_number : (l : Place) → IsOwner r l → length (piece_locals p r l) ≤ 7 + length (variables f)
   locals_number l owner =
       let a = if_number (takes_value r l) (called_so value_name (arriving_type p r l)) (locals_of r (loaded r l) ++ (words_of p r l ++ locals_of r (begun r l))) in
-      let b = append_length (locals_of r (loaded r l)) (words_of p r l ++ locals_of r (begun r l)) in
-      let c = append_length (words_of p r l) (locals_of r (begun r l)) in
-      let d = map_length (local_of r) (loaded r l) in
-      let e = map_length (local_of r) (begun r l) in
+      let b = length_of_append (locals_of r (loaded r l)) (words_of p r l ++ locals_of r (begun r l)) in
+      let c = length_of_append (words_of p r l) (locals_of r (begun r l)) in
+      let d = length_of_map (local_of r) (loaded r l) in
+      let e = length_of_map (local_of r) (begun r l) in
       let g = words_of_number p r l in
       let h = loaded_begun l owner in
       omega (arith, a, b, c, d, e, g, h)

@@ -2,6 +2,7 @@
 use Rattle.std.proofs.Common.{◌≡◌, ◌⊎◌, inl, inr, ◌&&◌, not, ℕ, Bool, true, false, List, [], ◌∷◌, ◌++◌, map, Some, refl, sym, ◌∙◌, ap}
 use Rattle.cpc_base.specs.Bytes.{Text}
 use Rattle.cpc_base.specs.declared.stop.Dialect.TheVariants as D
+use Rattle.cpc_base.proofs.Truth.{and_first, and_second, and_holds, not_holds}
 use Rattle.cpc_tree.specs.declared.program.Mode.{Mode}
 use Rattle.cpc_tree.specs.declared.program.Mode.TheVariants.{Extern, Native, Cps, Detached}
 use Rattle.cpc_tree.specs.Located.{LStmt, Block, Assign, Call, Detach, Spawn, If, While, DoWhile, For, Label, LStmts, NoLStmt, AndLStmt, MaybeLStmt, NoneLStmt, SomeLStmt, LItem, LStruct, LGlobal, LPrototype, LFunctionItem, bare_stmt, bare_stmts, bare_maybe, bare_function, bare_item, bare}
@@ -13,7 +14,6 @@ use Rattle.cpc_check_rules.specs.ItemRules.{item_breaks, items_breaks}
 use Rattle.cpc_check_rules.specs.FunctionRules.{holds_bars}
 use Rattle.cpc_check_rules.specs.Operators.{is_cps}
 use Rattle.cpc_check_laws.specs.Native.{spawns_none, all_spawn_none, maybe_spawns_none, is_native_item, are_native}
-use Rattle.cpc_check_laws.proofs.NativeStatements.{and_left, and_right}
 use Rattle.cpc_check_sound_laws.specs.Typed.{StepTyped, BodyTyped, AllTyped, ArmTyped, TypedProgram}
 use Rattle.cpc_check_sound_laws.proofs.Accepted.{accepted_is_typed, accepted_facts}
 use Rattle.cpc_check_sound_laws.proofs.Agendas.{Each}
@@ -29,7 +29,7 @@ use Rattle.cpc_convert_accepted_laws.specs.Names.{HasNames}
 use Rattle.cpc_convert_accepted_laws.proofs.Names.{accepted_has_names}
 use Rattle.cpc_meaning_native_laws.specs.Plain.{is_plain_stmt, are_plain, is_plain_arm, is_plain_function, is_plain}
 use Rattle.cpc_meaning_native_laws.specs.Shape.{is_step, is_shaped, all_shaped, is_shaped_arm, is_block, are_shaped}
-use Rattle.cpc_meaning_native_laws.proofs.Native.{both_true, native_is_plain}
+use Rattle.cpc_meaning_native_laws.proofs.Native.{native_is_plain}
 use Rattle.cpc_convert_native_laws.proofs.Accepted.{one_more}
 use Rattle.cpc_convert_runs_laws.specs.Laws.{AcceptedIsNative}
 use Rattle.cpc_convert_runs_laws.proofs.Signed.{item_declares}
@@ -91,16 +91,16 @@ step_is (SomeLStmt _) h = absurd h
 mutual
   shaped : (s : LStmt) → Written s → is_shaped s ≡ true
   shaped (Block q ss) h = all_are_shaped ss h
-  shaped (If q c a r) h = both_true _ _ (shaped a h.0) (arm_shaped r h.1)
+  shaped (If q c a r) h = and_holds _ _ (shaped a h.0) (arm_shaped r h.1)
   shaped (While q c a) h = shaped a h
   shaped (DoWhile q a c) h = shaped a h
-  shaped (For q ss c r a) h = both_true _ _ (all_are_shaped ss (all_first_written ss h.0)) (both_true _ _ (step_is r h.1) (shaped a h.2))
+  shaped (For q ss c r a) h = and_holds _ _ (all_are_shaped ss (all_first_written ss h.0)) (and_holds _ _ (step_is r h.1) (shaped a h.2))
   shaped (Label x a) h = shaped a h
   shaped _ h = refl
 
   all_are_shaped : (ss : LStmts) → AllWritten ss → all_shaped ss ≡ true
   all_are_shaped NoLStmt h = refl
-  all_are_shaped (AndLStmt s ss) h = both_true _ _ (shaped s h.0) (all_are_shaped ss h.1)
+  all_are_shaped (AndLStmt s ss) h = and_holds _ _ (shaped s h.0) (all_are_shaped ss h.1)
 
   arm_shaped : (r : MaybeLStmt) → MaybeWritten r → is_shaped_arm r ≡ true
   arm_shaped NoneLStmt h = refl
@@ -115,7 +115,7 @@ items_shaped [] h = refl
 items_shaped (LStruct tag fs ∷ xs) h = items_shaped xs h.1
 items_shaped (LGlobal x t start ∷ xs) h = items_shaped xs h.1
 items_shaped (LPrototype q m x r ps ∷ xs) h = items_shaped xs h.1
-items_shaped (LFunctionItem f ∷ xs) h = both_true _ _ (body_shaped f.body h.0.2) (items_shaped xs h.1)
+items_shaped (LFunctionItem f ∷ xs) h = and_holds _ _ (body_shaped f.body h.0.2) (items_shaped xs h.1)
 
 -- ---- spawns
 
@@ -131,16 +131,16 @@ module _ (p : Program) (none : (x : Text) (g : Function) → function_named p x 
     none_there : (scope : Scope) (n : ℕ) (s : LStmt) → BodyTyped D.Cpc p f scope n (bare_stmt s) → spawns_none s ≡ true
     none_there scope n (Block q ss) h = none_in scope n ss h
     none_there scope n (Spawn q g es) h = absurd (let i : true ≡ false = sym h.1.3 ∙ none g.text h.1.0 h.1.1 in cc)
-    none_there scope n (If q c a r) h = both_true _ _ (none_there scope n a h.1) (none_arm _ _ r h.2)
+    none_there scope n (If q c a r) h = and_holds _ _ (none_there scope n a h.1) (none_arm _ _ r h.2)
     none_there scope n (While q c a) h = none_there scope n a h.1
     none_there scope n (DoWhile q a c) h = none_there scope n a h.0
-    none_there scope n (For q ss c r a) h = both_true _ _ (none_in scope n ss h.0) (both_true _ _ (step_none _ r h.2) (none_there _ _ a h.3))
+    none_there scope n (For q ss c r a) h = and_holds _ _ (none_in scope n ss h.0) (and_holds _ _ (step_none _ r h.2) (none_there _ _ a h.3))
     none_there scope n (Label x a) h = none_there scope n a h
     none_there scope n _ h = refl
 
     none_in : (scope : Scope) (n : ℕ) (ss : LStmts) → AllTyped D.Cpc p f scope n (bare_stmts ss) → all_spawn_none ss ≡ true
     none_in scope n NoLStmt h = refl
-    none_in scope n (AndLStmt s ss) h = both_true _ _ (none_there scope n s h.0) (none_in _ _ ss h.1)
+    none_in scope n (AndLStmt s ss) h = and_holds _ _ (none_there scope n s h.0) (none_in _ _ ss h.1)
 
     none_arm : (scope : Scope) (n : ℕ) (r : MaybeLStmt) → ArmTyped D.Cpc p f scope n (bare_maybe r) → maybe_spawns_none r ≡ true
     none_arm scope n NoneLStmt h = refl
@@ -160,14 +160,14 @@ module _ (p : Program) (names : HasNames p) (typed : TypedProgram D.Cpc p) (fact
   mode_native before rest (LPrototype q Detached x r ps) whole h has = refl
   mode_native before rest (LFunctionItem f) whole h has =
       let found = (names.functions (bare_function f) has).found in
-      both_true _ _ (ap not (none f.called.text (bare_function f) found)) (none_there p none (bare_function f) _ _ f.body (typed.functions f.called.text (bare_function f) found).body)
+      and_holds _ _ (ap not (none f.called.text (bare_function f) found)) (none_there p none (bare_function f) _ _ f.body (typed.functions f.called.text (bare_function f) found).body)
 
   items_native : (before : Program) (xs : List LItem) → p ≡ before ++ map bare_item xs → items_breaks D.Cpc p before xs ≡ [] → ((i : Item) → Has i (map bare_item xs) → Has i p) → are_native xs ≡ true
   items_native before [] whole h has = refl
   items_native before (x ∷ xs) whole h has =
       let k = split (item_breaks D.Cpc p before x) (items_breaks D.Cpc p (before ++ bare_item x ∷ []) xs) h in
       let e = one_more before (map bare_item xs) (bare_item x) in
-      both_true _ _ (mode_native before (map bare_item xs) x whole k.0 (has (bare_item x) (OnTop _ _))) (items_native (before ++ bare_item x ∷ []) xs (whole ∙ sym e) k.1 (λ i a. has i (Below _ _ _ a)))
+      and_holds _ _ (mode_native before (map bare_item xs) x whole k.0 (has (bare_item x) (OnTop _ _))) (items_native (before ++ bare_item x ∷ []) xs (whole ∙ sym e) k.1 (λ i a. has i (Below _ _ _ a)))
 
 -- ---- the event program
 
@@ -175,41 +175,37 @@ mutual
   same_stmt : (s : Stmt) → is_plain_stmt s ≡ true → respawned s ≡ s
   same_stmt (S.Block ss) h = ap (λ ss. S.Block ss) (same_stmts ss h)
   same_stmt (S.Spawn g es) h = absurd (cc)
-  same_stmt (S.If t a b) h = ap (λ a. S.If t a (respawned_arm b)) (same_stmt a (and_left (is_plain_stmt a) (is_plain_arm b) h)) ∙ ap (λ b. S.If t a b) (same_arm b (and_right (is_plain_stmt a) (is_plain_arm b) h))
+  same_stmt (S.If t a b) h = ap (λ a. S.If t a (respawned_arm b)) (same_stmt a (and_first (is_plain_stmt a) (is_plain_arm b) h)) ∙ ap (λ b. S.If t a b) (same_arm b (and_second (is_plain_stmt a) (is_plain_arm b) h))
   same_stmt (S.While t s) h = ap (λ s. S.While t s) (same_stmt s h)
   same_stmt (S.DoWhile s t) h = ap (λ s. S.DoWhile s t) (same_stmt s h)
   same_stmt (S.For first t step s) h =
-      let k = and_right (are_plain first) (is_plain_arm step && is_plain_stmt s) h in
-      ap (λ ss. S.For ss t (respawned_arm step) (respawned s)) (same_stmts first (and_left (are_plain first) (is_plain_arm step && is_plain_stmt s) h))
-      ∙ (ap (λ r. S.For first t r (respawned s)) (same_arm step (and_left (is_plain_arm step) (is_plain_stmt s) k)) ∙ ap (λ s. S.For first t step s) (same_stmt s (and_right (is_plain_arm step) (is_plain_stmt s) k)))
+      let k = and_second (are_plain first) (is_plain_arm step && is_plain_stmt s) h in
+      ap (λ ss. S.For ss t (respawned_arm step) (respawned s)) (same_stmts first (and_first (are_plain first) (is_plain_arm step && is_plain_stmt s) h))
+      ∙ (ap (λ r. S.For first t r (respawned s)) (same_arm step (and_first (is_plain_arm step) (is_plain_stmt s) k)) ∙ ap (λ s. S.For first t step s) (same_stmt s (and_second (is_plain_arm step) (is_plain_stmt s) k)))
   same_stmt (S.Label l s) h = ap (λ s. S.Label l s) (same_stmt s h)
   same_stmt _ h = refl
 
   same_stmts : (ss : Stmts) → are_plain ss ≡ true → respawned_all ss ≡ ss
   same_stmts NoStmt h = refl
-  same_stmts (AndStmt s ss) h = ap (λ s. AndStmt s (respawned_all ss)) (same_stmt s (and_left (is_plain_stmt s) (are_plain ss) h)) ∙ ap (λ ss. AndStmt s ss) (same_stmts ss (and_right (is_plain_stmt s) (are_plain ss) h))
+  same_stmts (AndStmt s ss) h = ap (λ s. AndStmt s (respawned_all ss)) (same_stmt s (and_first (is_plain_stmt s) (are_plain ss) h)) ∙ ap (λ ss. AndStmt s ss) (same_stmts ss (and_second (is_plain_stmt s) (are_plain ss) h))
 
   same_arm : (b : MaybeStmt) → is_plain_arm b ≡ true → respawned_arm b ≡ b
   same_arm Absent h = refl
   same_arm (Present s) h = ap (λ s. Present s) (same_stmt s h)
-
-not_is : (b : Bool) → not b ≡ true → b ≡ false
-not_is true e = absurd (cc)
-not_is false e = refl
 
 same_items : (items : Program) → is_plain items ≡ true → kept_items items ≡ items
 same_items [] h = refl
 same_items (StructItem tag fs ∷ items) h = ap (λ xs. StructItem tag fs ∷ xs) (same_items items h)
 same_items (GlobalItem x t start ∷ items) h = ap (λ xs. GlobalItem x t start ∷ xs) (same_items items h)
 same_items (PrototypeItem m x r ps ∷ items) h =
-    ap (λ b. item_unless b (PrototypeItem m x r ps) (kept_items items)) (cps_same m ∙ not_is (is_cps m) (and_left (not (is_cps m)) (is_plain items) h))
-    ∙ ap (λ xs. PrototypeItem m x r ps ∷ xs) (same_items items (and_right (not (is_cps m)) (is_plain items) h))
+    ap (λ b. item_unless b (PrototypeItem m x r ps) (kept_items items)) (cps_same m ∙ not_holds (is_cps m) (and_first (not (is_cps m)) (is_plain items) h))
+    ∙ ap (λ xs. PrototypeItem m x r ps ∷ xs) (same_items items (and_second (not (is_cps m)) (is_plain items) h))
 same_items (FunctionItem f ∷ items) h =
-    let k = and_left (is_plain_function f) (is_plain items) h in
-    let mode = and_left (not (is_cps f.mode)) _ k in
-    let body = and_right (not (holds_bars f.called)) (is_plain_stmt f.body) (and_right (not (is_cps f.mode)) _ k) in
-    ap (λ b. item_unless b (FunctionItem (kept_function f)) (kept_items items)) (cps_same f.mode ∙ not_is (is_cps f.mode) mode)
-    ∙ (ap (λ s. FunctionItem (record f { body = s }) ∷ kept_items items) (same_stmt f.body body) ∙ ap (λ xs. FunctionItem f ∷ xs) (same_items items (and_right (is_plain_function f) (is_plain items) h)))
+    let k = and_first (is_plain_function f) (is_plain items) h in
+    let mode = and_first (not (is_cps f.mode)) _ k in
+    let body = and_second (not (holds_bars f.called)) (is_plain_stmt f.body) (and_second (not (is_cps f.mode)) _ k) in
+    ap (λ b. item_unless b (FunctionItem (kept_function f)) (kept_items items)) (cps_same f.mode ∙ not_holds (is_cps f.mode) mode)
+    ∙ (ap (λ s. FunctionItem (record f { body = s }) ∷ kept_items items) (same_stmt f.body body) ∙ ap (λ xs. FunctionItem f ∷ xs) (same_items items (and_second (is_plain_function f) (is_plain items) h)))
 
 pub native_converted : AcceptedIsNative
 native_converted list end p read unbroken none =

@@ -5,6 +5,8 @@ use Rattle.std.proofs.lemmas.List.Elements.{All-nil}
 use Rattle.cpc_base.specs.Bytes.{Text}
 use Rattle.cpc_base.specs.declared.stop.Place.{Place}
 use Rattle.cpc_base.specs.declared.stop.Dialect.TheVariants as D
+use Rattle.cpc_base.proofs.Truth.{by_false_true, and_both}
+use Rattle.cpc_base.proofs.Lists.{some_is}
 use Rattle.cpc_num.specs.declared.kinds.Kind.TheVariants.{Int}
 use Rattle.cpc_tree.specs.declared.program.Mode.TheVariants.{Detached}
 use Rattle.cpc_tree.specs.Located.{Ident, LExprs, LStmt, Block, Declare, Detach, If, While, DoWhile, For, Label, LStmts, NoLStmt, AndLStmt, MaybeLStmt, NoneLStmt, SomeLStmt, LFunction, LItem, LStruct, LGlobal, LPrototype, LFunctionItem, bare_stmt, bare_stmts, bare_maybe, bare_function, bare_item, bare}
@@ -26,11 +28,10 @@ use Rattle.cpc_check_rules.specs.Operators.{Where, is_cps}
 use Rattle.cpc_check_rules.specs.StmtRules.{inner, behind, all_behind, to_breaks, test_breaks, maybe_test, wrong_name, section_breaks, stmt_breaks, stmts_breaks, maybe_breaks}
 use Rattle.cpc_check_sound_laws.proofs.Agendas.{Each}
 use Rattle.cpc_check_sound_laws.proofs.Agreement.{Grows}
-use Rattle.cpc_check_sound_laws.proofs.Answers.{some_is, no_some, not_true}
+use Rattle.cpc_check_sound_laws.proofs.Answers.{no_some}
 use Rattle.cpc_check_sound_laws.proofs.Grammar.{items_shape}
 use Rattle.cpc_check_sound_laws.proofs.Programs.{BodyShape, ItemShape}
 use Rattle.cpc_check_sound_laws.proofs.Unbroken.{split, not_broken}
-use Rattle.cpc_check_sound_laws.proofs.Scalars.{both_true}
 use Rattle.cpc_convert_accepted_laws.specs.Names.{HasNames}
 use Rattle.cpc_convert_accepted_laws.proofs.Names.{accepted_has_names}
 use Rattle.cpc_convert_accepted_laws.proofs.Points.{accepted_positions_known}
@@ -55,14 +56,14 @@ module _ (p : Program) where
   -- what such a function takes
   takes_so : (s : R.Scope) → Grows s.items p → (ps : List Ty) → takes_section s ps ≡ true → TakesSection p ps
   takes_so s grows (TyPointer t ∷ ps) h =
-      let k = both_true (are_integers (cells s.items t)) (all_integers ps) h in
+      let k = and_both (are_integers (cells s.items t)) (all_integers ps) h in
       ForSection t ps (λ us e. go us e (cells s.items t) refl k.0) k.1
     where
       go : (us : List Ty) → cells p t ≡ Some us → (o : Option (List Ty)) → cells s.items t ≡ o → are_integers o ≡ true → all_integers us ≡ true
-      go us e None i h = not_true h
+      go us e None i h = by_false_true h
       go us e (Some vs) i h = let same : vs ≡ us = let z : Some vs ≡ Some us = sym (grows.cells t vs i) ∙ e in cc in ap all_integers (sym same) ∙ h
-  takes_so s grows [] h = not_true h
-  takes_so s grows (_ ∷ ps) h = not_true h
+  takes_so s grows [] h = by_false_true h
+  takes_so s grows (_ ∷ ps) h = by_false_true h
 
   -- sections run this function, which takes what they give
   abbrev Takes : Text → Type 0

@@ -1,5 +1,6 @@
 -- Each variable that is read or written at a point that an owner owns has its local in what is made for the owner.
 use Rattle.std.proofs.Common.{◌≡◌, ℕ, true, false, not, cond, is_some, [], slice_get, Some, option_map, refl, sym, ◌∙◌, ap, subst}
+use Rattle.cpc_base.proofs.Lists.{found_within}
 use Rattle.cpc_tree.specs.Lists.{holds_number}
 use Rattle.cpc_tree.specs.Points.{Nothing}
 use Rattle.cpc_tree.specs.Syntax.{Variable, Function, Program}
@@ -17,7 +18,7 @@ use Rattle.cpc_graph_laws.proofs.Graphs.{node_found}
 use Rattle.cpc_graph_laws.proofs.MoreFacts.{entries_are_first}
 use Rattle.cpc_graph_laws.proofs.Owned.{reaches, is_owned}
 use Rattle.cpc_graph_laws.proofs.Owners.{owner_owns}
-use Rattle.cpc_graph_laws.proofs.Splits.{node_there, owner_there}
+use Rattle.cpc_graph_laws.proofs.Splits.{owner_there}
 use Rattle.cpc_lift_laws.specs.Lift.{closure_in}
 use Rattle.cpc_lift_laws.specs.Used.{used_at}
 use Rattle.cpc_convert_event.specs.ClosureLaws.{may_stand, lifting}
@@ -67,7 +68,7 @@ module _ (p : Program) (f : Function) (known : CpsTyped p f) where
       let first = entries_are_first p f in
       let w = owner_owns flow Start n e in
       let stays = first_stays w.0 (At n) w.1 n refl in
-      let node = node_there (graph_of p f).nodes 0 first.1 in
+      let node = found_within (graph_of p f).nodes 0 first.1 in
       ap (owner_or Start) (ap (slice_get r.split.owners) first.0 ∙ (owner_there (graph_of p f) 0 node.0 node.1 ∙ ap (λ o. Some o) (first.3 ∙ ap (λ b. Some (owner_by b Start 0)) stays)))
 
   module _ (l : Place) (n : ℕ) (node : Node) (there : slice_get (graph_of p f).nodes n ≡ Some node) (owned : owner_of flow n ≡ Some l) where

@@ -2,6 +2,8 @@
 use Rattle.std.proofs.Common.{◌≡◌, ℕ, ◌<◌, ◌^◌, Bool, true, false, not, ◌==◌, ◌&&◌, ◌||◌, List, [], ◌++◌, length, slice_get, bytes_eq, codes, Option, Some, None, refl, sym, ◌∙◌, ap, subst, arith, ⊎_elim}
 use Rattle.std.proofs.lemmas.Option.{slice_get_within}
 use Rattle.cpc_base.specs.Bytes.{Text}
+use Rattle.cpc_base.proofs.Truth.{eq_reflexive, eq_means, or_by_second}
+use Rattle.cpc_base.proofs.Lists.{found_within}
 use Rattle.cpc_tree.specs.Lists.{holds_number}
 use Rattle.cpc_tree.specs.Registers.{variables}
 use Rattle.cpc_tree.specs.Syntax.{Ty, Variable, Function, Program}
@@ -11,8 +13,6 @@ use Rattle.cpc_convert.specs.Converted.{marked}
 use Rattle.cpc_convert.specs.Members.{Has, OnTop, Below}
 use Rattle.cpc_convert.proofs.Members.{has_either}
 use Rattle.cpc_forms.specs.Flow.{Place, Start, At}
-use Rattle.cpc_graph_laws.proofs.Formed.{equal_self}
-use Rattle.cpc_graph_laws.proofs.Splits.{node_there}
 use Rattle.cpc_lift_laws.specs.Boxes.{is_box_in, has_block}
 use Rattle.cpc_lift_laws.proofs.Lift.{boxes_exact}
 use Rattle.cpc_convert_image_laws.specs.Locals.{local_type}
@@ -25,7 +25,7 @@ use Rattle.cpc_convert_event.specs.Routines.{Routine, routine_of, closure_of, is
 use Rattle.cpc_convert_event.proofs.Fields.{variables_apart, word_apart}
 use Rattle.cpc_convert_event.proofs.Locals.{closure_rise, locals_meant}
 use Rattle.cpc_convert_event.proofs.Made.{Mapped, OfNumber, map_has}
-use Rattle.cpc_convert_event.proofs.Numbers.{equal_is, later, held_either, chosen_is, AllBelow, NoneBelow, OneBelow, rises_below}
+use Rattle.cpc_convert_event.proofs.Numbers.{held_either, chosen_is, AllBelow, NoneBelow, OneBelow, rises_below}
 use Rattle.cpc_convert_shape_laws.specs.Help.{words}
 use Rattle.cpc_convert_shape_laws.specs.Shape.{AreApart, AreTyped}
 use Rattle.cpc_convert_shape_laws.proofs.Calls.{CpsTyped}
@@ -46,9 +46,9 @@ module _ (p : Program) (f : Function) (known : CpsTyped p f) where
   one_number j k x y e i n = go (j == k) refl
     where
       go : (b : Bool) → (j == k) ≡ b → j ≡ k
-      go true h = equal_is j k h
+      go true h = eq_means j k h
       go false h = absurd
-          (let differ = variables_apart j k x.called y.called (small j x e) (small k y i) (unmarked j x e) (unmarked k y i) (λ (z : j ≡ k). let w : true ≡ false = sym (equal_self k) ∙ (ap (λ m. m == k) (sym z) ∙ h) in absurd (cc)) in
+          (let differ = variables_apart j k x.called y.called (small j x e) (small k y i) (unmarked j x e) (unmarked k y i) (λ (z : j ≡ k). let w : true ≡ false = sym (eq_reflexive k) ∙ (ap (λ m. m == k) (sym z) ∙ h) in absurd (cc)) in
           let w : true ≡ false = sym (alike (variable_name j x.called) (variable_name k y.called) n) ∙ differ in cc)
 
   no_word : (k : ℕ) (x : Variable) → slice_get (variables f) k ≡ Some x → ¬ (Has (variable_name k x.called) words)
@@ -91,11 +91,11 @@ module _ (p : Program) (f : Function) (known : CpsTyped p f) where
   below_held high _ n (OneBelow m ns less more) h = go (m == n) refl h (λ i. below_held high ns n more i)
     where
       go : (b : Bool) → (m == n) ≡ b → (b || holds_number ns n) ≡ true → (holds_number ns n ≡ true → n < high) → n < high
-      go true e i deeper = subst (λ k. k < high) (equal_is m n e) less
+      go true e i deeper = subst (λ k. k < high) (eq_means m n e) less
       go false e i deeper = deeper i
 
   closure_there : (l : Place) → AreThere (closure_of r l)
-  closure_there l j h = node_there (variables f) j (below_held (length (variables f)) (closure_of r l) j (rises_below (length (variables f)) 0 (closure_of r l) (closure_rise p known.named f known.cps l)) h)
+  closure_there l j h = found_within (variables f) j (below_held (length (variables f)) (closure_of r l) j (rises_below (length (variables f)) 0 (closure_of r l) (closure_rise p known.named f known.cps l)) h)
 
   block_there : (o : Option Variable) (j : ℕ) → has_block f j o ≡ true → (y : Variable) × (o ≡ Some y)
   block_there None j e = absurd (cc)
@@ -114,8 +114,8 @@ module _ (p : Program) (f : Function) (known : CpsTyped p f) where
   begun_there (At n) j h = absurd (cc)
 
   has_held : (ns : List ℕ) (n : ℕ) → Has n ns → holds_number ns n ≡ true
-  has_held _ n (OnTop _ ns) = ap (λ b. b || holds_number ns n) (equal_self n)
-  has_held _ n (Below _ m ns h) = later (m == n) (holds_number ns n) (has_held ns n h)
+  has_held _ n (OnTop _ ns) = ap (λ b. b || holds_number ns n) (eq_reflexive n)
+  has_held _ n (Below _ m ns h) = or_by_second (m == n) (holds_number ns n) (has_held ns n h)
 
   local_known : (ns : List ℕ) → AreThere ns → (v : Variable) → Has v (locals_of r ns) → IsKnown v
   local_known ns there v h = go v (map_has (local_of r) v ns h)

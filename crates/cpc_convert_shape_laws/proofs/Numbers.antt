@@ -1,5 +1,7 @@
 -- Which numbers have rows in a piece: those of the nodes that its owner owns and that have a row, and leaders that are not its own.
 use Rattle.std.proofs.Common.{◌≡◌, ◌⊎◌, inl, inr, ⊎_elim, ℕ, ◌<◌, Bool, true, false, not, ◌&&◌, ◌||◌, ◌==◌, List, [], ◌∷◌, ◌++◌, length, nat_le, nat_lt, Option, Some, None, refl, ◌∙◌, ap, subst}
+use Rattle.cpc_base.proofs.Truth.{eq_means}
+use Rattle.cpc_base.proofs.Lists.{found_within}
 use Rattle.cpc_tree.specs.Lists.{holds_number}
 use Rattle.cpc_tree.specs.Syntax.{Function, Program}
 use Rattle.cpc_forms.specs.Flow.{Place, At, Flow, is_owner, owner_of, goes_to, Owns, Itself, Onwards}
@@ -9,18 +11,18 @@ use Rattle.cpc_graph_laws.specs.Laws.{flow_in}
 use Rattle.cpc_graph_laws.proofs.Leaders.{inside, leader_below}
 use Rattle.cpc_graph_laws.proofs.Owners.{owner_owns}
 use Rattle.cpc_graph_laws.proofs.Owning.{pieces_hold_theirs}
-use Rattle.cpc_graph_laws.proofs.Splits.{node_there, owner_there}
+use Rattle.cpc_graph_laws.proofs.Splits.{owner_there}
 use Rattle.cpc_convert_event.specs.Routines.{Routine, routine_of, chosen}
 use Rattle.cpc_convert_event.specs.Rows.{owner_at, is_own, has_row, turned, rows_nodes, reached, stubs_of, row_of, falls, number_where, stub_behind, numbers_from, numbers_of}
 use Rattle.cpc_convert_event.proofs.Labels.{rows_stand_once}
-use Rattle.cpc_convert_event.proofs.Numbers.{equal_is, held_either, chosen_is}
+use Rattle.cpc_convert_event.proofs.Numbers.{held_either, chosen_is}
 use Rattle.cpc_convert_piece_laws.proofs.Ways.{listed, place_self}
 
 where_is : (a b : Bool) (n m : ℕ) → holds_number (number_where (a && b) n) m ≡ true → (a ≡ true) × (n ≡ m)
 where_is true true n m h = (refl, one (n == m) refl h)
   where
     one : (c : Bool) → (n == m) ≡ c → (c || false) ≡ true → n ≡ m
-    one true e i = equal_is n m e
+    one true e i = eq_means n m e
     one false e i = absurd (cc)
 where_is true false n m h = absurd (cc)
 where_is false b n m h = absurd (cc)
@@ -85,5 +87,5 @@ module _ (p : Program) (f : Function) (l : Place) where
   -- each such node has its row
   pub row_there : (n : ℕ) → owner_of flow n ≡ Some l → has_row r.split n ≡ true → (holds_number (numbers_of p r l) n ≡ true) × (is_own r.split l n ≡ true)
   row_there n e has =
-      let node = node_there (graph_of p f).nodes n (owned_below n l e) in
+      let node = found_within (graph_of p f).nodes n (owned_below n l e) in
       ((rows_stand_once p f l).nodes n (listed p f l n e has), ap (λ o. is_owned_by l (owner_at o)) (owner_there (graph_of p f) n node.0 node.1) ∙ (ap (is_owned_by l) e ∙ place_self l))

@@ -1,5 +1,6 @@
 -- The points whose images stand in a piece are those that its owner owns, each once: the way back from an image to its row.
 use Rattle.std.proofs.Common.{◌≡◌, ⊎_elim, ℕ, suc, zero, Bool, true, false, not, ◌==◌, ◌||◌, List, [], ◌∷◌, ◌++◌, slice_get, Option, Some, None, option_map, refl, sym, ◌∙◌, ap, subst}
+use Rattle.cpc_base.proofs.Truth.{eq_reflexive, eq_means, or_by_second}
 use Rattle.cpc_tree.specs.Lists.{holds_number}
 use Rattle.cpc_tree.specs.Points.{Path, Point, Here, Arrival, End, found}
 use Rattle.cpc_tree.specs.Syntax.{Function, Program}
@@ -15,7 +16,6 @@ use Rattle.cpc_forms.specs.Pieces.{Once, NoNumber, AndOther}
 use Rattle.cpc_forms.proofs.Numbered.{numbered_point}
 use Rattle.cpc_graph_laws.specs.Laws.{place_of, is_node, flow_in}
 use Rattle.cpc_graph_laws.proofs.Controls.{there_in, call_not_nothing, is_not_nothing}
-use Rattle.cpc_graph_laws.proofs.Formed.{equal_self}
 use Rattle.cpc_graph_laws.proofs.Graphs.{node_found}
 use Rattle.cpc_graph_laws.proofs.Leaders.{is_leading}
 use Rattle.cpc_graph_laws.proofs.MoreFacts.{arrivals_stay}
@@ -23,7 +23,6 @@ use Rattle.cpc_graph_laws.proofs.Owned.{reaches, owner_is, is_owned}
 use Rattle.cpc_convert_event.specs.Routines.{Routine, routine_of}
 use Rattle.cpc_convert_event.specs.Rows.{is_own, has_row, stands_with, numbers_of}
 use Rattle.cpc_convert_event.proofs.Labels.{rows_stand_once}
-use Rattle.cpc_convert_event.proofs.Numbers.{equal_is, later}
 use Rattle.cpc_convert_shape_laws.proofs.Calls.{CpsTyped}
 use Rattle.cpc_convert_shape_laws.proofs.Numbers.{row_there}
 use Rattle.cpc_convert_shape_laws.proofs.Points.{arrival_with, points_with, IsRow}
@@ -114,10 +113,10 @@ module _ (p : Program) (f : Function) (known : CpsTyped p f) where
     AllOwn ns = (n : ℕ) → holds_number ns n ≡ true → is_own r.split l n ≡ true → OwnPoint p f known l n
 
     own_first : (n : ℕ) (ns : List ℕ) → AllOwn (n ∷ ns) → is_own r.split l n ≡ true → OwnPoint p f known l n
-    own_first n ns own e = own n (ap (λ b. b || holds_number ns n) (equal_self n)) e
+    own_first n ns own e = own n (ap (λ b. b || holds_number ns n) (eq_reflexive n)) e
 
     own_rest : (n : ℕ) (ns : List ℕ) → AllOwn (n ∷ ns) → AllOwn ns
-    own_rest n ns own m h = own m (later (n == m) (holds_number ns m) h)
+    own_rest n ns own m h = own m (or_by_second (n == m) (holds_number ns m) h)
 
     -- a point that stands in a row
     pub record InRow (n : ℕ) (a : Point) : Type 0 where
@@ -134,8 +133,8 @@ module _ (p : Program) (f : Function) (known : CpsTyped p f) where
     some_row : (ns : List ℕ) (a : Point) → AllOwn ns → Has a (points_for p f known l ns) → (n : ℕ) × (holds_number ns n ≡ true) × InRow n a
     some_row [] a own h = elim h [ ]
     some_row (n ∷ ns) a own h = ⊎_elim
-        (λ i. (n, ap (λ b. b || holds_number ns n) (equal_self n), in_row n a (is_own r.split l n) (λ e. own_first n ns own e) i))
-        (λ i. let d = some_row ns a (own_rest n ns own) i in (d.0, later (n == d.0) (holds_number ns d.0) d.1, d.2))
+        (λ i. (n, ap (λ b. b || holds_number ns n) (eq_reflexive n), in_row n a (is_own r.split l n) (λ e. own_first n ns own e) i))
+        (λ i. let d = some_row ns a (own_rest n ns own) i in (d.0, or_by_second (n == d.0) (holds_number ns d.0) d.1, d.2))
         (has_either a (points_at n) (points_for p f known l ns) h)
 
     if_distinct : (n : ℕ) (b : Bool) (o : Option Point) → Distinct (points_if p f known b o)
@@ -163,7 +162,7 @@ module _ (p : Program) (f : Function) (known : CpsTyped p f) where
     has_points (m ∷ ns) n a h i = go (m == n) refl h (λ j. has_points ns n a j i)
       where
         go : (b : Bool) → (m == n) ≡ b → (b || holds_number ns n) ≡ true → (holds_number ns n ≡ true → Has a (points_for p f known l ns)) → Has a (points_for p f known l (m ∷ ns))
-        go true e j deeper = has_left a (points_at m) (points_for p f known l ns) (subst (λ k. Has a (points_at k)) (sym (equal_is m n e)) i)
+        go true e j deeper = has_left a (points_at m) (points_for p f known l ns) (subst (λ k. Has a (points_at k)) (sym (eq_means m n e)) i)
         go false e j deeper = has_right a (points_at m) (points_for p f known l ns) (deeper j)
 
     -- what stands in the row of a node that is owned

@@ -1,6 +1,7 @@
 -- The row of each point that an owner owns holds its image, and that of the arrival of a native call is the arrival of the call's image.
 use Rattle.std.proofs.Common.{◌≡◌, ℕ, true, List, [], ◌∷◌, ◌++◌, Option, Some, option_map, refl, sym, ap, subst}
 use Rattle.cpc_base.specs.Bytes.{Text}
+use Rattle.cpc_base.proofs.Lists.{append_empty}
 use Rattle.cpc_tree.specs.Points.{Path, Point, Here, Arrival, End, Found, Simple, Test, found}
 use Rattle.cpc_tree.specs.Registers.{scope_in_function}
 use Rattle.cpc_tree.specs.Syntax.{Expr, Exprs, Stmt, Call, Detach, Function, Program}
@@ -46,10 +47,6 @@ abbrev pub IsRow : Program → Function → Point → Type 0
 IsRow p f (Arrival path) = manner_at p f path ≡ AsCps
 IsRow p f a = Unit {0}
 
-pub append_nil : {X : Type 0} (xs : List X) → xs ++ [] ≡ xs
-append_nil [] = refl
-append_nil (x ∷ xs) = ap (λ ys. x ∷ ys) (append_nil xs)
-
 framed_call : (p : Program) (scope : Scope) (x : Found) → manner_of p scope x ≡ ByFrame → (to : Option Expr) × (g : Expr) × (es : Exprs) × (x ≡ Simple (Call to g es))
 framed_call p scope (Simple (Call to g es)) e = (to, g, es, refl)
 framed_call p scope (Simple (Detach to g es)) e = absurd (cc)
@@ -76,7 +73,7 @@ module _ (p : Program) (f : Function) (known : CpsTyped p f) (o : Option ℕ) wh
   one_row a m s lines e i row = record {
     images = row.images ++ [];
     are_images = AnImage a [] row.images [] (subst (λ x. IsImage p (names a) entry (arrival_name (made_in p f) a) x (stood_at (Some f) a) row.images) (sym e) (subst (λ y. IsImage p (names a) entry (arrival_name (made_in p f) a) m y row.images) (sym i) row.image)) NoImage;
-    between = subst (λ xs. Between xs (bares (put o lines))) (sym (append_nil row.images)) row.between;
+    between = subst (λ xs. Between xs (bares (put o lines))) (sym (append_empty row.images)) row.between;
   }
 
   abbrev to : Point → Option ℕ

@@ -1,6 +1,8 @@
 -- The rows of a piece, one after the other: the images of the points that its owner owns, each once, and help.
 use Rattle.std.proofs.Common.{◌≡◌, ◌⊎◌, inl, inr, ⊎_elim, ℕ, Bool, true, false, not, ◌==◌, ◌||◌, List, [], ◌∷◌, ◌++◌, map, slice_get, Option, Some, None, option_map, refl, sym, ◌∙◌, ap, subst}
 use Rattle.std.proofs.lemmas.Option.{slice_get-map}
+use Rattle.cpc_base.proofs.Truth.{eq_reflexive, or_by_second}
+use Rattle.cpc_base.proofs.Lists.{found_within, append_grouped}
 use Rattle.cpc_tree.specs.Lists.{holds_number}
 use Rattle.cpc_tree.specs.Points.{Path, Point, Here, Arrival, End, found, begin}
 use Rattle.cpc_tree.specs.Syntax.{Stmt, Function, Program}
@@ -12,17 +14,15 @@ use Rattle.cpc_forms.specs.Graph.{node_of, graph_of, at_node}
 use Rattle.cpc_forms.specs.Order.{is_in, points, number_of}
 use Rattle.cpc_forms.proofs.Numbers.{one_node}
 use Rattle.cpc_graph_laws.specs.Laws.{place_of, flow_in}
-use Rattle.cpc_graph_laws.proofs.Formed.{equal_self, node_comes}
+use Rattle.cpc_graph_laws.proofs.Formed.{node_comes}
 use Rattle.cpc_graph_laws.proofs.Graphs.{node_found}
 use Rattle.cpc_graph_laws.proofs.Owned.{owner_is}
 use Rattle.cpc_graph_laws.proofs.Positions.{owner_place}
-use Rattle.cpc_graph_laws.proofs.Splits.{node_there}
 use Rattle.cpc_graph_laws.proofs.Standing.{IsNoArrival, way_no_arrival}
 use Rattle.cpc_convert_event.specs.Names.{node_label, variable_name}
 use Rattle.cpc_convert_event.specs.Lines.{node_lines}
 use Rattle.cpc_convert_event.specs.Routines.{Routine, routine_of}
 use Rattle.cpc_convert_event.specs.Rows.{is_own, has_row, stands_with, row_of, lines_by, numbers_of, first_number, PutRow, put_rows, is_wanted, label_if, rows_statements, piece_statements}
-use Rattle.cpc_convert_event.proofs.Numbers.{later}
 use Rattle.cpc_convert_shape_laws.specs.Help.{Between, Done}
 use Rattle.cpc_convert_shape_laws.specs.Images.{Images, NoImage, AnImage, WithArrival}
 use Rattle.cpc_convert_shape_laws.specs.Shape.{names_at}
@@ -30,10 +30,6 @@ use Rattle.cpc_convert_shape_laws.proofs.Strewn.{bares, all_bare, labelled_bare,
 use Rattle.cpc_convert_shape_laws.proofs.Calls.{CpsTyped}
 use Rattle.cpc_convert_shape_laws.proofs.Numbers.{own_row, owned_below}
 use Rattle.cpc_convert_shape_laws.proofs.Points.{made_in, points_with, IsRow, point_row}
-
-append_assoc : {X : Type 0} (xs ys zs : List X) → (xs ++ ys) ++ zs ≡ xs ++ (ys ++ zs)
-append_assoc [] ys zs = refl
-append_assoc (x ∷ xs) ys zs = ap (λ ws. x ∷ ws) (append_assoc xs ys zs)
 
 module _ (p : Program) (f : Function) (known : CpsTyped p f) where
   abbrev r : Routine
@@ -47,7 +43,7 @@ module _ (p : Program) (f : Function) (known : CpsTyped p f) where
 
   images_append : (xs bs : List Point) (ss ts : List Stmt) → AreImages xs ss → AreImages bs ts → AreImages (xs ++ bs) (ss ++ ts)
   images_append _ bs _ ts NoImage k = k
-  images_append _ bs _ ts (AnImage a rest is ss i h) k = subst (AreImages (a ∷ (rest ++ bs))) (sym (append_assoc is ss ts)) (AnImage a (rest ++ bs) is (ss ++ ts) i (images_append rest bs ss ts h k))
+  images_append _ bs _ ts (AnImage a rest is ss i h) k = subst (AreImages (a ∷ (rest ++ bs))) (sym (append_grouped is ss ts)) (AnImage a (rest ++ bs) is (ss ++ ts) i (images_append rest bs ss ts h k))
   images_append _ bs _ ts (WithArrival path to g es rest ss m e h) k = WithArrival path to g es (rest ++ bs) (ss ++ ts) m e (images_append rest bs ss ts h k)
 
   -- the images of these points, and help, in these statements
@@ -133,7 +129,7 @@ module _ (p : Program) (f : Function) (known : CpsTyped p f) where
     pub own_point : (n : ℕ) → holds_number (numbers_of p r l) n ≡ true → is_own r.split l n ≡ true → OwnPoint n
     own_point n h own =
         let o = own_row p f l n h own in
-        let node = node_there (graph_of p f).nodes n (owned_below p f l n l o.0) in
+        let node = found_within (graph_of p f).nodes n (owned_below p f l n l o.0) in
         let from = node_comes p f n node.0 node.1 in
         let is = one_node f.body n from.0 from.1 in
         record { point = from.0; is_point = from.1; there = is.0; number = is.1; row = row_is l from.0 n is.0 is.1 o.0 o.1; owned = o.0 }
@@ -153,11 +149,11 @@ module _ (p : Program) (f : Function) (known : CpsTyped p f) where
     rows_are all [] own = record { images = []; are_images = NoImage; between = Done }
     rows_are all (n ∷ ns) own =
         let o = first_number (map (row_of p r l) ns) in
-        let row = row_here o n (is_own r.split l n) refl (λ e. own n (ap (λ b. b || holds_number ns n) (equal_self n)) e) in
+        let row = row_here o n (is_own r.split l n) refl (λ e. own n (ap (λ b. b || holds_number ns n) (eq_reflexive n)) e) in
         let lines = put o (lines_by (is_own r.split l n) p r n) in
         row_append (points_at n) (points_for ns) (label_if (is_wanted n all) (node_label n) lines) (rows_statements all (put_rows (map (row_of p r l) ns)))
         (record { images = row.images; are_images = row.are_images; between = subst (λ xs. Between row.images xs) (sym (labelled_bare (is_wanted n all) (node_label n) lines)) row.between })
-        (rows_are all ns (λ m h. own m (later (n == m) (holds_number ns m) h)))
+        (rows_are all ns (λ m h. own m (or_by_second (n == m) (holds_number ns m) h)))
 
     abbrev pub all_points : List Point
     all_points = points_for (numbers_of p r l)

@@ -1,6 +1,8 @@
 -- An accepted program of threads is converted to an event program of its shape.
 use Rattle.std.proofs.Common.{◌≡◌, ℕ, true, ◌==◌, ◌||◌, List, Some, refl, sym, ◌∙◌, ap, subst}
 use Rattle.cpc_base.specs.declared.stop.Dialect.TheVariants as D
+use Rattle.cpc_base.proofs.Truth.{eq_reflexive, or_by_second}
+use Rattle.cpc_base.proofs.Lists.{found_within}
 use Rattle.cpc_tree.specs.Lists.{holds_number}
 use Rattle.cpc_tree.specs.Located.{bare}
 use Rattle.cpc_tree.specs.Syntax.{Function, FunctionItem, Program}
@@ -17,10 +19,9 @@ use Rattle.cpc_forms.specs.Order.{number_of}
 use Rattle.cpc_forms.proofs.Numbers.{one_node as point_stands}
 use Rattle.cpc_graph_laws.specs.Laws.{place_of, is_node, flow_in}
 use Rattle.cpc_graph_laws.proofs.Controls.{same_node}
-use Rattle.cpc_graph_laws.proofs.Formed.{node_comes, equal_self}
+use Rattle.cpc_graph_laws.proofs.Formed.{node_comes}
 use Rattle.cpc_graph_laws.proofs.Leaders.{inside, leader_is, leader_in, is_leading, leader_place}
 use Rattle.cpc_graph_laws.proofs.Marked.{leaders_are_listed}
-use Rattle.cpc_graph_laws.proofs.Splits.{node_there}
 use Rattle.cpc_convert_event.specs.Converted.{converted}
 use Rattle.cpc_convert_event.specs.NameLaws.{IsOwner, TheStart, ALeader, IsNamed, IsCps, FindsFunctions}
 use Rattle.cpc_convert_event.specs.Pieces.{piece_function}
@@ -28,7 +29,6 @@ use Rattle.cpc_convert_event.specs.Routines.{routine_of}
 use Rattle.cpc_convert_event.proofs.Apart.{behind, piece_is, no_bar_behind, Small, StartIsSmall, NumberIsSmall, behind_is}
 use Rattle.cpc_convert_event.proofs.Lookups.{functions_found}
 use Rattle.cpc_convert_event.proofs.Made.{Made, MadeSpawner, MadePiece}
-use Rattle.cpc_convert_event.proofs.Numbers.{later}
 use Rattle.cpc_convert_accepted_laws.specs.Names.{HasNames}
 use Rattle.cpc_convert_accepted_laws.proofs.Names.{accepted_has_names, accepted_is_named}
 use Rattle.cpc_convert_piece_laws.proofs.Frames.{held_has}
@@ -41,8 +41,8 @@ use Rattle.cpc_convert_shape_laws.proofs.Piece.{is_piece}
 use Rattle.cpc_convert_shape_laws.proofs.Points.{made_in}
 
 has_held : (ns : List ℕ) (n : ℕ) → Has n ns → holds_number ns n ≡ true
-has_held _ n (OnTop _ ns) = ap (λ b. b || holds_number ns n) (equal_self n)
-has_held _ n (Below _ m ns h) = later (m == n) (holds_number ns n) (has_held ns n h)
+has_held _ n (OnTop _ ns) = ap (λ b. b || holds_number ns n) (eq_reflexive n)
+has_held _ n (Below _ m ns h) = or_by_second (m == n) (holds_number ns n) (has_held ns n h)
 
 module _ (p : Program) (named : IsNamed p) (names : HasNames p) (typed : TypedProgram D.Cpc p) where
   known : (f : Function) → IsCps p f → CpsTyped p f
@@ -74,7 +74,7 @@ module _ (p : Program) (named : IsNamed p) (names : HasNames p) (typed : TypedPr
   owner_at f _ TheStart = record { node = C.Entry; owner = C.TheEntry; place = refl }
   owner_at f _ (ALeader n h) =
       let leads = sym (leaders_are_listed (flow_in p f) (inside p f) n) ∙ has_held _ n h in
-      let node = node_there (graph_of p f).nodes n (leader_place p f n leads) in
+      let node = found_within (graph_of p f).nodes n (leader_place p f n leads) in
       let from = node_comes p f n node.0 node.1 in
       let is = point_stands f.body n from.0 from.1 in
       record {

@@ -4,6 +4,7 @@ use Rattle.std.specs.List.{All}
 use Rattle.std.proofs.lemmas.Bool.Decides.{nat_tests}
 use Rattle.std.proofs.lemmas.List.Elements.{All-nil, All-cons}
 use Rattle.cpc_base.specs.Bytes.{Text}
+use Rattle.cpc_base.proofs.Truth.{eq_holds}
 use Rattle.cpc_tree.specs.Erase.{Names}
 use Rattle.cpc_tree.specs.Lists.{holds_number}
 use Rattle.cpc_tree.specs.Registers.{variables, is_register}
@@ -59,9 +60,6 @@ other_number k j h = grind (arith, nat_tests, h)
 smaller_number : (k j : ℕ) → k < j → (k == j) ≡ false
 smaller_number k j h = grind (arith, nat_tests, h)
 
-same_number : (k j : ℕ) → k ≡ j → (k == j) ≡ true
-same_number k j h = grind (arith, nat_tests, h)
-
 none_below : (k j : ℕ) (vs : List V.Variable) → j < k → holds_number (K.boxes_among k vs) j ≡ false
 none_below k j [] h = refl
 none_below k j (v ∷ vs) h = go v.is_register (none_below (suc k) j vs (omega (arith, h)))
@@ -76,7 +74,7 @@ marked_so k zero (w ∷ vs) v e j at = let h : w ≡ v = cc in go w.is_register 
   where
     go : (b : Bool) → b ≡ v.is_register → holds_number (K.boxes_among (suc k) vs) j ≡ false → holds_number (K.number_unless b k (K.boxes_among (suc k) vs)) j ≡ not v.is_register
     go true s i = i ∙ ap not s
-    go false s i = ap (λ b. b || holds_number (K.boxes_among (suc k) vs) j) (same_number k j (omega (arith, at))) ∙ ap not s
+    go false s i = ap (λ b. b || holds_number (K.boxes_among (suc k) vs) j) (eq_holds k j (omega (arith, at))) ∙ ap not s
 marked_so k (suc i) (w ∷ vs) v e j at = go w.is_register (marked_so (suc k) i vs v e j (omega (arith, at)))
   where
     go : (b : Bool) → holds_number (K.boxes_among (suc k) vs) j ≡ not v.is_register → holds_number (K.number_unless b k (K.boxes_among (suc k) vs)) j ≡ not v.is_register

@@ -3,6 +3,7 @@ use Rattle.std.proofs.Common.{◌≡◌, ℕ, zero, suc, Bool, true, false, cond
 use Rattle.std.specs.List.{All}
 use Rattle.std.proofs.lemmas.List.Elements.{All-nil, All-cons, All-head, All-tail}
 use Rattle.cpc_base.specs.Bytes.{Text}
+use Rattle.cpc_base.proofs.Truth.{false_unless_true}
 use Rattle.cpc_tree.specs.Erase.{Names, function_of, item_of}
 use Rattle.cpc_tree.specs.Points.{Path, Point, Here, Arrival, End, Simple, found}
 use Rattle.cpc_tree.specs.Syntax.{Ty, Expr, ENamed, Exprs, Call, Function, FunctionItem, Program}
@@ -82,10 +83,6 @@ no_cps from (I.Function f ∷ items) x all h e c = go (bytes_eq (from f.word.nam
     go false true i m all e rest = rest (All-tail (Other from x) f (cps_functions items) all) e c
     go false false i m all e rest = rest all e c
 
-is_false : (b : Bool) → (b ≡ true → ⊥) → b ≡ false
-is_false true f = absurd (f refl)
-is_false false f = refl
-
 module _ (source : GProgram.Program) (from : Names) (names : HasNames (program_by from source)) (cs : List Called) (all : All (λ (c : Called). There source.items.items (function_in c.lifted.now)) cs)
     (whole : map (λ (c : Called). function_in c.lifted.now) cs ≡ cps_functions source.items.items) where
   abbrev p : Program
@@ -114,7 +111,7 @@ module _ (source : GProgram.Program) (from : Names) (names : HasNames (program_b
     where
       none_is : find from cs x ≡ None → (o : Option Function) → function_named p x ≡ o → is_cps o ≡ false
       none_is e None i = refl
-      none_is e (Some h) i = is_false (is_cps_mode h.mode) (no_cps from source.items.items x (subst (All (Other from x)) whole (none_named from cs x e)) h i)
+      none_is e (Some h) i = false_unless_true (is_cps_mode h.mode) (no_cps from source.items.items x (subst (All (Other from x)) whole (none_named from cs x e)) h i)
 
       go : (o : Option Called) → find from cs x ≡ o → is_cps (function_named p x) ≡ is_some o
       go (Some c) e =

@@ -3,6 +3,7 @@ use Rattle.std.proofs.Common.{◌≡◌, ◌<◌, ◌≤◌, ◌==◌, ℕ, suc,
 use Rattle.std.proofs.lemmas.Bool.Decides.{nat_tests}
 use Rattle.cpc_base.specs.Bytes.{Text}
 use Rattle.cpc_base.specs.declared.names.Name.{Name}
+use Rattle.cpc_base.proofs.Truth.{lt_holds, lt_fails, lt_means}
 use Rattle.cpc_tree.specs.Erase.{Names, Table}
 use Rattle.cpc_tree.specs.declared.program.Parameter.{Parameter}
 use Rattle.cpc_meaning.proofs.Functions.{text_same}
@@ -17,15 +18,6 @@ apart_over a b n e f = grind (arith, nat_tests, e, f)
 
 apart_under : (a b n : ℕ) → nat_lt a n ≡ false → nat_lt b n ≡ true → (suc a == b) ≡ (a == b)
 apart_under a b n e f = grind (arith, nat_tests, e, f)
-
-is_below : (a n : ℕ) → a < n → nat_lt a n ≡ true
-is_below a n h = grind (arith, nat_tests, h)
-
-not_below : (a n : ℕ) → n ≤ a → nat_lt a n ≡ false
-not_below a n h = grind (arith, nat_tests, h)
-
-below : (a n : ℕ) → nat_lt a n ≡ true → a < n
-below a n e = grind (arith, nat_tests, e)
 
 not_next : (a : ℕ) → true ≡ (a == suc a) → ⊥
 not_next a e = grind (arith, nat_tests, e)
@@ -44,7 +36,7 @@ module _ (from : Names) (table : Table) where
   others_differ told x e = go (nat_lt x.0 (length table)) refl e
     where
       go : (b : Bool) → nat_lt x.0 (length table) ≡ b → from x ≡ moved b x → x.0 < length table
-      go true i h = below x.0 (length table) i
+      go true i h = lt_means x.0 (length table) i
       go false i h = absurd (not_next x.0 (sym (text_same (from x)) ∙ (ap (bytes_eq (from x)) h ∙ told.told x (record { 0 = suc x.0 }))))
 
   others_apart : AreApart from → (a b : Name) → bytes_eq (others a) (others b) ≡ (a.0 == b.0)
@@ -57,12 +49,12 @@ module _ (from : Names) (table : Table) where
       go false false e f = told.told (record { 0 = suc a.0 }) (record { 0 = suc b.0 }) ∙ apart_next a.0 b.0
 
   others_unknown : Spells table from → (x : Name) → length table ≤ x.0 → IsUnknown (others x)
-  others_unknown spells x h = subst (λ b. IsUnknown (moved b x)) (sym (not_below x.0 (length table) h)) (spells.outside (record { 0 = suc x.0 }) (omega (arith, h)))
+  others_unknown spells x h = subst (λ b. IsUnknown (moved b x)) (sym (lt_fails x.0 (length table) h)) (spells.outside (record { 0 = suc x.0 }) (omega (arith, h)))
 
   pub others_spell : Spells table from → Spells table others
   others_spell spells = record {
     apart = record { told = others_apart spells.apart };
-    inside = λ x h. ap (λ b. moved b x) (is_below x.0 (length table) h) ∙ spells.inside x h;
+    inside = λ x h. ap (λ b. moved b x) (lt_holds x.0 (length table) h) ∙ spells.inside x h;
     outside = others_unknown spells;
   }
 

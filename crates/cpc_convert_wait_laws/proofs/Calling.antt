@@ -2,6 +2,7 @@
 use Rattle.std.proofs.Common.{◌≡◌, ℕ, zero, suc, ◌+◌, ◌<◌, ◌≤◌, Bool, true, List, [], ◌∷◌, ◌++◌, map, length, slice_get, Option, Some, None, refl, sym, ◌∙◌, ap, subst, arith}
 use Rattle.std.specs.List.{All}
 use Rattle.cpc_base.specs.Bytes.{Text}
+use Rattle.cpc_base.proofs.Truth.{and_both}
 use Rattle.cpc_num.specs.declared.kinds.Fault.{Fault}
 use Rattle.cpc_check_sound_laws.specs.Typed.{AllGet}
 use Rattle.cpc_tree.specs.declared.program.Mode.TheVariants.{Cps}
@@ -39,7 +40,6 @@ use Rattle.cpc_convert_chain_laws.specs.Chains.{frame_cells}
 use Rattle.cpc_convert_chain_laws.specs.Driver.{driving}
 use Rattle.cpc_convert_chain_laws.specs.Frames.{at as Here_at}
 use Rattle.cpc_convert_chain_laws.specs.Walks.{Walk, running, frame_at}
-use Rattle.cpc_convert_chain_laws.proofs.Lines.{both_true}
 use Rattle.cpc_convert_chain_laws.proofs.Walks.{walk_as}
 use Rattle.cpc_convert_event.specs.AddressLaws.{bars, avoids_stood}
 use Rattle.cpc_convert_event.specs.FillLaws.{ParametersAreScalar}
@@ -143,8 +143,8 @@ module _ (p : Program) (facts : ProgramKnown p) (names : HasNames p) (fine : Cal
   apart =
       let L' : Text → Bool = λ y. bars (readings_of r at.node.scope y) y in
       let all = ap (avoids_stood L') (sym stood) ∙ known.addresses n at.node at.is_node in
-      let rest = (both_true (avoids_if L' to) _ all).1 in
-      (both_true (avoids L' (ENamed x)) (avoids_all L' es) rest).1
+      let rest = (and_both (avoids_if L' to) _ all).1 in
+      (and_both (avoids L' (ENamed x)) (avoids_all L' es) rest).1
 
   abbrev ts : List Ty
   ts = parameter_types g

@@ -1,6 +1,7 @@
 -- A call of a cps function: the piece makes the frame of the arrival, the first frame of the call over it, and gives this to the driver.
 use Rattle.std.proofs.Common.{◌≡◌, ℕ, suc, ◌+◌, ◌<◌, ◌≤◌, ◌^◌, true, false, List, [], ◌∷◌, ◌++◌, map, length, slice_get, bytes_eq, Option, Some, None, refl, sym, ◌∙◌, ap, codes, arith}
 use Rattle.cpc_base.specs.Bytes.{Text}
+use Rattle.cpc_base.proofs.Lists.{length_of_map}
 use Rattle.cpc_num.specs.declared.kinds.Fault.{Fault}
 use Rattle.cpc_check_sound_laws.specs.Typed.{AllGet}
 use Rattle.cpc_tree.specs.Points.{Point, locals}
@@ -45,7 +46,7 @@ use Rattle.cpc_convert_native_laws.proofs.SpawnerCall.{type_of, get_scalar, pass
 use Rattle.cpc_convert_piece_laws.specs.Known.{CpsKnown}
 use Rattle.cpc_convert_piece_laws.specs.Rows.{RowAt, row_point}
 use Rattle.cpc_convert_piece_laws.specs.Stood.{NodeAt, LocalsStand}
-use Rattle.cpc_convert_piece_laws.proofs.Frames.{Target, code, body, scope, is_code, Word, word_set, with_frame, map_length}
+use Rattle.cpc_convert_piece_laws.proofs.Frames.{Target, code, body, scope, is_code, Word, word_set, with_frame}
 use Rattle.cpc_convert_piece_laws.proofs.Places.{Before}
 use Rattle.cpc_convert_piece_laws.proofs.Scopes.{meant, primitive_meant, local_slot}
 use Rattle.cpc_convert_piece_laws.proofs.Stubs.{to_word}
@@ -135,7 +136,7 @@ module _ (p : Program) (fine : CallFrame Position → Option Value → Type 0) (
   is_size : size q (TyStruct start) ≡ Some (suc (suc (suc (length gives))))
   is_size =
       (start_there p known.names g cps).size
-      ∙ ap (λ m. Some (suc (suc (suc m)))) (sym (map_length type_of (passed g)) ∙ (ap length (passed_types g (get_scalar p at.node.scope (parameter_types g) es gets)) ∙ sym counted))
+      ∙ ap (λ m. Some (suc (suc (suc m)))) (sym (length_of_map type_of (passed g)) ∙ (ap length (passed_types g (get_scalar p at.node.scope (parameter_types g) es gets)) ∙ sym counted))
 
   fewer : length gives ≤ length (variables g)
   fewer = let h = fewer_parameters g.parameters (locals g.body) in let c = counted in omega (arith, h, c)

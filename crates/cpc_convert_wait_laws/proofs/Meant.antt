@@ -3,6 +3,7 @@ use Rattle.std.proofs.Common.{◌≡◌, ℕ, suc, ◌<◌, ◌^◌, ◌==◌, �
 use Rattle.std.proofs.lemmas.Fmt.{decimal_is_IsNumeral}
 use Rattle.std.specs.Str.Parse.{AllDigits}
 use Rattle.cpc_base.specs.Bytes.{Text}
+use Rattle.cpc_base.proofs.Truth.{eq_reflexive, or_by_second}
 use Rattle.cpc_tree.specs.declared.program.Mode.TheVariants.{Native}
 use Rattle.cpc_tree.specs.Lists.{holds_number}
 use Rattle.cpc_tree.specs.Registers.{outer_scope}
@@ -13,7 +14,7 @@ use Rattle.cpc_convert.specs.Marks.{has_marks}
 use Rattle.cpc_convert.specs.Converted.{marked}
 use Rattle.cpc_convert.proofs.Marks.{marked_is, no_bar_decimal}
 use Rattle.cpc_forms.specs.Flow.{Place, Start, At}
-use Rattle.cpc_graph_laws.proofs.Formed.{in_either, equal_self}
+use Rattle.cpc_graph_laws.proofs.Formed.{in_either}
 use Rattle.cpc_lift_laws.proofs.Boxes.{boxes_are_below}
 use Rattle.cpc_lift_laws.proofs.Lift.{boxes_exact}
 use Rattle.cpc_convert_chain_laws.specs.Driver.{any_pointer, drive_name, DriverMeant}
@@ -29,7 +30,7 @@ use Rattle.cpc_convert_event.proofs.Apart.{behind, piece_is, no_bar_behind, no_b
 use Rattle.cpc_convert_event.proofs.Fields.{word_apart}
 use Rattle.cpc_convert_event.proofs.Locals.{NoneCalled}
 use Rattle.cpc_convert_event.proofs.Meanings.{items_meant}
-use Rattle.cpc_convert_event.proofs.Numbers.{chosen_is, later}
+use Rattle.cpc_convert_event.proofs.Numbers.{chosen_is}
 use Rattle.cpc_convert_piece_laws.specs.Known.{CpsKnown}
 use Rattle.cpc_convert_wait_laws.specs.Laws.{StartsAreMeant}
 use Rattle.cpc_convert_piece_laws.proofs.Frames.{Target, kept_small}
@@ -99,10 +100,10 @@ module _ (p : Program) (f : Function) (known : CpsKnown p f) (l : Place) (owner 
     locals_none (k ∷ ks) h = (o.variable k (variable_of r k).called (unmarked_name p f known k) (h k (here k ks)), locals_none ks (λ j i. h j (there k j ks i)))
       where
         here : (k : ℕ) (ks : List ℕ) → holds_number (k ∷ ks) k ≡ true
-        here k ks = ap (λ b. b || holds_number ks k) (equal_self k)
+        here k ks = ap (λ b. b || holds_number ks k) (eq_reflexive k)
 
         there : (k j : ℕ) (ks : List ℕ) → holds_number ks j ≡ true → holds_number (k ∷ ks) j ≡ true
-        there k j ks i = later (k == j) (holds_number ks j) i
+        there k j ks i = or_by_second (k == j) (holds_number ks j) i
 
     value_none : NotLoaded y (value_load p r l)
     value_none = go (takes_value r l)

@@ -1,6 +1,7 @@
 -- The row of a cps statement begins with the frame of its arrival, which the piece makes.
 use Rattle.std.proofs.Common.{◌≡◌, ℕ, suc, ◌+◌, ◌<◌, ◌≤◌, true, List, [], ◌∷◌, ◌++◌, map, length, slice_get, Option, Some, None, refl, sym, ◌∙◌, ap, subst, arith}
 use Rattle.cpc_base.specs.Bytes.{Text}
+use Rattle.cpc_base.proofs.Lists.{length_of_map}
 use Rattle.cpc_tree.specs.Registers.{variables}
 use Rattle.cpc_tree.specs.Syntax.{Stmt, Stmts, Function, Program}
 use Rattle.cpc_store.specs.declared.values.Class.TheVariants.{Frame}
@@ -29,7 +30,7 @@ use Rattle.cpc_convert_laws.specs.Bounds.{Bounds}
 use Rattle.cpc_convert_piece_laws.specs.Known.{CpsKnown}
 use Rattle.cpc_convert_piece_laws.specs.Rows.{next_number, put_row, RowAt, row_index, row_point}
 use Rattle.cpc_convert_piece_laws.specs.Stood.{NodeAt, LocalsStand}
-use Rattle.cpc_convert_piece_laws.proofs.Frames.{Target, Word, word_set, saves_of, fills_of, with_frame, frame_passed, frame_walk, puts_do, kept_number, map_length}
+use Rattle.cpc_convert_piece_laws.proofs.Frames.{Target, Word, word_set, saves_of, fills_of, with_frame, frame_passed, frame_walk, puts_do, kept_number}
 use Rattle.cpc_convert_piece_laws.proofs.Places.{Before, FirstLine, first_line}
 use Rattle.cpc_convert_piece_laws.proofs.Rowed.{row_puts, tail}
 use Rattle.cpc_convert_piece_laws.proofs.Scopes.{local_slot}
@@ -74,7 +75,7 @@ module _ (p : Program) (fine : CallFrame Position → Option Value → Type 0) (
     pub frame_few : frame_steps ≤ 3 + length (variables f)
     frame_few =
         let few = kept_number p f known l owner (At behind.back) in
-        let counted = map_length (λ i. save_of (local_of r i)) (closure_of r (At behind.back)) in
+        let counted = length_of_map (λ i. save_of (local_of r i)) (closure_of r (At behind.back)) in
         omega (arith, few, counted)
 
     pub frame_stands : Before p f l frame_end rest

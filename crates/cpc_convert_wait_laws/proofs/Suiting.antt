@@ -1,6 +1,7 @@
 -- Each argument of a call where a frame stands has a value that can be converted to the type of its parameter: what the frame keeps fits.
 use Rattle.std.proofs.Common.{◌≡◌, ℕ, zero, suc, ◌+◌, Bool, true, false, not, ◌&&◌, cond, List, [], ◌∷◌, ◌++◌, map, bytes_eq, slice_get, Option, Some, refl, sym, ◌∙◌, ap, subst, arith}
 use Rattle.cpc_base.specs.Bytes.{Text}
+use Rattle.cpc_base.proofs.Truth.{and_both}
 use Rattle.cpc_num.specs.declared.kinds.Fault.{Fault}
 use Rattle.cpc_check_sound_laws.specs.Suits.{Comes, Suits, SuitsSlot, SuitSlots, ScopeOf, IsBoxed, AllBoxed}
 use Rattle.cpc_check_sound_laws.specs.Typed.{Gets, AllGet}
@@ -28,7 +29,6 @@ use Rattle.cpc_forms.specs.Split.{InGraph}
 use Rattle.cpc_graph_laws.proofs.Formed.{node_comes}
 use Rattle.cpc_convert_chain_laws.specs.Addresses.{avoids, avoids_all}
 use Rattle.cpc_convert_chain_laws.specs.Frames.{at as Here_at, Scalars, NoScalars, AndScalar}
-use Rattle.cpc_convert_chain_laws.proofs.Lines.{both_true}
 use Rattle.cpc_convert_event.specs.AddressLaws.{bars}
 use Rattle.cpc_convert_event.specs.LocalLaws.{piece_locals}
 use Rattle.cpc_convert_event.specs.NameLaws.{IsOwner}
@@ -138,23 +138,23 @@ module _ (slots : List Slot) (scope : Scope) (L : Text → Bool) (named_boxed : 
     avoided (EText bytes) h = tt
     avoided (EUnary AddressOf (ENamed x)) h = named_boxed x h
     avoided (EUnary sign e) h = avoided e h
-    avoided (EBinary op a b) h = let i = both_true (avoids L a) (avoids L b) h in all_append slots (addresses scope a) (addresses scope b) (avoided a i.0) (avoided b i.1)
-    avoided (EAnd a b) h = let i = both_true (avoids L a) (avoids L b) h in all_append slots (addresses scope a) (addresses scope b) (avoided a i.0) (avoided b i.1)
-    avoided (EOr a b) h = let i = both_true (avoids L a) (avoids L b) h in all_append slots (addresses scope a) (addresses scope b) (avoided a i.0) (avoided b i.1)
+    avoided (EBinary op a b) h = let i = and_both (avoids L a) (avoids L b) h in all_append slots (addresses scope a) (addresses scope b) (avoided a i.0) (avoided b i.1)
+    avoided (EAnd a b) h = let i = and_both (avoids L a) (avoids L b) h in all_append slots (addresses scope a) (addresses scope b) (avoided a i.0) (avoided b i.1)
+    avoided (EOr a b) h = let i = and_both (avoids L a) (avoids L b) h in all_append slots (addresses scope a) (addresses scope b) (avoided a i.0) (avoided b i.1)
     avoided (EChoose t a b) h =
-        let i = both_true (avoids L t) (avoids L a && avoids L b) h in
-        let j = both_true (avoids L a) (avoids L b) i.1 in
+        let i = and_both (avoids L t) (avoids L a && avoids L b) h in
+        let j = and_both (avoids L a) (avoids L b) i.1 in
         all_append slots (addresses scope t ++ addresses scope a) (addresses scope b) (all_append slots (addresses scope t) (addresses scope a) (avoided t i.0) (avoided a j.0)) (avoided b j.1)
     avoided (ECast t e) h = avoided e h
     avoided (ESizeOf t) h = tt
-    avoided (EIndex a i) h = let j = both_true (avoids L a) (avoids L i) h in all_append slots (addresses scope a) (addresses scope i) (avoided a j.0) (avoided i j.1)
+    avoided (EIndex a i) h = let j = and_both (avoids L a) (avoids L i) h in all_append slots (addresses scope a) (addresses scope i) (avoided a j.0) (avoided i j.1)
     avoided (EMember e x) h = avoided e h
     avoided (EArrow e x) h = avoided e h
-    avoided (ECall f es) h = let i = both_true (avoids L f) (avoids_all L es) h in all_append slots (addresses scope f) (addresses_all scope es) (avoided f i.0) (avoided_all es i.1)
+    avoided (ECall f es) h = let i = and_both (avoids L f) (avoids_all L es) h in all_append slots (addresses scope f) (addresses_all scope es) (avoided f i.0) (avoided_all es i.1)
 
     avoided_all : (es : Exprs) → avoids_all L es ≡ true → AllBoxed slots (addresses_all scope es)
     avoided_all NoExpr h = tt
-    avoided_all (AndExpr e es) h = let i = both_true (avoids L e) (avoids_all L es) h in all_append slots (addresses scope e) (addresses_all scope es) (avoided e i.0) (avoided_all es i.1)
+    avoided_all (AndExpr e es) h = let i = and_both (avoids L e) (avoids_all L es) h in all_append slots (addresses scope e) (addresses_all scope es) (avoided e i.0) (avoided_all es i.1)
 
 -- the names of an expression, as the law of same values says it
 same_names : (L : Text → Type 0) (e : Expr) → AllNames L e → S.AllNames L e

@@ -3,6 +3,7 @@ use Rattle.std.proofs.Common.{◌≡◌, ℕ, zero, suc, ◌+◌, ◌^◌, ◌<�
 use Rattle.std.specs.Prelude.{slice_get}
 use Rattle.cpc_base.specs.Bytes.{Text}
 use Rattle.cpc_base.specs.declared.stop.Place.{Place}
+use Rattle.cpc_base.proofs.Lists.{drop_to_item}
 use Rattle.cpc_tree.specs.declared.program.Expr as GExpr
 use Rattle.cpc_tree.specs.declared.program.Statement.{Statement}
 use Rattle.cpc_tree.specs.declared.program.Statement.TheVariants as T
@@ -18,7 +19,7 @@ use Rattle.cpc_eval.specs.Held.{Held, held_from, held_after, held_behind, count_
 use Rattle.std.proofs.lemmas.List.{drop_more}
 use Rattle.cpc_tree.specs.declared.program.Parameter as GParameter
 use Rattle.cpc_tree.specs.Registers.{or_empty}
-use Rattle.cpc_eval.proofs.Nodes.{block_seen, drop_item, for_seen, if_seen, row_end, row_more}
+use Rattle.cpc_eval.proofs.Nodes.{block_seen, for_seen, if_seen, row_end, row_more}
 
 -- ---- rows
 
@@ -97,7 +98,7 @@ pub parameter_more : (names : Names) (x : Text) (ps : List GParameter.Parameter)
     → held_from x (i + 1) r (map (parameter_of names) (drop (i + 1) ps)) ≡ held_from x i o (map (parameter_of names) (drop i ps))
 parameter_more names x ps i p o r h fits is e =
     from_more x i (parameter_of names p) (map (parameter_of names) (drop (i + 1) ps)) o r fits e
-    ∙ ap (λ qs. held_from x i o (map (parameter_of names) qs)) (sym (drop_item ps i p h is))
+    ∙ ap (λ qs. held_from x i o (map (parameter_of names) qs)) (sym (drop_to_item ps i p h is))
 
 -- ---- the end of a path
 

@@ -1,10 +1,11 @@
 -- Pointers into blocks: what the code's store says of the store that is meant.
-use Rattle.std.proofs.Common.{◌≡◌, ℕ, ◌<◌, ◌≤◌, Bool, true, false, List, length, Option, Some, None, ℤ, pos, ◌+ℤ◌, ◌≤ℤ◌, ◌<ℤ◌, Ok, Err, refl, sym, ◌∙◌, arith}
+use Rattle.std.proofs.Common.{◌≡◌, ℕ, ◌<◌, ◌≤◌, true, false, List, length, Option, Some, None, ℤ, pos, ◌+ℤ◌, ◌≤ℤ◌, ◌<ℤ◌, Ok, Err, refl, sym, ◌∙◌, arith}
 use Rattle.std.proofs.lemmas.Int.{ints}
 use Rattle.std.specs.Option.{option_map}
 use Rattle.std.specs.Int.{w128, saturate_signed}
 use Rattle.std.specs.Prelude.{int_le, unsigned_abs, ◌&&◌}
 use Rattle.cpc_base.specs.declared.names.Name.{Name}
+use Rattle.cpc_base.proofs.Truth.{and_with_false}
 use Rattle.cpc_num.specs.declared.kinds.Fault.TheVariants as F
 use Rattle.cpc_store.specs.declared.values.Class.{Class}
 use Rattle.cpc_store.specs.Store.{Value, At, StoreOf, cells_of, size, store_cells}
@@ -38,16 +39,12 @@ below_at : (o : Option (List Value)) (c : Class) (n k : ℕ) (z : ℤ) → optio
 below_at None c n k z e low = let no : ⊥ = cc in absurd no
 below_at (Some cells) c n k z e low = let a : int_le (pos 0) z ≡ false = grind (arith, ints) in rw a refl
 
-and_false : (a : Bool) → (a && false) ≡ false
-and_false true = refl
-and_false false = refl
-
 above_at : (o : Option (List Value)) (c : Class) (n k : ℕ) (z : ℤ) → option_map length o ≡ Some k → pos k <ℤ z → moved_within o c n z ≡ Faults F.Bounds
 above_at None c n k z e high = let no : ⊥ = cc in absurd no
 above_at (Some cells) c n k z e high =
     let l : length cells ≡ k = cc in
     let b : int_le z (pos (length cells)) ≡ false = rw l (grind (arith, ints)) in
-    let both : (int_le (pos 0) z && int_le z (pos (length cells))) ≡ false = rw b (and_false (int_le (pos 0) z)) in
+    let both : (int_le (pos 0) z && int_le z (pos (length cells))) ≡ false = rw b (and_with_false (int_le (pos 0) z)) in
     rw both refl
 
 -- a pointer that comes to an offset of its block, or to its end

@@ -1,7 +1,8 @@
 -- What expressions and statements are, by the form that the code finds, and rows of them one by one.
-use Rattle.std.proofs.Common.{◌≡◌, ℕ, ◌+◌, ◌<◌, ◌≤◌, List, ◌∷◌, length, get_or, drop, refl, sym, ap, ◌∙◌, Vec, Box, Global, Option, Some, None, option_map, rules}
-use Rattle.std.proofs.lemmas.List.{drop_more, drop_all}
+use Rattle.std.proofs.Common.{◌≡◌, ℕ, ◌+◌, ◌<◌, ◌≤◌, List, length, get_or, drop, refl, sym, ap, ◌∙◌, Vec, Box, Global, Option, Some, None, option_map, rules}
+use Rattle.std.proofs.lemmas.List.{drop_all}
 use Rattle.cpc_base.specs.declared.stop.Place.{Place}
+use Rattle.cpc_base.proofs.Lists.{drop_to_item}
 use Rattle.cpc_tree.specs.declared.program.UnaryOp.{UnaryOp}
 use Rattle.cpc_tree.specs.declared.program.Expr as GExpr
 use Rattle.cpc_tree.specs.declared.program.Expr.{Row_of-Expr, end_of-Expr, more_of-Expr}
@@ -36,9 +37,6 @@ unary_seen names e place op operand h = ap (expr_of names) h ∙ search (rules, 
 
 -- ---- statements
 
-pub drop_item : {A : Type 0} (xs : List A) (i : ℕ) (x : A) → i < length xs → x ≡ get_or xs i x → drop i xs ≡ x ∷ drop (i + 1) xs
-drop_item xs i x h e = drop_more xs i x h ∙ ap (λ y. y ∷ drop (i + 1) xs) (sym e)
-
 pub block_seen : (names : Names) (e : Statement) (place : Place) (inner : Vec Statement Global) → e ≡ T.Block place inner → stmt_of names e ≡ S.Block (list_of names inner.items)
 block_seen names e place inner h = ap (stmt_of names) h ∙ block_is names place inner
 
@@ -59,4 +57,4 @@ row_end names xs i h = ap (list_of names) (drop_all i xs h)
 
 pub row_more : (names : Names) (xs : List Statement) (i : ℕ) (x : Statement) → i < length xs → x ≡ get_or xs i x
     → list_of names (drop i xs) ≡ AndStmt (stmt_of names x) (list_of names (drop (i + 1) xs))
-row_more names xs i x h e = ap (list_of names) (drop_item xs i x h e)
+row_more names xs i x h e = ap (list_of names) (drop_to_item xs i x h e)

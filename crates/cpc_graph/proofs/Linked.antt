@@ -11,9 +11,10 @@ use Rattle.cpc_graph.specs.declared.onward.Way.{Way}
 use Rattle.cpc_graph.specs.Ends.{ends_of, ends_in, ends_arm}
 use Rattle.cpc_graph.specs.Ways.{way, one_way, ways_of, ways_in, ways_arm, header_ways}
 use Rattle.cpc_base.specs.Bytes.{Text}
+use Rattle.cpc_base.proofs.Lists.{appended_empty}
 use Rattle.cpc_graph.specs.declared.labels.Labels.{Labels}
 use Rattle.cpc_graph.specs.Labels.{FindsLabels}
-use Rattle.cpc_graph.proofs.Marking.{three_added, nil_right}
+use Rattle.cpc_graph.proofs.Marking.{three_added}
 
 pub some_ways : (names : Names) (row : List Statement) (n : ℕ) (w : T.Onward) → is_empty row ≡ false → ways_in (list_of names row) n w ≡ ways_of (Block (list_of names row)) n w
 some_ways names [] n w h = absurd cc
@@ -167,4 +168,4 @@ header_added names row n test start at w v te st gv u0 u1 u2 p q =
 
 -- a row at its end
 pub ways_end : (names : Names) (row : List Statement) (i n : ℕ) (w : T.Onward) (xs ys : List Way) → length row ≤ i → xs ++ ways_in (list_of names (drop i row)) n w ≡ ys → xs ≡ ys
-ways_end names row i n w xs ys h e = nil_right xs ∙ (ap (λ ss. xs ++ ways_in ss n w) (sym (row_end names row i h)) ∙ e)
+ways_end names row i n w xs ys h e = appended_empty xs ∙ (ap (λ ss. xs ++ ways_in ss n w) (sym (row_end names row i h)) ∙ e)

@@ -29,10 +29,6 @@ on_any (Err y) q = tt
 
 -- ---- lists
 
-pub nil_right : {A : Type 0} (xs : List A) → xs ≡ xs ++ []
-nil_right [] = refl
-nil_right (x ∷ xs) = ap (λ z. x ∷ z) (nil_right xs)
-
 pub place_within : (xs ys zs : List ℕ) (k : ℕ) → k ≡ length xs → ys ≡ (xs ++ 0 ∷ []) ++ zs → k < length ys
 place_within xs ys zs k e p =
     let h = ap length p in

@@ -1,6 +1,7 @@
 -- The graph of a function is well formed: control leads to nodes alone, and a cps statement's value arrives where control resumes.
-use Rattle.std.proofs.Common.{◌≡◌, ℕ, ◌<◌, ◌==◌, ◌||◌, ◌⊎◌, inl, inr, ⊎_elim, Bool, true, false, List, [], ◌∷◌, ◌++◌, length, slice_get, Option, Some, None, option_map, refl, sym, ◌∙◌, ap, subst, arith}
+use Rattle.std.proofs.Common.{◌≡◌, ℕ, ◌<◌, ◌==◌, ◌||◌, ◌⊎◌, inl, inr, ⊎_elim, Bool, true, false, List, [], ◌∷◌, ◌++◌, length, slice_get, Option, Some, None, option_map, refl, sym, ◌∙◌, ap, subst}
 use Rattle.std.proofs.lemmas.Option.{slice_get-map, slice_get_within}
+use Rattle.cpc_base.proofs.Truth.{or_by_second, eq_means, eq_reflexive}
 use Rattle.cpc_tree.specs.Syntax.{Function, Program}
 use Rattle.cpc_tree.specs.Points.{Path, Point, Here, Arrival, End, begin}
 use Rattle.cpc_tree.specs.Lists.{holds_number}
@@ -32,27 +33,17 @@ left_case : (b c d : Bool) → (c ≡ true → d ≡ true) → (b || c) ≡ true
 left_case true c d f e = refl
 left_case false c d f e = f e
 
-right_case : (b c : Bool) → c ≡ true → (b || c) ≡ true
-right_case true c e = refl
-right_case false c e = e
-
 pub in_left : (m : ℕ) (ms ns : List ℕ) → holds_number ms m ≡ true → holds_number (ms ++ ns) m ≡ true
 in_left m [] ns e = absurd (cc)
 in_left m (k ∷ ms) ns e = left_case (k == m) _ _ (in_left m ms ns) e
 
 pub in_right : (m : ℕ) (ms ns : List ℕ) → holds_number ns m ≡ true → holds_number (ms ++ ns) m ≡ true
 in_right m [] ns e = e
-in_right m (k ∷ ms) ns e = right_case (k == m) _ (in_right m ms ns e)
-
-equal_numbers : (k n : ℕ) → (k == n) ≡ true → k ≡ n
-equal_numbers k n e = grind (arith, e)
-
-pub equal_self : (n : ℕ) → (n == n) ≡ true
-equal_self n = grind arith
+in_right m (k ∷ ms) ns e = or_by_second (k == m) _ (in_right m ms ns e)
 
 pub is_that : (m : ℕ) (o : Option ℕ) → holds_number (as_list o) m ≡ true → o ≡ Some m
 is_that m None e = absurd (cc)
-is_that m (Some n) e = ap (λ k. Some k) (equal_numbers n m (go (n == m) e))
+is_that m (Some n) e = ap (λ k. Some k) (eq_means n m (go (n == m) e))
   where
     go : (b : Bool) → (b || false) ≡ true → b ≡ true
     go true h = refl
@@ -60,7 +51,7 @@ is_that m (Some n) e = ap (λ k. Some k) (equal_numbers n m (go (n == m) e))
 
 pub that_is : (m : ℕ) (o : Option ℕ) → o ≡ Some m → holds_number (as_list o) m ≡ true
 that_is m None e = absurd (cc)
-that_is m (Some n) e = let f : n ≡ m = cc in left_case (n == m) false false (λ x. x) (subst (λ k. ((n == k) || false) ≡ true) f (left_case (n == n) false false (λ x. x) (ap (λ b. b || false) (equal_self n))))
+that_is m (Some n) e = let f : n ≡ m = cc in left_case (n == m) false false (λ x. x) (subst (λ k. ((n == k) || false) ≡ true) f (left_case (n == n) false false (λ x. x) (ap (λ b. b || false) (eq_reflexive n))))
 
 -- ---- exits
 

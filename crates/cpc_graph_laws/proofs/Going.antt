@@ -1,5 +1,6 @@
 -- Where control goes in split graphs, by the owners of what it comes to.
 use Rattle.std.proofs.Common.{◌≡◌, ℕ, ◌<◌, true, length, Option, Some, None, option_map, refl, sym, ◌∙◌, ap, subst}
+use Rattle.cpc_base.proofs.Lists.{found_within}
 use Rattle.cpc_tree.specs.Syntax.{Function, Program}
 use Rattle.cpc_meaning.specs.Ways.{is_cps_statement}
 use Rattle.cpc_forms.specs.Graph.{graph_of, way, at_node}
@@ -8,13 +9,13 @@ use Rattle.cpc_forms.specs.Split.{split_of, InGraph, owner_or, come_to}
 use Rattle.cpc_graph_laws.specs.Laws.{flow_in}
 use Rattle.cpc_graph_laws.specs.Going.{PositionsGoOn, CallsArrive, WaitsArrive}
 use Rattle.cpc_graph_laws.proofs.Formed.{exits_way, exits_arrival}
-use Rattle.cpc_graph_laws.proofs.Splits.{node_there, owner_there}
+use Rattle.cpc_graph_laws.proofs.Splits.{owner_there}
 use Rattle.cpc_graph_laws.proofs.MoreFacts.{arrivals_stay, cps_statements_wait, ways_stay_or_lead, owners_lead}
 
 -- control comes to what has this owner
 come_by : (p : Program) (f : Function) (l k : Place) (m : ℕ) → m < length (graph_of p f).nodes → owner_of (flow_in p f) m ≡ Some k → come_to (Some (split_of (graph_of p f))) l m ≡ InGraph k m
 come_by p f l k m less e =
-    let x = node_there (graph_of p f).nodes m less in
+    let x = found_within (graph_of p f).nodes m less in
     ap (λ o. InGraph (owner_or l o) m) (owner_there (graph_of p f) m x.0 x.1) ∙ ap (λ o. InGraph (owner_or l (Some o)) m) e
 
 map_known : {A B : Type 0} (f g : A → B) (o : Option A) → ((x : A) → o ≡ Some x → f x ≡ g x) → option_map f o ≡ option_map g o

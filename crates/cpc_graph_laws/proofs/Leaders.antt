@@ -1,5 +1,6 @@
 -- The leaders that are computed are those of control.
-use Rattle.std.proofs.Common.{◌≡◌, ℕ, zero, suc, ◌<◌, ◌||◌, ◌⊎◌, inl, inr, Bool, true, false, List, [], ◌∷◌, map, length, refl, sym, ◌∙◌, ap, subst, arith}
+use Rattle.std.proofs.Common.{◌≡◌, ℕ, zero, suc, ◌<◌, ◌⊎◌, inl, inr, Bool, true, false, List, [], ◌∷◌, map, length, refl, sym, ◌∙◌, ap, subst, arith}
+use Rattle.cpc_base.proofs.Truth.{or_either}
 use Rattle.cpc_tree.specs.Syntax.{Function, Program}
 use Rattle.cpc_tree.specs.Points.{Point, Here, Arrival, End, found}
 use Rattle.cpc_meaning.specs.Ways.{is_cps_statement, arrives_later, manner_at}
@@ -70,10 +71,6 @@ module _ (flow : Flow) (n : ℕ) where
   pub two_sources : two_or_more (sources flow n) ≡ true → TwoSources flow n
   two_sources t = start_case (goes_to flow Start n) refl t
 
-either : (a b : Bool) → (a || b) ≡ true → (a ≡ true) ⊎ (b ≡ true)
-either true b e = inl refl
-either false b e = inr e
-
 -- ---- leaders
 
 module _ (p : Program) (f : Function) where
@@ -100,7 +97,7 @@ module _ (p : Program) (f : Function) where
   joined_leads point i t = joined_by point i t.one t.other _ t.apart refl (led p f t.one _ t.from_one) (led p f t.other _ t.from_other)
 
   pub leader_is : (point : Point) → is_in f.body point ≡ true → is_leader (flow_in p f) (number_of f.body point) ≡ true → C.IsLeader p f point
-  leader_is point i e = go (either ((flow_in p f).resumes (number_of f.body point)) _ e)
+  leader_is point i e = go (or_either ((flow_in p f).resumes (number_of f.body point)) _ e)
     where
       go : ((flow_in p f).resumes (number_of f.body point) ≡ true) ⊎ (two_or_more (sources (flow_in p f) (number_of f.body point)) ≡ true) → C.IsLeader p f point
       go (inl r) = resume_leads point i r
@@ -125,7 +122,7 @@ module _ (p : Program) (f : Function) where
 
 -- a leader is a node
 pub leader_below : (flow : Flow) → Inside flow → (n : ℕ) → is_leader flow n ≡ true → n < flow.size
-leader_below flow within n e = go (either (flow.resumes n) _ e)
+leader_below flow within n e = go (or_either (flow.resumes n) _ e)
   where
     go : (flow.resumes n ≡ true) ⊎ (two_or_more (sources flow n) ≡ true) → n < flow.size
     go (inl r) = within.resumes n r

@@ -1,5 +1,6 @@
 -- Leaders are found by counting sources, and owners by going on from owners.
 use Rattle.std.proofs.Common.{◌≡◌, ℕ, zero, suc, ◌+◌, ◌<◌, ◌≤◌, ◌==◌, ◌||◌, ◌⊎◌, inl, inr, nat_le, Bool, true, false, List, [], ◌∷◌, map, length, Option, Some, None, refl, sym, ◌∙◌, ap, subst, arith}
+use Rattle.cpc_base.proofs.Truth.{eq_means, eq_reflexive, equal_truth}
 use Rattle.cpc_tree.specs.Lists.{holds_number}
 use Rattle.cpc_forms.specs.Flow.{Place, Start, At, Flow, goes_to, below, kept_if, coming, sources, two_or_more, is_leader, is_owner, Owns, Itself, Onwards, owner_of}
 use Rattle.cpc_forms.specs.Split.{number_if, leaders_from}
@@ -67,12 +68,6 @@ owners_go_on flow inside = (
 
 -- ---- the list of leaders
 
-equal_numbers : (k n : ℕ) → (k == n) ≡ true → k ≡ n
-equal_numbers k n e = grind (arith, e)
-
-equal_self : (n : ℕ) → (n == n) ≡ true
-equal_self n = grind arith
-
 number_case : (k n : ℕ) → k ≤ n → (k ≡ n) ⊎ (suc k ≤ n)
 number_case k n h = grind arith
 
@@ -81,7 +76,7 @@ module _ (flow : Flow) (n : ℕ) where
   listed_case true k rest l h e = go (k == n) refl e
     where
       go : (c : Bool) → (k == n) ≡ c → (c || holds_number rest n) ≡ true → is_leader flow n ≡ true
-      go true i j = subst (λ m. is_leader flow m ≡ true) (equal_numbers k n i) l
+      go true i j = subst (λ m. is_leader flow m ≡ true) (eq_means k n i) l
       go false i j = h j
   listed_case false k rest l h e = h e
 
@@ -98,7 +93,7 @@ module _ (flow : Flow) (n : ℕ) where
   kept_number false k rest h = h
 
   first_number : (k : ℕ) (rest : List ℕ) → k ≡ n → is_leader flow n ≡ true → holds_number (number_if (is_leader flow k) k rest) n ≡ true
-  first_number k rest e l = subst (λ j. holds_number (number_if (is_leader flow j) j rest) n ≡ true) (sym e) (ap (λ b. holds_number (number_if b n rest) n) l ∙ ap (λ b. b || holds_number rest n) (equal_self n))
+  first_number k rest e l = subst (λ j. holds_number (number_if (is_leader flow j) j rest) n ≡ true) (sym e) (ap (λ b. holds_number (number_if b n rest) n) l ∙ ap (λ b. b || holds_number rest n) (eq_reflexive n))
 
   lists : (k size : ℕ) → k ≤ n → n < k + size → is_leader flow n ≡ true → holds_number (leaders_from flow k size) n ≡ true
   lists k zero low high l = absurd (omega arith)
@@ -108,12 +103,7 @@ module _ (flow : Flow) (n : ℕ) where
       go h (inl e) = first_number k (leaders_from flow (suc k) size) e l
       go h (inr e) = kept_number (is_leader flow k) k (leaders_from flow (suc k) size) (h e)
 
-same_truth : (b c : Bool) → (b ≡ true → c ≡ true) → (c ≡ true → b ≡ true) → b ≡ c
-same_truth true c f g = sym (f refl)
-same_truth false true f g = g refl
-same_truth false false f g = refl
-
 pub leaders_are_listed : LeadersAreListed
 leaders_are_listed flow within n =
-    same_truth _ _ (listed flow n 0 flow.size)
+    equal_truth _ _ (listed flow n 0 flow.size)
     (λ l. let h = leader_below flow within n l in lists flow n 0 flow.size (omega arith) (omega arith) l)

@@ -1,5 +1,6 @@
 -- A piece holds what its owner owns, each node once, the first one first.
 use Rattle.std.proofs.Common.{◌≡◌, ◌≢◌, ℕ, zero, suc, ◌+◌, ◌<◌, ◌≤◌, ◌==◌, ◌||◌, ◌⊎◌, inl, inr, not, cond, Bool, true, false, List, [], ◌∷◌, slice_get, Option, Some, None, refl, sym, ◌∙◌, ap, subst, arith}
+use Rattle.cpc_base.proofs.Truth.{eq_means, eq_reflexive}
 use Rattle.cpc_tree.specs.Syntax.{Function, Program}
 use Rattle.cpc_tree.specs.Lists.{holds_number}
 use Rattle.cpc_forms.specs.Graph.{graph_of}
@@ -11,24 +12,18 @@ use Rattle.cpc_graph_laws.specs.Owning.{PiecesHoldTheirs, PiecesHoldOnce, Pieces
 use Rattle.cpc_graph_laws.proofs.Owners.{owner_owns}
 use Rattle.cpc_graph_laws.proofs.Leaders.{inside, leader_below}
 
-equal_numbers : (k n : ℕ) → (k == n) ≡ true → k ≡ n
-equal_numbers k n e = grind (arith, e)
-
-equal_self : (n : ℕ) → (n == n) ≡ true
-equal_self n = grind arith
-
 -- ---- what a list holds
 
 held_case : (b : Bool) (n m : ℕ) (ns : List ℕ) → holds_number (number_if b n ns) m ≡ true → ((b ≡ true) × (n ≡ m)) ⊎ (holds_number ns m ≡ true)
 held_case true n m ns e = go (n == m) refl e
   where
     go : (c : Bool) → (n == m) ≡ c → (c || holds_number ns m) ≡ true → ((true ≡ true) × (n ≡ m)) ⊎ (holds_number ns m ≡ true)
-    go true i j = inl (refl, equal_numbers n m i)
+    go true i j = inl (refl, eq_means n m i)
     go false i j = inr j
 held_case false n m ns e = inr e
 
 held_first : (b : Bool) (n m : ℕ) (ns : List ℕ) → b ≡ true → n ≡ m → holds_number (number_if b n ns) m ≡ true
-held_first b n m ns e i = ap (λ c. holds_number (number_if c n ns) m) e ∙ ap (λ c. c || holds_number ns m) (subst (λ k. (n == k) ≡ true) i (equal_self n))
+held_first b n m ns e i = ap (λ c. holds_number (number_if c n ns) m) e ∙ ap (λ c. c || holds_number ns m) (subst (λ k. (n == k) ≡ true) i (eq_reflexive n))
 
 held_rest : (b : Bool) (n m : ℕ) (ns : List ℕ) → holds_number ns m ≡ true → holds_number (number_if b n ns) m ≡ true
 held_rest true n m ns e = go (n == m)
@@ -44,11 +39,11 @@ place_same : (k l : Place) → same_place k l ≡ true → k ≡ l
 place_same Start Start e = refl
 place_same Start (At n) e = absurd (cc)
 place_same (At m) Start e = absurd (cc)
-place_same (At m) (At n) e = ap (λ j. At j) (equal_numbers m n e)
+place_same (At m) (At n) e = ap (λ j. At j) (eq_means m n e)
 
 place_self : (l : Place) → same_place l l ≡ true
 place_self Start = refl
-place_self (At n) = equal_self n
+place_self (At n) = eq_reflexive n
 
 owned_is : (l : Place) (o : Option Place) → is_owned_by l o ≡ true → o ≡ Some l
 owned_is l None e = absurd (cc)
@@ -94,7 +89,7 @@ module _ (flow : Flow) (l : Place) where
 
 module _ (m : ℕ) where
   other_case : (k n : ℕ) → not (k == m) ≡ true → k ≡ n → n ≢ m
-  other_case k n e i j = absurd (let x : (k == m) ≡ true = subst (λ a. (k == a) ≡ true) (i ∙ j) (equal_self k) in let y : false ≡ true = sym (ap not x) ∙ e in cc)
+  other_case k n e i j = absurd (let x : (k == m) ≡ true = subst (λ a. (k == a) ≡ true) (i ∙ j) (eq_reflexive k) in let y : false ≡ true = sym (ap not x) ∙ e in cc)
 
   without_is : (ns : List ℕ) (n : ℕ) → holds_number (without m ns) n ≡ true → (holds_number ns n ≡ true) × (n ≢ m)
   without_is [] n e = absurd (cc)
@@ -105,7 +100,7 @@ module _ (m : ℕ) where
       go h (inr x) = let y = h x in (held_rest true k n ns y.0, y.1)
 
   differs : (k n : ℕ) → k ≡ n → n ≢ m → (b : Bool) → (k == m) ≡ b → not b ≡ true
-  differs k n i h true e = absurd (h (sym i ∙ equal_numbers k m e))
+  differs k n i h true e = absurd (h (sym i ∙ eq_means k m e))
   differs k n i h false e = refl
 
   is_without : (ns : List ℕ) (n : ℕ) → holds_number ns n ≡ true → n ≢ m → holds_number (without m ns) n ≡ true
@@ -152,7 +147,7 @@ module _ (m : ℕ) where
     where
       go : (c : Bool) → (m == n) ≡ c → (c || holds_number (without m ns) n) ≡ true
       go true j = refl
-      go false j = is_without ns n e (λ k. absurd (let x : (m == n) ≡ true = subst (λ a. (m == a) ≡ true) (sym k) (equal_self m) in let y : true ≡ false = sym x ∙ j in cc))
+      go false j = is_without ns n e (λ k. absurd (let x : (m == n) ≡ true = subst (λ a. (m == a) ≡ true) (sym k) (eq_reflexive m) in let y : true ≡ false = sym x ∙ j in cc))
   is_front false ns i n e = e
 
 -- ---- pieces

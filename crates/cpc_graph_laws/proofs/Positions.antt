@@ -1,6 +1,7 @@
 -- Points of the text and positions in the split graphs meet just where the owner in the position owns the point.
 use Rattle.std.proofs.Common.{◌≡◌, ℕ, true, [], Option, Some, None, refl, sym, ◌∙◌, ap, subst}
 use Rattle.cpc_base.specs.Bytes.{Text}
+use Rattle.cpc_base.proofs.Lists.{found_within}
 use Rattle.cpc_tree.specs.Syntax.{Function, Program}
 use Rattle.cpc_tree.specs.Typing.{function_named}
 use Rattle.cpc_tree.specs.Points.{Point}
@@ -23,7 +24,7 @@ use Rattle.cpc_graph_laws.specs.Laws.{place_of, is_node, flow_in, PositionsFollo
 use Rattle.cpc_graph_laws.proofs.Owners.{owner_owns}
 use Rattle.cpc_graph_laws.proofs.Formed.{formed_graph, node_comes}
 use Rattle.cpc_graph_laws.proofs.Graphs.{Stands, NoGraph, HasNode, node_found, has_graph, graph_first, graph_stood, graph_scope, graph_goes, graph_arrival}
-use Rattle.cpc_graph_laws.proofs.Splits.{Held, InText, OfOwner, node_there, position_first, position_stood, position_scope, position_goes, position_arrival}
+use Rattle.cpc_graph_laws.proofs.Splits.{Held, InText, OfOwner, position_first, position_stood, position_scope, position_goes, position_arrival}
 use Rattle.cpc_graph_laws.proofs.Leaders.{leader_place}
 use Rattle.cpc_graph_laws.proofs.Owned.{owner_is, is_owned}
 use Rattle.cpc_graph_laws.proofs.MoreFacts.{owner_owning}
@@ -44,7 +45,7 @@ module _ (p : Program) (f : Function) where
   place_owner : (l : Place) → is_owner (flow_in p f) l ≡ true → IsPlace l
   place_owner Start e = record { node = C.Entry; there = refl; place = refl }
   place_owner (At m) e =
-      let x = node_there (graph_of p f).nodes m (leader_place p f m e) in
+      let x = found_within (graph_of p f).nodes m (leader_place p f m e) in
       let y = node_comes p f m x.0 x.1 in
       let z = one_node f.body m y.0 y.1 in
       record { node = C.At y.0; there = z.0; place = ap (λ k. At k) z.1 }

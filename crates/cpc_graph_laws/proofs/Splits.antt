@@ -1,7 +1,8 @@
 -- A graph and the split graph make the same steps: the owner in a position is that of its node.
-use Rattle.std.proofs.Common.{◌≡◌, ℕ, zero, suc, ◌+◌, ◌<◌, Bool, true, false, ◌||◌, List, [], ◌∷◌, length, slice_get, Option, Some, None, option_map, refl, sym, ◌∙◌, ap, subst, arith}
+use Rattle.std.proofs.Common.{◌≡◌, ℕ, zero, suc, ◌+◌, ◌<◌, Bool, true, false, ◌||◌, length, slice_get, Option, Some, None, option_map, refl, sym, ◌∙◌, ap, subst, arith}
 use Rattle.std.proofs.lemmas.Option.{slice_get_within}
 use Rattle.cpc_base.specs.Bytes.{Text}
+use Rattle.cpc_base.proofs.Lists.{found_within}
 use Rattle.cpc_tree.specs.Syntax.{Function, Program}
 use Rattle.cpc_tree.specs.Typing.{Scope, function_named}
 use Rattle.cpc_tree.specs.Points.{Point}
@@ -21,11 +22,6 @@ use Rattle.cpc_graph_laws.proofs.Owners.{owner_found, owner_owns}
 use Rattle.cpc_graph_laws.proofs.Formed.{Formed, exits_way, exits_arrival, formed_graph, flow_inside, goes_from_node, goes_from_start}
 
 -- ---- owners, from node to node
-
-pub node_there : {A : Type 0} (xs : List A) (n : ℕ) → n < length xs → (x : A) × (slice_get xs n ≡ Some x)
-node_there [] n h = absurd (omega arith)
-node_there (y ∷ xs) zero h = (y, refl)
-node_there (y ∷ xs) (suc n) h = node_there xs n (omega arith)
 
 owners_at : (flow : Flow) (k size m : ℕ) → m < size → slice_get (owners_from flow k size) m ≡ Some (owner_of flow (k + m))
 owners_at flow k zero m h = absurd (omega arith)
@@ -63,7 +59,7 @@ module _ (g : Graph) (formed : Formed g) where
   -- control comes to a node that has an owner
   come_held : (l k : Place) (m : ℕ) → m < length g.nodes → owner_of (flow_of g) m ≡ Some k → Held (Some g) (AtNode m) (come_to (Some (split_of g)) l m)
   come_held l k m less e =
-      let x = node_there g.nodes m less in
+      let x = found_within g.nodes m less in
       let y : slice_get (split_of g).owners m ≡ Some (Some k) = owner_there g m x.0 x.1 ∙ ap (λ o. Some o) e in
       subst (λ o. Held (Some g) (AtNode m) (InGraph (owner_or l o) m)) (sym y) (OfOwner g k m x.0 formed x.1 e)
 

@@ -1,6 +1,7 @@
 -- Marks that are spread from the owners are the owners at the end.
 use Rattle.std.proofs.Common.{◌≡◌, ◌≢◌, ℕ, zero, suc, ◌+◌, ◌<◌, ◌≤◌, ◌==◌, ◌||◌, ◌⊎◌, inl, inr, ⊎_elim, Bool, true, false, List, [], ◌∷◌, ◌++◌, length, slice_get, slice_set, is_some, Option, Some, None, refl, sym, ◌∙◌, ap, subst, arith}
 use Rattle.std.proofs.lemmas.List.{length-append}
+use Rattle.cpc_base.proofs.Truth.{eq_means, eq_reflexive}
 use Rattle.cpc_tree.specs.Lists.{holds_number}
 use Rattle.cpc_store.proofs.StoreLemmas.{slice_get-set_same, slice_get-set_other}
 use Rattle.cpc_forms.specs.Flow.{Place}
@@ -23,14 +24,8 @@ unmarked_none : (o : Option Place) → is_some o ≡ false → o ≡ None
 unmarked_none None e = refl
 unmarked_none (Some l) e = absurd (cc)
 
-pub equal_numbers : (k n : ℕ) → (k == n) ≡ true → k ≡ n
-equal_numbers k n e = grind (arith, e)
-
 other_numbers : (k n : ℕ) → (k == n) ≡ false → k ≢ n
 other_numbers k n e i = absurd (grind (arith, e, i))
-
-equal_self : (n : ℕ) → (n == n) ≡ true
-equal_self n = grind arith
 
 set_length : {A : Type 0} (xs : List A) (n : ℕ) (x : A) → length (slice_set xs n x) ≡ length xs
 set_length [] n x = refl
@@ -102,25 +97,25 @@ module _ (R : ℕ → Type 0) (l : Place) where
 
     module _ (n : ℕ) where
       set_kept : (b : Bool) → (n == m) ≡ b → (k : Place) → mark_at s n ≡ Some k → mark_at set n ≡ Some k
-      set_kept true i k e = absurd (some_not_none k (sym e ∙ ap (mark_at s) (equal_numbers n m i) ∙ none))
+      set_kept true i k e = absurd (some_not_none k (sym e ∙ ap (mark_at s) (eq_means n m i) ∙ none))
       set_kept false i k e = set_there n (other_numbers n m i) ∙ e
 
       set_fresh : (b : Bool) → (n == m) ≡ b → (k : Place) → mark_at set n ≡ Some k → (mark_at s n ≡ Some k) ⊎ ((mark_at s n ≡ None) × (k ≡ l) × R n)
       set_fresh true i k e =
-          let j = equal_numbers n m i in
+          let j = eq_means n m i in
           let both : Some k ≡ Some l = sym e ∙ ap (mark_at set) j ∙ set_here in
           inr (ap (mark_at s) j ∙ none, (cc), subst R (sym j) r)
       set_fresh false i k e = inl (sym (set_there n (other_numbers n m i)) ∙ e)
 
       in_new : (n == m) ≡ true → holds_number (s.waiting ++ (m ∷ [])) n ≡ true
-      in_new i = in_right n s.waiting (m ∷ []) (ap (λ b. b || false) (subst (λ k. (k == n) ≡ true) (equal_numbers n m i) (equal_self n)))
+      in_new i = in_right n s.waiting (m ∷ []) (ap (λ b. b || false) (subst (λ k. (k == n) ≡ true) (eq_means n m i) (eq_reflexive n)))
 
       set_new : (b : Bool) → (n == m) ≡ b → is_marked set n ≡ true → (is_marked s n ≡ true) ⊎ (holds_number (s.waiting ++ (m ∷ [])) n ≡ true)
       set_new true i e = inr (in_new i)
       set_new false i e = inl (sym (ap is_some (set_there n (other_numbers n m i))) ∙ e)
 
       one_waits : (b : Bool) → (m == n) ≡ b → (b || false) ≡ true → is_marked set n ≡ true
-      one_waits true i e = subst (λ k. is_marked set k ≡ true) (equal_numbers m n i) (some_marked (mark_at set m) l set_here)
+      one_waits true i e = subst (λ k. is_marked set k ≡ true) (eq_means m n i) (some_marked (mark_at set m) l set_here)
       one_waits false i e = absurd (cc)
 
       set_waits : holds_number (s.waiting ++ (m ∷ [])) n ≡ true → (holds_number s.waiting n ≡ true) ⊎ (is_marked set n ≡ true)
@@ -149,13 +144,13 @@ module _ (R : ℕ → Type 0) (l : Place) where
   visited s m there r = visit_case s m there r (is_marked s m) refl
 
   all_case : (m n : ℕ) (ms : List ℕ) (b : Bool) → (m == n) ≡ b → (b || holds_number ms n) ≡ true → (m ≡ n) ⊎ (holds_number ms n ≡ true)
-  all_case m n ms true i e = inl (equal_numbers m n i)
+  all_case m n ms true i e = inl (eq_means m n i)
   all_case m n ms false i e = inr e
 
   pub visited_all : (ms : List ℕ) (s : Spread) → ((m : ℕ) → holds_number ms m ≡ true → (m < length s.owners) × R m) → Grown R l s (visit_all ms l s) × ((m : ℕ) → holds_number ms m ≡ true → is_marked (visit_all ms l s) m ≡ true)
   visited_all [] s h = (grown_none s, λ m e. absurd (cc))
   visited_all (m ∷ ms) s h =
-      let here = h m (ap (λ b. b || holds_number ms m) (equal_self m)) in
+      let here = h m (ap (λ b. b || holds_number ms m) (eq_reflexive m)) in
       let a = visited s m here.0 here.1 in
       let rest = visited_all ms (visit m l s) (λ n e. let x = h n (right (m == n) e) in (subst (λ k. n < k) (sym a.0.long) x.0, x.1)) in (
         grown_then s (visit m l s) (visit_all ms l (visit m l s)) a.0 rest.0,

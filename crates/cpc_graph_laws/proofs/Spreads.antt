@@ -2,6 +2,7 @@
 use Rattle.std.proofs.Common.{◌≡◌, ℕ, zero, suc, ◌+◌, ◌<◌, ◌≤◌, ◌==◌, ◌||◌, ◌⊎◌, inl, inr, ⊎_elim, Bool, true, false, List, [], ◌∷◌, ◌++◌, length, slice_get, Some, None, refl, sym, ◌∙◌, ap, subst, arith}
 use Rattle.std.proofs.lemmas.List.{length-append}
 use Rattle.std.proofs.lemmas.Option.{slice_get_past}
+use Rattle.cpc_base.proofs.Truth.{eq_means, never_both}
 use Rattle.cpc_tree.specs.Lists.{holds_number}
 use Rattle.cpc_forms.specs.Flow.{Place, Start, At, Flow, Inside, goes_to, is_leader, owner_of, owner_by}
 use Rattle.cpc_forms.specs.Marks.{Marks}
@@ -10,10 +11,7 @@ use Rattle.cpc_graph_laws.specs.Spreading.{SpreadBegins, SpreadGoesOn, SpreadEnd
 use Rattle.cpc_graph_laws.proofs.Formed.{in_either, in_left}
 use Rattle.cpc_graph_laws.proofs.Leaders.{leader_below}
 use Rattle.cpc_graph_laws.proofs.Marked.{marks_are_owners, owners_go_on, leaders_are_listed}
-use Rattle.cpc_graph_laws.proofs.Spreading.{Grown, some_not_none, marked_some, some_marked, equal_numbers, kept_marked, visited_all}
-
-not_both : (b : Bool) → b ≡ true → b ≡ false → ⊥
-not_both b e f = let h : true ≡ false = sym e ∙ f in absurd (cc)
+use Rattle.cpc_graph_laws.proofs.Spreading.{Grown, some_not_none, marked_some, some_marked, kept_marked, visited_all}
 
 -- what is not known to be a leader is none
 no_leader : (flow : Flow) (s : Spread) (n : ℕ) → ((m : ℕ) → is_leader flow m ≡ true → mark_at s m ≡ Some (At m)) → mark_at s n ≡ None → (b : Bool) → is_leader flow n ≡ b → b ≡ false
@@ -57,12 +55,12 @@ module _ (flow : Flow) (within : Inside flow) (s : Spread) (rest : List ℕ) (n 
   waited m e = subst (λ ms. holds_number ms m ≡ true) (sym last) (in_left m rest (n ∷ []) e)
 
   one_case : (a : ℕ) (b : Bool) → (n == a) ≡ b → (b || false) ≡ true → n ≡ a
-  one_case a true i e = equal_numbers n a i
+  one_case a true i e = eq_means n a i
   one_case a false i e = absurd (cc)
 
   not_waiting : (a : ℕ) → (n ≡ a → ⊥) → holds_number after.waiting a ≡ false → (b : Bool) → holds_number s.waiting a ≡ b → b ≡ false
   not_waiting a other out true e =
-      ⊎_elim (λ h. absurd (not_both (holds_number after.waiting a) (grown.still a h) out)) (λ h. absurd (other (one_case a (n == a) refl h)))
+      ⊎_elim (λ h. absurd (never_both (holds_number after.waiting a) (grown.still a h) out)) (λ h. absurd (other (one_case a (n == a) refl h)))
       (in_either a rest (n ∷ []) (subst (λ ms. holds_number ms a ≡ true) last e))
   not_waiting a other out false e = refl
 
@@ -70,7 +68,7 @@ module _ (flow : Flow) (within : Inside flow) (s : Spread) (rest : List ℕ) (n 
   other_number a e i = absurd (grind (arith, e, i))
 
   handed_case : (a m : ℕ) → is_marked s a ≡ true → holds_number after.waiting a ≡ false → goes_to flow (At a) m ≡ true → (b : Bool) → (n == a) ≡ b → is_marked after m ≡ true
-  handed_case a m e out g true i = turn.1 m (subst (λ k. goes_to flow (At k) m ≡ true) (sym (equal_numbers n a i)) g)
+  handed_case a m e out g true i = turn.1 m (subst (λ k. goes_to flow (At k) m ≡ true) (sym (eq_means n a i)) g)
   handed_case a m e out g false i = still_marked m (is.handed a m e (not_waiting a (other_number a i) out (holds_number s.waiting a) refl) g)
 
   after_spread : IsSpread flow after
@@ -80,7 +78,7 @@ module _ (flow : Flow) (within : Inside flow) (s : Spread) (rest : List ℕ) (n 
     entry = λ m e. still_marked m (is.entry m e);
     right = after_right;
     waits = λ m e. ⊎_elim (λ h. still_marked m (is.waits m (waited m h))) (λ h. h) (grown.waits m e);
-    handed = λ a m e out g. ⊎_elim (λ h. handed_case a m h out g (n == a) refl) (λ h. absurd (not_both (holds_number after.waiting a) h out)) (grown.new a e);
+    handed = λ a m e out g. ⊎_elim (λ h. handed_case a m h out g (n == a) refl) (λ h. absurd (never_both (holds_number after.waiting a) h out)) (grown.new a e);
   }
 
   less_to_do : left_to_do after < left_to_do s
@@ -167,7 +165,7 @@ module _ (flow : Flow) (within : Inside flow) where
   begun_handed : (a : ℕ) → is_marked first a ≡ true → holds_number (begun flow).waiting a ≡ false → ⊥
   begun_handed a e out =
       let x = marked_some (mark_at first a) e in
-      not_both (holds_number (begun flow).waiting a) (starts.0.still a (leaders_are_listed flow within a ∙ (first_is_leader a x.0 x.1).0)) out
+      never_both (holds_number (begun flow).waiting a) (starts.0.still a (leaders_are_listed flow within a ∙ (first_is_leader a x.0 x.1).0)) out
 
   begun_spread : IsSpread flow (begun flow)
   begun_spread = record {
@@ -176,7 +174,7 @@ module _ (flow : Flow) (within : Inside flow) where
     entry = λ n e. starts.1 n e;
     right = begun_right;
     waits = λ n e. ⊎_elim (λ h. waits_leader n h) (λ h. h) (starts.0.waits n e);
-    handed = λ a m e out w. ⊎_elim (λ h. absurd (begun_handed a h out)) (λ h. absurd (not_both (holds_number (begun flow).waiting a) h out)) (starts.0.new a e);
+    handed = λ a m e out w. ⊎_elim (λ h. absurd (begun_handed a h out)) (λ h. absurd (never_both (holds_number (begun flow).waiting a) h out)) (starts.0.new a e);
   }
 
 pub spread_begins : SpreadBegins

@@ -6,6 +6,7 @@ use Rattle.cpc_base.specs.declared.poll.Direction.{Direction}
 use Rattle.cpc_base.specs.declared.poll.Direction.TheVariants.{Read, Write}
 use Rattle.cpc_base.specs.declared.poll.Event.{Event}
 use Rattle.cpc_base.specs.declared.poll.Event.TheVariants.{Done, Ready}
+use Rattle.cpc_base.proofs.Truth.{and_holds}
 use Rattle.cpc_tree.specs.Trace.{Told, clock_limit, descriptor_limit, section_limit}
 use Rattle.cpc_tree.specs.Texts as T
 use Rattle.cpc_tree.specs.Texts.{◌>>=◌}
@@ -23,10 +24,6 @@ then_holds P Q (Err e) k h f = tt
 pick : {A : Type 0} (P : A → Type 0) (b : Bool) (x y : Result A T.LineFault) → Holds P x → Holds P y → Holds P (if b then x else y)
 pick P true x y h g = h
 pick P false x y h g = g
-
-both : (a b : Bool) → a ≡ true → b ≡ true → (a && b) ≡ true
-both true b g h = h
-both false b g h = g
 
 abbrev IsWithin : ℕ → ℕ → Type 0
 IsWithin limit n = nat_le n limit ≡ true
@@ -54,7 +51,7 @@ least n = grind arith
 descriptor_fits : (way : Direction) (w : Text) → Holds EventFits (T.descriptor_word way w)
 descriptor_fits way w =
     then_holds (IsWithin descriptor_limit) EventFits (T.number_word descriptor_limit w) (λ n. Ok (Ready (pos n) way)) (number_fits descriptor_limit w)
-    (λ n h. both (nat_le 0 n) (nat_le n descriptor_limit) (least n) h)
+    (λ n h. and_holds (nat_le 0 n) (nat_le n descriptor_limit) (least n) h)
 
 event_fits_read : (w : Text) → Holds EventFits (T.event_word w)
 event_fits_read [] = tt
@@ -68,7 +65,7 @@ events_fit_read : (ws : List Text) → Holds EventsFit (T.event_words ws)
 events_fit_read [] = refl
 events_fit_read (w ∷ ws) =
     then_holds EventFits EventsFit (T.event_word w) _ (event_fits_read w)
-    (λ e h. then_holds EventsFit EventsFit (T.event_words ws) _ (events_fit_read ws) (λ es g. both (event_fits e) (events_fit es) h g))
+    (λ e h. then_holds EventsFit EventsFit (T.event_words ws) _ (events_fit_read ws) (λ es g. and_holds (event_fits e) (events_fit es) h g))
 
 -- a poll within the limits, or none
 abbrev LineFits : Option Told → Type 0
@@ -79,7 +76,7 @@ poll_fits_read : (ws : List Text) → Holds LineFits (T.poll_words ws)
 poll_fits_read [] = tt
 poll_fits_read (w ∷ ws) =
     then_holds (IsWithin clock_limit) LineFits (T.number_word clock_limit w) _ (number_fits clock_limit w)
-    (λ n h. then_holds EventsFit LineFits (T.event_words ws) _ (events_fit_read ws) (λ es g. both (nat_le n clock_limit) (events_fit es) h g))
+    (λ n h. then_holds EventsFit LineFits (T.event_words ws) _ (events_fit_read ws) (λ es g. and_holds (nat_le n clock_limit) (events_fit es) h g))
 
 line_fits_read : (ws : List Text) → Holds LineFits (T.line_words ws)
 line_fits_read [] = tt
@@ -92,7 +89,7 @@ ReadFits (T.BadLine n fault) = Unit {0}
 
 more_fits : (line : Result (Option Told) T.LineFault) (n : ℕ) (rest : T.HistoryRead) → Holds LineFits line → ReadFits rest → ReadFits (T.and_line line n rest)
 more_fits (Ok None) n rest h g = g
-more_fits (Ok (Some told)) n (T.Polls polls) h g = both (nat_le told.clock clock_limit && events_fit told.events) (polls_fit polls) h g
+more_fits (Ok (Some told)) n (T.Polls polls) h g = and_holds (nat_le told.clock clock_limit && events_fit told.events) (polls_fit polls) h g
 more_fits (Ok (Some told)) n (T.BadLine m fault) h g = tt
 more_fits (Err fault) n rest h g = tt
 

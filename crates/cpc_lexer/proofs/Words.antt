@@ -1,5 +1,5 @@
 -- Runs of letters, digits and _, and what the digits of an integer tell.
-use Rattle.std.proofs.Common.{◌≡◌, ℕ, zero, suc, ◌+◌, ◌*◌, ◌^◌, ◌≤◌, ◌<◌, Bool, true, false, cond, nat_eq, nat_le, [], ◌∷◌, length, take, drop, get_or, Some, None, refl, sym, ap, ◌∙◌, arith, ◌⊎◌, inl, inr}
+use Rattle.std.proofs.Common.{◌≡◌, ℕ, zero, suc, ◌+◌, ◌*◌, ◌^◌, ◌≤◌, ◌<◌, Bool, true, false, cond, nat_eq, [], ◌∷◌, length, take, drop, get_or, Some, None, refl, sym, ap, ◌∙◌, arith, ◌⊎◌, inl, inr}
 use Rattle.std.proofs.lemmas.Bool.{ne_eqb}
 use Rattle.std.proofs.lemmas.Bool.Decides.{nat_tests}
 use Rattle.std.proofs.lemmas.List.{length-take-le}
@@ -9,6 +9,7 @@ use Rattle.std.specs.List.{prefix_len}
 use Rattle.std.specs.Char.{is_ascii_digit}
 use Rattle.cpc_base.specs.Bytes.{Text}
 use Rattle.cpc_base.specs.declared.stop.Dialect.{Dialect}
+use Rattle.cpc_base.proofs.Truth.{le_holds, le_fails}
 use Rattle.cpc_tree.specs.Tokens.{keyword_of, punctuator_of}
 use Rattle.cpc_tree.specs.Pieces.{Space, Fault, Gap, Run, Sign, is_blank, in_word, digit_value, is_digit_of, value_of, suffix_of, with_suffix, integer_of, by_digits, integer, name_or_keyword, run, first_state, next_state, state_behind, state_of}
 use Rattle.cpc_tree.proofs.Runs.{first_run, next_run}
@@ -80,12 +81,6 @@ take_least base pos acc (d ∷ ds) (suc m) (suc k) le = take_least base pos (bas
 value_more : (base : ℕ) (w : Text) (n : ℕ) → n < length w → value_of base (take (n + 1) w) ≡ base * value_of base (take n w) + digit_value (get_or w n 0)
 value_more base w n lt = rw (take_more w n 0 lt) (fold-append (λ v d. base * v + digit_value d) 0 (take n w) (get_or w n 0 ∷ []))
 
-le_true : (m n : ℕ) → m ≤ n → nat_le m n ≡ true
-le_true m n h = grind (arith, nat_tests)
-
-le_false : (m n : ℕ) → n < m → nat_le m n ≡ false
-le_false m n h = grind (arith, nat_tests)
-
 -- a value of 2 ^ 64 shows at the digit
 pub too_wide_at : (base : ℕ) (w : Text) (n v d : ℕ) → 0 < base → n < length w → prefix_len (is_digit_of base) w ≡ n + prefix_len (is_digit_of base) (drop n w) → is_digit_of base (get_or w n 0) ≡ true
     → v ≡ value_of base (take n w) → d ≡ digit_value (get_or w n 0) → 2 ^ 64 ≤ base * v + d → Fault 3 ≡ by_digits base w
@@ -94,13 +89,13 @@ too_wide_at base w n v d pos lt e f g h le =
     let least = take_least base pos 0 w (n + 1) (prefix_len (is_digit_of base) w) (omega (arith, k, e)) in
     let same : value_of base (take (n + 1) w) ≡ base * v + d = rw (g, h) (value_more base w n lt) in
     let wide : 2 ^ 64 ≤ value_of base (take (prefix_len (is_digit_of base) w) w) = omega (arith, least, same, le) in
-    rw (le_true (2 ^ 64) (value_of base (take (prefix_len (is_digit_of base) w) w)) wide) refl
+    rw (le_holds (2 ^ 64) (value_of base (take (prefix_len (is_digit_of base) w) w)) wide) refl
 
 not_empty : (w : Text) → 0 < length w → nat_eq (length w) 0 ≡ false
 not_empty w lt = grind (arith, nat_tests)
 
 small_value : (base : ℕ) (digits suffix : Text) → value_of base digits < 2 ^ 64 → 0 < length digits → integer_of base digits suffix ≡ with_suffix base (value_of base digits) (suffix_of suffix)
-small_value base digits suffix lt pos = rw (le_false (2 ^ 64) (value_of base digits) lt, not_empty digits pos) refl
+small_value base digits suffix lt pos = rw (le_fails (2 ^ 64) (value_of base digits) lt, not_empty digits pos) refl
 
 -- the digits end, and the value is below 2 ^ 64
 pub digits_end : (base : ℕ) (w : Text) (n v : ℕ) → n ≤ length w → prefix_len (is_digit_of base) w ≡ n + prefix_len (is_digit_of base) (drop n w) → (n < length w → is_digit_of base (get_or w n 0) ≡ true → ⊥)

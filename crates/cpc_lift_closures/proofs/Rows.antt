@@ -2,15 +2,10 @@
 use Rattle.std.proofs.Common.{◌≡◌, ◌==◌, ◌<◌, ◌+◌, suc, ℕ, Bool, true, false, List, [], ◌∷◌, ◌++◌, cond, map, length, get_or, set, drop, refl, sym, ◌∙◌, ap, arith}
 use Rattle.std.proofs.lemmas.List.{get_or-map, get_or-set_same, get_or-set_other, length-set, append_assoc}
 use Rattle.std.proofs.Math.Seq.{drop-cons}
+use Rattle.cpc_base.proofs.Truth.{eq_means, eq_not_means}
 use Rattle.cpc_lift_laws.specs.Search as S
 use Rattle.cpc_lift_closures.specs.declared.links.Link.{Link}
 use Rattle.cpc_lift_closures.specs.Rows.{links_of}
-
-pub number_is : (a b : ℕ) → (a == b) ≡ true → a ≡ b
-number_is a b e = grind (arith, e)
-
-pub not_number : (a b : ℕ) → (a == b) ≡ false → ¬ (a ≡ b)
-not_number a b e = λ i. absurd (grind (arith, e, i))
 
 -- what is left at a place below the end
 pub links_left : (links : List Link) (i : ℕ) (d : Link) → i < length links → links_of (drop i links) ≡ record { from = (get_or links i d).from; to = (get_or links i d).to } ∷ links_of (drop (i + 1) links)
@@ -30,10 +25,10 @@ module _ {X : Type 0} (items : X → List ℕ) where
 
       go : (b : Bool) → (m == to) ≡ b → get_or (map items (set rows to new)) m [] ++ S.before rest m ≡ get_or (map items rows) m [] ++ cond b (from ∷ S.before rest m) (S.before rest m)
       go true i =
-          let q = number_is m to i in
+          let q = eq_means m to i in
           let here : get_or (map items (set rows to new)) m [] ≡ items old ++ from ∷ [] =
           at_new ∙ ap (λ n. items (get_or (set rows to new) n new)) q ∙ ap items (get_or-set_same rows to new new lt) ∙ f in
           let before : get_or (map items rows) m [] ≡ items old = read rows m old lm ∙ ap (λ n. items (get_or rows n old)) q ∙ ap items (sym e) in
           ap (λ r. r ++ S.before rest m) here ∙ append_assoc (items old) (from ∷ []) (S.before rest m) ∙ ap (λ r. r ++ from ∷ S.before rest m) (sym before)
       go false i =
-          ap (λ r. r ++ S.before rest m) (at_new ∙ ap items (get_or-set_other rows to m new new (not_number m to i)) ∙ sym (read rows m new lm))
+          ap (λ r. r ++ S.before rest m) (at_new ∙ ap items (get_or-set_other rows to m new new (eq_not_means m to i)) ∙ sym (read rows m new lm))

@@ -5,12 +5,12 @@ use Rattle.std.proofs.lemmas.List.{get_or-set_same, get_or-set_other, length-set
 use Rattle.std.proofs.lemmas.List.Elements.{All-append, All-get_or}
 use Rattle.std.proofs.Math.Seq.{drop-cons}
 use Rattle.std.proofs.Math.ListN.{drop_of_length-le}
+use Rattle.cpc_base.proofs.Truth.{eq_means, eq_not_means}
 use Rattle.cpc_tree.specs.Lists.{holds_number}
 use Rattle.cpc_lift_laws.specs.Search as S
 use Rattle.cpc_lift_laws.proofs.Search.{at_first}
 use Rattle.cpc_lift_closures.specs.Rows.{IsNumber, RowsAre, MarksAre}
 use Rattle.cpc_lift_closures.specs.Turns.{queued, GoesOn, AreNumbers}
-use Rattle.cpc_lift_closures.proofs.Rows.{number_is, not_number}
 
 -- what two facts of a value give together
 pub on_ok_both : {T E P Q R : Type 0} (r : Result T E) → (P → Q → R) → OnOk r P → OnOk r Q → OnOk r R
@@ -24,7 +24,7 @@ seen_there true k owner seen h = refl
 seen_there false k owner seen h = go (owner == k) refl
   where
     go : (c : Bool) → (owner == k) ≡ c → holds_number seen k ≡ (c || holds_number seen k)
-    go true e = absurd (h (sym (number_is owner k e)))
+    go true e = absurd (h (sym (eq_means owner k e)))
     go false e = refl
 
 seen_here : (b : Bool) (owner : ℕ) (seen : List ℕ) → holds_number seen owner ≡ b → holds_number (S.seen_after b owner seen) owner ≡ true
@@ -36,11 +36,11 @@ marks_set count owner seen marks m lt = record { length = length-set marks owner
   where
     go : (k : ℕ) → k < count → (b : Bool) → (k == owner) ≡ b → get_or (set marks owner true) k false ≡ holds_number (S.seen_after (holds_number seen owner) owner seen) k
     go k below true e =
-        let i = number_is k owner e in
+        let i = eq_means k owner e in
         subst (λ n. get_or (set marks owner true) n false ≡ holds_number (S.seen_after (holds_number seen owner) owner seen) n) (sym i)
         (get_or-set_same marks owner true false (omega (arith, lt, m.length)) ∙ sym (seen_here (holds_number seen owner) owner seen refl))
     go k below false e =
-        get_or-set_other marks owner k true false (not_number k owner e) ∙ m.set k below ∙ seen_there (holds_number seen owner) k owner seen (not_number k owner e)
+        get_or-set_other marks owner k true false (eq_not_means k owner e) ∙ m.set k below ∙ seen_there (holds_number seen owner) k owner seen (eq_not_means k owner e)
 
 -- ---- the queue
 

@@ -1,5 +1,6 @@
 -- The slots of a call are boxes where they are marked.
-use Rattle.std.proofs.Common.{◌≡◌, ◌<◌, ℕ, zero, suc, ◌+◌, Bool, true, false, not, List, [], ◌∷◌, length, Option, Some, None, slice_get, refl, sym, ◌∙◌, ap, subst, arith}
+use Rattle.std.proofs.Common.{◌≡◌, ◌<◌, ℕ, suc, ◌+◌, Bool, true, false, not, List, [], ◌∷◌, length, Option, Some, None, slice_get, refl, sym, ◌∙◌, ap, subst, arith}
+use Rattle.cpc_base.proofs.Lists.{item_within}
 use Rattle.cpc_tree.specs.Syntax.{Variable, Function, Program}
 use Rattle.cpc_tree.specs.Lists.{first_or, rest_of}
 use Rattle.cpc_tree.specs.Typing.{size}
@@ -37,15 +38,9 @@ slots_made p f n keep box (x ∷ xs) h vs s made e =
 pub programs_have_marks : ProgramsHaveMarks
 programs_have_marks p = record { marked = λ f e k x g. ap (λ o. is_box_in o k) e ∙ ap (has_block f k) g }
 
--- what is there is below the length
-there_below : {X : Type 0} (xs : List X) (k : ℕ) (x : X) → slice_get xs k ≡ Some x → k < length xs
-there_below [] k x e = absurd (cc)
-there_below (y ∷ xs) zero x e = omega arith
-there_below (y ∷ xs) (suc k) x e = let lt = there_below xs k x e in omega (arith, lt)
-
 block_below : (f : Function) (k : ℕ) (o : Option Variable) → slice_get (variables f) k ≡ o → has_block f k o ≡ true → k < length (variables f)
 block_below f k None e b = absurd (cc)
-block_below f k (Some x) e b = there_below (variables f) k x e
+block_below f k (Some x) e b = item_within (variables f) k x e
 
 pub boxes_are_below : BoxesAreBelow
 boxes_are_below p x f e k b = block_below f k (slice_get (variables f) k) refl (sym (ap (λ o. is_box_in o k) e) ∙ b)

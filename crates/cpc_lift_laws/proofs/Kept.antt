@@ -1,6 +1,7 @@
 -- From the numbers of the variables that occur to the names that are kept.
-use Rattle.std.proofs.Common.{◌≡◌, ℕ, suc, ◌==◌, ◌||◌, Bool, true, false, List, [], ◌∷◌, ◌++◌, bytes_eq, cond, map, refl, ◌∙◌, ap, arith}
+use Rattle.std.proofs.Common.{◌≡◌, ℕ, suc, ◌==◌, ◌||◌, Bool, true, false, List, [], ◌∷◌, ◌++◌, bytes_eq, cond, map, refl, ◌∙◌, ap}
 use Rattle.cpc_base.specs.Bytes.{Text}
+use Rattle.cpc_base.proofs.Truth.{eq_reflexive, or_by_first, or_by_second}
 use Rattle.cpc_tree.specs.Lists.{holds_number}
 use Rattle.cpc_tree.specs.Syntax.{Ty, Expr, ENamed, EInteger, ECharacter, EText, EUnary, EBinary, EAnd, EOr, EChoose, ECast, ESizeOf, EIndex, EMember, EArrow, ECall, StructItem, GlobalItem, PrototypeItem, FunctionItem, Program}
 use Rattle.cpc_tree.specs.declared.program.Mode.{Mode}
@@ -15,33 +16,22 @@ Kept keep ks = (k : ℕ) → holds_number ks k ≡ true → keep k ≡ true
 
 -- ---- lists of numbers
 
-pub same_number : (n : ℕ) → (n == n) ≡ true
-same_number n = grind (arith)
-
-either_front : (a b : Bool) → a ≡ true → (a || b) ≡ true
-either_front true b e = refl
-either_front false b e = absurd (cc)
-
-either_back : (a b : Bool) → b ≡ true → (a || b) ≡ true
-either_back true b e = refl
-either_back false b e = e
-
 pub either : (a b c : Bool) → (a ≡ true → c ≡ true) → (b ≡ true → c ≡ true) → (a || b) ≡ true → c ≡ true
 either true b c h g e = h refl
 either false b c h g e = g e
 
 pub holds_front : (xs ys : List ℕ) (k : ℕ) → holds_number xs k ≡ true → holds_number (xs ++ ys) k ≡ true
 holds_front [] ys k e = absurd (cc)
-holds_front (x ∷ xs) ys k e = either (x == k) (holds_number xs k) ((x == k) || holds_number (xs ++ ys) k) (λ h. either_front (x == k) (holds_number (xs ++ ys) k) h) (λ h. either_back (x == k) (holds_number (xs ++ ys) k) (holds_front xs ys k h)) e
+holds_front (x ∷ xs) ys k e = either (x == k) (holds_number xs k) ((x == k) || holds_number (xs ++ ys) k) (λ h. or_by_first (x == k) (holds_number (xs ++ ys) k) h) (λ h. or_by_second (x == k) (holds_number (xs ++ ys) k) (holds_front xs ys k h)) e
 
 pub holds_back : (xs ys : List ℕ) (k : ℕ) → holds_number ys k ≡ true → holds_number (xs ++ ys) k ≡ true
 holds_back [] ys k e = e
-holds_back (x ∷ xs) ys k e = either_back (x == k) (holds_number (xs ++ ys) k) (holds_back xs ys k e)
+holds_back (x ∷ xs) ys k e = or_by_second (x == k) (holds_number (xs ++ ys) k) (holds_back xs ys k e)
 
 pub holds_either : (xs ys : List ℕ) (k : ℕ) (c : Bool) → (holds_number xs k ≡ true → c ≡ true) → (holds_number ys k ≡ true → c ≡ true) → holds_number (xs ++ ys) k ≡ true → c ≡ true
 holds_either [] ys k c h g e = g e
 holds_either (x ∷ xs) ys k c h g e =
-    either (x == k) (holds_number (xs ++ ys) k) c (λ i. h (either_front (x == k) (holds_number xs k) i)) (holds_either xs ys k c (λ i. h (either_back (x == k) (holds_number xs k) i)) g) e
+    either (x == k) (holds_number (xs ++ ys) k) c (λ i. h (or_by_first (x == k) (holds_number xs k) i)) (holds_either xs ys k c (λ i. h (or_by_second (x == k) (holds_number xs k) i)) g) e
 
 module _ (keep : ℕ → Bool) where
   pub kept_front : (xs ys : List ℕ) → Kept keep (xs ++ ys) → Kept keep xs
@@ -75,7 +65,7 @@ this_local : (b : Bool) (l : Local) (k : ℕ) (t : Ty) (outer : Meant) (slots : 
     → cond b (ALocal l.slot l.type) outer ≡ ALocal k t → holds_number (cond b (l.slot ∷ []) slots) k ≡ true
 this_local true l k t outer slots h e =
     let i : l.slot ≡ k = cc in
-    ap (λ n. (n == k) || false) i ∙ either_front (k == k) false (same_number k)
+    ap (λ n. (n == k) || false) i ∙ or_by_first (k == k) false (eq_reflexive k)
 this_local false l k t outer slots h e = h e
 
 -- the number of the local that a name means

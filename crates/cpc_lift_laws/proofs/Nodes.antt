@@ -1,13 +1,14 @@
 -- The ways and the uses that are gathered are those of the code.
-use Rattle.std.proofs.Common.{◌≡◌, ◌↔◌, ◌⊎◌, inl, inr, ⊎_elim, ◌==◌, ℕ, Bool, true, false, List, [], ◌∷◌, ◌++◌, Option, Some, None, cond, refl, sym, ◌∙◌, ap, subst, arith}
+use Rattle.std.proofs.Common.{◌≡◌, ◌↔◌, ◌⊎◌, inl, inr, ⊎_elim, ◌==◌, ℕ, Bool, true, false, List, [], ◌∷◌, ◌++◌, Option, Some, None, cond, refl, sym, ◌∙◌, ap, subst}
 use Rattle.cpc_base.specs.Bytes.{Text}
+use Rattle.cpc_base.proofs.Truth.{eq_reflexive, eq_means}
 use Rattle.cpc_tree.specs.Lists.{holds_number}
 use Rattle.cpc_meaning.specs.Plain.{Code}
 use Rattle.cpc_lift_laws.specs.Used.{used_at, is_left}
 use Rattle.cpc_lift_laws.specs.Closures.{UsedBy, HasName, HasBox, LeadsTo, ByWay, ByArrival}
 use Rattle.cpc_lift_laws.specs.Search.{Link, before}
 use Rattle.cpc_lift_laws.specs.Nodes.{Member, First, Later, links_to, way_to, ways_from, ways_of_nodes, uses_from, uses_of_nodes, NodesGiveWays}
-use Rattle.cpc_lift_laws.proofs.Kept.{same_number, holds_front, holds_back}
+use Rattle.cpc_lift_laws.proofs.Kept.{holds_front, holds_back}
 use Rattle.cpc_lift_laws.proofs.Search.{one_more, at_first, further}
 
 -- a link among these
@@ -42,18 +43,15 @@ link_back xs ys l m e = ap (λ r. holds_number r l) (before_append xs ys m) ∙ 
 
 -- ---- one link
 
-number_is : (a b : ℕ) → (a == b) ≡ true → a ≡ b
-number_is a b e = grind (arith, e)
-
 one_link : (l0 m0 : ℕ) (rest : List Link) (l m : ℕ) (C : Type 0) → (l0 ≡ l → m ≡ m0 → C) → (IsLink rest l m → C) → IsLink (record { from = l0; to = m0 } ∷ rest) l m → C
 one_link l0 m0 rest l m C h g e = go (m == m0) refl e
   where
     go : (b : Bool) → (m == m0) ≡ b → holds_number (cond b (l0 ∷ before rest m) (before rest m)) l ≡ true → C
-    go true i e = one_more l0 l (before rest m) C (λ j. h j (number_is m m0 i)) g e
+    go true i e = one_more l0 l (before rest m) C (λ j. h j (eq_means m m0 i)) g e
     go false i e = g e
 
 this_link : (l m : ℕ) (rest : List Link) → IsLink (record { from = l; to = m } ∷ rest) l m
-this_link l m rest = go (m == m) (same_number m)
+this_link l m rest = go (m == m) (eq_reflexive m)
   where
     go : (b : Bool) → b ≡ true → holds_number (cond b (l ∷ before rest m) (before rest m)) l ≡ true
     go true e = at_first l (before rest m)

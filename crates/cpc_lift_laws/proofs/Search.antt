@@ -1,26 +1,24 @@
 -- The search backwards finds what leads to a start, and all of it.
 use Rattle.std.proofs.Common.{◌≡◌, ◌⊎◌, inl, inr, ◌==◌, ◌||◌, ℕ, zero, suc, ◌+◌, ◌≤◌, Bool, true, false, List, [], ◌∷◌, ◌++◌, length, cond, refl, sym, ◌∙◌, ap, subst, arith}
 use Rattle.std.proofs.lemmas.List.{length-append}
+use Rattle.cpc_base.proofs.Truth.{eq_reflexive, eq_means}
 use Rattle.cpc_tree.specs.Lists.{holds_number}
 use Rattle.cpc_lift_laws.specs.Closures.{Reaches, Here, Further}
 use Rattle.cpc_lift_laws.specs.Search.{Link, before, work_after, seen_after, search, keepers, SearchFinds}
-use Rattle.cpc_lift_laws.proofs.Kept.{same_number, holds_front, holds_back}
+use Rattle.cpc_lift_laws.proofs.Kept.{holds_front, holds_back}
 
 -- ---- numbers in lists
-
-number_is : (a b : ℕ) → (a == b) ≡ true → a ≡ b
-number_is a b e = grind (arith, e)
 
 -- a number in a list with one more before it
 pub one_more : (x k : ℕ) (xs : List ℕ) (C : Type 0) → (x ≡ k → C) → (holds_number xs k ≡ true → C) → holds_number (x ∷ xs) k ≡ true → C
 one_more x k xs C h g e = go (x == k) refl e
   where
     go : (b : Bool) → (x == k) ≡ b → (b || holds_number xs k) ≡ true → C
-    go true i e = h (number_is x k i)
+    go true i e = h (eq_means x k i)
     go false i e = g e
 
 pub at_first : (x : ℕ) (xs : List ℕ) → holds_number (x ∷ xs) x ≡ true
-at_first x xs = go (x == x) (same_number x)
+at_first x xs = go (x == x) (eq_reflexive x)
   where
     go : (b : Bool) → b ≡ true → (b || holds_number xs x) ≡ true
     go true e = refl
@@ -114,7 +112,7 @@ fewer : (ways : List Link) (m : ℕ) (seen : List ℕ) → holds_number seen m �
 fewer [] m seen e = refl
 fewer (w ∷ ways) m seen e =
     seen_now (m == w.to) (holds_number seen w.to) 0 (before ways m) w.from (pending ways seen) (pending ways (m ∷ seen))
-    (λ i. ap (holds_number seen) (sym (number_is m w.to i)) ∙ e) (fewer ways m seen e)
+    (λ i. ap (holds_number seen) (sym (eq_means m w.to i)) ∙ e) (fewer ways m seen e)
 
 all_pending : (ways : List Link) → pending ways [] ≡ length ways
 all_pending [] = refl

@@ -1,14 +1,12 @@
 -- Slots of two frames that agree where they are kept, and of which the boxes are those that are marked.
-use Rattle.std.proofs.Common.{◌≡◌, ℕ, zero, suc, Bool, true, false, List, [], ◌∷◌, Some, slice_get, slice_set, refl, sym, ◌∙◌, ap}
+use Rattle.std.proofs.Common.{◌≡◌, ℕ, zero, suc, Bool, true, false, List, [], ◌∷◌, Some, slice_get, slice_set, refl, ◌∙◌, ap}
+use Rattle.cpc_base.proofs.Truth.{never_both}
 use Rattle.cpc_store.specs.declared.values.Class.TheVariants.{Auto}
 use Rattle.cpc_store.specs.Store.{Value, Unset, At, Store, free}
 use Rattle.cpc_meaning.specs.Answer.{Answer, Gives, Faults, NoAnswer, ◌>>=◌, of_result}
 use Rattle.cpc_meaning.specs.Eval.{Slot, Register, Boxed}
 use Rattle.cpc_meaning.specs.Slots.{free_slots}
 use Rattle.cpc_lift_laws.specs.Lifted.{tidy_slot, tidy_slots}
-
-pub not_both : (b : Bool) → b ≡ true → b ≡ false → ⊥
-not_both b t f = let e : true ≡ false = sym t ∙ f in absurd (cc)
 
 -- two slots, which are kept or not, and marked or not: a kept register has one value, and a box that is not kept may be forgotten
 abbrev pub SlotMeets : (keep box : Bool) → Slot → Slot → Type 0
@@ -29,7 +27,7 @@ SlotsMeet keep box (x ∷ xs) [] = ⊥
 same_kept : (keep box : Bool) (x y : Slot) → SlotMeets keep box x y → keep ≡ true → x ≡ y
 same_kept keep box (Register v) (Register w) m e = ap (λ u. Register u) (m.1 e)
 same_kept keep box (Boxed i) (Boxed j) m e = ap (λ n. Boxed n) m.1
-same_kept keep box (Boxed i) (Register w) m e = absurd (not_both keep e m.1)
+same_kept keep box (Boxed i) (Register w) m e = absurd (never_both keep e m.1)
 same_kept keep box (Register v) (Boxed j) m e = absurd m
 
 pub same_slot : (keep box : ℕ → Bool) (xs ys : List Slot) → SlotsMeet keep box xs ys → (k : ℕ) → keep k ≡ true → slice_get xs k ≡ slice_get ys k
@@ -44,7 +42,7 @@ same_slot keep box (x ∷ xs) [] m k e = absurd m
 weaker : (keep less box : Bool) (x y : Slot) → (less ≡ true → keep ≡ true) → SlotMeets keep box x y → SlotMeets less box x y
 weaker keep less box (Register v) (Register w) h m = (m.0, λ e. m.1 (h e))
 weaker keep less box (Boxed i) (Boxed j) h m = m
-weaker keep true box (Boxed i) (Register w) h m = absurd (not_both keep (h refl) m.1)
+weaker keep true box (Boxed i) (Register w) h m = absurd (never_both keep (h refl) m.1)
 weaker keep false box (Boxed i) (Register w) h m = (m.0, refl)
 weaker keep less box (Register v) (Boxed j) h m = m
 
@@ -84,7 +82,7 @@ pub frees_meet : (keep box : ℕ → Bool) (xs ys : List Slot) → SlotsMeet kee
 frees_meet keep box [] [] m h s = refl
 frees_meet keep box (Register v ∷ xs) (Register w ∷ ys) m h s = frees_meet (λ k. keep (suc k)) (λ k. box (suc k)) xs ys m.1 (λ k. h (suc k)) s
 frees_meet keep box (Boxed i ∷ xs) (Boxed j ∷ ys) m h s = free_here i j xs ys m.0.1 (frees_meet (λ k. keep (suc k)) (λ k. box (suc k)) xs ys m.1 (λ k. h (suc k))) s
-frees_meet keep box (Boxed i ∷ xs) (Register w ∷ ys) m h s = absurd (not_both (keep 0) (h 0 m.0.0) m.0.1)
+frees_meet keep box (Boxed i ∷ xs) (Register w ∷ ys) m h s = absurd (never_both (keep 0) (h 0 m.0.0) m.0.1)
 frees_meet keep box (Register v ∷ xs) (Boxed j ∷ ys) m h s = absurd m.0
 frees_meet keep box [] (y ∷ ys) m h s = absurd m
 frees_meet keep box (x ∷ xs) [] m h s = absurd m

@@ -1,6 +1,7 @@
 -- Each state of a lifted run agrees with one of the threads, so its frames stand.
 use Rattle.std.proofs.Common.{is_some, ◌≡◌, ℕ, zero, suc, Bool, true, List, [], ◌∷◌, length, Option, Some, slice_get, refl, sym, ◌∙◌, ap}
 use Rattle.cpc_base.specs.Bytes.{Text}
+use Rattle.cpc_base.proofs.Truth.{never_both}
 use Rattle.cpc_meaning_matching.specs.Steps.{or_stay}
 use Rattle.cpc_meaning_matching.specs.Systems.{run}
 use Rattle.cpc_meaning.specs.Eval.{Slot, Register, Boxed}
@@ -18,7 +19,7 @@ use Rattle.cpc_lift_laws.specs.Closed.{Closed}
 use Rattle.cpc_lift_laws.specs.Lifted.{lifted_system}
 use Rattle.cpc_lift_laws.specs.Laws.{SameBesides, LiftedIsSame}
 use Rattle.cpc_lift_laws.specs.Standing.{is_block, FrameStands, FramesStand, RunningStands, ThreadStands, AllStand, AgendaStands, StateStands, LiftedStands}
-use Rattle.cpc_lift_laws.proofs.Slots.{SlotMeets, SlotsMeet, not_both}
+use Rattle.cpc_lift_laws.proofs.Slots.{SlotMeets, SlotsMeet}
 use Rattle.cpc_meaning.proofs.Machines.{ThreadsMeet, PendingBoth, SuspendedBoth, StatesMeet, Meet}
 use Rattle.cpc_meaning.proofs.Steps.{next_meet}
 use Rattle.cpc_lift_laws.proofs.Frames.{FramesAgree, FrameAgrees, StacksAgree, StackAgrees, stacks_go}
@@ -30,7 +31,7 @@ use Rattle.cpc_lift_laws.proofs.Lifting.{tidied}
 block_marked : (keep box : Bool) (x y slot : Slot) → SlotMeets keep box x y → Some y ≡ Some slot → keep ≡ true → is_block slot ≡ box
 block_marked keep box (Register v) (Register w) slot m e k = let i : Register w ≡ slot = cc in sym (ap is_block i) ∙ sym m.0
 block_marked keep box (Boxed a) (Boxed b) slot m e k = let i : Boxed b ≡ slot = cc in sym (ap is_block i) ∙ sym m.0
-block_marked keep box (Boxed a) (Register w) slot m e k = absurd (not_both keep k m.1)
+block_marked keep box (Boxed a) (Register w) slot m e k = absurd (never_both keep k m.1)
 block_marked keep box (Register v) (Boxed b) slot m e k = absurd m
 
 blocks_marked : (keep box : ℕ → Bool) (xs ys : List Slot) → SlotsMeet keep box xs ys → (k : ℕ) (slot : Slot) → slice_get ys k ≡ Some slot → keep k ≡ true → is_block slot ≡ box k

@@ -3,6 +3,7 @@ use Rattle.std.proofs.Common.{◌≡◌, inl, inr, Bool, true, false, cond, List
 use Rattle.std.specs.List.{All}
 use Rattle.std.proofs.lemmas.List.Elements.{All-cons, All-head, All-tail}
 use Rattle.cpc_base.specs.Bytes.{Text}
+use Rattle.cpc_base.proofs.Truth.{by_false_and_true}
 use Rattle.cpc_num.specs.declared.kinds.Fault.TheVariants as F
 use Rattle.cpc_tree.specs.declared.program.Mode.{Mode}
 use Rattle.cpc_tree.specs.declared.program.Mode.TheVariants.{Extern}
@@ -50,9 +51,6 @@ record MayDo (p : Program) (f : Function) (scope : Scope) (stood : Stood) : Type
   sections : (to : Option Expr) (y : Text) (es : Exprs) → stood ≡ AtStatement (Simple (Detach to y es)) → is_cps f.mode ≡ true
   spawns : (y : Text) (es : Exprs) (g : Function) → stood ≡ AtStatement (Simple (Spawn y es)) → function_named p y ≡ Some g → is_cps g.mode ≡ true
 
-no_cps : {A : Type 0} (b : Bool) → b ≡ false → b ≡ true → A
-no_cps b e g = absurd (cc)
-
 module _ (p : Program) (codes : (x : Text) (g : Function) → IsNative (item_named 0 p x) → function_named p x ≡ Some g → is_cps g.mode ≡ false) (f : Function) where
   -- a native function that the program has
   abbrev IsCallee : Function → Type 0
@@ -93,7 +91,7 @@ module _ (p : Program) (codes : (x : Text) (g : Function) → IsNative (item_nam
         any_then (ActLayer p f) (needed (used_type c e)) _ λ t.
         any_then (ActLayer p f) (values c es) _ λ vs.
         any_then (ActLayer p f) (arguments (code_parameters t) vs) _ λ ws.
-        only_then IsCallee (ActLayer p f) (callee p t v) _ (callee_layer t v h) λ g i. (i.0, λ e. no_cps (is_cps g.mode) i.1 e)
+        only_then IsCallee (ActLayer p f) (callee p t v) _ (callee_layer t v h) λ g i. (i.0, λ e. by_false_and_true (is_cps g.mode) i.1 e)
 
     asks_layer : (prim : Primitive) (es : Exprs) (o : Option Text) → (gives_up prim ≡ true → is_cps f.mode ≡ true) → Acts (asks_with c prim es o)
     asks_layer prim es (Some bytes) may = may
@@ -200,7 +198,7 @@ module _ {P : Type 0} (p : Form P) where
   module _ (frame : Frame P) (f : Function) (below : List (Frame P)) (is : function_named p.program frame.function ≡ Some f) where
     -- the frame of a cps function stands over such frames alone
     cps_all : is_cps f.mode ≡ true → Layers (frame ∷ below) → Cps (frame ∷ below)
-    cps_all e (inl h) = let same : h.0.0 ≡ f = let i : Some h.0.0 ≡ Some f = sym h.0.1 ∙ is in cc in no_cps (is_cps h.0.0.mode) h.0.2 (ap (λ g. is_cps g.mode) same ∙ e)
+    cps_all e (inl h) = let same : h.0.0 ≡ f = let i : Some h.0.0 ≡ Some f = sym h.0.1 ∙ is in cc in by_false_and_true (is_cps h.0.0.mode) h.0.2 (ap (λ g. is_cps g.mode) same ∙ e)
     cps_all e (inr h) = All-cons (IsOfMode p.program true) frame below h.0 h.1
 
     -- a frame that is entered

@@ -1,7 +1,9 @@
 -- The slots of a call fit the variables of its function: when they are made, and when a register changes.
-use Rattle.std.proofs.Common.{◌≡◌, ◌⊎◌, inl, inr, ℕ, zero, suc, ◌+◌, Bool, true, false, List, [], ◌∷◌, ◌++◌, map, slice_get, slice_set, Some, refl, sym, ◌∙◌, ap, subst, arith, ◌&&◌}
+use Rattle.std.proofs.Common.{◌≡◌, ◌⊎◌, inl, inr, ℕ, zero, suc, ◌+◌, Bool, true, false, List, [], ◌∷◌, ◌++◌, map, slice_get, slice_set, Some, refl, sym, ◌∙◌, ap, subst, arith}
 use Rattle.std.specs.List.{All}
 use Rattle.std.proofs.lemmas.List.Elements.{All-cons, All-head, All-tail}
+use Rattle.cpc_base.proofs.Truth.{and_first}
+use Rattle.cpc_base.proofs.Lists.{some_is}
 use Rattle.cpc_tree.specs.Syntax.{Ty, Variable, Parameter, Function, Program, TyVoid, TyInt, TyCondvar, TyPointer, TyCode, TyStruct, TyArray}
 use Rattle.cpc_tree.specs.Lists.{first_or, rest_of}
 use Rattle.cpc_tree.specs.Points.{locals}
@@ -20,7 +22,7 @@ use Rattle.cpc_meaning_pointer_laws.proofs.Blocks.{Only, only_then, any_then, el
 use Rattle.cpc_meaning_kept_laws.specs.Codes.{IsCodeSlot}
 use Rattle.cpc_meaning_kept_laws.specs.Fits.{Fits, FitAll, types_of, FitsSlot, FitSlots, is_held, AreShaped, FitsCall}
 use Rattle.cpc_meaning_kept_laws.specs.Laws.{CallFits, CallsFit, Cleared, ClearedFit, Slotted, IsRegister, IsBox, SlotsAreKnown}
-use Rattle.cpc_meaning_kept_laws.proofs.Values.{some_same, set_fits, fits_suits}
+use Rattle.cpc_meaning_kept_laws.proofs.Values.{set_fits, fits_suits}
 use Rattle.cpc_meaning_kept_laws.proofs.Stores.{Stays}
 
 -- ---- slots that are made
@@ -72,7 +74,7 @@ set_shaped : (f : Function) (n : ℕ) (xs : List Variable) (slots : List Slot) (
 set_shaped f n [] [] k v w e h = tt
 set_shaped f n [] (y ∷ slots) k v w e h = absurd h
 set_shaped f n (x ∷ xs) [] k v w e h = absurd h
-set_shaped f n (x ∷ xs) (y ∷ slots) zero v w e h = (ap is_held (sym (some_same y (Register v) e)) ∙ h.0, h.1)
+set_shaped f n (x ∷ xs) (y ∷ slots) zero v w e h = (ap is_held (sym (some_is y (Register v) e)) ∙ h.0, h.1)
 set_shaped f n (x ∷ xs) (y ∷ slots) (suc k) v w e h = (h.0, set_shaped f (suc n) xs slots k v w e h.1)
 
 pub set_call : (f : Function) (slots : List Slot) (k : ℕ) (t : Ty) (v w : Value) → slice_get (types_of f) k ≡ Some t → slice_get slots k ≡ Some (Register v) → Fits t w → FitsCall f slots → FitsCall f (slice_set slots k (Register w))
@@ -97,13 +99,13 @@ module _ (f : Function) where
   held n [] slots k x slot h e g = absurd (cc)
   held n (y ∷ xs) [] k x slot h e g = absurd h
   held n (y ∷ xs) (z ∷ slots) zero x slot h e g =
-      ap is_held (sym (some_same z slot g)) ∙ h.0 ∙ ap (is_register f n) (some_same y x e) ∙ ap (λ m. is_register f m x) (let i : n ≡ n + 0 = omega arith in i)
+      ap is_held (sym (some_is z slot g)) ∙ h.0 ∙ ap (is_register f n) (some_is y x e) ∙ ap (λ m. is_register f m x) (let i : n ≡ n + 0 = omega arith in i)
   held n (y ∷ xs) (z ∷ slots) (suc k) x slot h e g = held (suc n) xs slots k x slot h.1 e g ∙ ap (λ m. is_register f m x) (let i : suc n + k ≡ n + suc k = omega arith in i)
 
   fits_at : (xs : List Variable) (slots : List Slot) (k : ℕ) (x : Variable) (v : Value) → FitSlots (map (λ (x : Variable). x.type) xs) slots → slice_get xs k ≡ Some x → slice_get slots k ≡ Some (Register v) → Fits x.type v
   fits_at [] slots k x v h e g = absurd (cc)
   fits_at (y ∷ xs) [] k x v h e g = absurd h
-  fits_at (y ∷ xs) (z ∷ slots) zero x v h e g = subst (λ y. Fits y.type v) (some_same y x e) (subst (FitsSlot y.type) (some_same z (Register v) g) h.0)
+  fits_at (y ∷ xs) (z ∷ slots) zero x v h e g = subst (λ y. Fits y.type v) (some_is y x e) (subst (FitsSlot y.type) (some_is z (Register v) g) h.0)
   fits_at (y ∷ xs) (z ∷ slots) (suc k) x v h e g = fits_at xs slots k x v h.1 e g
 
   module _ (slots : List Slot) (h : FitsCall f slots) where
@@ -173,17 +175,13 @@ scalar_cell TyVoid e = absurd (cc)
 scalar_cell (TyStruct tag) e = absurd (cc)
 scalar_cell (TyArray t n) e = absurd (cc)
 
-first_true : (a b : Bool) → (a && b) ≡ true → a ≡ true
-first_true true b e = refl
-first_true false b e = absurd (cc)
-
 pub slots_are_known : SlotsAreKnown
 slots_are_known s f slots h made k x e = let a = there f 0 (variables f) slots k x h.shaped e in (a.0, a.1, known a.0 a.1)
   where
     known : (slot : Slot) → slice_get slots k ≡ Some slot → Slotted s f k x slot
     known (Register v) g =
         let register = sym (held_here f slots h k x (Register v) e g) in
-        let cell = scalar_cell x.type (first_true (is_scalar x.type) _ register) in
+        let cell = scalar_cell x.type (and_first (is_scalar x.type) _ register) in
         let fit = fits_at f (variables f) slots k x v h.fits e g in
         IsRegister v cell.0 register cell.1 fit (fits_suits x.type v cell.0 fit cell.1) (element (IsMadeSlot s) slots k (Register v) made g)
     known (Boxed n) g = IsBox n (sym (held_here f slots h k x (Boxed n) e g)) (element (IsMadeSlot s) slots k (Boxed n) made g)

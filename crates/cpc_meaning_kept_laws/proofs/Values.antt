@@ -1,5 +1,6 @@
 -- A value that was assigned to a type fits it, and arguments that were taken fit their types.
 use Rattle.std.proofs.Common.{◌≡◌, ℕ, zero, suc, List, [], ◌∷◌, slice_get, slice_set, true, cond, Option, Some, None, Ok, Err, refl, sym, ◌∙◌, ap, subst}
+use Rattle.cpc_base.proofs.Lists.{some_is}
 use Rattle.cpc_num.specs.declared.kinds.Kind.{Kind}
 use Rattle.cpc_num.specs.declared.kinds.Kind.TheVariants.{Char, UChar, Int, UInt, Long, ULong}
 use Rattle.cpc_num.specs.declared.kinds.Fault.TheVariants as F
@@ -68,15 +69,12 @@ arguments_fit (t ∷ ts) [] = tt
 
 -- ---- slots by number
 
-pub some_same : {X : Type 0} (x y : X) → Some x ≡ Some y → x ≡ y
-some_same x y e = cc
-
 -- another value in a register
 pub set_fits : (ts : List Ty) (slots : List Slot) (k : ℕ) (t : Ty) (slot : Slot) → FitSlots ts slots → slice_get ts k ≡ Some t → FitsSlot t slot → FitSlots ts (slice_set slots k slot)
 set_fits [] [] k t slot h e g = tt
 set_fits [] (x ∷ slots) k t slot h e g = absurd h
 set_fits (u ∷ ts) [] k t slot h e g = absurd h
-set_fits (u ∷ ts) (x ∷ slots) zero t slot h e g = (subst (λ t. FitsSlot t slot) (sym (some_same u t e)) g, h.1)
+set_fits (u ∷ ts) (x ∷ slots) zero t slot h e g = (subst (λ t. FitsSlot t slot) (sym (some_is u t e)) g, h.1)
 set_fits (u ∷ ts) (x ∷ slots) (suc k) t slot h e g = (h.0, set_fits ts slots k t slot h.1 e g)
 
 -- ---- copies

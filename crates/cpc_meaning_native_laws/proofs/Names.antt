@@ -3,6 +3,7 @@ use Rattle.std.proofs.Common.{◌≡◌, Bool, true, false, ◌&&◌, List, [], 
 use Rattle.std.proofs.lemmas.List.{reverse-append}
 use Rattle.cpc_base.specs.Bytes.{Text}
 use Rattle.cpc_base.specs.declared.stop.Dialect.TheVariants as D
+use Rattle.cpc_base.proofs.Truth.{and_first, and_second, or_neither}
 use Rattle.cpc_tree.specs.Syntax.{Ty, Variable, Program}
 use Rattle.cpc_tree.specs.Located.{Ident, LParameter, LItem, LStruct, LGlobal, LPrototype, LFunctionItem, bare_item}
 use Rattle.cpc_tree.specs.Typing.{Meant, NotMeant}
@@ -15,8 +16,6 @@ use Rattle.cpc_check_rules.specs.FunctionRules.{is_kept, is_reserved, holds_bars
 use Rattle.cpc_check_rules.specs.ItemRules.{parameter_block}
 use Rattle.cpc_meaning.proofs.Functions.{same_text}
 use Rattle.cpc_check_laws.proofs.NativeValues.{left_none, right_none, unbroken}
-use Rattle.cpc_check_laws.proofs.NativeStatements.{and_left, and_right}
-use Rattle.cpc_meaning_native_laws.proofs.Stands.{either_false}
 
 -- ---- names of primitives
 
@@ -27,10 +26,10 @@ all_kept (p ∷ ps) = is_kept p.0 && all_kept ps
 kept_in : (ps : List (Text × Primitive)) → all_kept ps ≡ true → (x : Text) (prim : Primitive) → primitive_in ps x ≡ Some prim → is_kept x ≡ true
 unfolding all_kept
 kept_in [] h x prim e = absurd cc
-kept_in (p ∷ ps) h x prim e = go (bytes_eq p.0 x) refl (kept_in ps (and_right (is_kept p.0) (all_kept ps) h) x prim) e
+kept_in (p ∷ ps) h x prim e = go (bytes_eq p.0 x) refl (kept_in ps (and_second (is_kept p.0) (all_kept ps) h) x prim) e
   where
     go : (b : Bool) → bytes_eq p.0 x ≡ b → (primitive_in ps x ≡ Some prim → is_kept x ≡ true) → cond b (Some p.1) (primitive_in ps x) ≡ Some prim → is_kept x ≡ true
-    go true i later k = ap is_kept (sym (same_text p.0 x i)) ∙ and_left (is_kept p.0) (all_kept ps) h
+    go true i later k = ap is_kept (sym (same_text p.0 x i)) ∙ and_first (is_kept p.0) (all_kept ps) h
     go false i later k = later k
 
 -- the names of primitives are kept
@@ -48,10 +47,10 @@ first_unreserved : (x : Ident) (xs : List Ident) → Unreserved (x ∷ xs) → i
 first_unreserved x xs h = unbroken (is_reserved D.Cpc x.text) x.place Reserved (left_none (at_if (is_reserved D.Cpc x.text) x.place Reserved) _ h)
 
 pub first_unkept : (x : Ident) (xs : List Ident) → Unreserved (x ∷ xs) → is_kept x.text ≡ false
-first_unkept x xs h = (either_false (is_kept x.text) (holds_bars x.text) (first_unreserved x xs h)).0
+first_unkept x xs h = (or_neither (is_kept x.text) (holds_bars x.text) (first_unreserved x xs h)).0
 
 pub first_no_bars : (x : Ident) (xs : List Ident) → Unreserved (x ∷ xs) → holds_bars x.text ≡ false
-first_no_bars x xs h = (either_false (is_kept x.text) (holds_bars x.text) (first_unreserved x xs h)).1
+first_no_bars x xs h = (or_neither (is_kept x.text) (holds_bars x.text) (first_unreserved x xs h)).1
 
 rest_unreserved : (x : Ident) (xs : List Ident) → Unreserved (x ∷ xs) → Unreserved xs
 rest_unreserved x xs h = right_none (at_if (is_reserved D.Cpc x.text) x.place Reserved) _ h

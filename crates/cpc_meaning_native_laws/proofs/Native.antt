@@ -2,6 +2,7 @@
 use Rattle.std.proofs.Common.{◌≡◌, Bool, true, false, ◌&&◌, not, List, [], ◌∷◌, ◌++◌, map, Option, Some, None, refl, sym, ◌∙◌, ap, subst}
 use Rattle.cpc_base.specs.declared.stop.Place.{Place}
 use Rattle.cpc_base.specs.declared.stop.Dialect.TheVariants as D
+use Rattle.cpc_base.proofs.Truth.{and_first, and_second, not_holds, and_holds}
 use Rattle.cpc_num.specs.declared.kinds.Kind.TheVariants.{Int}
 use Rattle.cpc_tree.specs.Syntax.{TyInt, Program}
 use Rattle.cpc_tree.specs.Located.{Ident, LExpr, LNamed, LExprs, LStmt, Block, Declare, Assign, Call, Detach, Spawn, If, While, DoWhile, For, Label, LStmts, NoLStmt, AndLStmt, MaybeLStmt, NoneLStmt, SomeLStmt, LFunction, LItem, LStruct, LGlobal, LPrototype, LFunctionItem, bare, bare_item, bare_expr, bare_stmt, bare_stmts, bare_maybe}
@@ -17,15 +18,10 @@ use Rattle.cpc_check_rules.specs.FunctionRules.{reserved_breaks, parameter_names
 use Rattle.cpc_check_rules.specs.ItemRules.{outside, types, cps_breaks, declared_breaks, parameters_breaks, sized_breaks, in_body, body_breaks, function_breaks, item_breaks, items_breaks}
 use Rattle.cpc_check_laws.specs.Native.{spawns_none, all_spawn_none, maybe_spawns_none, is_native_item, are_native}
 use Rattle.cpc_check_laws.proofs.NativeValues.{left_none, right_none, unbroken}
-use Rattle.cpc_check_laws.proofs.NativeStatements.{and_left, and_right}
 use Rattle.cpc_meaning_native_laws.specs.Plain.{is_shared, shares, calls_shared, is_plain_stmt, are_plain, is_plain_arm, is_plain_item, is_plain}
 use Rattle.cpc_meaning_native_laws.specs.Shape.{is_step, is_shaped, all_shaped, is_shaped_arm, is_block, is_shaped_item, are_shaped}
 use Rattle.cpc_meaning_native_laws.specs.Laws.{NativeIsPlain}
-use Rattle.cpc_meaning_native_laws.proofs.Stands.{not_true}
 use Rattle.cpc_meaning_native_laws.proofs.Names.{primitive_kept, Unreserved, first_unkept, first_no_bars, front_unreserved, back_unreserved, NoneKept, block_none_kept, name_none_kept, parameters_apart, NoneDeclared, item_name, more_none_declared}
-
-pub both_true : (a b : Bool) → a ≡ true → b ≡ true → (a && b) ≡ true
-both_true a b e f = rw e f
 
 -- where native code of the dialect Cpc stands, in which no kept name stands for anything
 record Fine (w : Where) : Type 0 where
@@ -99,21 +95,21 @@ mutual
   stmt_plain w fine (Spawn q f es) shape u n h = absurd cc
   stmt_plain w fine (If q c s r) shape u n h =
       let g = right_none (test_breaks w c) _ h in
-      both_true _ _
-      (stmt_plain w fine s (and_left (is_shaped s) (is_shaped_arm r) shape) (front_unreserved (locals s) (locals_maybe r) u) (and_left (spawns_none s) (maybe_spawns_none r) n) (left_none _ _ g))
-      (arm_plain w fine r (and_right (is_shaped s) (is_shaped_arm r) shape) (back_unreserved (locals s) (locals_maybe r) u) (and_right (spawns_none s) (maybe_spawns_none r) n) (right_none (stmt_breaks w s) _ g))
+      and_holds _ _
+      (stmt_plain w fine s (and_first (is_shaped s) (is_shaped_arm r) shape) (front_unreserved (locals s) (locals_maybe r) u) (and_first (spawns_none s) (maybe_spawns_none r) n) (left_none _ _ g))
+      (arm_plain w fine r (and_second (is_shaped s) (is_shaped_arm r) shape) (back_unreserved (locals s) (locals_maybe r) u) (and_second (spawns_none s) (maybe_spawns_none r) n) (right_none (stmt_breaks w s) _ g))
   stmt_plain w fine (While q c s) shape u n h = stmt_plain w fine s shape u n (right_none (test_breaks w c) _ h)
   stmt_plain w fine (DoWhile q s c) shape u n h = stmt_plain w fine s shape u n (left_none _ _ h)
   stmt_plain w fine (For q ss c r s) shape u n h =
       let firsts = front_unreserved (locals_in ss) (locals s) u in
       let there = all_behind_fine (inner w) (inner_fine w fine) ss firsts in
-      let shapes = and_right (all_shaped ss) (is_step r && is_shaped s) shape in
-      let none = and_right (all_spawn_none ss) (maybe_spawns_none r && spawns_none s) n in
+      let shapes = and_second (all_shaped ss) (is_step r && is_shaped s) shape in
+      let none = and_second (all_spawn_none ss) (maybe_spawns_none r && spawns_none s) n in
       let g = right_none (stmts_breaks (inner w) ss) _ h in
       let k = right_none (maybe_test (all_behind (inner w) ss) c) _ g in
-      both_true _ _ (stmts_plain (inner w) (inner_fine w fine) ss (and_left (all_shaped ss) (is_step r && is_shaped s) shape) firsts (and_left (all_spawn_none ss) (maybe_spawns_none r && spawns_none s) n) (left_none _ _ h))
-      (both_true _ _ (step_plain (all_behind (inner w) ss) there r (and_left (is_step r) (is_shaped s) shapes) (left_none _ _ k))
-      (stmt_plain (all_behind (inner w) ss) there s (and_right (is_step r) (is_shaped s) shapes) (back_unreserved (locals_in ss) (locals s) u) (and_right (maybe_spawns_none r) (spawns_none s) none)
+      and_holds _ _ (stmts_plain (inner w) (inner_fine w fine) ss (and_first (all_shaped ss) (is_step r && is_shaped s) shape) firsts (and_first (all_spawn_none ss) (maybe_spawns_none r && spawns_none s) n) (left_none _ _ h))
+      (and_holds _ _ (step_plain (all_behind (inner w) ss) there r (and_first (is_step r) (is_shaped s) shapes) (left_none _ _ k))
+      (stmt_plain (all_behind (inner w) ss) there s (and_second (is_step r) (is_shaped s) shapes) (back_unreserved (locals_in ss) (locals s) u) (and_second (maybe_spawns_none r) (spawns_none s) none)
       (right_none (maybe_breaks (all_behind (inner w) ss) r) _ k)))
   stmt_plain w fine (Label x s) shape u n h = stmt_plain w fine s shape u n h
   stmt_plain w fine _ shape u n h = refl
@@ -122,8 +118,8 @@ mutual
   stmts_plain w fine NoLStmt shape u n h = refl
   stmts_plain w fine (AndLStmt s ss) shape u n h =
       let firsts = front_unreserved (locals s) (locals_in ss) u in
-      both_true _ _ (stmt_plain w fine s (and_left (is_shaped s) (all_shaped ss) shape) firsts (and_left (spawns_none s) (all_spawn_none ss) n) (left_none _ _ h))
-      (stmts_plain (behind w s) (behind_fine w fine s firsts) ss (and_right (is_shaped s) (all_shaped ss) shape) (back_unreserved (locals s) (locals_in ss) u) (and_right (spawns_none s) (all_spawn_none ss) n)
+      and_holds _ _ (stmt_plain w fine s (and_first (is_shaped s) (all_shaped ss) shape) firsts (and_first (spawns_none s) (all_spawn_none ss) n) (left_none _ _ h))
+      (stmts_plain (behind w s) (behind_fine w fine s firsts) ss (and_second (is_shaped s) (all_shaped ss) shape) (back_unreserved (locals s) (locals_in ss) u) (and_second (spawns_none s) (all_spawn_none ss) n)
       (right_none (stmt_breaks w s) _ h))
 
   arm_plain : (w : Where) → Fine w → (r : MaybeLStmt) → is_shaped_arm r ≡ true → Unreserved (locals_maybe r) → maybe_spawns_none r ≡ true → maybe_breaks w r ≡ [] → is_plain_arm (bare_maybe r) ≡ true
@@ -146,7 +142,7 @@ module _ (program before : Program) (none_declared : NoneDeclared before) where
 
   function_plain : (f : LFunction) → is_shaped_item (LFunctionItem f) ≡ true → is_native_item (LFunctionItem f) ≡ true → function_breaks D.Cpc before f ≡ [] → is_plain_item (bare_item (LFunctionItem f)) ≡ true
   function_plain f shape n h =
-      let native = not_true (is_cps f.mode) (and_left (not (is_cps f.mode)) (spawns_none f.body) n) in
+      let native = not_holds (is_cps f.mode) (and_first (not (is_cps f.mode)) (spawns_none f.body) n) in
       let name : Unreserved (f.called ∷ []) = left_none (reserved_breaks D.Cpc (f.called ∷ [])) _ h in
       let a = right_none (reserved_breaks D.Cpc (f.called ∷ [])) _ h in
       let b = right_none (cps_breaks D.Cpc f.mode f.place) _ a in
@@ -156,9 +152,9 @@ module _ (program before : Program) (none_declared : NoneDeclared before) where
       let e = right_none (sized_breaks (outside D.Cpc before).scope f.parameters) _ d in
       let i = right_none (body_breaks (in_body D.Cpc before f) f.body) _ e in
       let names : Unreserved (locals f.body ++ labels f.body) = left_none (reserved_breaks D.Cpc (locals f.body ++ labels f.body)) _ i in
-      both_true _ _ (ap not native) (both_true _ _ (ap not (first_no_bars f.called [] name))
-      (body_plain (in_body D.Cpc before f) (body_fine f native name parameters) f.body (and_left (is_block f.body) (is_shaped f.body) shape) (and_right (is_block f.body) (is_shaped f.body) shape)
-      (front_unreserved (locals f.body) (labels f.body) names) (and_right (not (is_cps f.mode)) (spawns_none f.body) n) (left_none (body_breaks (in_body D.Cpc before f) f.body) _ e)))
+      and_holds _ _ (ap not native) (and_holds _ _ (ap not (first_no_bars f.called [] name))
+      (body_plain (in_body D.Cpc before f) (body_fine f native name parameters) f.body (and_first (is_block f.body) (is_shaped f.body) shape) (and_second (is_block f.body) (is_shaped f.body) shape)
+      (front_unreserved (locals f.body) (labels f.body) names) (and_second (not (is_cps f.mode)) (spawns_none f.body) n) (left_none (body_breaks (in_body D.Cpc before f) f.body) _ e)))
 
   item_plain : (x : LItem) → is_shaped_item x ≡ true → is_native_item x ≡ true → item_breaks D.Cpc program before x ≡ [] → is_plain_item (bare_item x) ≡ true
   item_plain (LStruct tag fs) shape n h = refl
@@ -176,9 +172,9 @@ items_plain : (program before : Program) → NoneDeclared before → (xs : List 
 items_plain program before none [] shape n h = refl
 items_plain program before none (x ∷ xs) shape n h =
     let here = left_none (item_breaks D.Cpc program before x) _ h in
-    both_true _ _ (item_plain program before none x (and_left (is_shaped_item x) (are_shaped xs) shape) (and_left (is_native_item x) (are_native xs) n) here)
-    (items_plain program (before ++ bare_item x ∷ []) (more_none_declared before x (name_unreserved program before none x here) none) xs (and_right (is_shaped_item x) (are_shaped xs) shape)
-    (and_right (is_native_item x) (are_native xs) n) (right_none (item_breaks D.Cpc program before x) _ h))
+    and_holds _ _ (item_plain program before none x (and_first (is_shaped_item x) (are_shaped xs) shape) (and_first (is_native_item x) (are_native xs) n) here)
+    (items_plain program (before ++ bare_item x ∷ []) (more_none_declared before x (name_unreserved program before none x here) none) xs (and_second (is_shaped_item x) (are_shaped xs) shape)
+    (and_second (is_native_item x) (are_native xs) n) (right_none (item_breaks D.Cpc program before x) _ h))
 
 pub native_is_plain : NativeIsPlain
 native_is_plain p shape h n = items_plain (bare p) [] (λ x k. refl) p.items shape n (left_none (items_breaks D.Cpc (bare p) [] p.items) _ h)

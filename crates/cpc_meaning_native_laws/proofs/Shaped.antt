@@ -1,25 +1,25 @@
 -- Texts give trees of the shape in which the rules see every name.
 use Rattle.std.proofs.Common.{◌≡◌, ℕ, true, List, [], ◌∷◌, ◌++◌, Option, Some, refl}
 use Rattle.cpc_base.specs.declared.stop.Place.{Place}
+use Rattle.cpc_base.proofs.Truth.{and_first, and_second, and_holds}
 use Rattle.cpc_tree.specs.Syntax.{Ty}
 use Rattle.cpc_tree.specs.Tokens.{Placed}
 use Rattle.cpc_tree.specs.Located.{LExpr, LStmt, LVariable, LItem}
 use Rattle.cpc_tree.specs.StmtGrammar.{Right, Value, Calls, Section, given, begun, stmts, maybe, ReadsSimple, assigned, updated, stepped_behind, stepped_before, performed, detached, ReadsLocalPart, unset, set, ReadsLocalRow, last_local, more_locals, ReadsLocal, local, ReadsFirst, no_first, simple_first, local_first, ReadsStep, no_step, some_step, ReadsStmt, block, empty, simple, labelled, if_alone, if_else, while, do_while, for, goto, break, continue, return, spawn, ReadsBlock, no_part, a_stmt, a_local}
 use Rattle.cpc_tree.specs.ItemGrammar as I
 use Rattle.cpc_tree.specs.ItemGrammar.{ReadsGlobal, ReadsGlobals, last_global, more_globals, ReadsItem, struct, globals, function, prototype, ReadsItems, no_item, items}
-use Rattle.cpc_check_laws.proofs.NativeStatements.{and_left, and_right}
 use Rattle.cpc_meaning_native_laws.specs.Shape.{is_step, is_shaped, all_shaped, is_shaped_item, are_shaped}
 use Rattle.cpc_meaning_native_laws.specs.Laws.{TextsAreShaped, NativeTextIsPlain}
-use Rattle.cpc_meaning_native_laws.proofs.Native.{both_true, native_is_plain}
+use Rattle.cpc_meaning_native_laws.proofs.Native.{native_is_plain}
 
 -- ---- rows of statements
 
 row_more : (xs ys : List LStmt) → all_shaped (stmts xs) ≡ true → all_shaped (stmts ys) ≡ true → all_shaped (stmts (xs ++ ys)) ≡ true
 row_more [] ys h g = g
-row_more (x ∷ xs) ys h g = both_true _ _ (and_left (is_shaped x) (all_shaped (stmts xs)) h) (row_more xs ys (and_right (is_shaped x) (all_shaped (stmts xs)) h) g)
+row_more (x ∷ xs) ys h g = and_holds _ _ (and_first (is_shaped x) (all_shaped (stmts xs)) h) (row_more xs ys (and_second (is_shaped x) (all_shaped (stmts xs)) h) g)
 
 row_one : (s : LStmt) → is_shaped s ≡ true → all_shaped (stmts (s ∷ [])) ≡ true
-row_one s h = both_true _ _ h refl
+row_one s h = and_holds _ _ h refl
 
 -- ---- simple statements and locals
 
@@ -69,11 +69,11 @@ mutual
   stmt_shaped _ _ _ (empty q) = refl
   stmt_shaped _ _ _ (simple f q s h a) = (simple_step f s h a).1
   stmt_shaped _ _ _ (labelled f q x s h a) = stmt_shaped f s h a
-  stmt_shaped _ _ _ (if_alone f g q r t c s h i a b) = both_true _ _ (stmt_shaped g s i b) refl
-  stmt_shaped _ _ _ (if_else f g k q r t u c s l h i j a b d e) = both_true _ _ (stmt_shaped g s i b) (stmt_shaped k l j e)
+  stmt_shaped _ _ _ (if_alone f g q r t c s h i a b) = and_holds _ _ (stmt_shaped g s i b) refl
+  stmt_shaped _ _ _ (if_else f g k q r t u c s l h i j a b d e) = and_holds _ _ (stmt_shaped g s i b) (stmt_shaped k l j e)
   stmt_shaped _ _ _ (while f g q r t c s h i a b) = stmt_shaped g s i b
   stmt_shaped _ _ _ (do_while f g q r t u w s c h i a b) = stmt_shaped f s h a
-  stmt_shaped _ _ _ (for f g k l q r t u w ss o p s h i j m a b c d) = both_true _ _ (first_shaped f ss h a) (both_true _ _ (step_shaped k p j c) (stmt_shaped l s m d))
+  stmt_shaped _ _ _ (for f g k l q r t u w ss o p s h i j m a b c d) = and_holds _ _ (first_shaped f ss h a) (and_holds _ _ (step_shaped k p j c) (stmt_shaped l s m d))
   stmt_shaped _ _ _ (goto q r x) = refl
   stmt_shaped _ _ _ (break q r) = refl
   stmt_shaped _ _ _ (continue q r) = refl
@@ -82,27 +82,27 @@ mutual
 
   block_shaped : (f : List Placed) (ss : List LStmt) (h : ℕ) → ReadsBlock f ss h → all_shaped (stmts ss) ≡ true
   block_shaped _ _ _ no_part = refl
-  block_shaped _ _ _ (a_stmt f g s ss h j a b) = both_true _ _ (stmt_shaped f s h a) (block_shaped g ss j b)
+  block_shaped _ _ _ (a_stmt f g s ss h j a b) = and_holds _ _ (stmt_shaped f s h a) (block_shaped g ss j b)
   block_shaped _ _ _ (a_local f g q rs ss h j a b) = row_more rs ss (local_shaped f rs h a) (block_shaped g ss j b)
 
 -- ---- items
 
 items_more : (xs ys : List LItem) → are_shaped xs ≡ true → are_shaped ys ≡ true → are_shaped (xs ++ ys) ≡ true
 items_more [] ys h g = g
-items_more (x ∷ xs) ys h g = both_true _ _ (and_left (is_shaped_item x) (are_shaped xs) h) (items_more xs ys (and_right (is_shaped_item x) (are_shaped xs) h) g)
+items_more (x ∷ xs) ys h g = and_holds _ _ (and_first (is_shaped_item x) (are_shaped xs) h) (items_more xs ys (and_second (is_shaped_item x) (are_shaped xs) h) g)
 
 global_shaped : (base : Ty) (f : List Placed) (x : LItem) (h : ℕ) → ReadsGlobal base f x h → is_shaped_item x ≡ true
 global_shaped base _ _ _ (I.unset f x h a) = refl
 global_shaped base _ _ _ (I.set f g q x v h j a b) = refl
 
 globals_shaped : (base : Ty) (f : List Placed) (xs : List LItem) (h : ℕ) → ReadsGlobals base f xs h → are_shaped xs ≡ true
-globals_shaped base _ _ _ (last_global f x h a) = both_true _ _ (global_shaped base f x h a) refl
-globals_shaped base _ _ _ (more_globals f g q x xs h j a b) = both_true _ _ (global_shaped base f x h a) (globals_shaped base g xs j b)
+globals_shaped base _ _ _ (last_global f x h a) = and_holds _ _ (global_shaped base f x h a) refl
+globals_shaped base _ _ _ (more_globals f g q x xs h j a b) = and_holds _ _ (global_shaped base f x h a) (globals_shaped base g xs j b)
 
 item_shaped : (f : List Placed) (xs : List LItem) (h : ℕ) → ReadsItem f xs h → are_shaped xs ≡ true
 item_shaped _ _ _ (struct f q r s t tag xs h a) = refl
 item_shaped _ _ _ (globals a f q base xs i h b c) = globals_shaped base f xs h c
-item_shaped _ _ _ (function m f g q r mode x ss h j a b c d) = both_true _ _ (block_shaped g ss j d) refl
+item_shaped _ _ _ (function m f g q r mode x ss h j a b c d) = and_holds _ _ (block_shaped g ss j d) refl
 item_shaped _ _ _ (prototype m f q mode x h a b) = refl
 
 items_shaped : (f : List Placed) (xs : List LItem) (h : ℕ) → ReadsItems f xs h → are_shaped xs ≡ true

@@ -1,7 +1,8 @@
 -- What stands at the points of a plain program's functions.
-use Rattle.std.proofs.Common.{◌≡◌, ℕ, zero, suc, Bool, true, false, ◌&&◌, ◌||◌, ◌==◌, not, [], ◌∷◌, ◌++◌, Option, Some, None, bytes_eq, codes, cond, refl, sym, ◌∙◌, ap, subst}
+use Rattle.std.proofs.Common.{◌≡◌, ℕ, zero, suc, Bool, true, false, ◌&&◌, ◌==◌, not, [], ◌∷◌, ◌++◌, Option, Some, None, bytes_eq, codes, cond, refl, sym, ◌∙◌, ap, subst}
 use Rattle.std.proofs.lemmas.Bool.{eqb-true}
 use Rattle.cpc_base.specs.Bytes.{Text}
+use Rattle.cpc_base.proofs.Truth.{and_first, and_second, not_holds, or_neither}
 use Rattle.cpc_tree.specs.Syntax.{Stmt, Block, Empty, Declare, Assign, Call, Detach, Spawn, If, While, DoWhile, For, Goto, Label, Break, Continue, Return, Stmts, NoStmt, AndStmt, MaybeStmt, Absent, Present, Function, StructItem, GlobalItem, PrototypeItem, FunctionItem, Program}
 use Rattle.cpc_tree.specs.Typing.{function_named}
 use Rattle.cpc_tree.specs.Points.{Nth, TheTest, TheYes, TheNo, TheStep, TheBody, Path, Point, Here, Arrival, End, Found, Simple, Test, Nothing, found, found_in, found_arm}
@@ -13,18 +14,7 @@ use Rattle.cpc_meaning.specs.Start.{begins_with_bars, cut_where, before_bars}
 use Rattle.cpc_meaning.specs.Threads as T
 use Rattle.cpc_meaning.specs.Threads.{shown_in}
 use Rattle.cpc_meaning.proofs.Functions.{named_so}
-use Rattle.cpc_check_laws.proofs.NativeStatements.{and_left, and_right}
 use Rattle.cpc_meaning_native_laws.specs.Plain.{is_plain_stmt, are_plain, is_plain_arm, is_plain_function, is_plain}
-
--- ---- tests
-
-pub not_true : (b : Bool) → not b ≡ true → b ≡ false
-not_true true e = absurd cc
-not_true false e = refl
-
-pub either_false : (a b : Bool) → (a || b) ≡ false → (a ≡ false) × (b ≡ false)
-either_false true b h = absurd cc
-either_false false b h = (refl, h)
 
 -- ---- bodies
 
@@ -38,16 +28,16 @@ mutual
   plain_at (Block NoStmt) h [] = refl
   plain_at (Block (AndStmt s ss)) h (Nth n ∷ p) = plain_in (AndStmt s ss) h n p
   plain_at (If t a b) h (TheTest ∷ []) = tt
-  plain_at (If t a b) h (TheYes ∷ p) = plain_at a (and_left (is_plain_stmt a) (is_plain_arm b) h) p
-  plain_at (If t a b) h (TheNo ∷ p) = plain_arm b (and_right (is_plain_stmt a) (is_plain_arm b) h) p
+  plain_at (If t a b) h (TheYes ∷ p) = plain_at a (and_first (is_plain_stmt a) (is_plain_arm b) h) p
+  plain_at (If t a b) h (TheNo ∷ p) = plain_arm b (and_second (is_plain_stmt a) (is_plain_arm b) h) p
   plain_at (While t s) h (TheTest ∷ []) = tt
   plain_at (While t s) h (TheBody ∷ p) = plain_at s h p
   plain_at (DoWhile s t) h (TheTest ∷ []) = tt
   plain_at (DoWhile s t) h (TheBody ∷ p) = plain_at s h p
-  plain_at (For first t step s) h (Nth n ∷ p) = plain_in first (and_left (are_plain first) (is_plain_arm step && is_plain_stmt s) h) n p
+  plain_at (For first t step s) h (Nth n ∷ p) = plain_in first (and_first (are_plain first) (is_plain_arm step && is_plain_stmt s) h) n p
   plain_at (For first t step s) h (TheTest ∷ []) = tt
-  plain_at (For first t step s) h (TheStep ∷ p) = plain_arm step (and_left (is_plain_arm step) (is_plain_stmt s) (and_right (are_plain first) (is_plain_arm step && is_plain_stmt s) h)) p
-  plain_at (For first t step s) h (TheBody ∷ p) = plain_at s (and_right (is_plain_arm step) (is_plain_stmt s) (and_right (are_plain first) (is_plain_arm step && is_plain_stmt s) h)) p
+  plain_at (For first t step s) h (TheStep ∷ p) = plain_arm step (and_first (is_plain_arm step) (is_plain_stmt s) (and_second (are_plain first) (is_plain_arm step && is_plain_stmt s) h)) p
+  plain_at (For first t step s) h (TheBody ∷ p) = plain_at s (and_second (is_plain_arm step) (is_plain_stmt s) (and_second (are_plain first) (is_plain_arm step && is_plain_stmt s) h)) p
   plain_at (Label l s) h (TheBody ∷ p) = plain_at s h p
   plain_at Empty h [] = refl
   plain_at (Declare x t start) h [] = refl
@@ -62,8 +52,8 @@ mutual
   plain_at _ h _ = tt
 
   pub plain_in : (ss : Stmts) → are_plain ss ≡ true → (n : ℕ) (p : Path) → IsPlainFound (found_in ss n p)
-  plain_in (AndStmt s ss) h zero p = plain_at s (and_left (is_plain_stmt s) (are_plain ss) h) p
-  plain_in (AndStmt s ss) h (suc n) p = plain_in ss (and_right (is_plain_stmt s) (are_plain ss) h) n p
+  plain_in (AndStmt s ss) h zero p = plain_at s (and_first (is_plain_stmt s) (are_plain ss) h) p
+  plain_in (AndStmt s ss) h (suc n) p = plain_in ss (and_second (is_plain_stmt s) (are_plain ss) h) n p
   plain_in NoStmt h n p = tt
 
   pub plain_arm : (o : MaybeStmt) → is_plain_arm o ≡ true → (p : Path) → IsPlainFound (found_arm o p)
@@ -75,14 +65,14 @@ mutual
 -- a function of a plain program is plain
 pub function_plain : (p : Program) → is_plain p ≡ true → (x : Text) (f : Function) → function_named p x ≡ Some f → is_plain_function f ≡ true
 function_plain [] h x f e = absurd cc
-function_plain (FunctionItem g ∷ items) h x f e = go (bytes_eq g.called x) (function_plain items (and_right (is_plain_function g) (is_plain items) h) x f) e
+function_plain (FunctionItem g ∷ items) h x f e = go (bytes_eq g.called x) (function_plain items (and_second (is_plain_function g) (is_plain items) h) x f) e
   where
     go : (b : Bool) → (function_named items x ≡ Some f → is_plain_function f ≡ true) → cond b (Some g) (function_named items x) ≡ Some f → is_plain_function f ≡ true
-    go true later k = let i : g ≡ f = cc in ap is_plain_function (sym i) ∙ and_left (is_plain_function g) (is_plain items) h
+    go true later k = let i : g ≡ f = cc in ap is_plain_function (sym i) ∙ and_first (is_plain_function g) (is_plain items) h
     go false later k = later k
 function_plain (StructItem tag fs ∷ items) h x f e = function_plain items h x f e
 function_plain (GlobalItem g t start ∷ items) h x f e = function_plain items h x f e
-function_plain (PrototypeItem mode g r ps ∷ items) h x f e = function_plain items (and_right (not (is_cps mode)) (is_plain items) h) x f e
+function_plain (PrototypeItem mode g r ps ∷ items) h x f e = function_plain items (and_second (not (is_cps mode)) (is_plain items) h) x f e
 
 abbrev pub IsPlainStood : Stood → Type 0
 IsPlainStood (AtStatement f) = IsPlainFound f
@@ -96,7 +86,7 @@ plain_stood p h x point = go (function_named p x) refl point
     go None e point = tt
     go (Some f) e (Here path) =
         let k = function_plain p h x f e in
-        plain_at f.body (and_right (not (holds_bars f.called)) (is_plain_stmt f.body) (and_right (not (is_cps f.mode)) (not (holds_bars f.called) && is_plain_stmt f.body) k)) path
+        plain_at f.body (and_second (not (holds_bars f.called)) (is_plain_stmt f.body) (and_second (not (is_cps f.mode)) (not (holds_bars f.called) && is_plain_stmt f.body) k)) path
     go (Some f) e (Arrival path) = tt
     go (Some f) e End = tt
 
@@ -118,15 +108,15 @@ no_bars_first b (c ∷ bs) e = go (b == 95) refl (c == 95) refl
 whole : (x : Text) → holds_bars x ≡ false → before_bars x ≡ x
 whole [] h = refl
 whole (b ∷ bs) h =
-    let e = either_false (begins_with (codes "__") (b ∷ bs)) (holds_bars bs) h in
+    let e = or_neither (begins_with (codes "__") (b ∷ bs)) (holds_bars bs) h in
     ap (λ here. cut_where here (b ∷ before_bars bs)) (no_bars_first b bs e.0) ∙ ap (λ t. b ∷ t) (whole bs e.1)
 
 -- a function of a plain program is shown alike in faults
 pub shown_alike : (p : Program) → is_plain p ≡ true → (x : Text) (f : Function) → function_named p x ≡ Some f → shown_in p x ≡ before_bars x
 shown_alike p h x f e =
     let k = function_plain p h x f e in
-    let native : is_cps f.mode ≡ false = not_true (is_cps f.mode) (and_left (not (is_cps f.mode)) (not (holds_bars f.called) && is_plain_stmt f.body) k) in
-    let name : holds_bars f.called ≡ false = not_true (holds_bars f.called) (and_left (not (holds_bars f.called)) (is_plain_stmt f.body) (and_right (not (is_cps f.mode)) (not (holds_bars f.called) && is_plain_stmt f.body) k)) in
+    let native : is_cps f.mode ≡ false = not_holds (is_cps f.mode) (and_first (not (is_cps f.mode)) (not (holds_bars f.called) && is_plain_stmt f.body) k) in
+    let name : holds_bars f.called ≡ false = not_holds (holds_bars f.called) (and_first (not (holds_bars f.called)) (is_plain_stmt f.body) (and_second (not (is_cps f.mode)) (not (holds_bars f.called) && is_plain_stmt f.body) k)) in
     let is_x : f.called ≡ x = named_so p x f e in
     ap (λ o. cond (T.is_cps o) (before_bars (x ++ codes "__")) x) e
     ∙ ap (λ b. cond b (before_bars (x ++ codes "__")) x) native

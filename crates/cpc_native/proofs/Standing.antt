@@ -1,21 +1,12 @@
 -- What stands at the points of a program that is served, and of one whose literals are numbers of their kinds.
 use Rattle.std.proofs.Common.{◌≡◌, ℕ, zero, suc, Bool, true, false, ◌&&◌, not, [], ◌∷◌, Some, bytes_eq, cond, refl, sym, ◌∙◌, ap, subst}
 use Rattle.cpc_base.specs.Bytes.{Text}
+use Rattle.cpc_base.proofs.Truth.{and_first, and_second}
 use Rattle.cpc_tree.specs.Syntax.{Stmt, Block, Empty, Declare, Assign, Call, Detach, Spawn, If, While, DoWhile, For, Goto, Label, Break, Continue, Return, Stmts, NoStmt, AndStmt, MaybeStmt, Absent, Present, Function, StructItem, GlobalItem, PrototypeItem, FunctionItem, Program}
 use Rattle.cpc_tree.specs.Typing.{function_named}
 use Rattle.cpc_tree.specs.Points.{Nth, TheTest, TheYes, TheNo, TheStep, TheBody, Path, found, found_in, found_arm}
 use Rattle.cpc_native_builtins.specs.Served.{is_served_stmt, are_served, is_served_arm, is_served_found, is_served_item, is_served_program}
 use Rattle.cpc_eval.specs.Numbers.{StmtNumbers, StmtsNumbers, ArmNumbers, FoundNumbers, ItemsNumbers, ProgramNumbers}
-
--- ---- tests
-
-pub and_left : (a b : Bool) → (a && b) ≡ true → a ≡ true
-and_left true b e = refl
-and_left false b e = absurd cc
-
-pub and_right : (a b : Bool) → (a && b) ≡ true → b ≡ true
-and_right true b e = e
-and_right false b e = absurd cc
 
 -- ---- served bodies
 
@@ -24,16 +15,16 @@ mutual
   served_at (Block NoStmt) h [] = refl
   served_at (Block (AndStmt s ss)) h (Nth n ∷ p) = served_in (AndStmt s ss) h n p
   served_at (If t a b) h (TheTest ∷ []) = refl
-  served_at (If t a b) h (TheYes ∷ p) = served_at a (and_left (is_served_stmt a) (is_served_arm b) h) p
-  served_at (If t a b) h (TheNo ∷ p) = served_arm b (and_right (is_served_stmt a) (is_served_arm b) h) p
+  served_at (If t a b) h (TheYes ∷ p) = served_at a (and_first (is_served_stmt a) (is_served_arm b) h) p
+  served_at (If t a b) h (TheNo ∷ p) = served_arm b (and_second (is_served_stmt a) (is_served_arm b) h) p
   served_at (While t s) h (TheTest ∷ []) = refl
   served_at (While t s) h (TheBody ∷ p) = served_at s h p
   served_at (DoWhile s t) h (TheTest ∷ []) = refl
   served_at (DoWhile s t) h (TheBody ∷ p) = served_at s h p
-  served_at (For first t step s) h (Nth n ∷ p) = served_in first (and_left (are_served first) (is_served_arm step && is_served_stmt s) h) n p
+  served_at (For first t step s) h (Nth n ∷ p) = served_in first (and_first (are_served first) (is_served_arm step && is_served_stmt s) h) n p
   served_at (For first t step s) h (TheTest ∷ []) = refl
-  served_at (For first t step s) h (TheStep ∷ p) = served_arm step (and_left (is_served_arm step) (is_served_stmt s) (and_right (are_served first) (is_served_arm step && is_served_stmt s) h)) p
-  served_at (For first t step s) h (TheBody ∷ p) = served_at s (and_right (is_served_arm step) (is_served_stmt s) (and_right (are_served first) (is_served_arm step && is_served_stmt s) h)) p
+  served_at (For first t step s) h (TheStep ∷ p) = served_arm step (and_first (is_served_arm step) (is_served_stmt s) (and_second (are_served first) (is_served_arm step && is_served_stmt s) h)) p
+  served_at (For first t step s) h (TheBody ∷ p) = served_at s (and_second (is_served_arm step) (is_served_stmt s) (and_second (are_served first) (is_served_arm step && is_served_stmt s) h)) p
   served_at (Label l s) h (TheBody ∷ p) = served_at s h p
   served_at Empty h [] = refl
   served_at (Declare x t start) h [] = refl
@@ -48,8 +39,8 @@ mutual
   served_at _ h _ = refl
 
   pub served_in : (ss : Stmts) → are_served ss ≡ true → (n : ℕ) (p : Path) → is_served_found (found_in ss n p) ≡ true
-  served_in (AndStmt s ss) h zero p = served_at s (and_left (is_served_stmt s) (are_served ss) h) p
-  served_in (AndStmt s ss) h (suc n) p = served_in ss (and_right (is_served_stmt s) (are_served ss) h) n p
+  served_in (AndStmt s ss) h zero p = served_at s (and_first (is_served_stmt s) (are_served ss) h) p
+  served_in (AndStmt s ss) h (suc n) p = served_in ss (and_second (is_served_stmt s) (are_served ss) h) n p
   served_in NoStmt h n p = refl
 
   pub served_arm : (o : MaybeStmt) → is_served_arm o ≡ true → (p : Path) → is_served_found (found_arm o p) ≡ true
@@ -101,12 +92,12 @@ module _ (q : Program) where
 -- the body of a function of a served program is served
 pub function_served : (p : Program) → is_served_program p ≡ true → (x : Text) (f : Function) → function_named p x ≡ Some f → is_served_stmt f.body ≡ true
 function_served [] h x f e = absurd cc
-function_served (FunctionItem g ∷ items) h x f e = go (bytes_eq g.called x) (function_served items (and_right (is_served_item (FunctionItem g)) (is_served_program items) h) x f) e
+function_served (FunctionItem g ∷ items) h x f e = go (bytes_eq g.called x) (function_served items (and_second (is_served_item (FunctionItem g)) (is_served_program items) h) x f) e
   where
     go : (b : Bool) → (function_named items x ≡ Some f → is_served_stmt f.body ≡ true) → cond b (Some g) (function_named items x) ≡ Some f → is_served_stmt f.body ≡ true
     go true later k =
         let i : g ≡ f = cc in
-        ap (λ y. is_served_stmt y.body) (sym i) ∙ and_left (is_served_item (FunctionItem g)) (is_served_program items) h
+        ap (λ y. is_served_stmt y.body) (sym i) ∙ and_first (is_served_item (FunctionItem g)) (is_served_program items) h
     go false later k = later k
 function_served (StructItem tag fs ∷ items) h x f e = function_served items h x f e
 function_served (GlobalItem g t start ∷ items) h x f e = function_served items h x f e

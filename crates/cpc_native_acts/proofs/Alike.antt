@@ -4,6 +4,7 @@ use Rattle.std.specs.Prelude.{slice_get}
 use Rattle.std.proofs.lemmas.List.{drop_more, drop_all, length-map}
 use Rattle.std.proofs.Common.{option_map}
 use Rattle.std.proofs.lemmas.Option.{slice_get-map}
+use Rattle.cpc_base.proofs.Truth.{and_second}
 use Rattle.cpc_tree.specs.Erase.{Names, type_of, parameter_of}
 use Rattle.cpc_tree.specs.Syntax.{Ty}
 use Rattle.cpc_tree.specs.Typing.{same_type, same_types, tys_of, parameter_type}
@@ -12,15 +13,11 @@ use Rattle.cpc_native_acts.specs.Rows.{parameter_list}
 use Rattle.cpc_native_acts.specs.Calls.{is_same}
 use Rattle.cpc_native_acts.proofs.Rowing.{rest_of}
 
-and_true : (a b : Bool) → (a && b) ≡ true → b ≡ true
-and_true true b e = e
-and_true false b e = absurd cc
-
 same_length : (ts us : List Ty) → same_types (tys_of ts) (tys_of us) ≡ true → length ts ≡ length us
 same_length [] [] e = refl
 same_length [] (u ∷ us) e = absurd cc
 same_length (t ∷ ts) [] e = absurd cc
-same_length (t ∷ ts) (u ∷ us) e = ap suc (same_length ts us (and_true (same_type t u) (same_types (tys_of ts) (tys_of us)) e))
+same_length (t ∷ ts) (u ∷ us) e = ap suc (same_length ts us (and_second (same_type t u) (same_types (tys_of ts) (tys_of us)) e))
 
 some_type : (names : Names) (o : Option Parameter) → option_map (λ (p : Parameter). type_of names p.of) o ≡ option_map parameter_type (option_map (parameter_of names) o)
 some_type names None = refl

@@ -1,11 +1,12 @@
 -- What `rt_detach` takes of its arguments, one after the other.
-use Rattle.std.proofs.Common.{◌≡◌, ℕ, zero, suc, ◌-◌, ◌<◌, ◌≤◌, Bool, true, false, ◌&&◌, List, [], ◌∷◌, map, Option, Some, None, option_map, Result, Ok, Err, refl, sym, ap, subst, ◌∙◌, arith}
+use Rattle.std.proofs.Common.{◌≡◌, ℕ, zero, suc, ◌-◌, ◌<◌, ◌≤◌, true, false, List, [], ◌∷◌, map, Option, Some, None, option_map, Result, Ok, Err, refl, sym, ap, subst, ◌∙◌, arith}
 use Rattle.std.specs.Prelude.{slice_get, IfOk}
 use Rattle.std.specs.Global.{Vec}
 use Rattle.std.proofs.lemmas.Option.{slice_get-map}
 use Rattle.cpc_base.specs.Bytes.{Text}
 use Rattle.cpc_base.specs.declared.names.Name.{Name}
 use Rattle.cpc_base.specs.declared.stop.Stop.{Stop}
+use Rattle.cpc_base.proofs.Truth.{and_holds}
 use Rattle.cpc_num.specs.declared.kinds.Fault.{Fault}
 use Rattle.cpc_num.specs.declared.kinds.Kind.TheVariants.{Int}
 use Rattle.cpc_tree.specs.Erase.{Names}
@@ -149,10 +150,6 @@ code_stays : (names : Names) (f : Function) (x : Text) (w : V.Value) → taken_a
 code_stays names f x (W.Code y) g = (y, refl)
 code_stays names f x _ g = absurd cc
 
-both : (a b : Bool) → a ≡ true → b ≡ true → (a && b) ≡ true
-both true b h k = k
-both false b h k = h
-
 -- the value of a row is the one that is taken
 is_so : (names : Names) (t : P.Taken) (k : Taken) (v : Value) (w : V.Value) → Some k ≡ taken_of t → taken_as t v ≡ Gives (value_of names w) → is_taken_as k (seen w) ≡ true
 is_so names t k v w e g = sym (taken_shown names k w) ∙ fitted t k v (value_of names w) e g
@@ -177,7 +174,7 @@ three_values : (ws us vs rest : List V.Value) (a b c : V.Value) → ws ≡ a ∷
 three_values ws us vs rest a b c e g h = cc
 
 detached_by : (ws rest : List V.Value) (a b : V.Value) (y : Name) → ws ≡ a ∷ b ∷ W.Code y ∷ rest → is_taken_as (T.SetOf S.Code) (seen a) ≡ true → is_taken_as (T.FreeOf S.Pointer) (seen b) ≡ true → is_detached ws ≡ true
-detached_by ws rest a b y is left right = rw is (both _ _ left (both _ _ right refl))
+detached_by ws rest a b y is left right = rw is (and_holds _ _ left (and_holds _ _ right refl))
 
 -- values as they are taken are those with which a section is asked for
 detached_fit : (names : Names) (o : Option Function) (vs ws : List V.Value) (f : Name) → Some f ≡ third_code vs → all_taken (detached_with o) (values_of names vs) ≡ Gives (values_of names ws) → is_detached ws ≡ true

@@ -3,6 +3,7 @@ use Rattle.std.proofs.Common.{◌≡◌, suc, Bool, true, false, ◌&&◌, List,
 use Rattle.std.specs.List.{All}
 use Rattle.std.proofs.lemmas.List.Elements.{All-nil, All-cons}
 use Rattle.cpc_base.specs.Bytes.{Text}
+use Rattle.cpc_base.proofs.Truth.{and_holds, and_second}
 use Rattle.cpc_num.specs.declared.kinds.Fault.{Fault}
 use Rattle.cpc_num.specs.declared.kinds.Kind.{Kind}
 use Rattle.cpc_num.specs.declared.kinds.Kind.TheVariants as K
@@ -26,14 +27,6 @@ use Rattle.cpc_eval_values.specs.declared.assignment.Taken.{Taken}
 use Rattle.cpc_eval_values.specs.declared.assignment.Taken.TheVariants as T
 use Rattle.cpc_eval_values.specs.Takes.{taken_of}
 use Rattle.cpc_native_acts.specs.Taken.{is_set, is_integer, is_taken_as, are_taken, IsByte, IsLong, IsAskedWith}
-
-both : (a b : Bool) → a ≡ true → b ≡ true → (a && b) ≡ true
-both true b h k = k
-both false b h k = h
-
-and_right : (a b : Bool) → (a && b) ≡ true → b ≡ true
-and_right true b h = h
-and_right false b h = absurd cc
 
 kind_itself : (k : Kind) → same_kind k k ≡ true
 kind_itself K.Char = refl
@@ -76,11 +69,11 @@ set_taken t s (Cond n) x e g = set_fits t s (Cond n) x refl e g
 
 free_taken : (t : Ty) (s : Scalar) (v x : Value) → scalar_of t ≡ Some s → assigned t v ≡ Gives x → suits s x ≡ true
 free_taken t s Unset x e g = let is : Unset ≡ x = cc in let Q : Value → Type 0 = λ v. suits s v ≡ true in subst Q is refl
-free_taken t s (Whole j z) x e g = and_right (is_set x) (suits s x) (set_fits t s (Whole j z) x refl e g)
-free_taken t s Null x e g = and_right (is_set x) (suits s x) (set_fits t s Null x refl e g)
-free_taken t s (At c n k) x e g = and_right (is_set x) (suits s x) (set_fits t s (At c n k) x refl e g)
-free_taken t s (Code f) x e g = and_right (is_set x) (suits s x) (set_fits t s (Code f) x refl e g)
-free_taken t s (Cond n) x e g = and_right (is_set x) (suits s x) (set_fits t s (Cond n) x refl e g)
+free_taken t s (Whole j z) x e g = and_second (is_set x) (suits s x) (set_fits t s (Whole j z) x refl e g)
+free_taken t s Null x e g = and_second (is_set x) (suits s x) (set_fits t s Null x refl e g)
+free_taken t s (At c n k) x e g = and_second (is_set x) (suits s x) (set_fits t s (At c n k) x refl e g)
+free_taken t s (Code f) x e g = and_second (is_set x) (suits s x) (set_fits t s (Code f) x refl e g)
+free_taken t s (Cond n) x e g = and_second (is_set x) (suits s x) (set_fits t s (Cond n) x refl e g)
 
 any_taken : (v x : Value) → set_integer v ≡ Gives x → is_integer x ≡ true
 any_taken (Whole kind z) x g = let is : Whole kind z ≡ x = cc in let Q : Value → Type 0 = λ v. is_integer v ≡ true in subst Q is refl
@@ -160,7 +153,7 @@ first_fits names t k v ts ks vs one others (Gives x) i (Gives xs) j [] g = absur
 first_fits names t k v ts ks vs one others (Gives x) i (Gives xs) j (w ∷ ws) g =
     let head : x ≡ value_of names w = cc in
     let tail : xs ≡ values_of names ws = cc in
-    both (is_taken_as k (seen w)) (are_taken (map Some ks) ws)
+    and_holds (is_taken_as k (seen w)) (are_taken (map Some ks) ws)
     (sym (taken_shown names k w) ∙ fitted t k v (value_of names w) one (i ∙ ap Gives head))
     (others ws (j ∙ ap Gives tail))
 first_fits names t k v ts ks vs one others (Gives x) i (Faults f) j ws g = absurd cc

@@ -1,6 +1,7 @@
 -- The cells of variables, one after the other; the greatest number of 64 bits stands for every greater one.
 use Rattle.std.proofs.Common.{◌≡◌, ℕ, ◌+◌, ◌-◌, ◌^◌, ◌<◌, min, List, [], ◌∷◌, ◌++◌, length, get_or, map, drop, Vec, Box, Global, Option, Some, None, option_map, sym, ap, ◌∙◌, arith}
 use Rattle.cpc_base.specs.declared.stop.Place.{Place}
+use Rattle.cpc_base.proofs.Lists.{drop_to_item}
 use Rattle.cpc_tree.specs.declared.program.Expr as GExpr
 use Rattle.cpc_tree.specs.declared.program.Parameter.{Parameter}
 use Rattle.cpc_tree.specs.declared.program.Statement.{Statement}
@@ -12,7 +13,7 @@ use Rattle.cpc_tree.specs.Syntax.{Variable, Program}
 use Rattle.cpc_tree.specs.Typing as T
 use Rattle.cpc_meaning_cell_laws.specs.Cells.{or_zero, variables_cells}
 use Rattle.cpc_eval_index.specs.Sized.{capped}
-use Rattle.cpc_eval_variables.proofs.Nodes.{drop_item, row_more, if_seen}
+use Rattle.cpc_eval_variables.proofs.Nodes.{row_more, if_seen}
 use Rattle.cpc_eval_variables.proofs.Walking.{block_locals, for_locals}
 
 pub summed : (a b m n r : ℕ) → a ≡ capped m → b ≡ capped n → r ≡ min (a + b) (2 ^ 64 - 1) → r ≡ capped (m + n)
@@ -74,5 +75,5 @@ module _ (p : Program) where
       → capped (r + variables_cells p (map as_variable (map (parameter_of names) (drop (i + 1) ps)))) ≡ capped (t + variables_cells p (map as_variable (map (parameter_of names) (drop i ps))))
   parameters_more names ps i x t c r h e k q =
       let all : variables_cells p (map as_variable (map (parameter_of names) (drop i ps))) ≡ or_zero (T.size p (type_of names x.of)) + variables_cells p (map as_variable (map (parameter_of names) (drop (i + 1) ps))) =
-      ap (λ l. variables_cells p (map as_variable (map (parameter_of names) l))) (drop_item ps i x h e) in
+      ap (λ l. variables_cells p (map as_variable (map (parameter_of names) l))) (drop_to_item ps i x h e) in
       omega arith

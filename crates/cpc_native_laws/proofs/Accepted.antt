@@ -9,6 +9,8 @@ use Rattle.cpc_base.specs.Bytes.{Text}
 use Rattle.cpc_base.specs.Texts.{AreDistinct}
 use Rattle.cpc_base.specs.declared.names.Name.{Name}
 use Rattle.cpc_base.specs.declared.stop.Dialect.{Dialect}
+use Rattle.cpc_base.proofs.Truth.{and_both, true_not_false}
+use Rattle.cpc_base.proofs.Lists.{none_not_some}
 use Rattle.cpc_check_rules.specs.ItemRules.{items_breaks}
 use Rattle.cpc_check_rules.specs.Rules.{breaks}
 use Rattle.cpc_check_rules.specs.Apart.{Spells}
@@ -35,7 +37,7 @@ use Rattle.cpc_native_laws.proofs.Literals.{FineItem, FineItems, items_fine}
 use Rattle.cpc_native_laws.proofs.Sizes.{items_numbers}
 use Rattle.cpc_native_laws.proofs.Props.{program_prop}
 use Rattle.cpc_native_laws.proofs.Inside.{name_in, items_in}
-use Rattle.cpc_native_laws.proofs.Alike.{both_true, two, items_same}
+use Rattle.cpc_native_laws.proofs.Alike.{two, items_same}
 use Rattle.cpc_native_laws.proofs.There.{items_there}
 
 -- ---- numbers
@@ -61,15 +63,9 @@ read_has_numbers dialect p read unbroken =
 full : (a : ℕ) (x : List ℕ) → a ∷ x ≡ [] → ⊥
 full a x e = absurd cc
 
-none_there : {A : Type 0} (x : A) → None ≡ Some x → ⊥
-none_there x e = absurd cc
-
-true_false : true ≡ false → ⊥
-true_false h = absurd cc
-
 some_word : (names : Names) (o : Option Word) → is_some (option_map (ident names) o) ≡ true → o ≡ None → ⊥
-some_word names None h e = true_false (sym h)
-some_word names (Some w) h e = none_there w (sym e)
+some_word names None h e = true_not_false (sym h)
+some_word names (Some w) h e = none_not_some w (sym e)
 
 module _ (p : GProgram.Program) where
   abbrev table : Names
@@ -113,7 +109,7 @@ module _ (p : GProgram.Program) where
   -- ---- parameters that have names
 
   fine_at : (xs : List GItem.Item) (k : ℕ) (f : Function) → FineItems (map (located_item table) xs) → slice_get xs k ≡ Some (I.Function f) → FineItem (LFunctionItem (located_function table f))
-  fine_at [] k f h e = absurd (none_there (I.Function f) e)
+  fine_at [] k f h e = absurd (none_not_some (I.Function f) e)
   fine_at (x ∷ xs) zero f h e = let g : x ≡ I.Function f = cc in subst (λ y. FineItem (located_item table y)) g h.0
   fine_at (x ∷ xs) (suc k) f h e = fine_at xs k f h.1 e
 
@@ -122,12 +118,12 @@ module _ (p : GProgram.Program) where
       (fine_at p.items.items k f (items_fine r.parses.0 (located p).items r.parses.2.1 r.parses.2.3 (row_fit r.parses.1.1)) e).1)
 
   has_name : (ps : List Parameter) → all_named (λ (q : LParameter). q.called) (map (located_parameter table) ps) ≡ true → (k : ℕ) (q : Parameter) → slice_get ps k ≡ Some q → q.word ≡ None → ⊥
-  has_name [] h k q e none = none_there q e
+  has_name [] h k q e none = none_not_some q e
   has_name (x ∷ ps) h zero q e none =
-      let k = both_true (is_some (option_map (ident table) x.word)) (all_named (λ (q : LParameter). q.called) (map (located_parameter table) ps)) h in
+      let k = and_both (is_some (option_map (ident table) x.word)) (all_named (λ (q : LParameter). q.called) (map (located_parameter table) ps)) h in
       let g : x ≡ q = cc in
       some_word table x.word k.0 (ap (λ (q : Parameter). q.word) g ∙ none)
-  has_name (x ∷ ps) h (suc k) q e none = has_name ps (both_true (is_some (option_map (ident table) x.word)) (all_named (λ (q : LParameter). q.called) (map (located_parameter table) ps)) h).1 k q e none
+  has_name (x ∷ ps) h (suc k) q e none = has_name ps (and_both (is_some (option_map (ident table) x.word)) (all_named (λ (q : LParameter). q.called) (map (located_parameter table) ps)) h).1 k q e none
 
   -- ---- the same by the names of functions
 
@@ -140,7 +136,7 @@ module _ (p : GProgram.Program) where
   named_again (q ∷ ps) = two (λ a b. a && b) (word_again q.word) (named_again ps)
 
   found_named : (xs : List GItem.Item) (x : Text) (f : S.Function) → FineItems (map (located_item table) xs) → function_named (map (item_of table) xs) x ≡ Some f → all_named (λ (q : S.Parameter). q.called) f.parameters ≡ true
-  found_named [] x f h e = absurd (none_there f e)
+  found_named [] x f h e = absurd (none_not_some f e)
   found_named (I.Struct tag fields ∷ xs) x f h e = found_named xs x f h.1 e
   found_named (I.Global w t start ∷ xs) x f h e = found_named xs x f h.1 e
   found_named (I.Prototype q mode w r ps ∷ xs) x f h e = found_named xs x f h.1 e
@@ -156,13 +152,13 @@ module _ (p : GProgram.Program) where
       found_named p.items.items x f (items_fine r.parses.0 (located p).items r.parses.2.1 r.parses.2.3 (row_fit r.parses.1.1)) e)
 
   called_there : (ps : List S.Parameter) → all_named (λ (q : S.Parameter). q.called) ps ≡ true → (k : ℕ) (q : S.Parameter) → slice_get ps k ≡ Some q → q.called ≡ None → ⊥
-  called_there [] h k q e none = none_there q e
+  called_there [] h k q e none = none_not_some q e
   called_there (x ∷ ps) h zero q e none =
-      let k = both_true (is_some x.called) (all_named (λ (q : S.Parameter). q.called) ps) h in
+      let k = and_both (is_some x.called) (all_named (λ (q : S.Parameter). q.called) ps) h in
       let g : x ≡ q = cc in
       let n : x.called ≡ None = ap (λ (q : S.Parameter). q.called) g ∙ none in
-      true_false (sym k.0 ∙ ap is_some n)
-  called_there (x ∷ ps) h (suc k) q e none = called_there ps (both_true (is_some x.called) (all_named (λ (q : S.Parameter). q.called) ps) h).1 k q e none
+      true_not_false (sym k.0 ∙ ap is_some n)
+  called_there (x ∷ ps) h (suc k) q e none = called_there ps (and_both (is_some x.called) (all_named (λ (q : S.Parameter). q.called) ps) h).1 k q e none
 
   -- texts that tell the names of a program that is checked
   pub spelled : (dialect : Dialect) → ∥ IsRead dialect (located p) ∥₁ → ∥ IsWithin p ∥₁ → AreDistinct p.names → (names : Names) × IsSpelling names p

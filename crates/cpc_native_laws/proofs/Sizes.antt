@@ -6,6 +6,7 @@ use Rattle.std.proofs.lemmas.Bool.Decides.{nat_tests}
 use Rattle.std.proofs.lemmas.List.{append-nil}
 use Rattle.cpc_base.specs.declared.stop.Place.{Place}
 use Rattle.cpc_base.specs.declared.stop.Dialect.{Dialect}
+use Rattle.cpc_base.proofs.Truth.{by_false_true}
 use Rattle.cpc_tree.specs.declared.program.UnaryOp.TheVariants.{Minus, Plus, Not, Complement, Dereference, AddressOf}
 use Rattle.cpc_tree.specs.Syntax.{Ty, Program}
 use Rattle.cpc_tree.specs.Located.{Ident, LExpr, LNamed, LInteger, LCharacter, LText, LUnary, LBinary, LAnd, LOr, LChoose, LCast, LSizeOf, LIndex, LMember, LArrow, LCall, LExprs, NoLExpr, AndLExpr, LStmt, Block, Empty, Declare, Assign, Call, Detach, Spawn, If, While, DoWhile, For, Goto, Label, Break, Continue, Return, LStmts, NoLStmt, AndLStmt, MaybeLStmt, NoneLStmt, SomeLStmt, LItem, LStruct, LGlobal, LPrototype, LFunctionItem, bare_expr, bare_exprs, bare_stmt, bare_stmts, bare_maybe, bare_item}
@@ -18,7 +19,6 @@ use Rattle.cpc_check_rules.specs.ExprRules.{called_breaks, arg_breaks, expr_brea
 use Rattle.cpc_check_rules.specs.StmtRules.{inner, behind, all_behind, target_breaks, to_breaks, test_breaks, maybe_test, start_breaks, started_breaks, return_breaks, stmt_breaks, stmts_breaks, maybe_breaks}
 use Rattle.cpc_check_rules.specs.FunctionRules.{reserved_breaks, locals, labels, label_breaks, stray_breaks, many_breaks}
 use Rattle.cpc_check_rules.specs.ItemRules.{Signature, outside, is_struct, declared_breaks, types, cps_breaks, parameters_breaks, sized_breaks, in_body, body_breaks, item_breaks, items_breaks}
-use Rattle.cpc_check_sound_laws.proofs.Answers.{not_true}
 use Rattle.cpc_check_sound_laws.proofs.Unbroken.{split, holds_not}
 use Rattle.cpc_check_sound_laws.proofs.Agreement.{Grows, sizes_grow}
 use Rattle.cpc_check_sound_laws.proofs.Growing.{IsFresh, grows_step, grows_same, grows_on}
@@ -35,10 +35,10 @@ module _ (p : Program) where
     where
       small : (n : ℕ) → size s.items t ≡ Some n → (b : Bool) → nat_le n cell_limit ≡ b → is_none (cond b (Some n) None) ≡ false → FitsSize (size p t)
       small n e true f h = subst FitsSize (sym (sizes_grow s.items p g t n e)) (within n f)
-      small n e false f h = not_true (sym h)
+      small n e false f h = by_false_true (sym h)
 
       go : (o : Option ℕ) → size s.items t ≡ o → is_none (measured (record { items = s.items; blocks = s.blocks }) t) ≡ false → FitsSize (size p t)
-      go None e h = not_true (sym (let i : is_none (measured s t) ≡ true = simp (e) refl in sym i ∙ h))
+      go None e h = by_false_true (sym (let i : is_none (measured s t) ≡ true = simp (e) refl in sym i ∙ h))
       go (Some n) e h = small n e (nat_le n cell_limit) refl (let i : is_none (cond (nat_le n cell_limit) (Some n) None) ≡ is_none (measured s t) = simp (e) refl in i ∙ h)
 
   -- ---- expressions

@@ -1,5 +1,6 @@
 -- How code reads what stands first behind a base type.
 use Rattle.std.proofs.Common.{◌≡◌, ℕ, Bool, true, false, List, [], ◌∷◌, Some, None, max, cond, refl, sym, ap, ◌∙◌, nat_lt, arith}
+use Rattle.cpc_base.proofs.Truth.{lt_zero}
 use Rattle.cpc_tree.specs.declared.token.Punctuator.TheVariants as P
 use Rattle.cpc_tree.specs.Tokens.{Lexeme, Mark, Placed}
 use Rattle.cpc_tree.specs.Syntax.{Ty, TyArray}
@@ -15,7 +16,7 @@ use Rattle.cpc_parser_types.specs.Declarators.{is_bracket, length_in, stars_at, 
 use Rattle.cpc_parser.specs.ItemReaders.{First, Alone, Closed, Called, Going, Brackets, Parens, size_part, list_part, first_class, first_make, first_part, first_links, named_at, alone, coded, pointer_at, second, Seen, Variable, Function, seen}
 use Rattle.cpc_parser.specs.ItemViews.{flat, seen_at, signature_at, named_seen_at}
 use Rattle.cpc_parser.proofs.Firsts.{named_joint, parts}
-use Rattle.cpc_parser.proofs.Steps.{made_head, never_less}
+use Rattle.cpc_parser.proofs.Steps.{made_head}
 
 module _ (b : Ty) (d : ℕ) where
   -- what stands behind the stars
@@ -143,4 +144,4 @@ module _ (t : Ty) (d : ℕ) where
     by false f = rw (links_stop (first_links d) (Alone x t) 0 u us (nothing_on x u.lexeme e f), f) refl
     by true f =
         let i : first_class (Alone x t) u.lexeme ≡ Some Brackets = rw (bracket_in u.lexeme f) refl in
-        rw (goes_on Brackets (Alone x t) u us i, f, never_less d) (sized x (before (one (λ z. length_in z.lexeme)) (λ z. is_unbracket z.lexeme) us))
+        rw (goes_on Brackets (Alone x t) u us i, f, lt_zero d) (sized x (before (one (λ z. length_in z.lexeme)) (λ z. is_unbracket z.lexeme) us))

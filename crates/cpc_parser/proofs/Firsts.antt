@@ -1,6 +1,7 @@
 -- What stands first behind a base type is read exactly.
-use Rattle.std.proofs.Common.{◌≡◌, ℕ, ◌+◌, ◌<◌, ◌^◌, Bool, true, false, List, [], ◌∷◌, ◌++◌, Some, None, max, pos, refl, sym, ap, subst, ◌∙◌, arith, nat_lt, inl, inr, if◌then◌else◌}
+use Rattle.std.proofs.Common.{◌≡◌, ℕ, ◌+◌, ◌<◌, ◌^◌, true, false, List, [], ◌∷◌, ◌++◌, Some, None, max, pos, refl, sym, ap, subst, ◌∙◌, arith, nat_lt, inl, inr}
 use Rattle.cpc_base.specs.declared.stop.Place.{Place}
+use Rattle.cpc_base.proofs.Lists.{some_of_if}
 use Rattle.cpc_num.specs.declared.kinds.Kind.{Kind}
 use Rattle.cpc_num.specs.declared.kinds.Kind.TheVariants as N
 use Rattle.cpc_tree.specs.declared.token.Punctuator.TheVariants as P
@@ -17,7 +18,7 @@ use Rattle.cpc_parser_types.specs.Views.{lexeme}
 use Rattle.cpc_parser_types.specs.TypeReaders.{ident_of, star_class, is_left, is_unbracket}
 use Rattle.cpc_parser_types.specs.Declarators.{StarsEnd, length_in}
 use Rattle.cpc_parser_types.proofs.Bases.{token, name_exact}
-use Rattle.cpc_parser_types.proofs.BaseWords.{at, named_is, some_is}
+use Rattle.cpc_parser_types.proofs.BaseWords.{at, named_is}
 use Rattle.cpc_parser_types.proofs.Params.{lefts, unbrackets}
 use Rattle.cpc_parser_types.proofs.ParamWords.{right_is, left_is, star_mark, unbracket_is}
 use Rattle.cpc_parser_types.proofs.Lists.{ListEnclosed, list_exact}
@@ -65,12 +66,8 @@ parens_is : (v : First) (k : Lexeme) → first_class v k ≡ Some Parens → k �
 parens_is (Alone x t) (Mark P.LeftParen) e = refl
 parens_is v k e = absurd cc
 
-some_if : (b : Bool) (m n : ℕ) → (if b then Some m else None) ≡ Some n → (b ≡ true) × (m ≡ n)
-some_if true m n e = (refl, some_is m n e)
-some_if false m n e = absurd cc
-
 length_is : (q : Place) (k : Lexeme) (n : ℕ) → length_in k ≡ Some n → (kind : Kind) × (n < 2 ^ 64) × (at q k ≡ number q kind (pos n))
-length_is q (Number kind (pos m)) n e = let i = some_if (nat_lt m (2 ^ 64)) m n e in (kind, let l : m < 2 ^ 64 = grind (arith, i.0) in subst (λ z. z < 2 ^ 64) i.1 l, ap (λ z. number q kind (pos z)) i.1)
+length_is q (Number kind (pos m)) n e = let i = some_of_if (nat_lt m (2 ^ 64)) m n e in (kind, let l : m < 2 ^ 64 = grind (arith, i.0) in subst (λ z. z < 2 ^ 64) i.1 l, ap (λ z. number q kind (pos z)) i.1)
 length_is q k n e = absurd cc
 
 with_part : (t : Ty) (f k : List Placed) (u : Placed) (c : Going) (v : First) (w : Part) (h j : ℕ) → NamedShape t f v h → first_class v u.lexeme ≡ Some c → Parts c (u ∷ k) w j → NamedShape t (f ++ u ∷ k) (first_make c v w) (max h j)

@@ -1,6 +1,7 @@
 -- What a global starts with is read exactly.
 use Rattle.std.proofs.Common.{◌≡◌, ℕ, ◌≤◌, List, [], ◌∷◌, Some, None, pos, refl, sym, ap, subst, arith}
 use Rattle.cpc_base.specs.declared.stop.Place.{Place}
+use Rattle.cpc_base.proofs.Lists.{some_is}
 use Rattle.cpc_num.specs.declared.kinds.Kind.TheVariants as N
 use Rattle.cpc_tree.specs.declared.token.Punctuator.TheVariants as P
 use Rattle.cpc_tree.specs.Tokens.{Lexeme, Mark, Number, Character, Quoted, Placed}
@@ -12,7 +13,7 @@ use Rattle.cpc_parser_reading.specs.Exact.{Any, Opens, Exact, Branch, Starts}
 use Rattle.cpc_parser_reading.proofs.Readers.{branch, exact_as, exact_made, exact_one, exact_one_of, exact_after, headed_branch}
 use Rattle.cpc_parser_types.specs.Views.{lexeme}
 use Rattle.cpc_parser_types.proofs.Bases.{token, spot}
-use Rattle.cpc_parser_types.proofs.BaseWords.{at, some_is}
+use Rattle.cpc_parser_types.proofs.BaseWords.{at}
 use Rattle.cpc_parser.specs.ItemReaders.{Initial, Literal, Negative, initial_class, initial_low, integer_in, literal_in, same, negative, initial_part, initial_at, start_at, is_equal}
 use Rattle.cpc_parser.proofs.Marks.{equals}
 use Rattle.cpc_parser.proofs.Places.{exact_less}

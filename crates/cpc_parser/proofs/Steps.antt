@@ -1,6 +1,7 @@
 -- How code goes along the readers of items.
 use Rattle.std.proofs.Common.{◌≡◌, ℕ, ◌<◌, Bool, true, false, List, [], ◌∷◌, ◌++◌, map, max, Option, Some, None, if◌then◌else◌, ◌+◌, Result, refl, sym, ap, subst, append_assoc, ◌∙◌, nat_lt, arith}
 use Rattle.cpc_base.specs.declared.stop.Place.{Place}
+use Rattle.cpc_base.proofs.Truth.{lt_zero}
 use Rattle.cpc_tree.specs.declared.program.Mode.{Mode}
 use Rattle.cpc_tree.specs.declared.program.Mode.TheVariants as M
 use Rattle.cpc_tree.specs.declared.token.Punctuator.TheVariants as P
@@ -141,9 +142,6 @@ module _ (old : List LItem) (q : Place) (mode : Mode) (d : ℕ) where
   pub moded_steps : (ts : List Placed) → onto old (moded_at q mode d) ts ≡ (flat (head_at d) ts >>= λ x. with_behind old q mode d x)
   moded_steps ts = by_head (head_at d ts)
 
-pub never_less : (d : ℕ) → nat_lt d 0 ≡ false
-never_less d = grind arith
-
 -- what is put behind other items, without the part before it
 kept : {A : Type 0} (old : List LItem) (x : A) (h : ℕ) (r : Reading Placed (List LItem)) → (((r >>= λ y. Read ((x, y.0), max h y.1, y.2)) >>= λ u. Read (second u.0, u.1, u.2)) >>= λ y. Read (old ++ y.0, 0, y.2)) ≡ (r >>= λ y. Read (old ++ y.0, 0, y.2))
 kept old x h (Read y) = refl
@@ -167,7 +165,7 @@ module _ (old : List LItem) (q : Place) (d : ℕ) where
 
   pub brace_so : (tag : Ident) (ts : List Placed) → begins P.LeftBrace ts ≡ true → behind_tag tag ts ≡ onto old (structure_at tag d) ts
   brace_so tag [] e = absurd cc
-  brace_so tag (t ∷ ts) e = rw (e, never_less d) refl
+  brace_so tag (t ∷ ts) e = rw (e, lt_zero d) refl
 
   pub brace_not : (tag : Ident) (ts : List Placed) → begins P.LeftBrace ts ≡ false → behind_tag tag ts ≡ onto old (plain_at q (TyStruct tag.text) d) ts
   brace_not tag [] e = refl

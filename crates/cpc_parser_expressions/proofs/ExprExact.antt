@@ -1,6 +1,7 @@
 -- Expressions are read exactly, with any room, and where calls are taken apart.
 use Rattle.std.proofs.Common.{◌≡◌, ℕ, zero, suc, ◌+◌, ◌≤◌, ◌<◌, Bool, true, false, is_some, List, [], ◌∷◌, ◌++◌, Option, Some, None, max, refl, ap, subst, arith, nat_lt}
 use Rattle.cpc_base.specs.declared.stop.Place.{Place}
+use Rattle.cpc_base.proofs.Truth.{lt_fails, lt_not_means}
 use Rattle.cpc_tree.specs.declared.token.Punctuator.TheVariants as P
 use Rattle.cpc_tree.specs.Tokens.{Lexeme, Mark, Named, Placed}
 use Rattle.cpc_tree.specs.Located.{LExpr, LChoose}
@@ -23,7 +24,7 @@ use Rattle.cpc_parser_expressions.proofs.Endings.{exact_ending, exact_stop_on}
 use Rattle.cpc_parser_expressions.proofs.Sorts.{Above, no_other, no_other_primary, shape_least, never_of, never_to}
 use Rattle.cpc_parser_expressions.proofs.PostfixWords.{Atoms, Arguments, of_closed, to_closed, Parts, Always, flag_is, flag_none, none_flag, of_trail, to_trail, to_literal}
 use Rattle.cpc_parser_expressions.proofs.UnaryWords.{Prefixes, of_prefix, to_prefix, Casts, of_cast, to_cast}
-use Rattle.cpc_parser_expressions.proofs.TierWords.{op_tier, tier_of, operator_is, at_is, at_to, none_is, none_to, zero_tier, not_above, Operand, Suits, low_tier, of_tiers, to_tiers, Arms, chosen, Unchosen, shape_unchosen, of_choices, to_choices}
+use Rattle.cpc_parser_expressions.proofs.TierWords.{op_tier, tier_of, operator_is, at_is, at_to, none_is, none_to, zero_tier, Operand, Suits, low_tier, of_tiers, to_tiers, Arms, chosen, Unchosen, shape_unchosen, of_choices, to_choices}
 use Rattle.cpc_parser_expressions.proofs.Parens.{cast_begins, unary_apart, cast_opens, unary_opens, unary_high}
 use Rattle.cpc_parser_expressions.proofs.ExprStarts.{starts_reads, starts_postfix, start, a_word, word_opens}
 
@@ -82,10 +83,6 @@ no_left p q k l e i = rw (← e) refl
 
 left_exact : (n : ℕ) → Exact lexeme n 0 (λ d. one left_of) (One left_of) Any
 left_exact n = exact_one n left_of (mark start P.LeftParen) start refl (λ t u e i. no_left t.place u.place t.lexeme u.lexeme e i)
-
--- room for a part
-room_is : (d h : ℕ) → nat_lt d h ≡ false → h ≤ d
-room_is d h e = grind arith
 
 -- an operator, a question mark and a colon are no parts of a postfix expression
 operator_ends : (k : Lexeme) (x : ℕ × Operator) → operator_in k ≡ Some x → postfix_class k ≡ None
@@ -172,10 +169,10 @@ module _ (n : ℕ) (a : S.Apart) (y : (m : ℕ) → Exact lexeme n 1 (λ d. rank
   part_is d (Through, b) t rest = refl
 
   part_fits : (d : ℕ) (c : Behind × Bool) (h : ℕ) → 1 ≤ h → nat_lt d (h + postfix_left a c) ≡ false → (h + postfix_left a c ≤ d) × (part_least c + postfix_right a c ≤ d)
-  part_fits d (Args, b) h lo i = let k = room_is d (h + (count b + call_count a)) i in (k, omega (arith, k))
-  part_fits d (Index, b) h lo i = let k = room_is d (h + (count b + 1)) i in (k, omega (arith, k, lo))
-  part_fits d (Field, b) h lo i = let k = room_is d (h + (count b + 1)) i in (k, omega arith)
-  part_fits d (Through, b) h lo i = let k = room_is d (h + (count b + 1)) i in (k, omega arith)
+  part_fits d (Args, b) h lo i = let k = lt_not_means d (h + (count b + call_count a)) i in (k, omega (arith, k))
+  part_fits d (Index, b) h lo i = let k = lt_not_means d (h + (count b + 1)) i in (k, omega (arith, k, lo))
+  part_fits d (Field, b) h lo i = let k = lt_not_means d (h + (count b + 1)) i in (k, omega arith)
+  part_fits d (Through, b) h lo i = let k = lt_not_means d (h + (count b + 1)) i in (k, omega arith)
 
   part_joint : Joint lexeme (suc n) 1 (λ s k. flagged (was_call s) (postfix_class k)) (λ d c h. nat_lt d (h + postfix_left a c)) (λ c s w. postfix_make a s w) (λ c h j. max (h + postfix_left a c) (j + postfix_right a c))
       Always (λ c k. postfix_class k ≡ Some c.0) Any (λ c. Any) (postfix_left a) (postfix_right a) part_least
@@ -187,7 +184,7 @@ module _ (n : ℕ) (a : S.Apart) (y : (m : ℕ) → Exact lexeme n 1 (λ d. rank
     of = λ c s w k q. tt;
     grows = λ c h j. refl;
     fits = λ d c h lo hi le i. part_fits d c h lo i;
-    free = λ d c h l m. not_above d (h + postfix_left a c) l;
+    free = λ d c h l m. lt_fails d (h + postfix_left a c) l;
   }
 
   exact_postfix : Exact lexeme (suc n) 1 (λ d. postfix_at (inner d) d a) (ReadsShape a Postfix) (λ v. ShapeEnd Postfix)
@@ -247,8 +244,8 @@ module _ (n : ℕ) (a : S.Apart) (y : (m : ℕ) → Exact lexeme n 1 (λ d. rank
     to = λ c s w k q. (q.0, λ o j. let t = operated_tier w.0 c.0.1 (whole s) w.1 in let l = q.1 o j in omega (arith, t, l));
     of = λ c s w k q. (q.0, λ o j. let t = operated_tier w.0 c.0.1 (whole s) w.1 in let l = q.1 o j in omega (arith, t, l));
     grows = λ c h j. refl;
-    fits = λ d c h lo hi le i. let k = room_is d (h + (count c.1 + 1)) i in (k, omega (arith, k, lo));
-    free = λ d c h l b. not_above d (h + (count c.1 + 1)) l;
+    fits = λ d c h lo hi le i. let k = lt_not_means d (h + (count c.1 + 1)) i in (k, omega (arith, k, lo));
+    free = λ d c h l b. lt_fails d (h + (count c.1 + 1)) l;
   }
 
   operand_to : (m : ℕ) (c : (ℕ × Operator) × Bool) (w : Place × LExpr) (l k : Lexeme) → operator_at m l ≡ Some c.0 → ShapeEnd (Tier (below c.0.0)) k → TierP m c w k
@@ -314,8 +311,8 @@ module _ (n : ℕ) (a : S.Apart) (y : (m : ℕ) → Exact lexeme n 1 (λ d. rank
     to = λ c s w k q. ((q.0, q.1), λ i. q.2);
     of = λ c s w k q. (q.0.0, q.0.1, q.1 refl);
     grows = λ c h j. refl;
-    fits = λ d c h lo hi le i. let k = room_is d (h + (count c.1 + 1)) i in (k, omega (arith, k, lo));
-    free = λ d c h l b. not_above d (h + (count c.1 + 1)) l;
+    fits = λ d c h lo hi le i. let k = lt_not_means d (h + (count c.1 + 1)) i in (k, omega (arith, k, lo));
+    free = λ d c h l b. lt_fails d (h + (count c.1 + 1)) l;
   }
 
   two_arms : Exact lexeme n 1 (λ d. pair (before (expr_at d) (λ u. is_colon u.lexeme)) (expr_at d)) (Both (Before (Reads Whole) (λ u. is_colon u.lexeme)) (Reads Whole)) (λ v. ShapeEnd Whole)

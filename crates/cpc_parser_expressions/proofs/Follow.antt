@@ -1,5 +1,6 @@
 -- How the code follows the readers of single parts of expressions.
 use Rattle.std.proofs.Common.{◌≡◌, ℕ, zero, suc, ◌+◌, ◌-◌, ◌≤◌, ◌<◌, ◌&&◌, Bool, true, false, is_some, List, [], ◌∷◌, ◌++◌, Some, None, max, map, refl, sym, ap, ◌∙◌, arith, nat_lt, cond}
+use Rattle.cpc_base.proofs.Truth.{lt_fails, lt_holds}
 use Rattle.cpc_tree.specs.declared.program.UnaryOp.{UnaryOp}
 use Rattle.cpc_tree.specs.declared.program.Expr.{Expr}
 use Rattle.cpc_tree.specs.declared.token.Punctuator.TheVariants as P
@@ -22,12 +23,6 @@ use Rattle.cpc_parser_expressions.specs.Steps.{first_of, stepped, size_at, sign_
 use Rattle.cpc_parser_expressions.proofs.ExprExact.{shape_is, divider, comma_ends, expr_exact, expr_ends}
 use Rattle.cpc_parser_expressions.proofs.Steps.{minus_is, assoc, whole_start, choice_next, choice_stop}
 
-not_less : (a b : ℕ) → b ≤ a → nat_lt a b ≡ false
-not_less a b l = grind arith
-
-less : (a b : ℕ) → a < b → nat_lt a b ≡ true
-less a b l = grind arith
-
 -- a rank's expressions, where no call is taken apart
 plain_shape : (d : ℕ) (r : Rank) (ts : List Placed) → plain_at d r ts ≡ shape_at d Never r ts
 unfolding plain_at shape_at
@@ -45,26 +40,26 @@ module _ (a : Apart) (d : ℕ) (pos : 0 < d) where
 
   pub unary_plain : (ts : List Placed) → first_of prefix_class ts ≡ Some Plain → shape_at d a Unary ts ≡ shape_at d a Postfix ts
   unary_plain [] e = absurd cc
-  unary_plain (t ∷ rest) e = sym (shape_is d a Unary (t ∷ rest) (omega (arith, pos))) ∙ (rw (e, not_less d 1 (omega (arith, pos))) refl ∙ shape_is d a Postfix (t ∷ rest) (omega (arith, pos)))
+  unary_plain (t ∷ rest) e = sym (shape_is d a Unary (t ∷ rest) (omega (arith, pos))) ∙ (rw (e, lt_fails d 1 (omega (arith, pos))) refl ∙ shape_is d a Postfix (t ∷ rest) (omega (arith, pos)))
 
   pub unary_size : (ts : List Placed) → first_of prefix_class ts ≡ Some Size → shape_at d a Unary ts ≡ size_at (d - 1) ts
   unary_size [] e = absurd cc
-  unary_size (t ∷ rest) e = sym (shape_is d a Unary (t ∷ rest) (omega (arith, pos))) ∙ rw (e, not_less d 1 (omega (arith, pos)), minus_is d) refl
+  unary_size (t ∷ rest) e = sym (shape_is d a Unary (t ∷ rest) (omega (arith, pos))) ∙ rw (e, lt_fails d 1 (omega (arith, pos)), minus_is d) refl
 
   pub unary_deep : (op : UnaryOp) (ts : List Placed) → d < 2 → first_of prefix_class ts ≡ Some (Sign op) → shape_at d a Unary ts ≡ Deep ts
   unary_deep op [] l e = absurd cc
-  unary_deep op (t ∷ rest) l e = sym (shape_is d a Unary (t ∷ rest) (omega (arith, pos))) ∙ rw (e, less d 2 l) refl
+  unary_deep op (t ∷ rest) l e = sym (shape_is d a Unary (t ∷ rest) (omega (arith, pos))) ∙ rw (e, lt_holds d 2 l) refl
 
   pub unary_sign : (op : UnaryOp) (ts : List Placed) → 2 ≤ d → first_of prefix_class ts ≡ Some (Sign op) → shape_at d a Unary ts ≡ sign_at op (d - 1) ts
   unary_sign op [] l e = absurd cc
-  unary_sign op (t ∷ rest) l e = sym (shape_is d a Unary (t ∷ rest) (omega (arith, pos))) ∙ rw (e, not_less d 2 l, minus_is d) refl
+  unary_sign op (t ∷ rest) l e = sym (shape_is d a Unary (t ∷ rest) (omega (arith, pos))) ∙ rw (e, lt_fails d 2 l, minus_is d) refl
 
   -- A name or a literal, or parentheses.
   lit_by : (t : Placed) (rest : List Placed) (k : Lexeme) → t.lexeme ≡ k → is_left k ≡ false → atom_at (within_at a d) d (t ∷ rest) ≡ literal_at (t ∷ rest)
   lit_by t rest (Mark P.LeftParen) i e = absurd cc
   lit_by t rest (Mark p) i e = rw i refl
   lit_by t rest (Word k) i e = rw i refl
-  lit_by t rest k i e = rw (i, not_less d 1 (omega (arith, pos))) refl
+  lit_by t rest k i e = rw (i, lt_fails d 1 (omega (arith, pos))) refl
 
   pub atom_lit : (ts : List Placed) → begins P.LeftParen ts ≡ false → atom_at (within_at a d) d ts ≡ literal_at ts
   atom_lit [] e = refl
@@ -76,17 +71,17 @@ module _ (a : Apart) (d : ℕ) (pos : 0 < d) where
 
   pub atom_deep : (ts : List Placed) → d < 2 → begins P.LeftParen ts ≡ true → atom_at (within_at a d) d ts ≡ Deep ts
   atom_deep [] l e = absurd cc
-  atom_deep (t ∷ rest) l e = rw ((left_classes t.lexeme e).0, less d 2 l) refl
+  atom_deep (t ∷ rest) l e = rw ((left_classes t.lexeme e).0, lt_holds d 2 l) refl
 
   pub atom_round : (t : Placed) (rest : List Placed) → 2 ≤ d → begins P.LeftParen (t ∷ rest) ≡ true
       → atom_at (within_at a d) d (t ∷ rest) ≡ ((shape_at (d - 1) (inside a) Whole rest >>= λ x. expect (λ u. is_right u.lexeme) x.2 >>= λ y. Read (x.0, x.1, y.2)) >>= λ x. Read (opened x.0, x.1 + 1, x.2))
-  atom_round t rest l e = rw ((left_classes t.lexeme e).0, not_less d 2 l, minus_is d) refl
+  atom_round t rest l e = rw ((left_classes t.lexeme e).0, lt_fails d 2 l, minus_is d) refl
 
   -- A cast, or a unary expression.
   paren_deep : (t : Placed) (rest : List Placed) → d < 2 → is_left t.lexeme ≡ true → shape_at d a Unary (t ∷ rest) ≡ Deep (t ∷ rest)
   paren_deep t rest l e =
       let k = left_classes t.lexeme e in
-      sym (shape_is d a Unary (t ∷ rest) (omega (arith, pos))) ∙ rw (k.1, not_less d 1 (omega (arith, pos)), k.0, less d 2 l) refl
+      sym (shape_is d a Unary (t ∷ rest) (omega (arith, pos))) ∙ rw (k.1, lt_fails d 1 (omega (arith, pos)), k.0, lt_holds d 2 l) refl
 
   not_left : (t : Placed) (rest : List Placed) → is_left t.lexeme ≡ false → cast_at (inner_of a d) d a (t ∷ rest) ≡ shape_at d a Unary (t ∷ rest)
   not_left t rest e = rw e (shape_is d a Unary (t ∷ rest) (omega (arith, pos)))
@@ -110,12 +105,12 @@ module _ (a : Apart) (d : ℕ) (pos : 0 < d) where
 
   pub cast_deep : (ts : List Placed) → d < 2 → begins_cast ts ≡ true → cast_at (inner_of a d) d a ts ≡ Deep ts
   cast_deep [] l e = absurd cc
-  cast_deep (t ∷ rest) l e = let k = both_true (is_left t.lexeme) (second_base rest) e in rw (k.0, less d 2 l) refl
+  cast_deep (t ∷ rest) l e = let k = both_true (is_left t.lexeme) (second_base rest) e in rw (k.0, lt_holds d 2 l) refl
 
   pub cast_so : (ts : List Placed) → 2 ≤ d → begins_cast ts ≡ true → cast_at (inner_of a d) d a ts ≡ typed_at (d - 1) ts
   cast_so [] l e = absurd cc
   cast_so (t ∷ []) l e = let k = both_true (is_left t.lexeme) false e in absurd cc
-  cast_so (t ∷ (u ∷ rest)) l e = let k = both_true (is_left t.lexeme) (starts_base u.lexeme) e in rw (k.0, not_less d 2 l, k.1, minus_is d) refl
+  cast_so (t ∷ (u ∷ rest)) l e = let k = both_true (is_left t.lexeme) (starts_base u.lexeme) e in rw (k.0, lt_fails d 2 l, k.1, minus_is d) refl
 
 row_by : (r : Reading Placed (List LExpr)) → (((r >>= λ x. Read (Some x.0, x.1, x.2)) >>= λ x. expect (λ u. is_right u.lexeme) x.2 >>= λ y. Read (x.0, x.1, y.2)) >>= λ x. Read (listed_if x.0, x.1, x.2)) ≡ (r >>= λ x. expect (λ u. is_right u.lexeme) x.2 >>= λ y. Read (listed x.0, x.1, y.2))
 row_by (Read x) = assoc (expect (λ u. is_right u.lexeme) x.2) (λ y. Read (Some x.0, x.1, y.2)) (λ x. Read (listed_if x.0, x.1, x.2))
@@ -129,12 +124,12 @@ args_none d (t ∷ rest) e = rw e (assoc (expect (λ u. is_right u.lexeme) (t �
 
 pub args_deep : (d : ℕ) (ts : List Placed) → d < 1 → is_some (first_of prefix_class ts) ≡ true → args_at d ts ≡ Deep ts
 args_deep d [] l e = absurd cc
-args_deep d (t ∷ rest) l e = rw (e, less d 1 l) refl
+args_deep d (t ∷ rest) l e = rw (e, lt_holds d 1 l) refl
 
 pub args_row : (d : ℕ) (ts : List Placed) → 0 < d → is_some (first_of prefix_class ts) ≡ true
     → args_at d ts ≡ (separated (λ t. is_comma t.lexeme) (expr_at d) ts >>= λ x. expect (λ u. is_right u.lexeme) x.2 >>= λ y. Read (listed x.0, x.1, y.2))
 args_row d [] l e = absurd cc
-args_row d (t ∷ rest) l e = rw (e, not_less d 1 (omega (arith, l))) (row_by (separated (λ t. is_comma t.lexeme) (expr_at d) (t ∷ rest)))
+args_row d (t ∷ rest) l e = rw (e, lt_fails d 1 (omega (arith, l))) (row_by (separated (λ t. is_comma t.lexeme) (expr_at d) (t ∷ rest)))
 
 pub listed_is : (names : Names) (es : List Expr) → listed (map (located_expr names) es) ≡ located_exprs names es
 listed_is names [] = refl

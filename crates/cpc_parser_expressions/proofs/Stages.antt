@@ -1,6 +1,7 @@
 -- The readers of expressions as the code goes through them: one part behind another.
-use Rattle.std.proofs.Common.{◌≡◌, ℕ, ◌+◌, ◌-◌, ◌≤◌, ◌<◌, Bool, true, false, List, [], ◌∷◌, ◌++◌, map, Option, Some, None, max, refl, sym, ap, ◌∙◌, arith, nat_lt, cond}
+use Rattle.std.proofs.Common.{◌≡◌, ℕ, ◌+◌, ◌-◌, ◌≤◌, ◌<◌, Bool, true, false, List, [], ◌∷◌, Option, Some, None, max, refl, sym, ap, ◌∙◌, arith, nat_lt, cond}
 use Rattle.cpc_base.specs.declared.stop.Place.{Place}
+use Rattle.cpc_base.proofs.Truth.{lt_holds, lt_fails}
 use Rattle.cpc_tree.specs.declared.program.UnaryOp.{UnaryOp}
 use Rattle.cpc_tree.specs.declared.token.Punctuator.TheVariants as P
 use Rattle.cpc_tree.specs.Located.{Ident, LExpr, LExprs, LUnary, LCast, LChoose, LIndex, LMember, LArrow}
@@ -21,12 +22,6 @@ use Rattle.cpc_parser_expressions.proofs.TierWords.{operator_is}
 -- a first part that was read
 pub on_read : {A B : Type 0} (x : A × ℕ × List Placed) (r : Reading Placed A) (f : A × ℕ × List Placed → Reading Placed B) (to : Reading Placed B) → to ≡ (r >>= f) → r ≡ Read x → to ≡ f x
 on_read x r f to e i = e ∙ ap (λ z. z >>= f) i
-
-no_room : (a b : ℕ) → a < b → nat_lt a b ≡ true
-no_room a b l = grind arith
-
-some_room : (a b : ℕ) → b ≤ a → nat_lt a b ≡ false
-some_room a b l = grind arith
 
 pub counted : (s : Shape) → count (was_call s) ≡ extra s
 counted (Calling q v vs) = refl
@@ -49,13 +44,13 @@ tier_low n (t ∷ rest) x e = let k = operator_is t.lexeme x (at_most_in n (oper
 -- An operator and the operand behind it.
 module _ (d n : ℕ) (c : ℕ × Operator) (s : Shape) (h : ℕ) (t : Placed) (rest ts : List Placed) (first : ts ≡ t ∷ rest) where
   pub applied_deep : d - h ≤ extra s → stepped (tier_links (rank_expr_at (d - 1)) d n) (c, was_call s) s h ts ≡ Deep ts
-  applied_deep l = let f : d < h + (count (was_call s) + 1) = omega (arith, l, counted s) in rw (first, no_room d (h + (count (was_call s) + 1)) f) refl
+  applied_deep l = let f : d < h + (count (was_call s) + 1) = omega (arith, l, counted s) in rw (first, lt_holds d (h + (count (was_call s) + 1)) f) refl
 
   pub applied_go : extra s < d - h
       → stepped (tier_links (rank_expr_at (d - 1)) d n) (c, was_call s) s h ts ≡ (rank_expr_at (d - 1) (Tier (c.0 - 1)) rest >>= λ x. Read (Other (operated t.place c.1 (whole s) x.0), max (h + (count (was_call s) + 1)) (x.1 + 1), x.2))
   applied_go l =
       let f : h + (count (was_call s) + 1) ≤ d = omega (arith, l, counted s) in
-      rw (first, some_room d (h + (count (was_call s) + 1)) f, minus_is c.0)
+      rw (first, lt_fails d (h + (count (was_call s) + 1)) f, minus_is c.0)
       (assoc (rank_expr_at (d - 1) (Tier (below c.0)) rest) (λ w. Read ((t.place, w.0), w.1, w.2)) (λ x. Read (Other (operated x.0.0 c.1 (whole s) x.0.1), max (h + (count (was_call s) + 1)) (x.1 + 1), x.2)))
 
 -- two values that were read, and one with its place
@@ -90,14 +85,14 @@ module _ (q : Place) (s : Shape) (k d : ℕ) where
 
 module _ (d : ℕ) (s : Shape) (h : ℕ) (t : Placed) (rest ts : List Placed) (first : ts ≡ t ∷ rest) where
   pub choice_deep : d - h ≤ extra s → stepped (choice_links (expr_at (d - 1)) d) (tt, was_call s) s h ts ≡ Deep ts
-  choice_deep l = let f : d < h + (count (was_call s) + 1) = omega (arith, l, counted s) in rw (first, no_room d (h + (count (was_call s) + 1)) f) refl
+  choice_deep l = let f : d < h + (count (was_call s) + 1) = omega (arith, l, counted s) in rw (first, lt_holds d (h + (count (was_call s) + 1)) f) refl
 
   pub choice_go : extra s < d - h
       → stepped (choice_links (expr_at (d - 1)) d) (tt, was_call s) s h ts
       ≡ (expr_at (d - 1) rest >>= λ x. expect (λ u. is_colon u.lexeme) x.2 >>= λ y. expr_at (d - 1) y.2 >>= λ z. Read (Other (LChoose t.place (whole s) x.0 z.0), max (h + (count (was_call s) + 1)) (max x.1 z.1 + 1), z.2))
   choice_go l =
       let f : h + (count (was_call s) + 1) ≤ d = omega (arith, l, counted s) in
-      rw (first, some_room d (h + (count (was_call s) + 1)) f) (arms_by t.place s (h + (count (was_call s) + 1)) d (expr_at (d - 1) rest))
+      rw (first, lt_fails d (h + (count (was_call s) + 1)) f) (arms_by t.place s (h + (count (was_call s) + 1)) d (expr_at (d - 1) rest))
 
 -- A cast.
 typed_on : (q : Place) (v : Ty) (i : ℕ) (r : Reading Placed LExpr)
@@ -153,14 +148,14 @@ part_through a q s k j (Deep left) e = refl
 
 module _ (a : Apart) (d : ℕ) (s : Shape) (h : ℕ) (t : Placed) (rest ts : List Placed) (first : ts ≡ t ∷ rest) (hi : h ≤ d) where
   pub args_deep_in : d - h < extra s + call_count a → stepped (postfix_links (expr_at (d - 1)) (args_at (args_room a d)) d a) (Args, was_call s) s h ts ≡ Deep ts
-  args_deep_in l = let f : d < h + (count (was_call s) + call_count a) = omega (arith, l, counted s) in rw (first, no_room d (h + (count (was_call s) + call_count a)) f) refl
+  args_deep_in l = let f : d < h + (count (was_call s) + call_count a) = omega (arith, l, counted s) in rw (first, lt_holds d (h + (count (was_call s) + call_count a)) f) refl
 
   pub args_go : extra s + call_count a ≤ d - h
       → stepped (postfix_links (expr_at (d - 1)) (args_at (args_room a d)) d a) (Args, was_call s) s h ts ≡ onto (λ y. called a t.place (whole s) y) (λ j. max (h + extra s + call_count a) (j + call_count a)) (args_at (args_room a d)) rest
   args_go l =
       let f : h + (count (was_call s) + call_count a) ≤ d = omega (arith, l, hi, counted s) in
       let e : h + (count (was_call s) + call_count a) ≡ h + extra s + call_count a = omega (arith, counted s) in
-      rw (first, some_room d (h + (count (was_call s) + call_count a)) f) (part_args a t.place s (h + extra s + call_count a) (h + (count (was_call s) + call_count a)) (args_at (args_room a d) rest) e)
+      rw (first, lt_fails d (h + (count (was_call s) + call_count a)) f) (part_args a t.place s (h + extra s + call_count a) (h + (count (was_call s) + call_count a)) (args_at (args_room a d) rest) e)
 
   one_more : extra s + 1 ≤ d - h → h + (count (was_call s) + 1) ≤ d
   one_more l = omega (arith, l, hi, counted s)
@@ -171,18 +166,18 @@ module _ (a : Apart) (d : ℕ) (s : Shape) (h : ℕ) (t : Placed) (rest ts : Lis
   pub index_go : extra s + 1 ≤ d - h
       → stepped (postfix_links (expr_at (d - 1)) (args_at (args_room a d)) d a) (Index, was_call s) s h ts
       ≡ onto (λ y. Postfixed (LIndex t.place (whole s) y)) (λ j. max (h + extra s + 1) (j + 1)) (before (expr_at (d - 1)) (λ u. is_unbracket u.lexeme)) rest
-  index_go l = rw (first, some_room d (h + (count (was_call s) + 1)) (one_more l)) (part_index a t.place s (h + extra s + 1) (h + (count (was_call s) + 1)) (before (expr_at (d - 1)) (λ u. is_unbracket u.lexeme) rest) as_one)
+  index_go l = rw (first, lt_fails d (h + (count (was_call s) + 1)) (one_more l)) (part_index a t.place s (h + extra s + 1) (h + (count (was_call s) + 1)) (before (expr_at (d - 1)) (λ u. is_unbracket u.lexeme) rest) as_one)
 
   pub field_go : extra s + 1 ≤ d - h
       → stepped (postfix_links (expr_at (d - 1)) (args_at (args_room a d)) d a) (Field, was_call s) s h ts ≡ onto (λ y. Postfixed (LMember t.place (whole s) y)) (λ j. max (h + extra s + 1) (j + 0)) (one ident_of) rest
-  field_go l = rw (first, some_room d (h + (count (was_call s) + 1)) (one_more l)) (part_field a t.place s (h + extra s + 1) (h + (count (was_call s) + 1)) (one ident_of rest) as_one)
+  field_go l = rw (first, lt_fails d (h + (count (was_call s) + 1)) (one_more l)) (part_field a t.place s (h + extra s + 1) (h + (count (was_call s) + 1)) (one ident_of rest) as_one)
 
   pub through_go : extra s + 1 ≤ d - h
       → stepped (postfix_links (expr_at (d - 1)) (args_at (args_room a d)) d a) (Through, was_call s) s h ts ≡ onto (λ y. Postfixed (LArrow t.place (whole s) y)) (λ j. max (h + extra s + 1) (j + 0)) (one ident_of) rest
-  through_go l = rw (first, some_room d (h + (count (was_call s) + 1)) (one_more l)) (part_through a t.place s (h + extra s + 1) (h + (count (was_call s) + 1)) (one ident_of rest) as_one)
+  through_go l = rw (first, lt_fails d (h + (count (was_call s) + 1)) (one_more l)) (part_through a t.place s (h + extra s + 1) (h + (count (was_call s) + 1)) (one ident_of rest) as_one)
 
   deep_one : d - h < extra s + 1 → nat_lt d (h + (count (was_call s) + 1)) ≡ true
-  deep_one l = let f : d < h + (count (was_call s) + 1) = omega (arith, l, counted s) in no_room d (h + (count (was_call s) + 1)) f
+  deep_one l = let f : d < h + (count (was_call s) + 1) = omega (arith, l, counted s) in lt_holds d (h + (count (was_call s) + 1)) f
 
   pub index_deep : d - h < extra s + 1 → stepped (postfix_links (expr_at (d - 1)) (args_at (args_room a d)) d a) (Index, was_call s) s h ts ≡ Deep ts
   index_deep l = rw (first, deep_one l) refl
@@ -226,10 +221,6 @@ round_by (Deep left) = refl
 pub round_go : (a b : Apart) (d : ℕ) → 0 < d → 2 ≤ d → b ≡ inside a → (q : Place) (rest ts : List Placed) → ts ≡ mark q P.LeftParen ∷ rest
     → atom_at (within_at a d) d ts ≡ (shape_at (d - 1) b Whole rest >>= λ x. expect (λ u. is_right u.lexeme) x.2 >>= λ y. Read (opened x.0, x.1 + 1, y.2))
 round_go a b d pos l e q rest ts first = rw (first, e) (atom_round a d pos (mark q P.LeftParen) rest l refl ∙ round_by (shape_at (d - 1) (inside a) Whole rest))
-
-pub map_push : {A B : Type 0} (f : A → B) (xs : List A) (x : A) → map f (xs ++ x ∷ []) ≡ map f xs ++ f x ∷ []
-map_push f [] x = refl
-map_push f (y ∷ ys) x = ap (λ l. f y ∷ l) (map_push f ys x)
 
 -- A call, behind its bracket: the arguments have the room that it leaves.
 args_room_is : (a : Apart) (d : ℕ) → args_room a d ≡ d - call_count a

@@ -1,6 +1,7 @@
 -- Operators and choices in the readers' words, and back.
 use Rattle.std.proofs.Common.{◌≡◌, ℕ, zero, suc, ◌+◌, ◌-◌, ◌≤◌, ◌<◌, Bool, true, false, List, [], ◌∷◌, ◌++◌, Option, Some, None, max, refl, sym, ap, subst, ◌∙◌, append_assoc, arith, nat_lt, cond}
 use Rattle.cpc_base.specs.declared.stop.Place.{Place}
+use Rattle.cpc_base.proofs.Truth.{lt_fails, lt_holds}
 use Rattle.cpc_num.specs.declared.kinds.Op.TheVariants as O
 use Rattle.cpc_tree.specs.declared.token.Punctuator.{Punctuator}
 use Rattle.cpc_tree.specs.declared.token.Punctuator.TheVariants as P
@@ -94,11 +95,8 @@ most_is n (Some y) x e = most_by n (Some y) y x (nat_lt n y.0) refl refl e
 pub at_is : (n : ℕ) (k : Lexeme) (x : ℕ × Operator) → operator_at n k ≡ Some x → (operator_in k ≡ Some x) × (x.0 ≤ n)
 at_is n k x e = most_is n (operator_in k) x e
 
-pub not_above : (n m : ℕ) → m ≤ n → nat_lt n m ≡ false
-not_above n m le = grind arith
-
 pub at_to : (n : ℕ) (k : Lexeme) (x : ℕ × Operator) → operator_in k ≡ Some x → x.0 ≤ n → operator_at n k ≡ Some x
-at_to n k x e le = rw (e, not_above n x.0 le) refl
+at_to n k x e le = rw (e, lt_fails n x.0 le) refl
 
 none_by : (n : ℕ) (y : ℕ × Operator) (b : Bool) → nat_lt n y.0 ≡ b → cond b None (Some y) ≡ None → n < y.0
 none_by n y true e c = grind arith
@@ -112,12 +110,9 @@ none_most n (Some y) x e i = let k : y ≡ x = cc in subst (λ z. n < z.0) k (no
 pub none_is : (n : ℕ) (k : Lexeme) (x : ℕ × Operator) → operator_at n k ≡ None → operator_in k ≡ Some x → n < x.0
 none_is n k x e i = none_most n (operator_in k) x e i
 
-above : (n m : ℕ) → n < m → nat_lt n m ≡ true
-above n m lt = grind arith
-
 none_all : (n : ℕ) (o : Option (ℕ × Operator)) → ((x : ℕ × Operator) → o ≡ Some x → n < x.0) → at_most n o ≡ None
 none_all n None all = refl
-none_all n (Some y) all = let l = all y refl in rw (above n y.0 l) refl
+none_all n (Some y) all = let l = all y refl in rw (lt_holds n y.0 l) refl
 
 pub none_to : (n : ℕ) (k : Lexeme) → ((x : ℕ × Operator) → operator_in k ≡ Some x → n < x.0) → operator_at n k ≡ None
 none_to n k all = none_all n (operator_in k) all

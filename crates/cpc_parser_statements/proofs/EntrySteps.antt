@@ -1,6 +1,7 @@
 -- How the code of blocks follows their reader.
 use Rattle.std.proofs.Common.{◌≡◌, ℕ, ◌≤◌, ◌<◌, true, false, List, [], ◌∷◌, ◌++◌, max, refl, sym, ap, subst, ◌∙◌, append_assoc, arith, nat_lt}
 use Rattle.std.proofs.lemmas.List.{append-nil}
+use Rattle.cpc_base.proofs.Truth.{lt_fails}
 use Rattle.cpc_tree.specs.declared.token.Punctuator.TheVariants as P
 use Rattle.cpc_tree.specs.Tokens.{Placed}
 use Rattle.cpc_tree.specs.Located.{LStmt}
@@ -14,7 +15,6 @@ use Rattle.cpc_parser_types.specs.TypeViews.{begins_base}
 use Rattle.cpc_parser_statements.specs.LocalReaders.{Locals, local_at}
 use Rattle.cpc_parser_statements.specs.StmtReaders.{Entry, Stated, Declares, entry_of, entries_of, starts_entry, entry_by, statement_at}
 use Rattle.cpc_parser_statements.specs.CodeViews.{with_locals, with_entry, entry_at, declaration_at, entries_at, more_entries_at, begins_entry}
-use Rattle.cpc_parser_statements.proofs.SimpleExact.{free_for}
 use Rattle.cpc_parser_statements.proofs.StmtStarts.{starts_entries}
 use Rattle.cpc_parser_statements.proofs.StmtExact.{entry_exact, entry_next, statement_exact}
 use Rattle.cpc_parser_statements.proofs.LocalSteps.{Refused, refused_then, bind_refused}
@@ -27,7 +27,7 @@ declares ss (Deep left) = refl
 
 pub one_local : (ss : List LStmt) (d : ℕ) (ts : List Placed) → 0 < d → begins_base ts ≡ true → entry_at ss d ts ≡ declaration_at ss d ts
 one_local ss d [] le e = absurd cc
-one_local ss d (t ∷ rest) le e = rw (e, free_for d 1 le) (declares ss (before (local_at d) (λ t. is_mark P.Semicolon t.lexeme) (t ∷ rest)))
+one_local ss d (t ∷ rest) le e = rw (e, lt_fails d 1 le) (declares ss (before (local_at d) (λ t. is_mark P.Semicolon t.lexeme) (t ∷ rest)))
 
 -- or a statement
 states : (ss : List LStmt) (r : Reading Placed LStmt) → ((r >>= λ x. Read (Stated x.0, x.1, x.2)) >>= λ x. Read (with_entry ss x.0, x.1, x.2)) ≡ (r >>= λ x. Read (ss ++ x.0 ∷ [], x.1, x.2))

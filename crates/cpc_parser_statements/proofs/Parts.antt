@@ -1,6 +1,7 @@
 -- The parts of statements that end with a mark of theirs are read exactly.
-use Rattle.std.proofs.Common.{◌≡◌, ℕ, Bool, true, false, ◌||◌, is_some, List, [], ◌∷◌, ◌++◌, Option, Some, None, refl, ap, subst, ◌∙◌, arith, inl, inr, ◌⊎◌}
+use Rattle.std.proofs.Common.{◌≡◌, ℕ, true, false, is_some, List, [], ◌∷◌, ◌++◌, Option, Some, None, refl, ap, subst, ◌∙◌, arith, inl, inr}
 use Rattle.cpc_base.specs.declared.stop.Place.{Place}
+use Rattle.cpc_base.proofs.Truth.{or_by_either, or_either}
 use Rattle.cpc_tree.specs.declared.token.Keyword.TheVariants as K
 use Rattle.cpc_tree.specs.declared.token.Punctuator.TheVariants as P
 use Rattle.cpc_tree.specs.Tokens.{Lexeme, Word, Mark, Placed}
@@ -112,17 +113,8 @@ opening_exact : (n : ℕ) → Exact lexeme n 1 (λ d. opening_at d) Openings Ope
 opening_exact n = exact_either (branch (starts_mapped starts_local Declaring) (exact_mapped Declaring OpeningEnd (local_exact n) (λ w k q. q) (λ w k q. q)))
     (exact_mapped Stating OpeningEnd (simple_exact n) (λ w k q. q) (λ w k q. q)) (omega arith) opening_apart
 
-or_true : (a b : Bool) → (a ≡ true) ⊎ (b ≡ true) → (a || b) ≡ true
-or_true true b e = refl
-or_true false b (inl e) = absurd cc
-or_true false b (inr e) = e
-
-true_or : (a b : Bool) → (a || b) ≡ true → (a ≡ true) ⊎ (b ≡ true)
-true_or true b e = inl refl
-true_or false b e = inr e
-
 starts_opened : Starts lexeme (λ k. starts_opening k ≡ true) Openings
-starts_opened = starts_as (starts_either (starts_mapped starts_local Declaring) (starts_mapped starts_simply Stating)) (λ k e. or_true (starts_base k) (starts_simple k) e) (λ k e. true_or (starts_base k) (starts_simple k) e)
+starts_opened = starts_as (starts_either (starts_mapped starts_local Declaring) (starts_mapped starts_simply Stating)) (λ k e. or_by_either (starts_base k) (starts_simple k) e) (λ k e. or_either (starts_base k) (starts_simple k) e)
     (λ f v h q. q) (λ f v h q. q)
 
 opening_ends : (o : Option Opening) → Absent starts_opening OpeningEnd o (Mark P.Semicolon)

@@ -1,6 +1,7 @@
 -- Statements without their (marks P.Semicolon) are read exactly.
 use Rattle.std.proofs.Common.{◌≡◌, ℕ, suc, ◌+◌, ◌≤◌, Bool, true, false, is_some, List, [], ◌∷◌, ◌++◌, Option, Some, None, refl, ap, subst, append_assoc, arith, nat_lt, inl, inr}
 use Rattle.cpc_base.specs.declared.stop.Place.{Place}
+use Rattle.cpc_base.proofs.Truth.{lt_not_means, lt_fails}
 use Rattle.cpc_num.specs.declared.kinds.Op.{Op}
 use Rattle.cpc_tree.specs.declared.token.Keyword.TheVariants as K
 use Rattle.cpc_tree.specs.declared.token.Punctuator.{Punctuator}
@@ -71,12 +72,6 @@ more_cost (Sets b) = omega arith
 more_cost (Updates op b) = omega arith
 more_cost (Steps op b) = omega arith
 
-room_for : (d a : ℕ) → nat_lt d a ≡ false → a ≤ d
-room_for d a e = grind arith
-
-pub free_for : (d a : ℕ) → a ≤ d → nat_lt d a ≡ false
-free_for d a e = grind arith
-
 pub joint : (n : ℕ) → Joint lexeme (suc n) 2 more_class (λ d c h. nat_lt d (h + more_left c)) more_make grown Always Goes FirstEnd FollowEnd more_left more_right more_least
 joint n = record {
   begins = λ s k c e. (s, e);
@@ -85,8 +80,8 @@ joint n = record {
   to = end_to;
   of = end_of;
   grows = λ c h j. refl;
-  fits = λ d c h lo hi le e. let a = room_for d (h + more_left c) e in (a, let b = more_cost c in omega (arith, b));
-  free = λ d c h a b. free_for d (h + more_left c) a;
+  fits = λ d c h lo hi le e. let a = lt_not_means d (h + more_left c) e in (a, let b = more_cost c in omega (arith, b));
+  free = λ d c h a b. lt_fails d (h + more_left c) a;
 }
 
 abbrev pub above : ℕ → More → ℕ

@@ -1,6 +1,7 @@
 -- Single steps of the readers, as the code takes them.
 use Rattle.std.proofs.Common.{◌≡◌, ℕ, zero, suc, ◌+◌, ◌-◌, ◌≤◌, ◌<◌, true, List, [], ◌∷◌, Option, Some, None, max, refl, ap, subst, ◌∙◌, arith, nat_lt}
 use Rattle.cpc_base.specs.declared.stop.Place.{Place}
+use Rattle.cpc_base.proofs.Truth.{lt_fails, lt_holds}
 use Rattle.cpc_num.specs.declared.kinds.Op.{Op}
 use Rattle.cpc_num.specs.declared.kinds.Op.TheVariants as O
 use Rattle.cpc_tree.specs.Tokens.{Lexeme, Placed}
@@ -16,7 +17,7 @@ use Rattle.cpc_parser_expressions.specs.ExprReaders.{shape_at, expr_at}
 use Rattle.cpc_parser_statements.specs.SimpleReaders.{right_at, Simple, Begun, begun_of, Given, Updated, SteppedBehind, stmt_of, complete, More, Sets, Updates, Steps, more_class, right_side, new_value, more_part, more_make, more_left, more_links, expression_at}
 use Rattle.cpc_parser_statements.specs.CodeViews.{of_first, is_calling, behind_at, alone_at}
 use Rattle.cpc_parser_statements.proofs.Simples.{grown}
-use Rattle.cpc_parser_statements.proofs.SimpleExact.{joint, pieces, reach, piece_is, free_for}
+use Rattle.cpc_parser_statements.proofs.SimpleExact.{joint, pieces, reach, piece_is}
 
 -- a choice by the first token
 pub choice_none : {C A : Type 0} (class : Lexeme → Option C) (low : C → ℕ) (d : ℕ) (F : C → Reader Placed A) (ts : List Placed) → of_first class ts ≡ None → one_of (λ t. class t.lexeme) low d F ts ≡ Fault ts
@@ -29,7 +30,7 @@ choice_deep class low d F (t ∷ rest) c e le = let f : nat_lt d (low c) ≡ tru
 
 pub choice_some : {C A : Type 0} (class : Lexeme → Option C) (low : C → ℕ) (d : ℕ) (F : C → Reader Placed A) (ts : List Placed) (c : C) → of_first class ts ≡ Some c → low c ≤ d → one_of (λ t. class t.lexeme) low d F ts ≡ F c ts
 choice_some class low d F [] c e le = absurd cc
-choice_some class low d F (t ∷ rest) c e le = rw (e, free_for d (low c) le) refl
+choice_some class low d F (t ∷ rest) c e le = rw (e, lt_fails d (low c) le) refl
 
 -- What follows a first expression.
 not_more : (d : ℕ) (v : Simple) (h : ℕ) (ts : List Placed) → ((k : Lexeme) → more_class v k ≡ None) → links (more_links d) v h ts ≡ Read (v, h, ts)
@@ -52,18 +53,15 @@ left_of (Calling q v vs) op = (refl, refl, refl)
 left_of (Postfixed v) op = (refl, refl, refl)
 left_of (Other v) op = (refl, refl, refl)
 
-crowded : (d a : ℕ) → d < a → nat_lt d a ≡ true
-crowded d a le = grind arith
-
 -- no room for more
 pub behind_deep : (d : ℕ) (q : Place) (s : Shape) (h : ℕ) (t : Placed) (rest : List Placed) (c : More) → more_class (Begun q s) t.lexeme ≡ Some c → d < (h + 1) + more_left c → behind_at d q s h (t ∷ rest) ≡ Deep (t ∷ rest)
-behind_deep d q s h t rest c e le = rw (links_deep (more_links d) (Begun q s) (h + 1) t rest c e (crowded d ((h + 1) + more_left c) le)) refl
+behind_deep d q s h t rest c e le = rw (links_deep (more_links d) (Begun q s) (h + 1) t rest c e (lt_holds d ((h + 1) + more_left c) le)) refl
 
 -- a part more
 on : (n d : ℕ) (q : Place) (s : Shape) (h : ℕ) (t : Placed) (rest : List Placed) (c : More) → d ≤ suc n → 1 ≤ h → (h + 1) + more_left c ≤ d → more_class (Begun q s) t.lexeme ≡ Some c
     → links (more_links d) (Begun q s) (h + 1) (t ∷ rest) ≡ (more_part (below d) c (t ∷ rest) >>= λ z. links (more_links d) (more_make c (Begun q s) z.0) (grown c (h + 1) z.1) z.2)
 on n d q s h t rest c le lo hi e =
-    links_on (joint n) (pieces n) (reach n) (λ d c. more_part (below d) c) (λ d c t rest a b i. piece_is d c t rest) d le c (Begun q s) (h + 1) t rest (omega (arith, lo)) (omega (arith, hi)) e (free_for d ((h + 1) + more_left c) hi)
+    links_on (joint n) (pieces n) (reach n) (λ d c. more_part (below d) c) (λ d c t rest a b i. piece_is d c t rest) d le c (Begun q s) (h + 1) t rest (omega (arith, lo)) (omega (arith, hi)) e (lt_fails d ((h + 1) + more_left c) hi)
 
 -- the room inside
 pub below_is : (d : ℕ) → below d ≡ d - 1

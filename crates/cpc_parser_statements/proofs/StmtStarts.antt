@@ -1,6 +1,7 @@
 -- How statements and the parts of a block begin.
-use Rattle.std.proofs.Common.{◌≡◌, ℕ, ◌≤◌, Bool, true, false, ◌||◌, List, [], ◌∷◌, ◌++◌, None, refl, ap, ◌∙◌, arith, inl, inr, ◌⊎◌}
+use Rattle.std.proofs.Common.{◌≡◌, ℕ, ◌≤◌, true, List, [], ◌∷◌, ◌++◌, None, refl, ap, ◌∙◌, arith}
 use Rattle.cpc_base.specs.declared.stop.Place.{Place}
+use Rattle.cpc_base.proofs.Truth.{or_by_either, or_either}
 use Rattle.cpc_tree.specs.declared.token.Keyword.TheVariants as K
 use Rattle.cpc_tree.specs.declared.token.Punctuator.{Punctuator}
 use Rattle.cpc_tree.specs.declared.token.Punctuator.TheVariants as P
@@ -113,16 +114,7 @@ stmt_each t e = let c = class_of t.lexeme e in class_each t.place t.lexeme c.0 (
 pub starts_stmts : Starts lexeme (λ k. starts_stmt k ≡ true) ReadsStmt
 starts_stmts = record { head = stmt_head; each = stmt_each }
 
-or_true : (a b : Bool) → (a ≡ true) ⊎ (b ≡ true) → (a || b) ≡ true
-or_true true b e = refl
-or_true false b (inl e) = absurd cc
-or_true false b (inr e) = e
-
-true_or : (a b : Bool) → (a || b) ≡ true → (a ≡ true) ⊎ (b ≡ true)
-true_or true b e = inl refl
-true_or false b e = inr e
-
 -- what stands in a block begins with a type or a statement
 pub starts_entries : Starts lexeme (λ k. starts_entry k ≡ true) Entries
-starts_entries = starts_as (starts_either (starts_mapped (starts_ended P.Semicolon starts_local) Declares) (starts_mapped starts_stmts Stated)) (λ k e. or_true (starts_base k) (starts_stmt k) e)
-    (λ k e. true_or (starts_base k) (starts_stmt k) e) (λ f v h q. q) (λ f v h q. q)
+starts_entries = starts_as (starts_either (starts_mapped (starts_ended P.Semicolon starts_local) Declares) (starts_mapped starts_stmts Stated)) (λ k e. or_by_either (starts_base k) (starts_stmt k) e)
+    (λ k e. or_either (starts_base k) (starts_stmt k) e) (λ f v h q. q) (λ f v h q. q)

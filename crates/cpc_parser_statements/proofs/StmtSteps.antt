@@ -1,6 +1,7 @@
 -- How the code of statements follows their reader.
 use Rattle.std.proofs.Common.{◌≡◌, ℕ, zero, suc, ◌-◌, ◌≤◌, ◌<◌, true, false, Bool, ◌&&◌, if◌then◌else◌, is_some, List, [], ◌∷◌, length, Option, Some, None, max, refl, ap, subst, ◌∙◌, arith, nat_lt}
 use Rattle.std.proofs.lemmas.List.{length-map}
+use Rattle.cpc_base.proofs.Truth.{lt_fails, and_both}
 use Rattle.cpc_tree.specs.declared.token.Keyword.TheVariants as K
 use Rattle.cpc_tree.specs.declared.token.Punctuator.TheVariants as P
 use Rattle.cpc_tree.specs.declared.token.Token.{Token}
@@ -18,7 +19,6 @@ use Rattle.cpc_parser_statements.specs.SimpleReaders.{Simple, stmt_of, simple_cl
 use Rattle.cpc_parser_statements.specs.LocalReaders.{Locals, local_at}
 use Rattle.cpc_parser_statements.specs.StmtReaders.{Class, Braced, Blank, IfWord, WhileWord, DoWord, ForWord, GotoWord, BreakWord, ContinueWord, ReturnWord, SpawnWord, Sentence, stmt_class, stmt_low, stmt_part, stmt_by, Stating, Declaring, opening_of, last_of, sentence_at, statement_at}
 use Rattle.cpc_parser_statements.specs.CodeViews.{of_first, plain_at, with_locals, opening_at, step_at, class_in, label_at, labelled_at, begins_label, is_sentence}
-use Rattle.cpc_parser_statements.proofs.SimpleExact.{free_for}
 use Rattle.cpc_parser_statements.proofs.Steps.{below_is, choice_none, choice_deep, choice_some}
 
 -- A fault where the code stands.
@@ -33,7 +33,7 @@ opened (Deep left) = refl
 
 pub opening_local : (d : ℕ) (ts : List Placed) → 0 < d → begins_base ts ≡ true → opening_at d ts ≡ mapped (with_locals []) (local_at d) ts
 opening_local d [] le e = absurd cc
-opening_local d (t ∷ rest) le e = rw (e, free_for d 1 le) (opened (local_at d (t ∷ rest)))
+opening_local d (t ∷ rest) le e = rw (e, lt_fails d 1 le) (opened (local_at d (t ∷ rest)))
 
 -- a simple statement,
 stated : (r : Reading Placed Simple) → (((r >>= λ x. Read (Stating x.0, x.1, x.2)) >>= λ x. Read (Some x.0, x.1, x.2)) >>= λ x. Read (opening_of x.0, x.1, x.2)) ≡ ((r >>= λ x. Read (stmt_of x.0, x.1, x.2)) >>= λ x. Read (x.0 ∷ [], x.1, x.2))
@@ -43,7 +43,7 @@ stated (Deep left) = refl
 
 pub opening_simple : (d : ℕ) (ts : List Placed) (f : R.First) → 0 < d → begins_base ts ≡ false → of_first simple_class ts ≡ Some f → opening_at d ts ≡ (plain_at d ts >>= λ x. Read (x.0 ∷ [], x.1, x.2))
 opening_simple d [] f le e i = absurd cc
-opening_simple d (t ∷ rest) f le e i = let s : is_some (simple_class t.lexeme) ≡ true = rw i refl in rw (e, s, free_for d 1 le) (stated (simple_at d (t ∷ rest)))
+opening_simple d (t ∷ rest) f le e i = let s : is_some (simple_class t.lexeme) ≡ true = rw i refl in rw (e, s, lt_fails d 1 le) (stated (simple_at d (t ∷ rest)))
 
 -- or nothing
 pub opening_none : (d : ℕ) (ts : List Placed) → begins_base ts ≡ false → of_first simple_class ts ≡ None → opening_at d ts ≡ Read ([], 0, ts)
@@ -58,7 +58,7 @@ stepped (Deep left) = refl
 
 pub step_simple : (d : ℕ) (ts : List Placed) (f : R.First) → 0 < d → of_first simple_class ts ≡ Some f → step_at d ts ≡ (plain_at d ts >>= λ x. Read (Some x.0, x.1, x.2))
 step_simple d [] f le i = absurd cc
-step_simple d (t ∷ rest) f le i = let s : is_some (simple_class t.lexeme) ≡ true = rw i refl in rw (s, free_for d 1 le) (stepped (simple_at d (t ∷ rest)))
+step_simple d (t ∷ rest) f le i = let s : is_some (simple_class t.lexeme) ≡ true = rw i refl in rw (s, lt_fails d 1 le) (stepped (simple_at d (t ∷ rest)))
 
 pub step_none : (d : ℕ) (ts : List Placed) → of_first simple_class ts ≡ None → step_at d ts ≡ Read (None, 0, ts)
 step_none d [] i = refl
@@ -135,25 +135,22 @@ labelled_deep d [] e le = absurd cc
 labelled_deep d (t ∷ rest) e le = rw (e, crowded d le) refl
 
 -- a label,
-both : (a b : Bool) → (a && b) ≡ true → (a ≡ true) × (b ≡ true)
-both true b e = (refl, e)
-both false b e = absurd cc
 
 pub labelled_label : (d : ℕ) (ts : List Placed) → begins_label ts ≡ true → 2 ≤ d → labelled_at d ts ≡ label_at d ts
 labelled_label d [] e le = absurd cc
 labelled_label d (t ∷ []) e le = absurd cc
-labelled_label d (t ∷ (u ∷ rest)) e le = let b = both (is_name t.lexeme) (is_mark P.Colon u.lexeme) e in rw (b.0, free_for d 2 le, b.1) refl
+labelled_label d (t ∷ (u ∷ rest)) e le = let b = and_both (is_name t.lexeme) (is_mark P.Colon u.lexeme) e in rw (b.0, lt_fails d 2 le, b.1) refl
 
 -- and a sentence
 other : (d : ℕ) (t u : Placed) (rest : List Placed) (a b : Bool) → (a && b) ≡ false → (a ≡ true → 2 ≤ d)
     → (if a then (if nat_lt d 2 then Deep (t ∷ u ∷ rest) else (if b then label_at d (t ∷ u ∷ rest) else sentence_at d (t ∷ u ∷ rest))) else sentence_at d (t ∷ u ∷ rest)) ≡ sentence_at d (t ∷ u ∷ rest)
 other d t u rest false b e le = refl
-other d t u rest true false e le = rw (free_for d 2 (le refl)) refl
+other d t u rest true false e le = rw (lt_fails d 2 (le refl)) refl
 other d t u rest true true e le = absurd cc
 
 alone : (d : ℕ) (t : Placed) (a : Bool) → (a ≡ true → 2 ≤ d) → (if a then (if nat_lt d 2 then Deep (t ∷ []) else sentence_at d (t ∷ [])) else sentence_at d (t ∷ [])) ≡ sentence_at d (t ∷ [])
 alone d t false le = refl
-alone d t true le = rw (free_for d 2 (le refl)) refl
+alone d t true le = rw (lt_fails d 2 (le refl)) refl
 
 pub labelled_sentence : (d : ℕ) (ts : List Placed) → begins_label ts ≡ false → (begins_name ts ≡ true → 2 ≤ d) → labelled_at d ts ≡ sentence_at d ts
 labelled_sentence d [] e le = refl

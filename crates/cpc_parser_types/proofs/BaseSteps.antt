@@ -3,6 +3,7 @@ use Rattle.std.proofs.Common.{◌≡◌, ℕ, ◌+◌, ◌≤◌, Bool, true, fa
 use Rattle.cpc_num.specs.declared.kinds.Kind.{Kind}
 use Rattle.cpc_tree.specs.declared.token.Keyword.TheVariants as K
 use Rattle.cpc_base.specs.declared.stop.Place.{Place}
+use Rattle.cpc_base.proofs.Truth.{lt_zero}
 use Rattle.cpc_tree.specs.declared.token.Punctuator.TheVariants as P
 use Rattle.cpc_tree.specs.declared.token.TokenKind.TheVariants as T
 use Rattle.cpc_tree.specs.declared.token.Token.{Token}
@@ -55,15 +56,12 @@ with_tag (Read x) = rw (done_stays (TyStruct x.0.text) x.1 x.2) refl
 with_tag (Fault left) = refl
 with_tag (Deep left) = refl
 
-pub no_less : (d : ℕ) → nat_lt d 0 ≡ false
-no_less d = grind arith
-
 -- a struct's type
 pub struct_read : (names : Names) (d : ℕ) (ts : List Token) (t : Token) (rest : List Token) (b : Bool) → ts ≡ t ∷ rest → ((names : Names) → b ≡ begins_word K.Struct (placed names ts)) → b ≡ true
     → base_reader d (placed names ts) ≡ (one ident_of (placed names rest) >>= λ x. Read (TyStruct x.0.text, x.1, x.2))
 struct_read names d ts t rest b e f i =
     let k = first_word_is ts t rest K.Struct b e f i in
-    rw (k, no_less d) (with_tag (one ident_of (placed names rest)))
+    rw (k, lt_zero d) (with_tag (one ident_of (placed names rest)))
 
 star_of : (k : Lexeme) → is_mark P.Star k ≡ true → star_class k ≡ Some tt
 star_of (Mark P.Star) e = refl

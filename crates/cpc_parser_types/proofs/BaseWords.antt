@@ -6,6 +6,7 @@ use Rattle.cpc_num.specs.declared.kinds.Kind.TheVariants as N
 use Rattle.cpc_tree.specs.declared.token.Keyword.TheVariants as K
 use Rattle.cpc_tree.specs.declared.token.Punctuator.TheVariants as P
 use Rattle.cpc_base.specs.declared.stop.Place.{Place}
+use Rattle.cpc_base.proofs.Lists.{some_is}
 use Rattle.cpc_tree.specs.Tokens.{Lexeme, Word, Mark, Named, Placed}
 use Rattle.cpc_tree.specs.Located.{Ident}
 use Rattle.cpc_tree.specs.Syntax.{Ty, TyInt, TyStruct}
@@ -30,9 +31,6 @@ base_of f (t, Done) b = b
 base_of f (t, LongWord kind) b = rw (b.0) (kind_base f kind b.1)
 base_of f (t, SignedWord) b = rw (b.1, b.2) (kind_base _ N.Int (signed b.0))
 base_of f (t, UnsignedWord) b = rw (b.1, b.2) (kind_base _ N.UInt (unsigned b.0))
-
-pub some_is : {A : Type 0} (a b : A) → Some a ≡ Some b → a ≡ b
-some_is a b e = cc
 
 of_first : (q : Place) (t : Lexeme) (v : Ty × Ending) → first_word t ≡ Some v → Based (at q t ∷ []) v
 of_first q (Word K.Void) v e = subst (λ w. Based (word q K.Void ∷ []) w) (some_is _ v e) (void_base q)

@@ -2,6 +2,7 @@
 use Rattle.std.proofs.Common.{◌≡◌, ℕ, ◌+◌, ◌≤◌, ◌<◌, Bool, true, false, List, [], ◌∷◌, Option, Some, None, max, refl, sym, subst, arith, nat_lt}
 use Rattle.cpc_base.specs.Bytes.{Text}
 use Rattle.cpc_base.specs.declared.stop.Place.{Place}
+use Rattle.cpc_base.proofs.Truth.{lt_zero}
 use Rattle.cpc_tree.specs.declared.token.Punctuator.TheVariants as P
 use Rattle.cpc_tree.specs.Tokens.{Lexeme, Mark, Named, Placed}
 use Rattle.cpc_tree.specs.Syntax.{Ty, TyPointer, TyCode}
@@ -15,7 +16,6 @@ use Rattle.cpc_parser_types.specs.TypeReaders.{Done, Going, Name, Brackets, Code
 use Rattle.cpc_parser_types.specs.Declarators.{is_bracket}
 use Rattle.cpc_parser_types.specs.TypeViews.{maybe_name_at, maybe_number_at, pointed_at, pointer_to, coded_at}
 use Rattle.cpc_parser_types.proofs.BaseWords.{at}
-use Rattle.cpc_parser_types.proofs.BaseSteps.{no_less}
 use Rattle.cpc_parser_types.proofs.Params.{piece_joint, parts}
 use Rattle.cpc_parser_types.proofs.Lists.{lists_exact}
 use Rattle.cpc_parser_types.proofs.TypedSteps.{behind_at}
@@ -35,7 +35,7 @@ pub name_cases : (d : ℕ) (P : Reading Placed (Option Ident) → Type 0) → ((
 name_cases d P f [] = f None []
 name_cases d P f (u ∷ rest) = by u.place u.lexeme where
   by : (q : Place) (k : Lexeme) → P (maybe_name_at d (at q k ∷ rest))
-  by q (Named x) = rw (no_less d) (f (Some (record { place = q; text = x })) rest)
+  by q (Named x) = rw (lt_zero d) (f (Some (record { place = q; text = x })) rest)
   by q k = f None (at q k ∷ rest)
 
 left_class : (t : Ty) (k : Lexeme) → is_mark P.LeftParen k ≡ true → piece_class (Open (t, Done)) k ≡ Some Code
@@ -107,7 +107,7 @@ bracketed d p h (u ∷ rest) hi c stop = by (is_bracket u.lexeme) refl where
   by true e =
       let k = bracket_class u.lexeme e in
       let f : nat_lt d (max (h + 0) (0 + 0)) ≡ false = free_room d (h + 0) (0 + 0) (omega (arith, hi)) (omega arith) in
-      rw (piece_on d Brackets p h u rest hi (subst (λ l. piece_class p l ≡ Some Brackets) (sym k) c) f, e, no_less d)
+      rw (piece_on d Brackets p h u rest hi (subst (λ l. piece_class p l ≡ Some Brackets) (sym k) c) f, e, lt_zero d)
       (bracket_list d p h (before (maybe_number_at d) (λ v. is_unbracket v.lexeme) rest))
 
 known_class : (t : Ty) (x : Ident) (k : Lexeme) → is_mark P.LeftBracket k ≡ false → piece_class (Known t x) k ≡ None
@@ -135,7 +135,7 @@ with_name d t h q x rest hi =
     let f : nat_lt d (max (h + 0) (0 + 0)) ≡ false = free_room d (h + 0) (0 + 0) (omega (arith, hi)) (omega arith) in
     let m : max (h + 0) (0 + 0) ≡ h = omega arith in
     let y : Ident = record { place = q; text = x } in
-    rw (piece_on d Name (Open (t, Done)) h (at q (Named x)) rest hi refl f, no_less d, m) (bracketed d (Known t y) h rest hi refl (known_stop d t y h rest))
+    rw (piece_on d Name (Open (t, Done)) h (at q (Named x)) rest hi refl f, lt_zero d, m) (bracketed d (Known t y) h rest hi refl (known_stop d t y h rest))
 
 no_name : (d : ℕ) (t : Ty) (h : ℕ) (u : Placed) (rest : List Placed) → h ≤ d → is_name u.lexeme ≡ false → is_mark P.LeftParen u.lexeme ≡ false → behind_at d t h (u ∷ rest) ≡ plain_at d t h (u ∷ rest)
 no_name d t h u rest hi n e =

@@ -1,6 +1,7 @@
 -- How code reads brackets behind a parameter.
 use Rattle.std.proofs.Common.{◌≡◌, ℕ, List, ◌∷◌, Option, Some, refl, ap}
 use Rattle.cpc_base.specs.declared.stop.Place.{Place}
+use Rattle.cpc_base.proofs.Truth.{lt_zero}
 use Rattle.cpc_tree.specs.declared.token.Punctuator.TheVariants as P
 use Rattle.cpc_tree.specs.declared.token.Token.{Token}
 use Rattle.cpc_tree.specs.declared.token.TokenKind.TheVariants as T
@@ -11,7 +12,6 @@ use Rattle.cpc_parser_reading.specs.Reading.{Reading, Read, Fault, Deep, ◌>>=�
 use Rattle.cpc_parser_types.specs.Begins.{is_mark}
 use Rattle.cpc_parser_types.specs.TypeViews.{any, maybe_number_at, skipped_number_at, pointer_to, pointed_at}
 use Rattle.cpc_parser_types.specs.Views.{placed}
-use Rattle.cpc_parser_types.proofs.BaseSteps.{no_less}
 use Rattle.cpc_parser_types.proofs.Giving.{read_is}
 
 closing : (t : Ty) (o : Option (Unit {0})) (r : Reading Placed (Unit {0}))
@@ -35,4 +35,4 @@ inside t us (Deep left) e = absurd cc
 pub pointed_bracket : (names : Names) (d : ℕ) (t : Ty) (ts rest behind : List Token) (q : Place) → ts ≡ record { place = q; kind = T.Punctuator P.LeftBracket } ∷ rest
     → skipped_number_at d (placed names rest) ≡ Read (tt, 0, placed names behind)
     → pointed_at t d (placed names ts) ≡ (expect (λ u. is_mark P.RightBracket u.lexeme) (placed names behind) >>= λ x. Read (TyPointer t, 0, x.2))
-pointed_bracket names d t ts rest behind q e i = rw (e, no_less d) (inside t (placed names behind) (maybe_number_at d (placed names rest)) i)
+pointed_bracket names d t ts rest behind q e i = rw (e, lt_zero d) (inside t (placed names behind) (maybe_number_at d (placed names rest)) i)

@@ -1,6 +1,7 @@
 -- Declarators are read exactly, as the grammar has them.
-use Rattle.std.proofs.Common.{◌≡◌, ℕ, suc, ◌+◌, ◌≤◌, ◌<◌, ◌^◌, Bool, true, false, List, [], ◌∷◌, ◌++◌, Option, Some, None, max, if◌then◌else◌, pos, refl, sym, ap, subst, ◌∙◌, arith, nat_lt}
+use Rattle.std.proofs.Common.{◌≡◌, ℕ, suc, ◌+◌, ◌≤◌, ◌<◌, ◌^◌, true, false, List, [], ◌∷◌, ◌++◌, Option, Some, None, max, pos, refl, sym, ap, subst, ◌∙◌, arith, nat_lt}
 use Rattle.cpc_base.specs.declared.stop.Place.{Place}
+use Rattle.cpc_base.proofs.Lists.{some_of_if}
 use Rattle.cpc_num.specs.declared.kinds.Kind.{Kind}
 use Rattle.cpc_num.specs.declared.kinds.Kind.TheVariants as N
 use Rattle.cpc_tree.specs.declared.token.Punctuator.TheVariants as P
@@ -18,7 +19,7 @@ use Rattle.cpc_parser_types.specs.Views.{lexeme}
 use Rattle.cpc_parser_types.specs.TypeReaders.{ident_of, ident_at, is_star, is_left, is_right, is_unbracket, star_class}
 use Rattle.cpc_parser_types.specs.Declarators.{pointed, just, stars_at, is_bracket, length_in, brackets_at, code_at, Declared, Plain, Pointer, plain_of, pointer_of, Shape, PlainShape, PointerShape, shape_class, shape_least, shape_at, declared_at, variable_of, declarator_at, DeclaratorEnd, StarsEnd, DeclaredEnd}
 use Rattle.cpc_parser_types.proofs.Bases.{token, nobody, name_exact, Steps, Always, Stars, step_branch}
-use Rattle.cpc_parser_types.proofs.BaseWords.{at, named_is, some_is, star_is}
+use Rattle.cpc_parser_types.proofs.BaseWords.{at, named_is, star_is}
 use Rattle.cpc_parser_types.proofs.Params.{Listed, stars, unbrackets, closed_exact}
 use Rattle.cpc_parser_types.proofs.ParamWords.{right_is, left_is, star_mark, unbracket_is}
 use Rattle.cpc_parser_types.proofs.Lists.{lists_exact}
@@ -166,12 +167,8 @@ end_of base f (t, Plain x None) h b k q = q b.left b.i b.first
 end_of base f (t, Plain x (Some n)) h b k q = tt
 end_of base f (t, Pointer x ps) h b k q = tt
 
-some_if : (b : Bool) (m n : ℕ) → (if b then Some m else None) ≡ Some n → (b ≡ true) × (m ≡ n)
-some_if true m n e = (refl, some_is m n e)
-some_if false m n e = absurd cc
-
 length_is : (q : Place) (k : Lexeme) (n : ℕ) → length_in k ≡ Some n → (kind : Kind) × (n < 2 ^ 64) × (at q k ≡ number q kind (pos n))
-length_is q (Number kind (pos m)) n e = let i = some_if (nat_lt m (2 ^ 64)) m n e in (kind, let l : m < 2 ^ 64 = grind (arith, i.0) in subst (λ z. z < 2 ^ 64) i.1 l, ap (λ z. number q kind (pos z)) i.1)
+length_is q (Number kind (pos m)) n e = let i = some_of_if (nat_lt m (2 ^ 64)) m n e in (kind, let l : m < 2 ^ 64 = grind (arith, i.0) in subst (λ z. z < 2 ^ 64) i.1 l, ap (λ z. number q kind (pos z)) i.1)
 length_is q k n e = absurd cc
 
 length_some : (kind : Kind) (n : ℕ) → n < 2 ^ 64 → length_in (Number kind (pos n)) ≡ Some n

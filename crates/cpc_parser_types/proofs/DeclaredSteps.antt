@@ -1,6 +1,7 @@
 -- How code reads a declarator that is a name.
 use Rattle.std.proofs.Common.{◌≡◌, ℕ, List, [], ◌∷◌, Option, Some, None, max, refl, sym, ap, ◌∙◌}
 use Rattle.cpc_base.specs.declared.stop.Place.{Place}
+use Rattle.cpc_base.proofs.Truth.{lt_zero}
 use Rattle.cpc_tree.specs.Tokens.{Lexeme, Named, Placed}
 use Rattle.cpc_tree.specs.Syntax.{Ty}
 use Rattle.cpc_tree.specs.Located.{Ident}
@@ -9,7 +10,6 @@ use Rattle.cpc_parser_types.specs.TypeReaders.{ident_of}
 use Rattle.cpc_parser_types.specs.Declarators.{stars_at, brackets_at, plain_of, variable_of, declared_at, declarator_at}
 use Rattle.cpc_parser_types.specs.TypeViews.{array_of, array_at}
 use Rattle.cpc_parser_types.proofs.BaseWords.{at}
-use Rattle.cpc_parser_types.proofs.BaseSteps.{no_less}
 use Rattle.cpc_parser_types.proofs.Giving.{read_is}
 
 named_by : (t : Ty) (h : ℕ) (x : Ident) (r : Reading Placed (Option ℕ))
@@ -31,7 +31,7 @@ named_at t h d x (u ∷ rest) vs e = by u.place u.lexeme e where
       let k = read_is (y, 0, rest) (x, 0, vs) i in
       let m : x ≡ y = ap (λ z. z.0) (sym k) in
       let l : vs ≡ rest = ap (λ z. z.2) (sym k) in
-      rw (m, l, no_less d) (named_by t h y (brackets_at d rest))
+      rw (m, l, lt_zero d) (named_by t h y (brackets_at d rest))
   by q k i = absurd cc
 
 -- stars, a name, and brackets or none

@@ -1,6 +1,7 @@
 -- How code reads what stands behind a type without a name, and parameter lists.
 use Rattle.std.proofs.Common.{◌≡◌, ℕ, zero, suc, ◌+◌, ◌-◌, ◌≤◌, ◌<◌, Bool, true, false, List, [], ◌∷◌, Option, Some, None, map, max, refl, ap, ◌∙◌, arith, nat_lt}
 use Rattle.cpc_base.specs.declared.stop.Place.{Place}
+use Rattle.cpc_base.proofs.Truth.{lt_zero}
 use Rattle.cpc_tree.specs.declared.token.Punctuator.TheVariants as P
 use Rattle.cpc_tree.specs.Tokens.{Lexeme, Mark, Placed}
 use Rattle.cpc_tree.specs.Syntax.{Ty, TyCode}
@@ -13,7 +14,6 @@ use Rattle.cpc_parser_reading.proofs.Readers.{links_end, links_stop, links_deep,
 use Rattle.cpc_parser_types.specs.Begins.{is_mark, begins}
 use Rattle.cpc_parser_types.specs.TypeReaders.{starts_base, Done, Piece, Open, Closed, type_class, type_coded, type_part, type_links, piece_type, is_star, is_left, is_right, is_comma, lists, param_at, param_of, params_of, itself}
 use Rattle.cpc_parser_types.specs.TypeViews.{coded_at, parameters_at, row_at, begins_base}
-use Rattle.cpc_parser_types.proofs.BaseSteps.{no_less}
 use Rattle.cpc_parser_types.proofs.Lists.{lists_is}
 use Rattle.cpc_parser_types.proofs.TypeNames.{joint, parts}
 use Rattle.cpc_parser_types.proofs.TypedSteps.{behind_type_at}
@@ -98,7 +98,7 @@ row_by (Fault left) = refl
 row_by (Deep left) = refl
 
 optional_begins : {A : Type 0} (p : Placed → Bool) (d : ℕ) (F : Reader Placed A) (u : Placed) (rest : List Placed) → p u ≡ true → optional p 0 d F (u ∷ rest) ≡ (F (u ∷ rest) >>= λ v. Read (Some v.0, v.1, v.2))
-optional_begins p d F u rest e = rw (e, no_less d) refl
+optional_begins p d F u rest e = rw (e, lt_zero d) refl
 
 -- where a type begins, a row of parameters
 pub parameters_row : (d : ℕ) (ts : List Placed) → begins_base ts ≡ true → parameters_at d ts ≡ (row_at d ts >>= λ x. Read (without_void x.0, x.1, x.2))

@@ -1,6 +1,7 @@
 -- How code goes along parameters with commas between them.
 use Rattle.std.proofs.Common.{◌≡◌, ℕ, ◌≤◌, false, List, [], ◌∷◌, ◌++◌, length, map, max, refl, sym, ap, subst, ◌∙◌, arith}
 use Rattle.cpc_base.specs.declared.stop.Place.{Place}
+use Rattle.cpc_base.proofs.Lists.{map_of_push}
 use Rattle.cpc_tree.specs.declared.token.Punctuator.TheVariants as P
 use Rattle.cpc_tree.specs.Tokens.{Placed}
 use Rattle.cpc_tree.specs.Located.{LParameter}
@@ -83,9 +84,5 @@ pub row_err : (d : ℕ) (ps : List Piece) (h : ℕ) (q : Place) (rest : List Pla
 row_err d ps h q rest e s hi i g =
     subst (λ r. Refuses e (r >>= λ x. Read (map param_of x.0, x.1, x.2))) (sym (row_on d ps h q rest hi) ∙ i) (err_seen e (param_at (λ us. lists d us) d rest) (λ z. rest_at d (ps ++ z.0 ∷ []) (max h z.1) z.2) g)
 
-map_push : {A B : Type 0} (f : A → B) (xs : List A) (x : A) → map f (xs ++ x ∷ []) ≡ map f xs ++ f x ∷ []
-map_push f [] x = refl
-map_push f (y ∷ ys) x = ap (λ l. f y ∷ l) (map_push f ys x)
-
 pub pushed : {A B C : Type 0} (f : A → C) (g : B → C) (xs : List A) (ys zs : List B) (x : A) (y : B) → map f xs ≡ map g ys → f x ≡ g y → zs ≡ ys ++ y ∷ [] → map f (xs ++ x ∷ []) ≡ map g zs
-pushed f g xs ys zs x y e i j = map_push f xs x ∙ (ap (λ l. l ++ f x ∷ []) e ∙ (ap (λ z. map g ys ++ z ∷ []) i ∙ (sym (map_push g ys y) ∙ ap (map g) (sym j))))
+pushed f g xs ys zs x y e i j = map_of_push f xs x ∙ (ap (λ l. l ++ f x ∷ []) e ∙ (ap (λ z. map g ys ++ z ∷ []) i ∙ (sym (map_of_push g ys y) ∙ ap (map g) (sym j))))

@@ -1,5 +1,6 @@
 -- The same marks and keywords are equal.
-use Rattle.std.proofs.Common.{◌≡◌, ◌↔◌, IsTrue, Bool, true, false, List, [], ◌∷◌, Some, refl, sym, ap, subst, ◌∙◌}
+use Rattle.std.proofs.Common.{◌≡◌, ◌↔◌, IsTrue, Bool, true, List, [], ◌∷◌, Some, refl, sym, ap, subst, ◌∙◌}
+use Rattle.cpc_base.proofs.Truth.{equal_truth}
 use Rattle.cpc_tree.specs.declared.token.Keyword.{Keyword}
 use Rattle.cpc_tree.specs.declared.token.Keyword.TheVariants as K
 use Rattle.cpc_tree.specs.declared.token.Punctuator.{Punctuator}
@@ -143,13 +144,8 @@ begin_mark : (names : Names) (ts : List Token) (mark : Punctuator) → first_mar
 begin_mark names [] mark e = absurd cc
 begin_mark names (t ∷ rest) mark e = mark_of_kind names t.kind mark e
 
-both : (a b : Bool) → (a ≡ true → b ≡ true) → (b ≡ true → a ≡ true) → a ≡ b
-both true b f g = sym (f refl)
-both false true f g = g refl
-both false false f g = refl
-
 pub begins_is : (names : Names) (ts : List Token) (mark : Punctuator) (b : Bool) → (IsTrue b ↔ (first_mark ts ≡ Some mark)) → b ≡ begins mark (placed names ts)
-begins_is names ts mark b e = both b (begins mark (placed names ts)) (λ i. begin_mark names ts mark (e.0 i)) (λ i. e.1 (begun names ts mark i))
+begins_is names ts mark b e = equal_truth b (begins mark (placed names ts)) (λ i. begin_mark names ts mark (e.0 i)) (λ i. e.1 (begun names ts mark i))
 
 -- the same of keywords
 word_begun : (names : Names) (ts : List Token) (word : Keyword) → begins_word word (placed names ts) ≡ true → first_word ts ≡ Some word
@@ -169,7 +165,7 @@ begin_word names [] word e = absurd cc
 begin_word names (t ∷ rest) word e = word_of_kind names t.kind word e
 
 pub word_is : (names : Names) (ts : List Token) (word : Keyword) (b : Bool) → (IsTrue b ↔ (first_word ts ≡ Some word)) → b ≡ begins_word word (placed names ts)
-word_is names ts word b e = both b (begins_word word (placed names ts)) (λ i. begin_word names ts word (e.0 i)) (λ i. e.1 (word_begun names ts word i))
+word_is names ts word b e = equal_truth b (begins_word word (placed names ts)) (λ i. begin_word names ts word (e.0 i)) (λ i. e.1 (word_begun names ts word i))
 
 -- one spelling of names; any other would do
 pub unnamed : Names

@@ -2,6 +2,7 @@
 use Rattle.std.proofs.Common.{◌≡◌, ℕ, ◌+◌, ◌<◌, ◌≤◌, max, false, List, length, get_or, drop, refl, ap, sym, ◌∙◌, Vec, Box, Global, arith}
 use Rattle.std.proofs.lemmas.List.{drop_all}
 use Rattle.cpc_base.specs.declared.stop.Place.{Place}
+use Rattle.cpc_base.proofs.Lists.{drop_to_item}
 use Rattle.cpc_tree.specs.declared.program.CType.{CType}
 use Rattle.cpc_tree.specs.declared.program.CType.TheVariants as C
 use Rattle.cpc_tree.specs.declared.program.Expr as GExpr
@@ -14,7 +15,7 @@ use Rattle.cpc_tree.specs.ExprPrint.{is_loose, deeper_if, expr_depth, args_depth
 use Rattle.cpc_printer.specs.Types.{listed_types}
 use Rattle.cpc_printer.specs.Expressions.{rank_at}
 use Rattle.cpc_printer.specs.Depths.{declarator_nest, param_nest, inner_depth, postfix_depth}
-use Rattle.cpc_printer.proofs.TypeRows.{drop_item, code_is}
+use Rattle.cpc_printer.proofs.TypeRows.{code_is}
 use Rattle.cpc_printer.proofs.ExprRows.{call_is, primary_tight}
 
 types_nil : types_depth false NoTy ≡ 0
@@ -44,7 +45,7 @@ types_end names xs i h = ap (λ ys. types_depth false (listed_types names ys)) (
 
 pub types_more : (names : Names) (xs : List CType) (i : ℕ) (x : CType) → i < length xs → x ≡ get_or xs i x
     → types_depth false (listed_types names (drop i xs)) ≡ max (param_nest (type_of names x)) (types_depth false (listed_types names (drop (i + 1) xs)))
-types_more names xs i x h e = ap (λ ys. types_depth false (listed_types names ys)) (drop_item xs i x h e) ∙ types_cons (type_of names x) (listed_types names (drop (i + 1) xs))
+types_more names xs i x h e = ap (λ ys. types_depth false (listed_types names ys)) (drop_to_item xs i x h e) ∙ types_cons (type_of names x) (listed_types names (drop (i + 1) xs))
 
 pub declarator_is : (t : Ty) → declarator_depth false t ≡ declarator_nest t
 unfolding declarator_depth
@@ -77,7 +78,7 @@ args_depth_end names xs i h = ap (λ ys. args_depth false (exprs_of names ys)) (
 
 pub args_depth_more : (names : Names) (xs : List GExpr.Expr) (i : ℕ) (x : GExpr.Expr) → i < length xs → x ≡ get_or xs i x
     → args_depth false (exprs_of names (drop i xs)) ≡ max (expr_depth false Whole (expr_of names x)) (args_depth false (exprs_of names (drop (i + 1) xs)))
-args_depth_more names xs i x h e = ap (λ ys. args_depth false (exprs_of names ys)) (drop_item xs i x h e) ∙ args_cons (expr_of names x) (exprs_of names (drop (i + 1) xs))
+args_depth_more names xs i x h e = ap (λ ys. args_depth false (exprs_of names ys)) (drop_to_item xs i x h e) ∙ args_cons (expr_of names x) (exprs_of names (drop (i + 1) xs))
 
 pub call_depth : (names : Names) (e : GExpr.Expr) (place : Place) (f : Box GExpr.Expr Global) (es : Vec GExpr.Expr Global) → e ≡ E.CallIn place f es
     → postfix_depth (expr_of names e) ≡ max (expr_depth false Postfix (expr_of names f.value)) (args_depth false (exprs_of names es.items))

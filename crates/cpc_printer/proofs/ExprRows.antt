@@ -3,6 +3,7 @@ use Rattle.std.proofs.Common.{◌≡◌, ℕ, suc, ◌+◌, ◌<◌, ◌≤◌, 
 use Rattle.std.proofs.lemmas.List.{drop_all}
 use Rattle.cpc_base.specs.Bytes.{Text}
 use Rattle.cpc_base.specs.declared.stop.Place.{Place}
+use Rattle.cpc_base.proofs.Lists.{drop_to_item}
 use Rattle.cpc_num.specs.declared.kinds.Kind.{Kind}
 use Rattle.cpc_num.specs.declared.kinds.Op.{Op}
 use Rattle.cpc_num.specs.declared.kinds.Op.TheVariants as O
@@ -21,7 +22,6 @@ use Rattle.cpc_tree.specs.Erase.{Names, expr_of, row_of, exprs_of}
 use Rattle.cpc_tree.specs.TypePrint.{type_row}
 use Rattle.cpc_tree.specs.ExprPrint.{tier_below, mark_of, unary_mark, round, is_loose, expr_row, args_row}
 use Rattle.cpc_printer.specs.Expressions.{rank_at, postfix_row, further_args}
-use Rattle.cpc_printer.proofs.TypeRows.{drop_item}
 
 -- a Vec of expressions is the list of its expressions
 row_listed : (names : Names) (n : _) (k : Row_of-Expr n) → row_of names k ≡ exprs_of names (items-the_row-Expr n k)
@@ -150,4 +150,4 @@ args_end tight names xs i h = ap (λ ys. further_args tight (exprs_of names ys))
 
 pub args_more : (tight : Bool) (names : Names) (xs : List GExpr.Expr) (i : ℕ) (x : GExpr.Expr) → i < length xs → x ≡ get_or xs i x
     → further_args tight (exprs_of names (drop i xs)) ≡ Mark P.Comma ∷ (expr_row tight Whole (expr_of names x) ++ further_args tight (exprs_of names (drop (i + 1) xs)))
-args_more tight names xs i x h e = ap (λ ys. further_args tight (exprs_of names ys)) (drop_item xs i x h e)
+args_more tight names xs i x h e = ap (λ ys. further_args tight (exprs_of names ys)) (drop_to_item xs i x h e)

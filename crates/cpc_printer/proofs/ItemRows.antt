@@ -3,6 +3,7 @@ use Rattle.std.proofs.Common.{◌≡◌, ℕ, ◌+◌, ◌<◌, ◌≤◌, Bool,
 use Rattle.std.proofs.lemmas.List.{drop_all}
 use Rattle.cpc_base.specs.Bytes.{Text}
 use Rattle.cpc_base.specs.declared.stop.Place.{Place}
+use Rattle.cpc_base.proofs.Lists.{drop_to_item}
 use Rattle.cpc_tree.specs.declared.program.Mode.{Mode}
 use Rattle.cpc_tree.specs.declared.program.Field as GField
 use Rattle.cpc_tree.specs.declared.program.Item as GItem
@@ -18,7 +19,6 @@ use Rattle.cpc_tree.specs.StmtPrint.{local_row, block_row}
 use Rattle.cpc_tree.specs.ItemPrint.{mode_row, fields_row, head_row, body_row, item_row, program_row}
 use Rattle.cpc_tree.proofs.Clauses.{block_is}
 use Rattle.cpc_printer.specs.Items.{field_row, function_row}
-use Rattle.cpc_printer.proofs.TypeRows.{drop_item}
 
 pub program_none : (tight : Bool) → program_row tight [] ≡ []
 unfolding program_row
@@ -33,7 +33,7 @@ program_end tight names xs i h = ap (λ ys. program_row tight (map (item_of name
 
 pub program_more : (tight : Bool) (names : Names) (xs : List GItem.Item) (i : ℕ) (x : GItem.Item) → i < length xs → x ≡ get_or xs i x
     → program_row tight (map (item_of names) (drop i xs)) ≡ item_row tight (item_of names x) ++ program_row tight (map (item_of names) (drop (i + 1) xs))
-program_more tight names xs i x h e = ap (λ ys. program_row tight (map (item_of names) ys)) (drop_item xs i x h e) ∙ program_some tight (item_of names x) (map (item_of names) (drop (i + 1) xs))
+program_more tight names xs i x h e = ap (λ ys. program_row tight (map (item_of names) ys)) (drop_to_item xs i x h e) ∙ program_some tight (item_of names x) (map (item_of names) (drop (i + 1) xs))
 
 fields_nil : (tight : Bool) → fields_row tight [] ≡ []
 unfolding fields_row
@@ -48,7 +48,7 @@ fields_end tight names xs i h = ap (λ ys. fields_row tight (map (field_of names
 
 pub fields_more : (tight : Bool) (names : Names) (xs : List GField.Field) (i : ℕ) (x : GField.Field) → i < length xs → x ≡ get_or xs i x
     → fields_row tight (map (field_of names) (drop i xs)) ≡ field_row tight (field_of names x) ++ fields_row tight (map (field_of names) (drop (i + 1) xs))
-fields_more tight names xs i x h e = ap (λ ys. fields_row tight (map (field_of names) ys)) (drop_item xs i x h e) ∙ fields_cons tight (field_of names x) (map (field_of names) (drop (i + 1) xs))
+fields_more tight names xs i x h e = ap (λ ys. fields_row tight (map (field_of names) ys)) (drop_to_item xs i x h e) ∙ fields_cons tight (field_of names x) (map (field_of names) (drop (i + 1) xs))
 
 pub item_struct : (tight : Bool) (tag : Text) (xs : List Variable) → item_row tight (StructItem tag xs) ≡ Word K.Struct ∷ Named tag ∷ Mark P.LeftBrace ∷ (fields_row tight xs ++ Mark P.RightBrace ∷ Mark P.Semicolon ∷ [])
 unfolding item_row

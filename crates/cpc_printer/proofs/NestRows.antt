@@ -1,9 +1,10 @@
 -- How deep the definitions say that statements and items nest, as the code counts it.
-use Rattle.std.proofs.Common.{◌≡◌, ℕ, ◌+◌, ◌<◌, ◌≤◌, max, leb, ltb, not, Bool, true, false, List, [], ◌∷◌, length, get_or, drop, map, refl, ap, sym, ◌∙◌, Vec, Box, Global, Option, Some, None, option_map, arith}
+use Rattle.std.proofs.Common.{◌≡◌, ℕ, ◌+◌, ◌<◌, ◌≤◌, max, leb, ltb, not, false, List, [], ◌∷◌, length, get_or, drop, map, refl, ap, sym, ◌∙◌, Vec, Box, Global, Option, Some, None, option_map, arith}
 use Rattle.std.proofs.lemmas.List.{drop_all}
 use Rattle.std.proofs.lemmas.Bool.Decides.{nat_tests}
 use Rattle.cpc_base.specs.Bytes.{Text}
 use Rattle.cpc_base.specs.declared.stop.Place.{Place}
+use Rattle.cpc_base.proofs.Lists.{drop_to_item}
 use Rattle.cpc_tree.specs.declared.program.Expr as GExpr
 use Rattle.cpc_tree.specs.declared.program.Parameter as GParameter
 use Rattle.cpc_tree.specs.declared.program.Field as GField
@@ -21,7 +22,6 @@ use Rattle.cpc_tree.specs.ItemPrint.{fields_depth, head_depth, body_depth, item_
 use Rattle.cpc_tree.proofs.Clauses.{block_is, for_is}
 use Rattle.cpc_printer.specs.Depths.{capped, declarator_nest, param_nest}
 use Rattle.cpc_printer.specs.Nesting.{place_depth, else_depth, stmt_nest}
-use Rattle.cpc_printer.proofs.TypeRows.{drop_item}
 use Rattle.cpc_printer.proofs.StmtRows.{if_is}
 use Rattle.cpc_printer.proofs.DepthRows.{declarator_is, param_is}
 
@@ -112,7 +112,7 @@ block_end names xs i h = ap (λ ys. block_depth false (list_of names ys)) (drop_
 
 pub block_more : (names : Names) (xs : List Statement) (i : ℕ) (x : Statement) → i < length xs → x ≡ get_or xs i x
     → block_depth false (list_of names (drop i xs)) ≡ max (stmt_nest (stmt_of names x)) (block_depth false (list_of names (drop (i + 1) xs)))
-block_more names xs i x h e = ap (λ ys. block_depth false (list_of names ys)) (drop_item xs i x h e) ∙ block_cons (stmt_of names x) (list_of names (drop (i + 1) xs))
+block_more names xs i x h e = ap (λ ys. block_depth false (list_of names ys)) (drop_to_item xs i x h e) ∙ block_cons (stmt_of names x) (list_of names (drop (i + 1) xs))
 
 first_nil : first_depth false NoStmt ≡ 0
 unfolding first_depth
@@ -130,7 +130,7 @@ first_end names xs i h = ap (λ ys. first_depth false (list_of names ys)) (drop_
 
 pub first_more : (names : Names) (xs : List Statement) (i : ℕ) (x : Statement) → i < length xs → x ≡ get_or xs i x
     → first_depth false (list_of names (drop i xs)) ≡ max (simple_depth false (stmt_of names x)) (first_depth false (list_of names (drop (i + 1) xs)))
-first_more names xs i x h e = ap (λ ys. first_depth false (list_of names ys)) (drop_item xs i x h e) ∙ first_cons (stmt_of names x) (list_of names (drop (i + 1) xs))
+first_more names xs i x h e = ap (λ ys. first_depth false (list_of names ys)) (drop_to_item xs i x h e) ∙ first_cons (stmt_of names x) (list_of names (drop (i + 1) xs))
 
 params_nil : params_depth false [] ≡ 0
 unfolding params_depth
@@ -153,7 +153,7 @@ params_end names xs i h = ap (λ ys. params_depth false (map (parameter_of names
 
 pub params_more : (names : Names) (xs : List GParameter.Parameter) (i : ℕ) (x : GParameter.Parameter) → i < length xs → x ≡ get_or xs i x
     → params_depth false (map (parameter_of names) (drop i xs)) ≡ max (param_nest (parameter_of names x).type) (params_depth false (map (parameter_of names) (drop (i + 1) xs)))
-params_more names xs i x h e = ap (λ ys. params_depth false (map (parameter_of names) ys)) (drop_item xs i x h e) ∙ params_cons (parameter_of names x) (map (parameter_of names) (drop (i + 1) xs))
+params_more names xs i x h e = ap (λ ys. params_depth false (map (parameter_of names) ys)) (drop_to_item xs i x h e) ∙ params_cons (parameter_of names x) (map (parameter_of names) (drop (i + 1) xs))
 
 fields_nil : fields_depth false [] ≡ 0
 unfolding fields_depth
@@ -176,7 +176,7 @@ fields_end names xs i h = ap (λ ys. fields_depth false (map (field_of names) ys
 
 pub fields_more : (names : Names) (xs : List GField.Field) (i : ℕ) (x : GField.Field) → i < length xs → x ≡ get_or xs i x
     → fields_depth false (map (field_of names) (drop i xs)) ≡ max (declarator_nest (field_of names x).type) (fields_depth false (map (field_of names) (drop (i + 1) xs)))
-fields_more names xs i x h e = ap (λ ys. fields_depth false (map (field_of names) ys)) (drop_item xs i x h e) ∙ fields_cons (field_of names x) (map (field_of names) (drop (i + 1) xs))
+fields_more names xs i x h e = ap (λ ys. fields_depth false (map (field_of names) ys)) (drop_to_item xs i x h e) ∙ fields_cons (field_of names x) (map (field_of names) (drop (i + 1) xs))
 
 program_nil : program_depth false [] ≡ 0
 unfolding program_depth
@@ -191,11 +191,7 @@ program_end names xs i h = ap (λ ys. program_depth false (map (item_of names) y
 
 pub program_more : (names : Names) (xs : List GItem.Item) (i : ℕ) (x : GItem.Item) → i < length xs → x ≡ get_or xs i x
     → program_depth false (map (item_of names) (drop i xs)) ≡ max (item_depth false (item_of names x)) (program_depth false (map (item_of names) (drop (i + 1) xs)))
-program_more names xs i x h e = ap (λ ys. program_depth false (map (item_of names) ys)) (drop_item xs i x h e) ∙ program_cons (item_of names x) (map (item_of names) (drop (i + 1) xs))
-
-pub not_not : (b : Bool) → not (not b) ≡ b
-not_not true = refl
-not_not false = refl
+program_more names xs i x h e = ap (λ ys. program_depth false (map (item_of names) ys)) (drop_to_item xs i x h e) ∙ program_cons (item_of names x) (map (item_of names) (drop (i + 1) xs))
 
 -- what a limit of 32 bits says of a capped depth it says of the depth
 pub fits_is : (d n limit : ℕ) → n ≡ capped d → limit < 4294967296 → leb n limit ≡ not (ltb limit d)

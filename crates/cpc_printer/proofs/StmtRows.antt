@@ -3,6 +3,7 @@ use Rattle.std.proofs.Common.{◌≡◌, ℕ, ◌+◌, ◌<◌, ◌≤◌, Bool,
 use Rattle.std.proofs.lemmas.List.{drop_all}
 use Rattle.cpc_base.specs.Bytes.{Text}
 use Rattle.cpc_base.specs.declared.stop.Place.{Place}
+use Rattle.cpc_base.proofs.Lists.{drop_to_item}
 use Rattle.cpc_tree.specs.declared.program.Expr as GExpr
 use Rattle.cpc_tree.specs.declared.program.Statement.{Statement}
 use Rattle.cpc_tree.specs.declared.program.Statement.TheVariants as T
@@ -18,7 +19,6 @@ use Rattle.cpc_tree.specs.ExprPrint.{expr_row, args_row}
 use Rattle.cpc_tree.specs.StmtPrint.{stmt_row, block_row, simple_row, first_row, locals_row, maybe_row, local_row, call_row, section_row}
 use Rattle.cpc_tree.proofs.Clauses.{block_is, for_is}
 use Rattle.cpc_printer.specs.Statements.{jump_row, for_row, place_row, further_row}
-use Rattle.cpc_printer.proofs.TypeRows.{drop_item}
 
 pub if_is : (names : Names) (place : Place) (test : GExpr.Expr) (a : Box Statement Global) (b : Option (Box Statement Global))
     → stmt_of names (T.If place test a b) ≡ If (expr_of names test) (stmt_of names a.value) (maybe_at names b)
@@ -125,7 +125,7 @@ block_end tight names xs i h = ap (λ ys. block_row tight (list_of names ys)) (d
 
 pub block_more : (tight : Bool) (names : Names) (xs : List Statement) (i : ℕ) (x : Statement) → i < length xs → x ≡ get_or xs i x
     → block_row tight (list_of names (drop i xs)) ≡ stmt_row tight (stmt_of names x) ++ block_row tight (list_of names (drop (i + 1) xs))
-block_more tight names xs i x h e = ap (λ ys. block_row tight (list_of names ys)) (drop_item xs i x h e) ∙ block_cons tight (stmt_of names x) (list_of names (drop (i + 1) xs))
+block_more tight names xs i x h e = ap (λ ys. block_row tight (list_of names ys)) (drop_to_item xs i x h e) ∙ block_cons tight (stmt_of names x) (list_of names (drop (i + 1) xs))
 
 locals_nil : (tight : Bool) → locals_row tight NoStmt ≡ []
 unfolding locals_row
@@ -143,7 +143,7 @@ locals_end tight names xs i h = ap (λ ys. locals_row tight (list_of names ys)) 
 
 pub locals_more : (tight : Bool) (names : Names) (xs : List Statement) (i : ℕ) (x : Statement) → i < length xs → x ≡ get_or xs i x
     → locals_row tight (list_of names (drop i xs)) ≡ further_row tight (stmt_of names x) ++ locals_row tight (list_of names (drop (i + 1) xs))
-locals_more tight names xs i x h e = ap (λ ys. locals_row tight (list_of names ys)) (drop_item xs i x h e) ∙ locals_cons tight (stmt_of names x) (list_of names (drop (i + 1) xs))
+locals_more tight names xs i x h e = ap (λ ys. locals_row tight (list_of names ys)) (drop_to_item xs i x h e) ∙ locals_cons tight (stmt_of names x) (list_of names (drop (i + 1) xs))
 
 pub first_declare : (tight : Bool) (x : Text) (t : Ty) (o : Option Expr) (ss : Stmts) → first_row tight (AndStmt (Declare x t o) ss) ≡ simple_row tight (Declare x t o) ++ locals_row tight ss
 first_declare tight x t o ss = sym (append_assoc (base_row t) (local_row tight x t o) (locals_row tight ss))

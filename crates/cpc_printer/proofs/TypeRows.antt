@@ -1,7 +1,8 @@
 -- What the definitions of rows give at each type of the source.
-use Rattle.std.proofs.Common.{◌≡◌, ◌==◌, ℕ, ◌+◌, ◌<◌, ◌≤◌, Bool, true, false, List, [], ◌∷◌, ◌++◌, length, get_or, drop, map, Option, None, Result, Ok, Err, OnOk, refl, ap, sym, ◌∙◌, Vec, Box, Global, rules, append_assoc, append-nil, arith}
-use Rattle.std.proofs.lemmas.List.{drop_more, drop_all}
+use Rattle.std.proofs.Common.{◌≡◌, ◌==◌, ℕ, ◌+◌, ◌<◌, ◌≤◌, Bool, true, false, List, [], ◌∷◌, ◌++◌, length, get_or, drop, map, Option, None, Result, Ok, Err, OnOk, refl, ap, sym, ◌∙◌, Vec, Box, Global, rules, append_assoc, append-nil}
+use Rattle.std.proofs.lemmas.List.{drop_all}
 use Rattle.cpc_base.specs.Bytes.{Text}
+use Rattle.cpc_base.proofs.Lists.{drop_to_item}
 use Rattle.cpc_tree.specs.declared.program.CType.{CType, Row_of-CType, end_of-CType, more_of-CType}
 use Rattle.cpc_tree.specs.declared.program.CType.TheVariants as C
 use Rattle.cpc_tree.specs.declared.program.CType.TheViews.{the_lemmas}
@@ -14,10 +15,6 @@ use Rattle.cpc_tree.specs.Erase.{Names, type_of, types_of, parameter_of}
 use Rattle.cpc_tree.specs.declared.program.Parameter as GParameter
 use Rattle.cpc_tree.specs.TypePrint.{name_row, base_row, stars, param_row, list_row, rest_row, lone_name, params_row, declarator_row}
 use Rattle.cpc_printer.specs.Types.{listed_types, before_row, behind_row, one_param_row, further_row}
-
--- the items from a place on
-pub drop_item : {A : Type 0} (xs : List A) (i : ℕ) (x : A) → i < length xs → x ≡ get_or xs i x → drop i xs ≡ x ∷ drop (i + 1) xs
-drop_item xs i x h e = drop_more xs i x h ∙ ap (λ y. y ∷ drop (i + 1) xs) (sym e)
 
 -- a Vec of types is the list of its types
 types_listed : (names : Names) (n : _) (k : Row_of-CType n) → types_of names k ≡ listed_types names (items-the_row-CType n k)
@@ -46,10 +43,6 @@ declarator_parts tight o (TyCode t ts) = sym (append_assoc (stars t) (Mark P.Lef
 declarator_parts tight o (TyStruct tag) = sym (append-nil (name_row o))
 declarator_parts tight o (TyArray t n) = refl
 
-pub no_items : {A : Type 0} (xs : List A) → length xs ≡ 0 → xs ≡ []
-no_items [] h = refl
-no_items (x ∷ xs) h = absurd (omega arith)
-
 pub list_none : (tight : Bool) → list_row tight NoTy ≡ Word K.Void ∷ []
 unfolding list_row
 list_none tight = refl
@@ -65,7 +58,7 @@ rest_end tight names xs i h = ap (λ ys. rest_row tight (listed_types names ys))
 pub rest_more : (tight : Bool) (names : Names) (xs : List CType) (i : ℕ) (x : CType) → i < length xs → x ≡ get_or xs i x
     → rest_row tight (listed_types names (drop i xs)) ≡ Mark P.Comma ∷ (param_row tight None (type_of names x) ++ rest_row tight (listed_types names (drop (i + 1) xs)))
 unfolding rest_row
-rest_more tight names xs i x h e = ap (λ ys. rest_row tight (listed_types names ys)) (drop_item xs i x h e)
+rest_more tight names xs i x h e = ap (λ ys. rest_row tight (listed_types names ys)) (drop_to_item xs i x h e)
 
 pub param_array : (tight : Bool) (o : Option Text) (t : Ty) (n : ℕ) → param_row tight o (TyArray t n) ≡ []
 unfolding param_row
@@ -114,4 +107,4 @@ params_end tight names xs i h = ap (λ ys. further_row tight (map (parameter_of 
 
 pub params_more : (tight : Bool) (names : Names) (xs : List GParameter.Parameter) (i : ℕ) (x : GParameter.Parameter) → i < length xs → x ≡ get_or xs i x
     → further_row tight (map (parameter_of names) (drop i xs)) ≡ Mark P.Comma ∷ (one_param_row tight (parameter_of names x) ++ further_row tight (map (parameter_of names) (drop (i + 1) xs)))
-params_more tight names xs i x h e = ap (λ ys. further_row tight (map (parameter_of names) ys)) (drop_item xs i x h e)
+params_more tight names xs i x h e = ap (λ ys. further_row tight (map (parameter_of names) ys)) (drop_to_item xs i x h e)

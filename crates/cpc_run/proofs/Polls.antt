@@ -3,6 +3,7 @@ use Rattle.std.proofs.Common.{◌≡◌, ℕ, suc, ◌<◌, ◌≤◌, length, L
 use Rattle.std.proofs.lemmas.List.{length-map}
 use Rattle.cpc_base.specs.Bytes.{Text}
 use Rattle.cpc_base.specs.declared.names.Name.{Name}
+use Rattle.cpc_base.proofs.Lists.{equal_heads}
 use Rattle.cpc_num.specs.declared.kinds.Fault.{Fault}
 use Rattle.cpc_tree.specs.Erase.{Names}
 use Rattle.cpc_tree.specs.Lists.{rest_of}
@@ -50,9 +51,6 @@ fewer_polls x xs ys e =
 behind_first : {X : Type 0} (x : X) (xs ys : List X) → ys ≡ x ∷ xs → ys ≡ x ∷ rest_of ys
 behind_first x xs ys e = e ∙ ap (λ zs. x ∷ zs) (sym (ap rest_of e))
 
-same_first : {X : Type 0} (x y : X) (xs ys zs : List X) → zs ≡ x ∷ xs → zs ≡ y ∷ ys → y ≡ x
-same_first x y xs ys zs e f = cc
-
 module _ (names : Names) (l : Loop) (printed : Text) (s : States) (h : Stands names l printed s) (fits : Fits names l) (told : T.Told) where
   abbrev m : Machine Point Callback
   m = callbacks (program_in names l)
@@ -95,7 +93,7 @@ module _ (names : Names) (l : Loop) (printed : Text) (s : States) (h : Stands na
     module _ (vs : List Value) (t : Store) (store : store_in names new.machine ≡ t) (stack : stack_in names new.machine ≡ stack_in names l.machine) (still : new.running ≡ l.running) (bound : new.jobs.bound ≡ l.jobs.bound)
         (taken : N.TakesPoll vs (lists_in names l) (polls_in l) (lists_in names new) (polls_in new)) (held : Holds names new.jobs s.jobs s.agenda.sections_made (left_out ns (A.out s.agenda))) where
       told_is : taken.told ≡ told
-      told_is = same_first told taken.told wants.left (polls_in new) (polls_in l) wants.next taken.next
+      told_is = equal_heads told taken.told wants.left (polls_in new) (polls_in l) wants.next taken.next
 
       stands : length vs ≡ length ns → CameTo names X.On new text s (settles names l s (polled m told at (AllGave vs t)))
       stands enough = record {

@@ -3,6 +3,7 @@ use Rattle.std.proofs.Common.{◌≡◌, ℕ, zero, suc, Bool, true, false, cond
 use Rattle.std.specs.List.{All}
 use Rattle.std.proofs.lemmas.List.Elements.{All-nil, All-cons, All-head, All-tail}
 use Rattle.cpc_base.specs.Bytes.{Text}
+use Rattle.cpc_base.proofs.Truth.{by_false_true}
 use Rattle.cpc_num.specs.declared.kinds.Fault.{Fault}
 use Rattle.cpc_num.specs.declared.kinds.Fault.TheVariants as F
 use Rattle.cpc_tree.specs.Lists.{is_empty}
@@ -22,17 +23,14 @@ use Rattle.cpc_meaning_kept_laws.proofs.Stores.{only_both}
 
 -- ---- integers
 
-not_so : {A : Type 0} → false ≡ true → A
-not_so e = absurd (cc)
-
 numbers : (vs : List Value) → all_integers vs ≡ true → All IsNumber vs
 numbers [] e = All-nil IsNumber
 numbers (Unset ∷ vs) e = All-cons IsNumber Unset vs tt (numbers vs e)
 numbers (Whole kind z ∷ vs) e = All-cons IsNumber (Whole kind z) vs tt (numbers vs e)
-numbers (Null ∷ vs) e = not_so e
-numbers (At c n k ∷ vs) e = not_so e
-numbers (Code f ∷ vs) e = not_so e
-numbers (Cond n ∷ vs) e = not_so e
+numbers (Null ∷ vs) e = by_false_true e
+numbers (At c n k ∷ vs) e = by_false_true e
+numbers (Code f ∷ vs) e = by_false_true e
+numbers (Cond n ∷ vs) e = by_false_true e
 
 -- the cells that a section gives are integers, or unset
 abbrev GivesNumbers : SectionEnd → Type 0

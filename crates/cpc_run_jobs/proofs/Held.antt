@@ -5,6 +5,7 @@ use Rattle.std.specs.BTreeMap.{is_at}
 use Rattle.std.specs.Ordering.{nat_cmp}
 use Rattle.std.proofs.lemmas.Bool.Decides.{nat_tests}
 use Rattle.cpc_base.specs.Waiting.{without}
+use Rattle.cpc_base.proofs.Truth.{true_or_false, by_false_true}
 use Rattle.cpc_tree.specs.Erase.{Names}
 use Rattle.cpc_tree.specs.Lists.{holds_number}
 use Rattle.cpc_meaning.specs.Copies.{job_numbered}
@@ -13,10 +14,7 @@ use Rattle.cpc_sections.specs.Jobs.{job_of}
 use Rattle.cpc_sections.specs.declared.job.Job.{Job}
 use Rattle.cpc_run_jobs.specs.Held.{IsJob, AreHeld}
 use Rattle.cpc_run_jobs.specs.Under.{under}
-use Rattle.cpc_run_jobs.proofs.Numbered.{bool_cases, same_number, put_out, left_is_out, left_is_other, numbered_before, numbered_last, below_next}
-
-false_is_true : {A : Type 0} → false ≡ true → A
-false_is_true e = absurd (cc)
+use Rattle.cpc_run_jobs.proofs.Numbered.{same_number, put_out, left_is_out, left_is_other, numbered_before, numbered_last, below_next}
 
 -- the job of a number, by what is found
 more_jobs : (names : Names) (o : Option Job) (jobs : List M.Job) (y : M.Job) (n : ℕ) → IsJob names o (job_numbered jobs n) → IsJob names o (job_numbered (jobs ++ y ∷ []) n)
@@ -42,15 +40,15 @@ module _ (names : Names) (held after : List (ℕ × Job)) (jobs : List M.Job) (m
           subst (λ o. IsJob names o (job_numbered (jobs ++ job_of names x ∷ []) n)) (sym there) (more_jobs names (under n held) jobs (job_of names x) n (h.each n (put_out out n made other outs)))
 
       each : (n : ℕ) → holds_number (out ++ made ∷ []) n ≡ true → IsJob names (under n after) (job_numbered (jobs ++ job_of names x ∷ []) n)
-      each n outs = elim (bool_cases (n == x.number)) [ inl t ↦ last n t | inr f ↦ before n f outs ]
+      each n outs = elim (true_or_false (n == x.number)) [ inl t ↦ last n t | inr f ↦ before n f outs ]
 
   -- the job of a number is taken out
   pub held_taken : (number : ℕ) → ((n : ℕ) → under n after ≡ cond (is_at (nat_cmp number) n) None (under n held)) → AreHeld names after jobs made (without (λ m. m == number) out)
   held_taken number taken = record { below = h.below; each = each }
     where
       each : (n : ℕ) → holds_number (without (λ m. m == number) out) n ≡ true → IsJob names (under n after) (job_numbered jobs n)
-      each n left = elim (bool_cases (n == number)) [
-        | inl t ↦ false_is_true (sym (left_is_other out n number t) ∙ left)
+      each n left = elim (true_or_false (n == number)) [
+        | inl t ↦ by_false_true (sym (left_is_other out n number t) ∙ left)
         | inr f ↦ (
             let there : under n after ≡ under n held = taken n ∙ ap (λ b. cond b None (under n held)) (same_number number n ∙ f) in
             subst (λ o. IsJob names o (job_numbered jobs n)) (sym there) (h.each n (left_is_out out n number left))

@@ -1,24 +1,21 @@
 -- Numbers, and the jobs that have them.
-use Rattle.std.proofs.Common.{◌≡◌, ℕ, suc, ◌<◌, Bool, true, false, cond, List, [], ◌∷◌, ◌++◌, Some, inl, inr, ◌⊎◌, refl, sym, ap, ◌∙◌, arith}
+use Rattle.std.proofs.Common.{◌≡◌, ℕ, suc, ◌<◌, true, false, cond, List, [], ◌∷◌, ◌++◌, Some, inl, inr, ◌⊎◌, refl, sym, ap, ◌∙◌, arith}
 use Rattle.std.specs.Prelude.{◌==◌, ◌||◌, nat_lt, not}
 use Rattle.std.specs.List.{AllByRecursion}
 use Rattle.std.specs.BTreeMap.{is_at}
 use Rattle.std.specs.Ordering.{nat_cmp}
 use Rattle.std.proofs.lemmas.Bool.Decides.{nat_tests}
 use Rattle.cpc_base.specs.Waiting.{without}
+use Rattle.cpc_base.proofs.Truth.{true_or_false}
 use Rattle.cpc_tree.specs.Lists.{holds_number}
 use Rattle.cpc_meaning.specs.Copies.{job_numbered}
 use Rattle.cpc_meaning.specs.Section.{Job}
 
-pub bool_cases : (b : Bool) → (b ≡ true) ⊎ (b ≡ false)
-bool_cases true = inl refl
-bool_cases false = inr refl
-
 -- a number is looked for by whether it is that one
 pub same_number : (c n : ℕ) → is_at (nat_cmp c) n ≡ (n == c)
-same_number c n = elim (bool_cases (nat_lt c n)) [
+same_number c n = elim (true_or_false (nat_lt c n)) [
   | inl t ↦ (let e : (n == c) ≡ false = grind (arith, nat_tests) in rw (t, e) refl)
-  | inr f ↦ elim (bool_cases (n == c)) [
+  | inr f ↦ elim (true_or_false (n == c)) [
     | inl t ↦ (let e : (c == n) ≡ true = grind (arith, nat_tests) in rw (f, e, t) refl)
     | inr h ↦ (let e : (c == n) ≡ false = grind (arith, nat_tests) in rw (f, e, h) refl)
   ]
@@ -29,7 +26,7 @@ same_number c n = elim (bool_cases (nat_lt c n)) [
 -- of those behind which one was put, each is one of the others or that one
 pub put_out : (out : List ℕ) (n m : ℕ) → (m == n) ≡ false → holds_number (out ++ m ∷ []) n ≡ true → holds_number out n ≡ true
 put_out [] n m other h = absurd (let g : false ≡ true = sym (ap (λ b. b || false) other) ∙ h in cc)
-put_out (k ∷ out) n m other h = elim (bool_cases (k == n)) [
+put_out (k ∷ out) n m other h = elim (true_or_false (k == n)) [
   | inl t ↦ ap (λ b. b || holds_number out n) t
   | inr f ↦ (
       let g : holds_number (out ++ m ∷ []) n ≡ true = sym (ap (λ b. b || holds_number (out ++ m ∷ []) n) f) ∙ h in
@@ -40,9 +37,9 @@ put_out (k ∷ out) n m other h = elim (bool_cases (k == n)) [
 -- what is left without a number is out, and is not that one
 pub left_is_out : (out : List ℕ) (n m : ℕ) → holds_number (without (λ k. k == m) out) n ≡ true → holds_number out n ≡ true
 left_is_out [] n m h = h
-left_is_out (k ∷ out) n m h = elim (bool_cases (k == n)) [
+left_is_out (k ∷ out) n m h = elim (true_or_false (k == n)) [
   | inl t ↦ ap (λ b. b || holds_number out n) t
-  | inr f ↦ ap (λ b. b || holds_number out n) f ∙ left_is_out out n m (kept f (bool_cases (k == m)))
+  | inr f ↦ ap (λ b. b || holds_number out n) f ∙ left_is_out out n m (kept f (true_or_false (k == m)))
 ]
   where
     kept : (k == n) ≡ false → ((k == m) ≡ true) ⊎ ((k == m) ≡ false) → holds_number (without (λ j. j == m) out) n ≡ true
@@ -51,7 +48,7 @@ left_is_out (k ∷ out) n m h = elim (bool_cases (k == n)) [
 
 pub left_is_other : (out : List ℕ) (n m : ℕ) → (n == m) ≡ true → holds_number (without (λ k. k == m) out) n ≡ false
 left_is_other [] n m e = refl
-left_is_other (k ∷ out) n m e = elim (bool_cases (k == m)) [
+left_is_other (k ∷ out) n m e = elim (true_or_false (k == m)) [
   | inl t ↦ rw t (left_is_other out n m e)
   | inr f ↦ (let g : (k == n) ≡ false = grind (arith, nat_tests) in rw f (rw g (left_is_other out n m e)))
 ]
@@ -61,7 +58,7 @@ left_is_other (k ∷ out) n m e = elim (bool_cases (k == m)) [
 -- one more job leaves each where it stands
 pub numbered_before : (jobs : List Job) (x y : Job) (n : ℕ) → job_numbered jobs n ≡ Some x → job_numbered (jobs ++ y ∷ []) n ≡ Some x
 numbered_before [] x y n h = absurd (cc)
-numbered_before (j ∷ js) x y n h = elim (bool_cases (j.number == n)) [
+numbered_before (j ∷ js) x y n h = elim (true_or_false (j.number == n)) [
   | inl t ↦ ap (λ b. cond b (Some j) (job_numbered (js ++ y ∷ []) n)) t ∙ sym (ap (λ b. cond b (Some j) (job_numbered js n)) t) ∙ h
   | inr f ↦ (
       let g : job_numbered js n ≡ Some x = sym (ap (λ b. cond b (Some j) (job_numbered js n)) f) ∙ h in

@@ -8,6 +8,7 @@ use Rattle.cpc_base.specs.Waiting.{without}
 use Rattle.cpc_base.specs.declared.names.Name.{Name}
 use Rattle.cpc_base.specs.declared.poll.Event.{Event}
 use Rattle.cpc_base.specs.declared.poll.Event.TheVariants.{Done, Ready}
+use Rattle.cpc_base.proofs.Truth.{true_or_false}
 use Rattle.cpc_num.specs.declared.kinds.Fault.{Fault}
 use Rattle.cpc_tree.specs.Erase.{Names}
 use Rattle.cpc_tree.specs.Lists.{holds_number}
@@ -31,7 +32,6 @@ use Rattle.cpc_run_jobs.specs.Telling.{behind, Reached}
 use Rattle.cpc_run_jobs.specs.Under.{under}
 use Rattle.cpc_run_jobs.proofs.Collecting.{collects_through, behind_both, behind_more, behind_all, behind_failed, ended_so}
 use Rattle.cpc_run_jobs.proofs.Held.{held_taken}
-use Rattle.cpc_run_jobs.proofs.Numbered.{bool_cases}
 
 -- the end of a section of this program
 pub end_is : (o : Option Program) (bound : ℕ) (job : Job) (end : SectionEnd) (p : Program) → o ≡ Some p → MayEnd o bound job (Ok end) → IsEndOf p bound job end
@@ -44,7 +44,7 @@ end_lawful None bound job end some h = absurd (cc some)
 
 -- the first of these is out, and the others are without it
 first_out : (n : ℕ) (ns out : List ℕ) → not_out (n ∷ ns) out ≡ None → (holds_number out n ≡ true) × (not_out ns (without (λ m. m == n) out) ≡ None)
-first_out n ns out h = elim (bool_cases (holds_number out n)) [
+first_out n ns out h = elim (true_or_false (holds_number out n)) [
   | inl t ↦ (t, sym (ap (λ b. cond b (not_out ns (without (λ m. m == n) out)) (Some n)) t) ∙ h)
   | inr f ↦ absurd (let g : Some n ≡ None = sym (ap (λ b. cond b (not_out ns (without (λ m. m == n) out)) (Some n)) f) ∙ h in cc)
 ]

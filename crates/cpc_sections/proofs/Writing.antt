@@ -14,11 +14,7 @@ use Rattle.cpc_meaning.specs.Answer.{Answer, Faults, ◌>>=◌, of_result}
 use Rattle.cpc_meaning.specs.Copies.{write_back}
 use Rattle.cpc_eval_values.specs.Shown.{value_of, store_of}
 
--- the element of a number stands before those behind it
-pub next_element : {X : Type 0} (xs : List X) (i : ℕ) (x : X) → i < length xs → x ≡ get_or xs i x → drop i xs ≡ x ∷ drop (i + 1) xs
-next_element xs i x lt is = drop-cons xs i x lt ∙ ap (λ y. y ∷ drop (suc i) xs) (sym is) ∙ ap (λ j. x ∷ drop j xs) (sym (add-one i))
-
--- the same of one that is looked up
+-- the element of a number that is looked up stands before those behind it
 pub next_at : {X : Type 0} (xs : List X) (i : ℕ) (d : X) → i < length xs → drop i xs ≡ get_or xs i d ∷ drop (i + 1) xs
 next_at xs i d lt = drop-cons xs i d lt ∙ ap (λ j. get_or xs i d ∷ drop j xs) (sym (add-one i))
 

@@ -1,13 +1,11 @@
 -- A step that leads to a node by two ways leads there once.
 use Rattle.std.proofs.Common.{◌≡◌, ℕ, zero, suc, ◌+◌, ◌<◌, ◌≤◌, ◌==◌, ◌||◌, ◌&&◌, not, Bool, true, false, List, [], ◌∷◌, ◌++◌, length, slice_get, Option, Some, None, refl, sym, ◌∙◌, ap, arith}
+use Rattle.cpc_base.proofs.Truth.{eq_means, or_regrouped, eq_reflexive, or_by_first, or_by_second}
 use Rattle.cpc_tree.specs.Lists.{holds_number}
 use Rattle.cpc_forms.specs.Flow.{Start, At, Flow, as_list, Inside, goes_to}
 use Rattle.cpc_forms.specs.Marks.{one_if, counted}
 use Rattle.cpc_split.specs.declared.steps.Step.{Step}
 use Rattle.cpc_split.specs.Steps.{step_leads, leads_of, flow_by, same_number}
-
-equal_numbers : (k n : ℕ) → (k == n) ≡ true → k ≡ n
-equal_numbers k n e = grind (arith, e)
 
 -- whether a number that may be missing is in a list
 abbrev has : List ℕ → Option ℕ → Bool
@@ -18,13 +16,9 @@ with_none : (xs : List ℕ) (k : ℕ) → holds_number (xs ++ []) k ≡ holds_nu
 with_none [] k = refl
 with_none (x ∷ xs) k = ap (λ b. (x == k) || b) (with_none xs k)
 
-or_later : (a b c : Bool) → (a || (b || c)) ≡ ((a || b) || c)
-or_later true b c = refl
-or_later false b c = refl
-
 holds_both : (xs ys : List ℕ) (k : ℕ) → holds_number (xs ++ ys) k ≡ (holds_number xs k || holds_number ys k)
 holds_both [] ys k = refl
-holds_both (x ∷ xs) ys k = ap (λ b. (x == k) || b) (holds_both xs ys k) ∙ or_later (x == k) (holds_number xs k) (holds_number ys k)
+holds_both (x ∷ xs) ys k = ap (λ b. (x == k) || b) (holds_both xs ys k) ∙ or_regrouped (x == k) (holds_number xs k) (holds_number ys k)
 
 one_case : (h b : Bool) (g : Bool) → (b ≡ true → g ≡ h) → one_if h + one_if (not g && (b || false)) ≡ one_if (h || (b || false))
 one_case true true g e = let x : g ≡ true = e refl in ap (λ z. one_if true + one_if (not z && true)) x
@@ -38,7 +32,7 @@ one_case false false false e = refl
 once_more : (xs : List ℕ) (c : Option ℕ) (k : ℕ) → one_if (holds_number xs k) + one_if (not (has xs c) && holds_number (as_list c) k) ≡ one_if (holds_number (xs ++ as_list c) k)
 once_more xs None k = (let e : one_if (holds_number xs k) + 0 ≡ one_if (holds_number xs k) = omega arith in e) ∙ ap one_if (sym (with_none xs k))
 once_more xs (Some m) k =
-    one_case (holds_number xs k) (m == k) (holds_number xs m) (λ e. ap (holds_number xs) (equal_numbers m k e))
+    one_case (holds_number xs k) (m == k) (holds_number xs m) (λ e. ap (holds_number xs) (eq_means m k e))
     ∙ ap one_if (sym (holds_both xs (m ∷ []) k))
 
 same_has : (y n : Option ℕ) → same_number y n ≡ has (as_list y) n
@@ -88,18 +82,8 @@ pub counted_few : (flow : Flow) (n k : ℕ) → counted flow n k ≤ k + 1
 counted_few flow n zero = let h = one_at_most (goes_to flow Start n) in omega arith
 counted_few flow n (suc k) = let h = one_at_most (goes_to flow (At k) n) in let i = counted_few flow n k in omega arith
 
-equal_self : (n : ℕ) → (n == n) ≡ true
-equal_self n = grind arith
-
 that_is : (o : Option ℕ) (m : ℕ) → o ≡ Some m → holds_number (as_list o) m ≡ true
-that_is o m e = ap (λ x. holds_number (as_list x) m) e ∙ ap (λ b. b || false) (equal_self m)
-
-or_left : (a b : Bool) → a ≡ true → (a || b) ≡ true
-or_left a b e = ap (λ x. x || b) e
-
-or_right : (a b : Bool) → b ≡ true → (a || b) ≡ true
-or_right true b e = refl
-or_right false b e = e
+that_is o m e = ap (λ x. holds_number (as_list x) m) e ∙ ap (λ b. b || false) (eq_reflexive m)
 
 -- control goes from a step to nodes alone
 pub record StepInside (steps : List Step) (s : Step) : Type 0 where
@@ -110,11 +94,11 @@ pub record StepInside (steps : List Step) (s : Step) : Type 0 where
 pub step_inside : (entry : ℕ) (steps : List Step) → Inside (flow_by entry steps) → (n : ℕ) (s : Step) → slice_get steps n ≡ Some s → StepInside steps s
 step_inside entry steps inside n s e =
     let go : (m : ℕ) → holds_number (step_leads s) m ≡ true → m < length steps = λ m h. inside.target (At n) m (ap (λ o. holds_number (leads_of o) m) e ∙ h) in
-    let rest : (m : ℕ) → holds_number (as_list s.no ++ as_list s.call) m ≡ true → m < length steps = λ m h. go m (holds_both (as_list s.yes) (as_list s.no ++ as_list s.call) m ∙ or_right _ _ h) in
+    let rest : (m : ℕ) → holds_number (as_list s.no ++ as_list s.call) m ≡ true → m < length steps = λ m h. go m (holds_both (as_list s.yes) (as_list s.no ++ as_list s.call) m ∙ or_by_second _ _ h) in
     record {
-      yes = λ m h. go m (holds_both (as_list s.yes) (as_list s.no ++ as_list s.call) m ∙ or_left _ _ (that_is s.yes m h));
-      no = λ m h. rest m (holds_both (as_list s.no) (as_list s.call) m ∙ or_left _ _ (that_is s.no m h));
-      call = λ m h. rest m (holds_both (as_list s.no) (as_list s.call) m ∙ or_right _ _ (that_is s.call m h));
+      yes = λ m h. go m (holds_both (as_list s.yes) (as_list s.no ++ as_list s.call) m ∙ or_by_first _ _ (that_is s.yes m h));
+      no = λ m h. rest m (holds_both (as_list s.no) (as_list s.call) m ∙ or_by_first _ _ (that_is s.no m h));
+      call = λ m h. rest m (holds_both (as_list s.no) (as_list s.call) m ∙ or_by_second _ _ (that_is s.call m h));
     }
 
 pub entry_inside : (entry : ℕ) (steps : List Step) → Inside (flow_by entry steps) → (m : ℕ) → Some entry ≡ Some m → m < length steps

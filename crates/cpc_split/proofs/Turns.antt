@@ -1,7 +1,8 @@
 -- What a turn finds and keeps: the last node that waits has an owner, which it hands on.
-use Rattle.std.proofs.Common.{◌≡◌, ℕ, zero, suc, ◌+◌, ◌<◌, ◌==◌, ◌||◌, true, false, List, [], ◌∷◌, ◌++◌, length, slice_get, is_some, Option, Some, None, option_map, refl, sym, ◌∙◌, ap, subst, arith}
+use Rattle.std.proofs.Common.{◌≡◌, ℕ, zero, suc, ◌+◌, ◌<◌, ◌||◌, true, false, List, [], ◌∷◌, ◌++◌, length, slice_get, is_some, Option, Some, None, option_map, refl, sym, ◌∙◌, ap, subst, arith}
 use Rattle.std.proofs.lemmas.List.{length-map}
 use Rattle.std.proofs.lemmas.Option.{slice_get_within}
+use Rattle.cpc_base.proofs.Truth.{eq_reflexive}
 use Rattle.cpc_tree.specs.Lists.{holds_number}
 use Rattle.cpc_forms.specs.Flow.{Place, Flow, owner_of, Inside}
 use Rattle.cpc_forms.specs.Split.{owners_from}
@@ -13,9 +14,6 @@ use Rattle.cpc_forms_code.specs.declared.split.Owner.{Owner}
 use Rattle.cpc_split.specs.Steps.{step_leads, leads_of, flow_by}
 use Rattle.cpc_split.specs.Seen.{place_of, places_of}
 use Rattle.cpc_split.proofs.Visits.{spread}
-
-equal_self : (n : ℕ) → (n == n) ≡ true
-equal_self n = grind arith
 
 -- a node with its owner
 pub record Owned (os : List (Option Owner)) (n : ℕ) : Type 0 where
@@ -31,7 +29,7 @@ owned_case (o ∷ os) (suc n) e = let x = owned_case os n e in record { owner = 
 module _ (entry : ℕ) (steps : List Step) (inside : Inside (flow_by entry steps)) (os : List (Option Owner)) (ws rest : List ℕ) (n : ℕ) (is : IsSpread (flow_by entry steps) (spread (places_of os) ws)) (last : ws ≡ rest ++ (n ∷ [])) where
   -- the last node has an owner
   pub last_owned : Owned os n
-  last_owned = owned_case os n (is.waits n (subst (λ l. holds_number l n ≡ true) (sym last) (in_right n rest (n ∷ []) (ap (λ b. b || false) (equal_self n)))))
+  last_owned = owned_case os n (is.waits n (subst (λ l. holds_number l n ≡ true) (sym last) (in_right n rest (n ∷ []) (ap (λ b. b || false) (eq_reflexive n)))))
 
   pub last_within : n < length os
   last_within = slice_get_within os n _ last_owned.at

@@ -12,6 +12,7 @@ use Rattle.std.specs.Char.{is_ascii_digit}
 use Rattle.cpc_base.specs.Bytes.{Text}
 use Rattle.cpc_base.specs.declared.stop.Place.{Place}
 use Rattle.cpc_base.specs.declared.stop.Dialect.{Dialect}
+use Rattle.cpc_base.proofs.Truth.{lt_means}
 use Rattle.cpc_num.specs.declared.kinds.Kind.{Kind}
 use Rattle.cpc_num.specs.declared.kinds.Kind.TheVariants as N
 use Rattle.cpc_num.specs.Number.{is_of, convert}
@@ -74,19 +75,16 @@ digit_less : (base b : ℕ) → is_digit_of base b ≡ true → digit_value b < 
 unfolding is_digit_of
 digit_less base b e = grind (arith, nat_tests)
 
-test_less : (n m : ℕ) → nat_lt n m ≡ true → n < m
-test_less n m e = grind (arith, nat_tests)
-
 octal_holds : (quote : Quote) (held : Text) (n : ℕ) (w : Text) → AreBytes held → Holds (octal_state quote held n) w
 octal_holds quote held n w all = at (nat_lt n 256) refl where
   at : (p : Bool) → nat_lt n 256 ≡ p → Holds (cond p (Open quote (held ++ n ∷ []) NoEscape) Wrong) w
-  at true e = (more_bytes held n all (test_less n 256 e), tt)
+  at true e = (more_bytes held n all (lt_means n 256 e), tt)
   at false e = tt
 
 hex_holds : (quote : Quote) (held : Text) (n : ℕ) (w : Text) → AreBytes held → Holds (hex_state quote held n) w
 hex_holds quote held n w all = at (nat_lt n 256) refl where
   at : (p : Bool) → nat_lt n 256 ≡ p → Holds (cond p (Open quote held (Hex n)) Wrong) w
-  at true e = (all, test_less n 256 e)
+  at true e = (all, lt_means n 256 e)
   at false e = tt
 
 simple_small : (b : ℕ) → b < 256 → (c : ℕ) → simple_escape b ≡ Some c → c < 256

@@ -1,5 +1,5 @@
 -- What is spelled is the token again.
-use Rattle.std.proofs.Common.{◌≡◌, ℕ, zero, suc, ◌+◌, ◌-◌, ◌*◌, ◌/◌, ◌%◌, ◌^◌, ◌≤◌, ◌<◌, Bool, true, false, cond, not, nat_eq, nat_lt, nat_le, ◌&&◌, [], ◌∷◌, ◌++◌, length, take, drop, get_or, ℤ, pos, negsuc, Some, None, refl, ap, ◌∙◌, arith, append_assoc, length-append}
+use Rattle.std.proofs.Common.{◌≡◌, ℕ, zero, suc, ◌+◌, ◌-◌, ◌*◌, ◌/◌, ◌%◌, ◌^◌, ◌≤◌, ◌<◌, Bool, true, false, cond, not, nat_eq, nat_le, ◌&&◌, [], ◌∷◌, ◌++◌, length, take, drop, get_or, ℤ, pos, negsuc, Some, None, refl, ap, ◌∙◌, arith, append_assoc, length-append}
 use Rattle.std.proofs.lemmas.Bool.{ne_eqb}
 use Rattle.std.proofs.lemmas.Bool.Decides.{nat_tests}
 use Rattle.std.proofs.lemmas.Int.{ints}
@@ -14,6 +14,7 @@ use Rattle.std.proofs.lemmas.Str.Parse.{digit_from_value}
 use Rattle.std.proofs.lemmas.Fmt.{decimal_is_IsNumeral, decimal_digit, first_decimal}
 use Rattle.cpc_base.specs.Bytes.{Text}
 use Rattle.cpc_base.specs.declared.stop.Dialect.{Dialect}
+use Rattle.cpc_base.proofs.Truth.{lt_holds, le_fails}
 use Rattle.cpc_num.specs.declared.kinds.Kind.{Kind}
 use Rattle.cpc_num.specs.declared.kinds.Kind.TheVariants as N
 use Rattle.cpc_num.specs.Number.{is_of, bits_of, convert}
@@ -83,9 +84,6 @@ octal_value : (x : ℕ) → x < 8 → digit_value (48 + x) ≡ x
 unfolding digit_value
 octal_value x lt = grind (arith, nat_tests)
 
-lt_true : (a b : ℕ) → a < b → nat_lt a b ≡ true
-lt_true a b h = grind (arith, nat_tests)
-
 next_open : (quote : Quote) (held : Text) (part : _) (b : ℕ) → nat_eq b 10 ≡ false → next_state (Open quote held part) b ≡ Some (next_quoted quote held part b)
 unfolding next_state
 next_open quote held part b e = rw e refl
@@ -128,7 +126,7 @@ next_two quote held n x lt = next_open quote held (S.OneOctal n) (48 + x) (no_li
 
 next_three : (quote : Quote) (held : Text) (n x : ℕ) → x < 8 → 8 * n + x < 256 → next_state (Open quote held (S.TwoOctal n)) (48 + x) ≡ Some (Open quote (held ++ (8 * n + x) ∷ []) NoEscape)
 unfolding next_quoted
-next_three quote held n x lt small = next_open quote held (S.TwoOctal n) (48 + x) (no_line x) ∙ rw (octal_digit x lt, octal_value x lt, lt_true (8 * n + x) 256 small) refl
+next_three quote held n x lt small = next_open quote held (S.TwoOctal n) (48 + x) (no_line x) ∙ rw (octal_digit x lt, octal_value x lt, lt_holds (8 * n + x) 256 small) refl
 
 behind_one : (s t : State) (b : ℕ) (w : Text) → next_state s b ≡ Some t → state_behind (Some s) (b ∷ w) ≡ state_behind (Some t) w
 unfolding state_behind
@@ -245,9 +243,6 @@ suffix_word N.UInt = All-cons (λ b. in_word b ≡ true) 117 [] refl (λ k d lt.
 suffix_word N.Long = All-cons (λ b. in_word b ≡ true) 108 [] refl (λ k d lt. absurd (omega arith))
 suffix_word N.ULong = All-cons (λ b. in_word b ≡ true) 117 (108 ∷ []) refl (All-cons (λ b. in_word b ≡ true) 108 [] refl (λ k d lt. absurd (omega arith)))
 
-le_false : (m n : ℕ) → n < m → nat_le m n ≡ false
-le_false m n h = grind (arith, nat_tests)
-
 not_empty : (n : ℕ) → 0 < n → nat_eq n 0 ≡ false
 not_empty n h = grind (arith, nat_tests)
 
@@ -274,7 +269,7 @@ decimal_digits ds kind n all some value l =
     let g : drop (length ds) (ds ++ kind_suffix kind) ≡ kind_suffix kind = drop_at ds (kind_suffix kind) _ refl in
     rw (e, f, g) (whole (value_of 10 ds) value) where
       whole : (v : ℕ) → v ≡ n → cond (nat_le (2 ^ 64) v) (Fault 3) (cond (nat_eq (length ds) 0) (Fault 5) (with_suffix 10 v (suffix_of (kind_suffix kind)))) ≡ Token (Number kind (pos n))
-      whole v e = rw (e, le_false (2 ^ 64) n (value_fits kind n l.1), not_empty (length ds) some) (suffix_kind kind n l)
+      whole v e = rw (e, le_fails (2 ^ 64) n (value_fits kind n l.1), not_empty (length ds) some) (suffix_kind kind n l)
 
 base_ten : (c : ℕ) (w : Text) → 48 < c → base_of (c ∷ w) ≡ 10
 base_ten c [] lt = rw (ne_eqb c 48 (λ e. omega arith)) refl

@@ -1,5 +1,6 @@
 -- The parts of a code type.
-use Rattle.std.proofs.Common.{◌≡◌, suc, Bool, true, false, ◌&&◌, List, [], ◌∷◌, length, Some, refl, ap, ◌∙◌, Vec, Box, Global, rules}
+use Rattle.std.proofs.Common.{◌≡◌, suc, false, ◌&&◌, List, [], ◌∷◌, length, Some, refl, ap, ◌∙◌, Vec, Box, Global, rules}
+use Rattle.cpc_base.proofs.Truth.{and_with_false}
 use Rattle.cpc_tree.specs.Erase.{Names, type_of, types_of}
 use Rattle.cpc_types.specs.Listed.{listed_of}
 use Rattle.cpc_tree.specs.declared.program.CType.{CType, Row_of-CType, end_of-CType, more_of-CType}
@@ -26,10 +27,6 @@ pub code_same : (r : Ty) (ps : Tys) (b q : Ty) (qs : Tys) → Some (q, qs) ≡ c
 code_same r ps (TyCode u us) q qs e = let g : (u, us) ≡ (q, qs) = cc in ap (λ (x : Ty × Tys). T.same_type r x.0 && T.same_types ps x.1) g
 code_same r ps b q qs e = cc
 
-and_false : (b : Bool) → (b && false) ≡ false
-and_false true = refl
-and_false false = refl
-
 -- rows of two lengths differ
 pub lengths_differ : (names : Names) (xs ys : List CType) → (length xs ≡ length ys → ⊥) → T.same_types (listed_of names xs) (listed_of names ys) ≡ false
 lengths_differ names [] [] f = absurd (f refl)
@@ -37,4 +34,4 @@ lengths_differ names [] (y ∷ ys) f = refl
 lengths_differ names (x ∷ xs) [] f = refl
 lengths_differ names (x ∷ xs) (y ∷ ys) f =
     let h : T.same_types (listed_of names xs) (listed_of names ys) ≡ false = lengths_differ names xs ys (λ e. f (ap suc e)) in
-    rw h (and_false (T.same_type (type_of names x) (type_of names y)))
+    rw h (and_with_false (T.same_type (type_of names x) (type_of names y)))

@@ -5,6 +5,7 @@ use Rattle.std.proofs.lemmas.List.{take-append-le, get_or_push, get_or_append_le
 use Rattle.std.proofs.lemmas.Option.{slice_get_within}
 use Rattle.std.proofs.Math.Seq.{take-append_seam, drop-cons}
 use Rattle.cpc_base.specs.declared.names.Name.{Name}
+use Rattle.cpc_base.proofs.Truth.{and_with_true, and_with_false}
 use Rattle.cpc_tree.specs.Erase.{Names, type_of, item_of, field_of}
 use Rattle.cpc_tree.specs.Syntax.{Ty, TyStruct, TyArray, Variable, Program}
 use Rattle.cpc_tree.specs.Typing as T
@@ -31,14 +32,6 @@ and_same : (a : Bool) → (a && a) ≡ a
 and_same true = refl
 and_same false = refl
 
-and_true : (a : Bool) → (a && true) ≡ a
-and_true true = refl
-and_true false = refl
-
-and_false : (a : Bool) → (a && false) ≡ false
-and_false true = refl
-and_false false = refl
-
 all_append : (xs ys : List Ty) → C.all_integers (xs ++ ys) ≡ (C.all_integers xs && C.all_integers ys)
 all_append [] ys = refl
 all_append (x ∷ xs) ys = ap (λ b. C.is_integer x && b) (all_append xs ys) ∙ grouped (C.is_integer x) (C.all_integers xs) (C.all_integers ys) where
@@ -47,7 +40,7 @@ all_append (x ∷ xs) ys = ap (λ b. C.is_integer x && b) (all_append xs ys) ∙
   grouped false b c = refl
 
 all_times : (n : ℕ) (xs : List Ty) → C.all_integers (T.times (suc n) xs) ≡ C.all_integers xs
-all_times zero xs = all_append xs [] ∙ and_true (C.all_integers xs)
+all_times zero xs = all_append xs [] ∙ and_with_true (C.all_integers xs)
 all_times (suc n) xs = all_append xs (T.times (suc n) xs) ∙ ap (λ b. C.all_integers xs && b) (all_times n xs) ∙ and_same (C.all_integers xs)
 
 elements_are : (o : T.Cells) (n : ℕ) → C.are_integers (o >>= (λ (xs : List Ty). Some (T.times (suc n) xs))) ≡ C.are_integers o
@@ -71,7 +64,7 @@ empty_integers p t = no_elements (T.cells p t)
 
 both_integers : (a b : T.Cells) → C.are_integers (T.both a b) ≡ (C.are_integers a && C.are_integers b)
 both_integers None b = refl
-both_integers (Some xs) None = sym (and_false (C.all_integers xs))
+both_integers (Some xs) None = sym (and_with_false (C.all_integers xs))
 both_integers (Some xs) (Some ys) = all_append xs ys
 
 fields_next : (p : Program) (f : Variable) (fs : List Variable) → have_integers p (f ∷ fs) ≡ (C.are_integers (T.cells p f.type) && have_integers p fs)

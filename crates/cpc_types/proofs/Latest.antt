@@ -1,19 +1,15 @@
 -- The last item that declares a name.
-use Rattle.std.proofs.Common.{◌≡◌, ℕ, zero, suc, ◌<◌, ◌≤◌, inl, inr, Bool, true, false, List, [], ◌∷◌, ◌++◌, length, map, take, reverse, Option, Some, None, refl, ap, sym, ◌∙◌, subst, arith, add-one}
+use Rattle.std.proofs.Common.{◌≡◌, ℕ, zero, suc, ◌≤◌, Bool, true, false, List, [], ◌∷◌, ◌++◌, length, map, take, reverse, Option, Some, None, refl, ap, sym, ◌∙◌, subst, arith, add-one}
 use Rattle.std.specs.Prelude.{slice_get}
 use Rattle.std.proofs.lemmas.List.{reverse-append, length-reverse, length-take-le, take-map, length-map, map-append}
-use Rattle.std.proofs.lemmas.Option.{slice_get_cases}
 use Rattle.cpc_base.specs.declared.names.Name.{Name}
+use Rattle.cpc_base.proofs.Lists.{found_within}
 use Rattle.cpc_types.specs.Indexed.{is_name, latest, last_below}
 use Rattle.cpc_types.proofs.Indexes.{one_more}
 
 pub map_reverse : {A B : Type 0} (f : A → B) (xs : List A) → map f (reverse xs) ≡ reverse (map f xs)
 map_reverse f [] = refl
 map_reverse f (x ∷ xs) = ap (map f) (reverse-append (x ∷ []) xs) ∙ map-append f (reverse xs) (x ∷ []) ∙ ap (λ ys. ys ++ f x ∷ []) (map_reverse f xs) ∙ sym (reverse-append (f x ∷ []) (map f xs))
-
--- an element that is there
-pub there : {A : Type 0} (xs : List A) (n : ℕ) → n < length xs → (x : A) × (slice_get xs n ≡ Some x)
-there xs n h = elim ((slice_get_cases xs n).1) [ inl e ↦ (e.0, e.2) | inr e ↦ let g : length xs ≤ n = e.0 in absurd (omega arith) ]
 
 next_more : {A : Type 0} (xs : List A) (n : ℕ) (x : A) → slice_get xs n ≡ Some x → reverse (take (suc n) xs) ≡ x ∷ reverse (take n xs)
 next_more {A = A} xs n x e = let P : ℕ → Type 0 = λ m. reverse (take m xs) ≡ x ∷ reverse (take n xs) in subst P (add-one n) (one_more xs n x e)
@@ -51,7 +47,7 @@ module _ (A X : Type 0) (key : A → Option Name) (f : List A → X) (x : ℕ) (
   found_of : (xs : List A) (n j : ℕ) → n ≤ length xs → latest x (map key (reverse (take n xs))) ≡ Some j → Found xs n j
   found_of xs zero j h e = cc
   found_of xs (suc n) j h e =
-      let r = there xs n (omega arith) in
+      let r = found_within xs n (omega arith) in
       found_more xs n j r.0 (is_name x (key r.0)) (omega arith) r.1 refl (found_of xs n j (omega arith)) (sym (ap (λ ys. latest x (map key ys)) (next_more xs n r.0 r.1)) ∙ e)
 
   keys_of : (xs : List A) (n : ℕ) → last_below n (map key xs) x ≡ latest x (map key (reverse (take n xs)))

@@ -1,5 +1,6 @@
 -- What values may be written to a type, by its parts.
 use Rattle.std.proofs.Common.{◌≡◌, Bool, true, false, ◌&&◌, ◌||◌, Some, None, is_some, refl, sym}
+use Rattle.cpc_base.proofs.Truth.{or_with_true}
 use Rattle.cpc_num.specs.declared.kinds.Kind.{Kind}
 use Rattle.cpc_tree.specs.Syntax.{Ty, TyVoid, TyInt, TyCondvar, TyPointer, TyCode, Tys}
 use Rattle.cpc_tree.specs.Typing as T
@@ -20,17 +21,13 @@ null_alone : (c : Bool) → (false || (c && true)) ≡ c
 null_alone true = refl
 null_alone false = refl
 
-always : (c : Bool) → (c || true) ≡ true
-always true = refl
-always false = refl
-
 pub integer_takes : (j : Kind) (null : Bool) (u : Ty) → R.takes_value (TyInt j) null u ≡ is_some (T.integer u)
 integer_takes j null (TyInt k) = refl
 integer_takes j null u = or_false null
 
 pointers : (t u : Ty) (null : Bool) → R.takes_value (TyPointer t) null (TyPointer u) ≡ (null || ((is_void t || is_void u) || T.same_type t u))
-pointers TyVoid u null = sym (always null)
-pointers t TyVoid null = sym (always null)
+pointers TyVoid u null = sym (or_with_true null)
+pointers t TyVoid null = sym (or_with_true null)
 pointers t u null = either (T.same_type t u) null
 
 pub pointer_takes : (t b u : Ty) (null : Bool) → Some u ≡ T.target b → R.takes_value (TyPointer t) null b ≡ (null || ((is_void t || is_void u) || T.same_type t u))

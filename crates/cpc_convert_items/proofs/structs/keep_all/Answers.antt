@@ -1,10 +1,11 @@
 use Rattle.std.proofs.Common.{◌∙◌, ◌++◌, get_or, map, All, subst, sym, ap}
 use Rattle.std.proofs.lemmas.List.{append-nil, take_all}
 use Rattle.std.proofs.lemmas.List.Elements.{All-get_or}
+use Rattle.cpc_base.proofs.Lists.{get_or_within}
 use Rattle.cpc_tree.specs.Erase.{field_of}
 use Rattle.cpc_convert_event.specs.Routines.{local_of, locals_of}
 use Rattle.cpc_convert_lines.specs.Around.{IsVariable}
-use Rattle.cpc_convert_items.proofs.Growing.{more, any_there}
+use Rattle.cpc_convert_items.proofs.Growing.{more}
 use Rattle.cpc_convert_items.proofs.Standing.{kept_within}
 use Rattle.cpc_convert_items.proofs.structs.keep_all.Goals as goal
 
@@ -18,7 +19,7 @@ loop-number-preserved c = λ source from to p r s node.
     let x = get_or items i 0 in
     let within = subst (All (IsVariable c.args.around)) (sym (c.closure-number-items.ensures source from to p r s node)) (kept_within source from to p r c.args.around s c.args.leader) in
     let one = All-get_or (IsVariable c.args.around) items i 0 c.loop-number-test.true within in
-    more (local_of r) _ _ _ items i x c.loop-number-test.true (any_there items i 0 x c.loop-number-test.true) (c.loop-number.invariant source from to p r s node) (c.in_ok-keep_one.ensures source from to p r s one)
+    more (local_of r) _ _ _ items i x c.loop-number-test.true (get_or_within items i 0 x c.loop-number-test.true) (c.loop-number.invariant source from to p r s node) (c.in_ok-keep_one.ensures source from to p r s one)
 
 pub returns : goal.returns
 returns c = λ source from to p r s node.

@@ -1,5 +1,6 @@
 use Rattle.std.proofs.Common.{◌≡◌, ◌<◌, ◌∙◌, sym, ap, length, arith}
 use Rattle.cpc_base.specs.Bytes.{Text}
+use Rattle.cpc_base.proofs.Lists.{found_within}
 use Rattle.cpc_tree.specs.Erase.{expr_of}
 use Rattle.cpc_tree.specs.Syntax as S
 use Rattle.cpc_convert_image_laws.specs.Images as I
@@ -10,7 +11,6 @@ use Rattle.cpc_convert_names.specs.Called.{variables_in}
 use Rattle.cpc_convert_standing.specs.Known.{plain_seen}
 use Rattle.cpc_convert_lines.specs.Around.{reads}
 use Rattle.cpc_convert_lines.specs.Written.{written, puts}
-use Rattle.cpc_convert_lines.proofs.Standing.{there}
 use Rattle.cpc_convert_nodes.proofs.Arguments.{given_at}
 use Rattle.cpc_convert_nodes.proofs.Read.{assign_put}
 use Rattle.cpc_convert_nodes.proofs.waiting.give_argument.Goals as goal
@@ -24,7 +24,7 @@ returns c = λ source from to p r st called same.
     let names = reads from r c.args.around c.args.scope in
     let long : length c.variables.result.now ≡ length vs = ap length c.variables.ensures in
     let inside : c.args.number < length vs = omega (arith, long) in
-    let w = there vs c.args.number inside in
+    let w = found_within vs c.args.number inside in
     let frame = c.in_ok-frame.ensures to ∙ ap (λ (x : Text). frame_through x tag) st.book.own.given in
     let local = c.local.ensures to w.0 called w.1 in
     let target = c.in_ok-target.ensures to ∙ (ap (λ (x : S.Expr). S.EArrow x (to c.local.result)) frame ∙ ap (λ (x : Text). S.EArrow (frame_through to_name tag) x) local) in

@@ -1,8 +1,8 @@
 use Rattle.std.proofs.Common.{◌+◌, drop, map, refl, sym, ap, ◌∙◌}
 use Rattle.std.proofs.lemmas.List.{drop_all}
+use Rattle.cpc_base.proofs.Lists.{drop_to_item}
 use Rattle.cpc_tree.specs.Erase.{function_of, item_of}
 use Rattle.cpc_tree.specs.Typing.{function_named}
-use Rattle.cpc_sections.proofs.Writing.{next_element}
 use Rattle.cpc_native_sections.proofs.Finding.{is_found, goes_past}
 use Rattle.cpc_native_sections.proofs.copies.defined.Goals as goal
 
@@ -16,7 +16,7 @@ returns-then-is_some c = λ names apart.
     let x = names c.args.name in
     let rest = map (item_of names) (drop (i + 1) xs) in
     sym (c.loop-item.invariant names apart
-    ∙ ap (λ ys. function_named (map (item_of names) ys) x) (next_element xs i c.item-item.result c.loop-item-test.true c.item-item.is)
+    ∙ ap (λ ys. function_named (map (item_of names) ys) x) (drop_to_item xs i c.item-item.result c.loop-item-test.true c.item-item.is)
     ∙ c.defines-found.ensures names apart rest
     ∙ is_found (λ f. function_of names f.now) c.defines-found.result rest x c.if-is_some.ensures)
 
@@ -27,7 +27,7 @@ loop-item-preserved c = λ names apart.
     let x = names c.args.name in
     let rest = map (item_of names) (drop (i + 1) xs) in
     c.loop-item.invariant names apart
-    ∙ ap (λ ys. function_named (map (item_of names) ys) x) (next_element xs i c.item-item.result c.loop-item-test.true c.item-item.is)
+    ∙ ap (λ ys. function_named (map (item_of names) ys) x) (drop_to_item xs i c.item-item.result c.loop-item-test.true c.item-item.is)
     ∙ c.defines-found.ensures names apart rest
     ∙ goes_past (λ f. function_of names f.now) c.defines-found.result rest x c.if-is_some.ensures
 

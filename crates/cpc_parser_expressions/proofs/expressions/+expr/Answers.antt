@@ -5,7 +5,7 @@ use Rattle.cpc_parser_types.proofs.SameMarks.{unnamed}
 use Rattle.cpc_parser_types.specs.Views.{placed, tiered_of, operator_of}
 use Rattle.cpc_parser_types.proofs.Giving.{err_through, deep_here, fault_here}
 use Rattle.cpc_parser_expressions.proofs.Follow.{rank_start, whole_plain, cast_not, cast_deep, cast_so, unary_none, unary_plain, unary_size, unary_deep, args_none, args_deep, listed_is, row_links, atom_lit, atom_deep}
-use Rattle.cpc_parser_expressions.proofs.Stages.{on_read, counted, tier_low, applied_deep, typed_left, part_deep, extra_least, part_least, map_push, round_go}
+use Rattle.cpc_parser_expressions.proofs.Stages.{on_read, counted, tier_low, applied_deep, typed_left, part_deep, extra_least, part_least, round_go}
 use Rattle.cpc_tree.specs.Located.{LChoose, LCast, LUnary, LIndex}
 use Rattle.cpc_tree.specs.Locate.{located_expr}
 use Rattle.cpc_tree.specs.declared.token.Punctuator.TheVariants as P
@@ -16,6 +16,7 @@ use Rattle.cpc_parser_expressions.specs.ShapeViews.{shape_of, apart_of, prefix_o
 use Rattle.cpc_parser_expressions.proofs.Steps.{whole_start, tier_start, tier_next, tier_stop, gives_as, postfix_start, postfix_next, postfix_stop}
 use Rattle.cpc_parser_expressions.proofs.Passages.{arms_deep, arms_go, second_go, cast_go, cast_operand, operand_go, call_go, element_go, row_end, args_start, args_next, args_stop}
 use Rattle.std.specs.Option.{option_map}
+use Rattle.cpc_base.proofs.Lists.{map_of_push}
 use Rattle.cpc_tree.specs.Tokens.{placed_of}
 use Rattle.cpc_tree.specs.Erase.{type_of}
 use Rattle.cpc_parser_types.specs.TypeReaders.{is_unbracket}
@@ -319,7 +320,7 @@ arguments-returns-in_err-next-clause-gives t c =
 pub arguments-more-preserved : goal.arguments-more-preserved
 arguments-more-preserved t c = (
   λ names. on_read _ _ _ _ (c.more.invariant.0 names ∙ args_next c.args.depth (map (located_expr names) c.more.all.items) c.more.nest c.in_ok-behind.field-0-0 (placed names c.in_ok-behind.behind.now) (placed names c.more.rest.now) c.more.invariant.1 c.more.invariant.2 (ap (placed names) c.in_ok-behind.ensures.first)) (c.in_ok-next.ensures.gives names)
-      ∙ (ap (λ l. links (row_links c.args.depth) l (max c.more.nest c.in_ok-next.other) (placed names c.in_ok-next.behind.now) >>= row_end) (sym (ap (map (located_expr names)) c.in_ok-push-2.ensures.items ∙ map_push (located_expr names) c.more.all.items c.in_ok-next.next))
+      ∙ (ap (λ l. links (row_links c.args.depth) l (max c.more.nest c.in_ok-next.other) (placed names c.in_ok-next.behind.now) >>= row_end) (sym (ap (map (located_expr names)) c.in_ok-push-2.ensures.items ∙ map_of_push (located_expr names) c.more.all.items c.in_ok-next.next))
       ∙ ap (λ k. links (row_links c.args.depth) (map (located_expr names) c.push-in-more.new.self.items) k (placed names c.in_ok-next.behind.now) >>= row_end) (sym c.deeper-nest.ensures)),
   omega (arith, c.deeper-nest.ensures, c.more.invariant.1, c.in_ok-next.ensures.nest),
   omega (arith, c.deeper-nest.ensures, c.more.invariant.2, c.in_ok-next.ensures.nest),

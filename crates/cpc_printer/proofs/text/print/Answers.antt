@@ -1,11 +1,11 @@
 use Rattle.std.proofs.Common.{◌≡◌, ap, ◌∙◌, not, IfOk, List, All, subst}
 use Rattle.cpc_base.specs.declared.stop.Dialect.{Dialect}
+use Rattle.cpc_base.proofs.Truth.{not_of_not}
 use Rattle.cpc_tree.specs.Erase.{program_of, in_table}
 use Rattle.cpc_tree.specs.Tokens.{Lexeme}
 use Rattle.cpc_tree.specs.Spelling.{IsSpellable, CutsTo}
 use Rattle.cpc_printer_layout.specs.Sheets.{row_of}
 use Rattle.cpc_printer.specs.Style.{is_tight_for, printed_row}
-use Rattle.cpc_printer.proofs.NestRows.{not_not}
 use Rattle.cpc_printer.proofs.Back.{answer_back}
 use Rattle.cpc_printer.proofs.text.print.Goals as goal
 
@@ -13,7 +13,7 @@ pub returns : goal.returns
 returns c =
     let program = program_of c.args.program.now in
     let names = in_table c.args.program.now.names in
-    let style : c.new-sheet.result.is_tight ≡ is_tight_for program = c.new-sheet.ensures.style ∙ (ap not c.fits.ensures ∙ not_not _) in
+    let style : c.new-sheet.result.is_tight ≡ is_tight_for program = c.new-sheet.ensures.style ∙ (ap not c.fits.ensures ∙ not_of_not _) in
     let none = c.new-sheet.ensures.row names in
     let put = c.in_ok-items.ensures.row names in
     let all : row_of names c.items.new.out ≡ printed_row program = rw (none, style, c.deref.ensures.value) at put in

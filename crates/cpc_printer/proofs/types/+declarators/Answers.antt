@@ -1,6 +1,7 @@
 use Rattle.std.proofs.Common.{arith, append-nil}
 use Rattle.std.proofs.lemmas.Grind.{common_steps}
-use Rattle.cpc_printer.proofs.TypeRows.{param_array, param_other, list_none, behind_code, on_ok, no_items}
+use Rattle.cpc_base.proofs.Lists.{no_length}
+use Rattle.cpc_printer.proofs.TypeRows.{param_array, param_other, list_none, behind_code, on_ok}
 use Rattle.cpc_printer.specs.Types.{called_by}
 use Rattle.cpc_printer.proofs.types.+declarators.Goals as goal
 
@@ -9,7 +10,7 @@ parameter-returns-in-Array-clause-row t c = λ names. simp (c.in-Array.is, param
 
 pub parameter_types-returns-in-None-clause-row : goal.parameter_types-returns-in-None-clause-row
 parameter_types-returns-in-None-clause-row t c =
-    let e = no_items c.args.list.now c.in-None.ensures.cases in
+    let e = no_length c.args.list.now c.in-None.ensures.cases in
     simp (e, list_none) c.word.ensures.row
 
 pub behind-returns-in_ok-parameter_types-in-Code-clause-row : goal.behind-returns-in_ok-parameter_types-in-Code-clause-row

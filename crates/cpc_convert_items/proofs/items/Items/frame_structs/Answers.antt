@@ -1,11 +1,12 @@
 use Rattle.std.proofs.Common.{◌∙◌, [], ◌∷◌, ◌++◌, map, get_or, append_assoc, All, subst, sym, ap}
 use Rattle.std.proofs.lemmas.List.{append-nil, take_all}
 use Rattle.std.proofs.lemmas.List.Elements.{All-get_or}
+use Rattle.cpc_base.proofs.Lists.{get_or_within}
 use Rattle.cpc_tree.specs.Typing.{is_scalar}
 use Rattle.cpc_convert_event.specs.Frames.{value_struct_if, start_struct, leader_struct}
 use Rattle.cpc_convert_lines.specs.Around.{IsNode}
 use Rattle.cpc_convert_items.specs.Listed.{listed}
-use Rattle.cpc_convert_items.proofs.Growing.{more, any_there}
+use Rattle.cpc_convert_items.proofs.Growing.{more}
 use Rattle.cpc_convert_items.proofs.items.Items.frame_structs.Goals as goal
 
 pub loop-leader-init : goal.loop-leader-init
@@ -18,7 +19,7 @@ loop-leader-preserved c = λ source from to p r s.
     let led = subst (All (IsNode c.args.around)) (sym c.deref-leader-items.ensures.value) s.routine.led in
     let x = get_or items i 0 in
     let node = All-get_or (IsNode c.args.around) items i 0 c.loop-leader-test.true led in
-    more (leader_struct p r) _ _ _ items i x c.loop-leader-test.true (any_there items i 0 x c.loop-leader-test.true) (c.loop-leader.invariant source from to p r s) (c.in_ok-leader_struct.ensures source from to p r s node)
+    more (leader_struct p r) _ _ _ items i x c.loop-leader-test.true (get_or_within items i 0 x c.loop-leader-test.true) (c.loop-leader.invariant source from to p r s) (c.in_ok-leader_struct.ensures source from to p r s node)
 
 pub returns : goal.returns
 returns c = λ source from to p r s.

@@ -5,13 +5,14 @@ use Rattle.cpc_forms.specs.Flow.{Start}
 use Rattle.cpc_tree.specs.Syntax.{Item, PrototypeItem}
 use Rattle.cpc_tree.specs.declared.program.Mode.TheVariants.{Native}
 use Rattle.cpc_base.specs.Bytes.{Text}
+use Rattle.cpc_base.proofs.Lists.{get_or_within}
 use Rattle.cpc_convert.specs.Converted.{prototype}
 use Rattle.cpc_convert_chain_laws.specs.Driver.{any_pointer}
 use Rattle.cpc_convert_event.specs.Names.{start_name, pointer_name}
 use Rattle.cpc_convert_event.specs.Pieces.{spawner_function, piece_function, leader_function, parameter_of, called_so}
 use Rattle.cpc_convert_lines.specs.Around.{IsNode}
 use Rattle.cpc_convert_items.specs.Listed.{listed}
-use Rattle.cpc_convert_items.proofs.Growing.{more, mapped_twice, any_there}
+use Rattle.cpc_convert_items.proofs.Growing.{more, mapped_twice}
 use Rattle.cpc_convert_items.proofs.Standing.{called_is}
 use Rattle.cpc_convert_items.proofs.items.Items.prototypes.Goals as goal
 
@@ -30,7 +31,7 @@ loop-leader-preserved c = λ source from to p r s.
     let x = get_or items i 0 in
     let node = All-get_or (IsNode c.args.around) items i 0 c.loop-leader-test.true led in
     let named = c.piece.ensures source from to p r s node in
-    more (λ n. prototype (leader_function p r n)) _ _ _ items i x c.loop-leader-test.true (any_there items i 0 x c.loop-leader-test.true) (c.loop-leader.invariant source from to p r s)
+    more (λ n. prototype (leader_function p r n)) _ _ _ items i x c.loop-leader-test.true (get_or_within items i 0 x c.loop-leader-test.true) (c.loop-leader.invariant source from to p r s)
     (c.in_ok-piece_prototype-2.ensures source to s.book ∙ ap (λ u. listed to c.loop-leader.self ++ piece_of u ∷ []) named)
 
 pub returns : goal.returns

@@ -1,12 +1,13 @@
 use Rattle.std.proofs.Common.{◌≡◌, ◌+◌, ◌++◌, ◌∷◌, [], length, ap, sym, ◌∙◌, option_map, arith}
 use Rattle.std.proofs.lemmas.Result.{on_ok_weaker, IfOk-weaker}
+use Rattle.cpc_base.proofs.Lists.{appended_empty}
 use Rattle.cpc_tree.specs.Syntax as S
 use Rattle.cpc_tree.specs.Erase.{expr_of, stmt_of, list_of, maybe_at}
 use Rattle.cpc_forms.specs.Order.{points_of, points_arm}
 use Rattle.cpc_forms.specs.Table.{labels_of, labels_in, labels_arm, test_of, body_of}
 use Rattle.cpc_graph.specs.Ends.{ends_of, ends_in, ends_arm, header_ends, step_ends}
 use Rattle.cpc_graph.specs.Labels.{labels_seen}
-use Rattle.cpc_graph.proofs.Marking.{unnamed, on_any, nil_right, place_within, put_place, three_added, labels_back, block_row, none_row, some_points, points_more, ends_more, labels_more, for_row, for_count}
+use Rattle.cpc_graph.proofs.Marking.{unnamed, on_any, place_within, put_place, three_added, labels_back, block_row, none_row, some_points, points_more, ends_more, labels_more, for_row, for_count}
 use Rattle.cpc_graph.proofs.marks.Marks.+marked.Goals as goal
 
 -- ---- a number that is noted before
@@ -68,11 +69,11 @@ block-returns-then-is_none-clause-number t c = IfOk-weaker c.behind.result _ _
 
 pub block-returns-then-is_none-clause-ends : goal.block-returns-then-is_none-clause-ends
 block-returns-then-is_none-clause-ends t c = on_any c.behind.result (λ names.
-    nil_right c.args.self.now.ends.items ∙ ap (λ ss. c.args.self.now.ends.items ++ ends_of (S.Block ss) c.args.n) (sym (none_row names c.args.row.now (sym c.is_none.ensures ∙ c.if-is_none.true))))
+    appended_empty c.args.self.now.ends.items ∙ ap (λ ss. c.args.self.now.ends.items ++ ends_of (S.Block ss) c.args.n) (sym (none_row names c.args.row.now (sym c.is_none.ensures ∙ c.if-is_none.true))))
 
 pub block-returns-then-is_none-clause-labels : goal.block-returns-then-is_none-clause-labels
 block-returns-then-is_none-clause-labels t c = on_any c.behind.result (λ names.
-    nil_right (labels_seen names c.args.self.now.labels.items)
+    appended_empty (labels_seen names c.args.self.now.labels.items)
     ∙ ap (λ ss. labels_seen names c.args.self.now.labels.items ++ labels_of (S.Block ss) c.args.n) (sym (none_row names c.args.row.now (sym c.is_none.ensures ∙ c.if-is_none.true))))
 
 pub block-returns-else-is_none-clause-number : goal.block-returns-else-is_none-clause-number
