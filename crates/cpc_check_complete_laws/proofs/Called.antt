@@ -12,7 +12,7 @@ use Rattle.cpc_check_rules.specs.declared.rule.Rule.TheVariants.{Disagree, Wrong
 use Rattle.cpc_check_rules.specs.Rule.{at_if}
 use Rattle.cpc_check_rules.specs.Scopes.{Scope, meant, takes_typed}
 use Rattle.cpc_check_rules.specs.Operators.{Where, typed_at, first, name_breaks}
-use Rattle.cpc_check_rules.specs.Calls.{Wanted, Integer, Of, Callback, String, ForSection, Callee, Takes, NoCallee, points_to_integers, are_integers, all_integers, takes_section, section_callee, section_of, is_callee, count, number_breaks, is_function, is_function_name, suits, suit_breaks}
+use Rattle.cpc_check_rules.specs.Calls.{Wanted, Integer, Of, Callback, String, ForSection, Callee, Takes, NoCallee, points_to_integers, are_integers, all_integers, takes_section, section_callee, section_of, is_callee, count, number_breaks, is_function, is_function_name, suits, suit_breaks, Anything}
 use Rattle.cpc_check_rules.specs.ExprRules.{expr_breaks, arg_breaks, args_breaks}
 use Rattle.cpc_check_laws.proofs.NativeValues.{both_none}
 use Rattle.cpc_check_laws.proofs.OnePlace.{here, expr_here, exprs_here, expr_again}
@@ -137,6 +137,7 @@ module _ (w v : Where) (r : Readings) (c : Carries w v r) where
   suits_there (Callback t) e d h k = callback_there t e d h k
   suits_there String e d h k = by_false_true k
   suits_there ForSection e d h k = section_suits e k
+  suits_there Anything e d h k = k
 
   plain_carried : (t : Wanted) (e : Expr) → expr_breaks w (expr_here e) ++ suit_breaks w.scope t (expr_here e) (typed_at w (expr_here e)) ≡ []
       → expr_breaks v (expr_here (image r e)) ++ suit_breaks v.scope t (expr_here (image r e)) (typed_at v (expr_here (image r e))) ≡ []
@@ -172,6 +173,7 @@ module _ (w v : Where) (r : Readings) (c : Carries w v r) where
   arg_carried (Callback t) e h = plain_carried (Callback t) e h
   arg_carried String e h = string_carried e h
   arg_carried ForSection e h = plain_carried ForSection e h
+  arg_carried Anything e h = plain_carried Anything e h
 
   pub args_carried : (ts : List Wanted) (es : Exprs) → args_breaks w ts (exprs_here es) ≡ [] → args_breaks v ts (exprs_here (images r es)) ≡ []
   args_carried ts NoExpr h = refl

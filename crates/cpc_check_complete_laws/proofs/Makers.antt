@@ -18,7 +18,7 @@ use Rattle.cpc_check_rules.specs.declared.rule.Rule.TheVariants.{Disagree, NoPla
 use Rattle.cpc_check_rules.specs.Rule.{at_if}
 use Rattle.cpc_check_rules.specs.Scopes.{meant, measured, typed, takes_value, takes_typed}
 use Rattle.cpc_check_rules.specs.Operators.{Where, typed_at, first, is_detached, name_breaks}
-use Rattle.cpc_check_rules.specs.Calls.{Wanted, Integer, Of, Callback, String, ForSection, Takes, count, number_breaks, is_integer_used, is_function, suit_breaks}
+use Rattle.cpc_check_rules.specs.Calls.{Wanted, Integer, Of, Callback, String, ForSection, Takes, count, number_breaks, is_integer_used, is_function, suit_breaks, Anything}
 use Rattle.cpc_check_rules.specs.ExprRules.{expr_breaks, arg_breaks, args_breaks}
 use Rattle.cpc_check_rules.specs.StmtRules.{is_tested, place_breaks, target_breaks, given_breaks, to_breaks, tested_breaks, test_breaks}
 use Rattle.cpc_check_laws.proofs.NativeValues.{both_none}
@@ -195,6 +195,7 @@ module _ (v : Where) where
   arg_fine (Of t) e h = plain_arg (Of t) e h
   arg_fine (Callback t) e h = plain_arg (Callback t) e h
   arg_fine ForSection e h = plain_arg ForSection e h
+  arg_fine Anything e h = plain_arg Anything e h
   arg_fine String e h = by_false_true h.suits
 
   pub args_fine : (ts : List Wanted) (es : Exprs) → AllSuit v ts es → args_breaks v ts (exprs_here es) ≡ []

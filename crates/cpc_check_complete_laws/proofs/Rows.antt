@@ -1,5 +1,5 @@
 -- Statements that are made break no rule, and flat bodies of them.
-use Rattle.std.proofs.Common.{◌≡◌, ◌&&◌, ◌||◌, not, Bool, true, false, cond, List, [], ◌∷◌, ◌++◌, map, codes, Option, Some, None, refl, sym, ◌∙◌, ap, subst}
+use Rattle.std.proofs.Common.{◌≡◌, ◌&&◌, ◌||◌, not, Bool, true, false, cond, List, [], ◌∷◌, ◌++◌, map, codes, Option, Some, None, refl, sym, ◌∙◌, ap, subst, length}
 use Rattle.std.specs.Prelude.{option_map}
 use Rattle.cpc_base.specs.Bytes.{Text}
 use Rattle.cpc_base.specs.declared.stop.Dialect.TheVariants as D
@@ -16,7 +16,7 @@ use Rattle.cpc_check_rules.specs.declared.rule.Rule.TheVariants.{Disagree, BadRe
 use Rattle.cpc_check_rules.specs.Rule.{at_if}
 use Rattle.cpc_check_rules.specs.Scopes.{meant, takes_typed}
 use Rattle.cpc_check_rules.specs.Operators.{Where, typed_at, is_detached, is_cps, name_breaks}
-use Rattle.cpc_check_rules.specs.Calls.{Wanted, Of, Callback, ForSection, Takes, NoCallee, wanted_of, wants, gives, gives_up, is_rt, is_event, is_closed, takes_section, section_callee, detached_wants, primitive_breaks, unmeant_breaks, unmeant_callee, named_breaks, named_callee, callee, number_breaks, wanted, result, is_callee}
+use Rattle.cpc_check_rules.specs.Calls.{Wanted, Of, Callback, ForSection, Takes, NoCallee, wanted_of, wants, gives, gives_up, is_rt, is_event, is_closed, takes_section, section_callee, detached_wants, primitive_breaks, unmeant_breaks, unmeant_callee, named_breaks, named_callee, callee, number_breaks, wanted, result, is_callee, count}
 use Rattle.cpc_check_rules.specs.ExprRules.{expr_breaks, called_breaks, args_breaks}
 use Rattle.cpc_check_rules.specs.StmtRules.{fits_breaks, start_breaks, to_breaks, is_void, unfit_return, test_breaks, stmt_breaks}
 use Rattle.cpc_check_laws.proofs.NativeValues.{both_none}
@@ -113,5 +113,5 @@ module _ (v : Where) where
       let ws : List Wanted = Callback (function_type TyVoid (any_pointer ∷ TyInt Int ∷ [])) ∷ Of any_pointer ∷ ForSection ∷ map (λ t. Of t) ts in
       let suit : AllSuit v ws all = AndSuits _ _ _ _ hf (AndSuits _ _ _ _ (sets_suits v any_pointer (ENamed k) hk) (AndSuits _ _ _ _ (section_suits x ts hx s) (all_sets_suit v ts es h))) in
       called_fine None (codes "rt_detach") all RtDetach ws dialect closed e refl refl
-      (ap (λ m. map wanted_of (takes_first RtDetach) ++ detached_wants (section_callee v.scope m)) hx ∙ ap (λ b. map wanted_of (takes_first RtDetach) ++ detached_wants (cond b (Takes (map (λ t. Of t) ts) (TyInt Int)) NoCallee)) s)
+      (ap (λ m. map wanted_of (takes_first RtDetach) ++ detached_wants (length (count (exprs_here all))) (section_callee v.scope m)) hx ∙ ap (λ b. map wanted_of (takes_first RtDetach) ++ detached_wants (length (count (exprs_here all))) (cond b (Takes (map (λ t. Of t) ts) (TyInt Int)) NoCallee)) s)
       (number_fine v ws all TyVoid here suit) (args_fine v ws all suit) tt

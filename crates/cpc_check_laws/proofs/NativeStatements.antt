@@ -13,7 +13,7 @@ use Rattle.cpc_check_rules.specs.Rule.{Broken, at_if}
 use Rattle.cpc_check_rules.specs.declared.rule.Rule.TheVariants.{CpsInNative, Twice, Incomplete}
 use Rattle.cpc_check_rules.specs.Scopes.{Scope, meant, with_name, with_block, is_here, is_sized}
 use Rattle.cpc_check_rules.specs.Operators.{is_cps, first, typed_at}
-use Rattle.cpc_check_rules.specs.Calls.{Wanted, Integer, Of, Callback, String, ForSection, wanted, callee, number_breaks, result, suit_breaks, named_callee}
+use Rattle.cpc_check_rules.specs.Calls.{Wanted, Integer, Of, Callback, String, ForSection, wanted, callee, number_breaks, result, suit_breaks, named_callee, Anything}
 use Rattle.cpc_check_rules.specs.ExprRules.{expr_breaks, args_breaks, arg_breaks, called_breaks, call_breaks}
 use Rattle.cpc_check_rules.specs.StmtRules.{stmt_breaks, stmts_breaks, maybe_breaks, target_breaks, assign_breaks, to_breaks, test_breaks, maybe_test, start_breaks, return_breaks, behind, all_behind, variable}
 use Rattle.cpc_check_laws.specs.Native.{spawns_none, all_spawn_none, maybe_spawns_none}
@@ -47,6 +47,7 @@ module _ (s : Scope) (m : Mode) (r : Ty) (native : is_cps m ≡ false) where
   arg_native (Callback t) e h = plain_native (Callback t) e h
   arg_native String e h = string_native e h
   arg_native ForSection e h = plain_native ForSection e h
+  arg_native Anything e h = plain_native Anything e h
 
   args_native : (ws : List Wanted) (es : LExprs) → args_breaks (cpc s m r) ws es ≡ [] → args_breaks (event s m r) ws es ≡ []
   args_native ws NoLExpr h = refl

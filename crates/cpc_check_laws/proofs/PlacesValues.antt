@@ -17,7 +17,7 @@ use Rattle.cpc_check_rules.specs.declared.rule.Rule.{Rule}
 use Rattle.cpc_check_rules.specs.declared.rule.Rule.TheVariants.{Disagree, NoPlace, NoField, Incomplete, NotClosed, CpsAsValue, CpsInNative, RtCall, CpsForm, WrongNumber, CallInside}
 use Rattle.cpc_check_rules.specs.Scopes.{Scope, meant, typed, takes_typed}
 use Rattle.cpc_check_rules.specs.Operators.{Where, typed_at, first, is_detached, is_cps, open_name, name_breaks, no_rule, binary_breaks, is_incomplete_sum, address_breaks, field_breaks, member_breaks, pointed, arrow_breaks, used_of}
-use Rattle.cpc_check_rules.specs.Calls.{Wanted, Integer, Of, Callback, String, ForSection, Callee, Takes, NoCallee, third, section_of, wants, wanted_of, detached_wants, gives, gives_up, is_closed, is_rt, is_event, primitive_breaks, function_breaks, unmeant_callee, named_callee, code_callee, callee, no_code, pointer_breaks, unmeant_breaks, named_breaks, count, number_breaks, wanted, is_callee, is_function_name, suits, suit_breaks}
+use Rattle.cpc_check_rules.specs.Calls.{Wanted, Integer, Of, Callback, String, ForSection, Callee, Takes, NoCallee, third, section_of, wants, wanted_of, detached_wants, gives, gives_up, is_closed, is_rt, is_event, primitive_breaks, function_breaks, unmeant_callee, named_callee, code_callee, callee, no_code, pointer_breaks, unmeant_breaks, named_breaks, count, number_breaks, wanted, is_callee, is_function_name, suits, suit_breaks, Anything}
 use Rattle.cpc_check_rules.specs.ExprRules.{expr_breaks, args_breaks, arg_breaks, called_breaks, call_breaks}
 use Rattle.cpc_check_laws.specs.Rows.{rules_of}
 use Rattle.cpc_check_laws.proofs.OnePlace.{expr_here, exprs_here, expr_again}
@@ -133,6 +133,10 @@ third_same s (AndLExpr a NoLExpr) = refl
 third_same s (AndLExpr a (AndLExpr b NoLExpr)) = refl
 third_same s (AndLExpr a (AndLExpr b (AndLExpr c es))) = section_same s c
 
+count_same : (es : LExprs) → length (count es) ≡ length (count (all_moved es))
+count_same NoLExpr = refl
+count_same (AndLExpr e es) = ap suc (count_same es)
+
 wants_same : (s : Scope) (p : Primitive) (es : LExprs) → wants s p es ≡ wants s p (all_moved es)
 wants_same s Print es = refl
 wants_same s Putc es = refl
@@ -157,7 +161,7 @@ wants_same s RtReady es = refl
 wants_same s RtWait es = refl
 wants_same s RtSleep es = refl
 wants_same s RtIo es = refl
-wants_same s RtDetach es = ap (λ c. map wanted_of (takes_first RtDetach) ++ detached_wants c) (third_same s es)
+wants_same s RtDetach es = ap₂ (λ n c. map wanted_of (takes_first RtDetach) ++ detached_wants n c) (count_same es) (third_same s es)
 
 primitive_callee : (s : Scope) (o : Option Primitive) (es : LExprs) → unmeant_callee s o es ≡ unmeant_callee s o (all_moved es)
 primitive_callee s None es = refl
@@ -237,10 +241,6 @@ called_same w (LCall q f vs) a b h = pointer_same w (LCall q f vs) a b h
 
 -- ---- arguments
 
-count_same : (es : LExprs) → length (count es) ≡ length (count (all_moved es))
-count_same NoLExpr = refl
-count_same (AndLExpr e es) = ap suc (count_same es)
-
 number_at : (c : Callee) (es : LExprs) (q r : Place) → rules_of (number_breaks c es q) ≡ rules_of (number_breaks c (all_moved es) r)
 number_at NoCallee es q r = refl
 number_at (Takes ws t) es q r = same_if _ _ q r WrongNumber (ap (λ n. not (n == length ws)) (count_same es))
@@ -275,6 +275,7 @@ suits_same s (Of t) e d = takes_same t e d
 suits_same s (Callback t) e d = ap₂ (λ a b. a && b) (function_name_same s e) (takes_same t e d)
 suits_same s String e d = refl
 suits_same s ForSection e d = ap is_callee (section_same s e)
+suits_same s Anything e d = refl
 
 suit_same : (w : Where) (t : Wanted) (e : LExpr) → rules_of (suit_breaks w.scope t e (typed_at w e)) ≡ rules_of (suit_breaks w.scope t (moved e) (typed_at w (moved e)))
 suit_same w t e = go (typed_at w e) ∙ ap (λ o. rules_of (suit_breaks w.scope t (moved e) o)) (typed_same w e)
@@ -310,6 +311,7 @@ arg_same w (Of t) e a b h = plain_same w (Of t) e a b h
 arg_same w (Callback t) e a b h = plain_same w (Callback t) e a b h
 arg_same w String e a b h = string_same w e a b h
 arg_same w ForSection e a b h = plain_same w ForSection e a b h
+arg_same w Anything e a b h = plain_same w Anything e a b h
 
 -- ---- expressions
 

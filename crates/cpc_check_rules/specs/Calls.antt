@@ -1,5 +1,5 @@
 -- What calls break: of a function, of a primitive, or by a pointer.
-use Rattle.std.specs.Prelude.{◌==◌, Bool, true, false, ◌&&◌, not, if◌then◌else◌, List, [], ◌∷◌, ◌++◌, length, map, Option, Some, None}
+use Rattle.std.specs.Prelude.{ℕ, ◌==◌, ◌-◌, max, Bool, true, false, ◌&&◌, not, if◌then◌else◌, List, [], ◌∷◌, ◌++◌, length, map, replicate, Option, Some, None}
 use Rattle.cpc_base.specs.declared.stop.Place.{Place}
 use Rattle.cpc_base.specs.declared.stop.Dialect.{Dialect}
 use Rattle.cpc_base.specs.declared.stop.Dialect.TheVariants as D
@@ -15,14 +15,15 @@ use Rattle.cpc_check_rules.specs.Rule.{Broken, at_if}
 use Rattle.cpc_check_rules.specs.Scopes.{Scope, meant, takes_typed}
 use Rattle.cpc_check_rules.specs.Operators.{Where, typed_at, used_of, first, is_detached, is_cps}
 
--- What an argument must be: any integer, assignable to a type, the name of a function of a type, a string, or the name
--- of the function of a section.
+-- What an argument must be: any integer, assignable to a type, the name of a function of a type, a string, the name
+-- of the function of a section, or anything.
 pub data Wanted : Type 0 where
   Integer : Wanted
   Of : Ty → Wanted
   Callback : Ty → Wanted
   String : Wanted
   ForSection : Wanted
+  Anything : Wanted
 
 abbrev pub wanted_of : Taken → Wanted
 wanted_of AnyInteger = Integer
@@ -66,10 +67,16 @@ abbrev pub spawn_callee : Meant → Callee
 spawn_callee (AFunction Cps r ps) = Takes (map (λ t. Of t) ps) r
 spawn_callee m = NoCallee
 
--- the arguments of a primitive; those of `rt_detach` go on with the ones of the section's function
-abbrev pub detached_wants : Callee → List Wanted
-detached_wants (Takes wants result) = ForSection ∷ wants
-detached_wants NoCallee = ForSection ∷ []
+-- the number of arguments
+abbrev pub count : LExprs → List LExpr
+count NoLExpr = []
+count (AndLExpr e es) = e ∷ count es
+
+-- The arguments of a primitive. Those of `rt_detach` go on with the ones of the section's function; where none is named,
+-- with as many as are given, and one at least.
+abbrev pub detached_wants : (given : ℕ) → Callee → List Wanted
+detached_wants given (Takes wants result) = ForSection ∷ wants
+detached_wants given NoCallee = ForSection ∷ replicate (max (given - 3) 1) Anything
 
 abbrev pub third : LExprs → Option LExpr
 third (AndLExpr a (AndLExpr b (AndLExpr c es))) = Some c
@@ -81,7 +88,7 @@ section_of s o = NoCallee
 
 abbrev pub wants : Scope → Primitive → LExprs → List Wanted
 wants s Puts es = String ∷ []
-wants s RtDetach es = map wanted_of (takes_first RtDetach) ++ detached_wants (section_of s (third es))
+wants s RtDetach es = map wanted_of (takes_first RtDetach) ++ detached_wants (length (count es)) (section_of s (third es))
 wants s primitive es = map wanted_of (takes_first primitive)
 
 abbrev pub gives : Primitive → Ty
@@ -176,11 +183,7 @@ named_breaks w f q parts (AFunction mode r ps) o = function_breaks w q mode
 named_breaks w f q parts NotMeant o = unmeant_breaks w q o
 named_breaks w f q parts m o = pointer_breaks w f parts
 
--- the number of arguments
-abbrev pub count : LExprs → List LExpr
-count NoLExpr = []
-count (AndLExpr e es) = e ∷ count es
-
+-- more or fewer arguments than are wanted
 abbrev pub number_breaks : Callee → LExprs → Place → Broken
 number_breaks NoCallee es q = []
 number_breaks (Takes wants result) es q = at_if (not (length (count es) == length wants)) q WrongNumber
@@ -212,6 +215,7 @@ suits s (Of t) e d = takes_typed t (bare_expr e) d
 suits s (Callback t) e d = is_function_name s e && takes_typed t (bare_expr e) d
 suits s String e d = false
 suits s ForSection e d = is_callee (section_of s (Some e))
+suits s Anything e d = true
 
 abbrev pub suit_breaks : Scope → Wanted → LExpr → Option Typed → Broken
 suit_breaks s wanted e None = []

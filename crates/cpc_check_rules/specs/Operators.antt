@@ -8,7 +8,7 @@ use Rattle.cpc_num.specs.declared.kinds.Op.{Op}
 use Rattle.cpc_num.specs.declared.kinds.Op.TheVariants.{Add, Sub}
 use Rattle.cpc_tree.specs.declared.program.Mode.{Mode}
 use Rattle.cpc_tree.specs.declared.program.Mode.TheVariants.{Extern, Native, Cps, Detached}
-use Rattle.cpc_tree.specs.Syntax.{Ty, TyInt, TyPointer, TyStruct}
+use Rattle.cpc_tree.specs.Syntax.{Ty, TyVoid, TyInt, TyPointer, TyStruct}
 use Rattle.cpc_tree.specs.Located.{Ident, LExpr, LNamed, LInteger, LCharacter, LText, LUnary, LBinary, LAnd, LOr, LChoose, LCast, LSizeOf, LIndex, LMember, LArrow, LCall, bare_expr}
 use Rattle.cpc_tree.specs.Typing.{Meant, ALocal, AGlobal, AFunction, NotMeant, Typed, used, typed_place, same_type, fields}
 use Rattle.cpc_check_rules.specs.declared.rule.Rule.TheVariants.{Undeclared, Disagree, NoPlace, NoField, Incomplete, NotClosed, CpsAsValue}
@@ -108,6 +108,7 @@ address_breaks operand whole q = at_if (is_some operand && is_none whole) q NoPl
 -- a field of this type
 abbrev pub field_breaks : Scope → Option Ty → Place → Ident → Option Typed → Broken
 field_breaks s None q x whole = (q, Disagree) ∷ []
+field_breaks s (Some TyVoid) q x whole = (q, Incomplete) ∷ []
 field_breaks s (Some (TyStruct tag)) q x whole = if is_none (fields s.items tag) then (q, Incomplete) ∷ [] else at_if (is_none whole) x.place NoField
 field_breaks s (Some t) q x whole = (q, Disagree) ∷ []
 

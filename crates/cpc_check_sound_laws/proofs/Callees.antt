@@ -1,5 +1,5 @@
 -- A call that breaks no rule is well typed.
-use Rattle.std.proofs.Common.{◌≡◌, ◌&&◌, ◌==◌, ◌-◌, not, ℕ, suc, Bool, true, false, cond, List, [], ◌∷◌, ◌++◌, map, length, Option, Some, None, refl, sym, ◌∙◌, ap, subst, arith}
+use Rattle.std.proofs.Common.{◌≡◌, ◌&&◌, ◌==◌, ◌-◌, not, ℕ, suc, Bool, true, false, cond, List, [], ◌∷◌, ◌++◌, map, length, Option, Some, None, refl, sym, ◌∙◌, ap, subst, arith, max, replicate}
 use Rattle.cpc_base.specs.Bytes.{Text}
 use Rattle.cpc_base.specs.declared.stop.Place.{Place}
 use Rattle.cpc_base.specs.declared.stop.Dialect.{Dialect}
@@ -17,7 +17,7 @@ use Rattle.cpc_check_rules.specs.declared.rule.Rule.TheVariants.{Disagree, Wrong
 use Rattle.cpc_check_rules.specs.Rule.{at_if}
 use Rattle.cpc_check_rules.specs.Scopes.{meant}
 use Rattle.cpc_check_rules.specs.Operators.{Where, typed_at, used_of, first, is_detached, is_cps}
-use Rattle.cpc_check_rules.specs.Calls.{Wanted, Of, String, ForSection, Callback, Callee, Takes, NoCallee, is_callee, section_callee, section_of, detached_wants, wants, gives, gives_up, is_rt, is_closed, is_event, primitive_breaks, function_breaks, code_callee, named_callee, callee, is_code, no_code, pointer_breaks, named_breaks, count, number_breaks, wanted, result}
+use Rattle.cpc_check_rules.specs.Calls.{Wanted, Of, String, ForSection, Callback, Callee, Takes, NoCallee, is_callee, section_callee, section_of, detached_wants, wants, gives, gives_up, is_rt, is_closed, is_event, primitive_breaks, function_breaks, code_callee, named_callee, callee, is_code, no_code, pointer_breaks, named_breaks, count, number_breaks, wanted, result, Anything}
 use Rattle.cpc_check_rules.specs.ExprRules.{expr_breaks, called_breaks, arg_breaks, args_breaks, call_breaks}
 use Rattle.cpc_check_sound_laws.specs.Typed.{Gets, GetsTaken, AllGet, TakesArguments, is_for, is_own, is_variable, is_pointer_call, Calls, CallsHost, CallsFunction, CallsPrimitive, CallsPointer}
 use Rattle.cpc_check_sound_laws.proofs.Answers.{no_some}
@@ -50,20 +50,20 @@ module _ (d : Dialect) (p : Program) (facts : Facts p) (f : Function) (w : Where
   puts_here (AndLExpr e (AndLExpr e2 es)) n h = absurd (omega arith)
 
   -- the third argument of `rt_detach`, and those behind it
-  third_breaks : (k : Callee) (c : LExpr) (es : LExprs) → args_breaks w (detached_wants k) (AndLExpr c es) ≡ [] → arg_breaks w ForSection c (expr_breaks w c) ≡ []
-  third_breaks (Takes ws r) c es h = (split (arg_breaks w ForSection c (expr_breaks w c)) (args_breaks w ws es) h).0
-  third_breaks NoCallee c es h = (split (arg_breaks w ForSection c (expr_breaks w c)) (args_breaks w [] es) h).0
+  third_breaks : (g : ℕ) (k : Callee) (c : LExpr) (es : LExprs) → args_breaks w (detached_wants g k) (AndLExpr c es) ≡ [] → arg_breaks w ForSection c (expr_breaks w c) ≡ []
+  third_breaks g (Takes ws r) c es h = (split (arg_breaks w ForSection c (expr_breaks w c)) (args_breaks w ws es) h).0
+  third_breaks g NoCallee c es h = (split (arg_breaks w ForSection c (expr_breaks w c)) (args_breaks w (replicate (max (g - 3) 1) Anything) es) h).0
 
-  section_name : (a b : LExpr) (x : Ident) (es : LExprs) → GetsTaken p scope (SetOf (function_type TyVoid (TyPointer TyVoid ∷ TyInt Int ∷ []))) (bare_expr a) → Gets p scope (TyPointer TyVoid) (bare_expr b)
-      → (n : length (count es) ≡ length (detached_wants (section_callee w.scope (meant w.scope x.text))) - 1) → args_breaks w (detached_wants (section_callee w.scope (meant w.scope x.text))) (AndLExpr (LNamed x) es) ≡ []
+  section_name : (given : ℕ) (a b : LExpr) (x : Ident) (es : LExprs) → GetsTaken p scope (SetOf (function_type TyVoid (TyPointer TyVoid ∷ TyInt Int ∷ []))) (bare_expr a) → Gets p scope (TyPointer TyVoid) (bare_expr b)
+      → (n : length (count es) ≡ length (detached_wants given (section_callee w.scope (meant w.scope x.text))) - 1) → args_breaks w (detached_wants given (section_callee w.scope (meant w.scope x.text))) (AndLExpr (LNamed x) es) ≡ []
       → TakesArguments p scope RtDetach (bare_exprs (AndLExpr a (AndLExpr b (AndLExpr (LNamed x) es))))
-  section_name a b x es ga gb n h =
-      let i = third_breaks (section_callee w.scope (meant w.scope x.text)) (LNamed x) es h in
+  section_name given a b x es ga gb n h =
+      let i = third_breaks given (section_callee w.scope (meant w.scope x.text)) (LNamed x) es h in
       let j = suits_here d p facts f w scope at ForSection (LNamed x) i in
       let m = section_meant d p facts f w scope at (meant w.scope x.text) j.2 in
       let k : section_callee w.scope (meant w.scope x.text) ≡ Takes (map (λ t. Of t) m.0) (TyInt Int) = ap (section_callee w.scope) m.1 ∙ ap (λ b. cond b (Takes (map (λ t. Of t) m.0) (TyInt Int)) NoCallee) m.2 in
-      let n2 : length (count es) ≡ length (map (λ t. Of t) m.0) = subst (λ c. length (count es) ≡ length (detached_wants c) - 1) k n ∙ omega arith in
-      let h2 : args_breaks w (ForSection ∷ map (λ t. Of t) m.0) (AndLExpr (LNamed x) es) ≡ [] = subst (λ c. args_breaks w (detached_wants c) (AndLExpr (LNamed x) es) ≡ []) k h in
+      let n2 : length (count es) ≡ length (map (λ t. Of t) m.0) = subst (λ c. length (count es) ≡ length (detached_wants given c) - 1) k n ∙ omega arith in
+      let h2 : args_breaks w (ForSection ∷ map (λ t. Of t) m.0) (AndLExpr (LNamed x) es) ≡ [] = subst (λ c. args_breaks w (detached_wants given c) (AndLExpr (LNamed x) es) ≡ []) k h in
       let gets = args_here d p facts f w scope at m.0 es n2 (split (arg_breaks w ForSection (LNamed x) (expr_breaks w (LNamed x))) (args_breaks w (map (λ t. Of t) m.0) es) h2).1 in
       (ga, gb, (TyInt Int, m.0, subst (λ m. Matches x.text m (named p scope x.text)) m.1 (at.names x.text)), detaches_here d p facts f w scope at x.text m.0 es m.1 m.2 gets)
 
@@ -85,24 +85,25 @@ module _ (d : Dialect) (p : Program) (facts : Facts p) (f : Function) (w : Where
   no_section (LArrow q v x) h = by_false_true h
   no_section (LCall q g vs) h = by_false_true h
 
-  some_left : (k : Callee) → (n : ℕ) × (length (detached_wants k) ≡ suc n)
-  some_left (Takes ws r) = (length ws, refl)
-  some_left NoCallee = (0, refl)
+  some_left : (g : ℕ) (k : Callee) → (n : ℕ) × (length (detached_wants g k) ≡ suc n)
+  some_left g (Takes ws r) = (length ws, refl)
+  some_left g NoCallee = (length (replicate (max (g - 3) 1) Anything), refl)
 
   detach_here : (es : LExprs) → length (count es) ≡ length (wants w.scope RtDetach es) → args_breaks w (wants w.scope RtDetach es) es ≡ [] → TakesArguments p scope RtDetach (bare_exprs es)
   detach_here (AndLExpr a (AndLExpr b (AndLExpr c es))) n h =
       let cb : Wanted = Callback (function_type TyVoid (TyPointer TyVoid ∷ TyInt Int ∷ [])) in
-      let rest = detached_wants (section_of w.scope (Some c)) in
+      let given = length (count (AndLExpr a (AndLExpr b (AndLExpr c es)))) in
+      let rest = detached_wants given (section_of w.scope (Some c)) in
       let h1 = split (arg_breaks w cb a (expr_breaks w a)) (args_breaks w (Of (TyPointer TyVoid) ∷ rest) (AndLExpr b (AndLExpr c es))) h in
       let h2 = split (arg_breaks w (Of (TyPointer TyVoid)) b (expr_breaks w b)) (args_breaks w rest (AndLExpr c es)) h1.1 in
-      let j = suits_here d p facts f w scope at ForSection c (third_breaks (section_of w.scope (Some c)) c es h2.1) in
+      let j = suits_here d p facts f w scope at ForSection c (third_breaks given (section_of w.scope (Some c)) c es h2.1) in
       let x = no_section c j.2 in
-      let left = some_left (section_of w.scope (Some c)) in
+      let left = some_left given (section_of w.scope (Some c)) in
       let m : length (count es) ≡ length rest - 1 = omega (arith, n, left.1) in
       subst (λ c. TakesArguments p scope RtDetach (bare_exprs (AndLExpr a (AndLExpr b (AndLExpr c es))))) (sym x.1)
-      (section_name a b x.0 es (taken_here d p facts f w scope at (SetOf (function_type TyVoid (TyPointer TyVoid ∷ TyInt Int ∷ []))) a h1.0) (of_here d p facts f w scope at (TyPointer TyVoid) b h2.0)
-      (subst (λ c. length (count es) ≡ length (detached_wants (section_of w.scope (Some c))) - 1) x.1 m)
-      (subst (λ c. args_breaks w (detached_wants (section_of w.scope (Some c))) (AndLExpr c es) ≡ []) x.1 h2.1))
+      (section_name given a b x.0 es (taken_here d p facts f w scope at (SetOf (function_type TyVoid (TyPointer TyVoid ∷ TyInt Int ∷ []))) a h1.0) (of_here d p facts f w scope at (TyPointer TyVoid) b h2.0)
+      (subst (λ c. length (count es) ≡ length (detached_wants given (section_of w.scope (Some c))) - 1) x.1 m)
+      (subst (λ c. args_breaks w (detached_wants given (section_of w.scope (Some c))) (AndLExpr c es) ≡ []) x.1 h2.1))
   detach_here NoLExpr n h = absurd (omega arith)
   detach_here (AndLExpr a NoLExpr) n h = absurd (omega arith)
   detach_here (AndLExpr a (AndLExpr b NoLExpr)) n h = absurd (omega arith)

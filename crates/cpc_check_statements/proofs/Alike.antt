@@ -1,5 +1,5 @@
 -- Scopes of the same items in which each name stands for the same: expressions break the same there.
-use Rattle.std.proofs.Common.{◌≡◌, Bool, true, false, ◌&&◌, not, List, [], ◌∷◌, ◌++◌, map, Option, Some, None, is_some, refl, ap, ◌∙◌}
+use Rattle.std.proofs.Common.{◌≡◌, Bool, true, false, ◌&&◌, not, List, [], ◌∷◌, ◌++◌, map, Option, Some, None, is_some, refl, ap, ◌∙◌, length}
 use Rattle.std.specs.Prelude.{bytes_eq}
 use Rattle.cpc_base.specs.Bytes.{Text}
 use Rattle.cpc_base.specs.declared.stop.Place.{Place}
@@ -44,7 +44,7 @@ module _ (u : Where) (i : Program) (bs cs : List Block) (same : (x : Text) → m
   section_same o = refl
 
   wants_same : (p : Primitive) (es : LExprs) → C.wants w.scope p es ≡ C.wants v.scope p es
-  wants_same RtDetach es = ap (λ c. map C.wanted_of (takes_first RtDetach) ++ C.detached_wants c) (section_same (C.third es))
+  wants_same RtDetach es = ap (λ c. map C.wanted_of (takes_first RtDetach) ++ C.detached_wants (length (C.count es)) c) (section_same (C.third es))
   wants_same p es = refl
 
   code_same : (f : LExpr) → C.code_callee (used_of (typed_at w f)) ≡ C.code_callee (used_of (typed_at v f))

@@ -23,7 +23,7 @@ use Rattle.cpc_check_values.specs.Walked.{count_breaks, inside_breaks, wanted_br
 abbrev Firsts : Type 0
 Firsts = Option (Place × Rule)
 
-counted : (names : Names) (es : List Expr) → length (C.count (located_exprs names es)) ≡ length es
+pub counted : (names : Names) (es : List Expr) → length (C.count (located_exprs names es)) ≡ length es
 counted names [] = refl
 counted names (e ∷ es) = ap suc (counted names es)
 

@@ -1,5 +1,5 @@
 -- What is called by a pointer, and the parameters of the functions of sections.
-use Rattle.std.proofs.Common.{◌≡◌, ℕ, ◌+◌, ◌<◌, ◌≤◌, true, ◌&&◌, List, [], ◌∷◌, ◌++◌, length, get_or, drop, map, Option, Some, None, option_map, refl, sym, ap, subst, ◌∙◌, Vec, Box, Bor, Global}
+use Rattle.std.proofs.Common.{◌≡◌, ℕ, ◌+◌, ◌<◌, ◌≤◌, true, ◌&&◌, List, [], ◌∷◌, ◌++◌, length, get_or, drop, map, Option, Some, None, option_map, refl, sym, ap, subst, ◌∙◌, Vec, Box, Bor, Global, ap₂}
 use Rattle.std.specs.Prelude.{slice_get}
 use Rattle.std.proofs.lemmas.List.{drop_more, drop_all}
 use Rattle.cpc_tree.specs.declared.program.CType.{CType}
@@ -17,6 +17,7 @@ use Rattle.cpc_types.specs.Listed.{optional_of}
 use Rattle.cpc_types.proofs.CodeParts.{code_is}
 use Rattle.cpc_check_values.specs.declared.primitives.Primitive.{Primitive}
 use Rattle.cpc_check_values.specs.declared.primitives.Primitive.TheVariants as R
+use Rattle.cpc_check_values.proofs.Arguments.{counted}
 use Rattle.cpc_check_values.specs.Wants.{primitive_of, primitive_wants, section_wants, section_callee_of}
 
 listed : (ts : List Ty) → T.list_of_tys (T.tys_of ts) ≡ ts
@@ -61,14 +62,14 @@ read_is : (names : Names) (o : Option (Bor Expr)) → option_map (λ e. located_
 read_is names None = refl
 read_is names (Some e) = refl
 
-section_row : (names : Names) (ps : Option (List Parameter)) → C.ForSection ∷ section_wants names ps ≡ C.detached_wants (section_callee_of names ps)
-section_row names None = refl
-section_row names (Some ps) = refl
+section_row : (names : Names) (given : ℕ) (ps : Option (List Parameter)) → C.ForSection ∷ section_wants names given ps ≡ C.detached_wants given (section_callee_of names ps)
+section_row names given None = refl
+section_row names given (Some ps) = refl
 
 pub detach_callee : (names : Names) (s : Scope) (p : Primitive) (es : List Expr) (o : Option (Bor Expr)) (ps : Option (List Parameter)) → p ≡ R.RtDetach → option_map (λ e. e.now) o ≡ slice_get es 2
     → section_callee_of names ps ≡ C.section_of s (option_map (λ e. located_expr names e.now) o)
-    → C.Takes (primitive_wants names (primitive_of p) ps) (C.gives (primitive_of p)) ≡ C.Takes (C.wants s (primitive_of p) (located_exprs names es)) (C.gives (primitive_of p))
+    → C.Takes (primitive_wants names (primitive_of p) (length es) ps) (C.gives (primitive_of p)) ≡ C.Takes (C.wants s (primitive_of p) (located_exprs names es)) (C.gives (primitive_of p))
 detach_callee names s p es o ps is e f =
-    let Q : Primitive → Type 0 = λ q. C.Takes (primitive_wants names (primitive_of q) ps) (C.gives (primitive_of q)) ≡ C.Takes (C.wants s (primitive_of q) (located_exprs names es)) (C.gives (primitive_of q)) in
+    let Q : Primitive → Type 0 = λ q. C.Takes (primitive_wants names (primitive_of q) (length es) ps) (C.gives (primitive_of q)) ≡ C.Takes (C.wants s (primitive_of q) (located_exprs names es)) (C.gives (primitive_of q)) in
     let g : C.section_of s (option_map (λ e. located_expr names e.now) o) ≡ C.section_of s (C.third (located_exprs names es)) = ap (C.section_of s) (read_is names o ∙ ap (option_map (located_expr names)) e ∙ sym (third_is names es)) in
-    subst Q (sym is) (ap (λ ws. C.Takes (map C.wanted_of (P.takes_first P.RtDetach) ++ ws) (C.gives P.RtDetach)) (section_row names ps ∙ ap C.detached_wants (f ∙ g)))
+    subst Q (sym is) (ap (λ ws. C.Takes (map C.wanted_of (P.takes_first P.RtDetach) ++ ws) (C.gives P.RtDetach)) (section_row names (length es) ps ∙ ap₂ C.detached_wants (sym (counted names es)) (f ∙ g)))

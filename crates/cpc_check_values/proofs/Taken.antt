@@ -3,7 +3,7 @@ use Rattle.std.proofs.Common.{◌≡◌, Bool, true, false, [], ◌∷◌, Optio
 use Rattle.std.specs.Prelude.{if◌then◌else◌}
 use Rattle.std.specs.Option.{is_none}
 use Rattle.cpc_base.specs.declared.stop.Place.{Place}
-use Rattle.cpc_tree.specs.Syntax.{Ty, TyStruct}
+use Rattle.cpc_tree.specs.Syntax.{Ty, TyVoid, TyStruct}
 use Rattle.cpc_tree.specs.Located.{Ident}
 use Rattle.cpc_tree.specs.Typing.{Typed, used, fields}
 use Rattle.cpc_check_rules.specs.Scopes.{Scope}
@@ -21,6 +21,7 @@ chosen false q x whole = refl
 field_row : (s : Scope) (t : Option Ty) (q : Place) (x : Ident) (whole : Option Typed) → base_breaks (base_of s t) q x.place whole ≡ O.field_breaks s t q x whole
 field_row s None q x whole = refl
 field_row s (Some (TyStruct tag)) q x whole = chosen (is_none (fields s.items tag)) q x.place whole
+field_row s (Some TyVoid) q x whole = refl
 field_row s (Some t) q x whole = refl
 
 -- a field of what an expression points to, which has a type

@@ -13,7 +13,7 @@ use Rattle.cpc_check_values.specs.Wants.{primitive_of, callee_of}
 -- what calling it by its name breaks
 abbrev pub callee_breaks : Where → Place → Callee → Broken
 callee_breaks w q (V.Function mode r ps) = C.function_breaks w q mode
-callee_breaks w q (V.Primitive p o) = C.primitive_breaks w q (primitive_of p)
+callee_breaks w q (V.Primitive p o given) = C.primitive_breaks w q (primitive_of p)
 callee_breaks w q V.Unknown = (q, Undeclared) ∷ []
 callee_breaks w q c = []
 

@@ -1,5 +1,5 @@
 -- Primitives, and what calls want, as the code has them.
-use Rattle.std.specs.Prelude.{ℕ, List, [], ◌∷◌, ◌++◌, length, map, Option, Some, None, option_map, codes, find, bytes_eq}
+use Rattle.std.specs.Prelude.{ℕ, ◌-◌, max, List, [], ◌∷◌, ◌++◌, length, map, replicate, Option, Some, None, option_map, codes, find, bytes_eq}
 use Rattle.cpc_base.specs.Bytes.{Text}
 use Rattle.cpc_num.specs.declared.kinds.Kind.TheVariants.{Int, Long}
 use Rattle.cpc_tree.specs.Erase.{Names, type_of, parameter_of}
@@ -88,26 +88,32 @@ want_of names W.Pointer = C.Of P.any_pointer
 want_of names W.Callback = C.Callback (function_type TyVoid (P.any_pointer ∷ TyInt Int ∷ []))
 want_of names W.Text = C.String
 want_of names W.Section = C.ForSection
+want_of names W.Anything = C.Anything
 
 -- the types of parameters, as they are wanted of arguments
 abbrev pub wants_of : Names → List Parameter → List C.Wanted
 wants_of names ps = map (λ t. C.Of t) (map parameter_type (map (parameter_of names) ps))
 
--- what the arguments of the section's function must be, where there is one
-abbrev pub section_wants : Names → Option (List Parameter) → List C.Wanted
-section_wants names None = []
-section_wants names (Some ps) = wants_of names ps
+-- what the arguments for the section's function must be; where there is none, as many as are given, and one at least
+abbrev pub section_wants : Names → (given : ℕ) → Option (List Parameter) → List C.Wanted
+section_wants names given None = replicate (max (given - 3) 1) C.Anything
+section_wants names given (Some ps) = wants_of names ps
 
--- what the arguments of a primitive must be; those of `rt_detach` go on with the ones of a section's function
-abbrev pub primitive_wants : Names → P.Primitive → Option (List Parameter) → List C.Wanted
-primitive_wants names P.Puts o = C.String ∷ []
-primitive_wants names P.RtDetach o = map C.wanted_of (P.takes_first P.RtDetach) ++ C.ForSection ∷ section_wants names o
-primitive_wants names p o = map C.wanted_of (P.takes_first p)
+-- what the arguments of a primitive must be, in front of those for a section's function
+abbrev pub front_wants : P.Primitive → List C.Wanted
+front_wants P.Puts = C.String ∷ []
+front_wants P.RtDetach = map C.wanted_of (P.takes_first P.RtDetach) ++ C.ForSection ∷ []
+front_wants p = map C.wanted_of (P.takes_first p)
+
+-- what the arguments of a primitive must be; those of `rt_detach` go on with the ones for a section's function
+abbrev pub primitive_wants : Names → P.Primitive → (given : ℕ) → Option (List Parameter) → List C.Wanted
+primitive_wants names P.RtDetach given o = front_wants P.RtDetach ++ section_wants names given o
+primitive_wants names p given o = front_wants p
 
 -- what is called
 abbrev pub callee_of : Names → Callee → C.Callee
 callee_of names (V.Function mode r ps) = C.Takes (wants_of names ps.now) (type_of names r.now)
-callee_of names (V.Primitive p o) = C.Takes (primitive_wants names (primitive_of p) (option_map (λ ps. ps.now) o)) (C.gives (primitive_of p))
+callee_of names (V.Primitive p o given) = C.Takes (primitive_wants names (primitive_of p) given (option_map (λ ps. ps.now) o)) (C.gives (primitive_of p))
 callee_of names (V.Section ps) = C.Takes (wants_of names ps.now) (TyInt Int)
 callee_of names (V.Code r ps) = C.Takes (map (λ t. C.Of t) (map (type_of names) ps.items)) (type_of names r.value)
 callee_of names V.Unknown = C.NoCallee

@@ -144,10 +144,12 @@ fn primitive_callee<'s>(primitive: Primitive, arguments: &[Expr], scope: &'s Sco
         Primitive::RtDetach => Callee::Primitive {
             primitive,
             section: section_named(third(arguments), scope),
+            given: arguments.len(),
         },
         _ => Callee::Primitive {
             primitive,
             section: None,
+            given: arguments.len(),
         },
     }
 }

@@ -22,7 +22,7 @@ use std::alloc::Global;
 pub(crate) enum Base {
     /// A struct with its fields.
     Fields,
-    /// A struct that is not complete.
+    /// A struct that is not complete, or void.
     Incomplete,
     /// No struct.
     Other,
@@ -37,6 +37,7 @@ fn base_of(of: Option<&CType>, scope: &Scope) -> Base
             Some(_) => Base::Fields,
             None => Base::Incomplete,
         },
+        Some(CType::Void) => Base::Incomplete,
         _ => Base::Other,
     }
 }

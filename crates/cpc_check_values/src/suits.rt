@@ -105,6 +105,7 @@ fn suits(
         }
         Wanted::Text => Ok(false),
         Wanted::Section => Ok(section_named(Some(e), scope).is_some()),
+        Wanted::Anything => Ok(true),
     }
 }
 

@@ -1,10 +1,9 @@
 //! What calls want of their arguments.
 ghost use Rattle.std.specs.Prelude.{◌≡◌, IfOk, length, map, option_map, slice_get};
-ghost use Rattle.std.specs.Prelude as Std;
 ghost use Rattle.cpc_tree.specs.Erase.{Names, type_of};
 ghost use Rattle.cpc_check_rules.specs.Calls as C;
 ghost use Rattle.cpc_types.specs.Listed.{optional_of};
-ghost use Rattle.cpc_check_values.specs.Wants.{want_of, primitive_of, primitive_wants, wants_of, callee_of, wants_count};
+ghost use Rattle.cpc_check_values.specs.Wants.{want_of, primitive_of, front_wants, primitive_wants, section_wants, wants_of, callee_of, wants_count};
 
 use crate::primitives::Primitive;
 use cpc_base::NoMemory;
@@ -34,6 +33,8 @@ pub(crate) enum Wanted<'s> {
     Text,
     /// The name of the function of a section.
     Section,
+    /// Anything.
+    Anything,
 }
 
 /// What is called.
@@ -45,10 +46,11 @@ pub(crate) enum Callee<'s> {
         result: &'s CType,
         parameters: &'s [Parameter],
     },
-    /// A primitive, and of `rt_detach` the parameters of the section's function, where it is one.
+    /// A primitive and how many arguments are given; of `rt_detach` the parameters of the section's function, where it is one.
     Primitive {
         primitive: Primitive,
         section: Option<&'s [Parameter]>,
+        given: usize,
     },
     /// The function of a section, which gives an `int`.
     Section {
@@ -74,7 +76,7 @@ fn one_of<'s>(row: &[Wanted<'s>], place: usize) -> Option<Wanted<'s>>
 
 // What an argument of a primitive must be, in front of those of a section's function.
 fn front_want(primitive: Primitive, place: usize) -> Option<Wanted<'static>>
-    ensures { (names : Names) → option_map (want_of names) result ≡ slice_get (primitive_wants names (primitive_of primitive) Std.None) place }
+    ensures { (names : Names) → option_map (want_of names) result ≡ slice_get (front_wants (primitive_of primitive)) place }
 {
     use Wanted::{AnyInteger, Callback, Condvar, Int, Long, Pointer, Section, Text};
     match primitive {
@@ -100,7 +102,7 @@ fn front_want(primitive: Primitive, place: usize) -> Option<Wanted<'static>>
 
 // How many arguments a primitive wants in front of those of a section's function.
 fn front_count(primitive: Primitive) -> usize
-    ensures { (names : Names) → result ≡ length (primitive_wants names (primitive_of primitive) Std.None) }
+    ensures { result ≡ length (front_wants (primitive_of primitive)) }
 {
     match primitive {
         Primitive::Now | Primitive::CondNew | Primitive::Yield => 0,
@@ -146,26 +148,33 @@ fn code_want(parameters: &[CType], place: usize) -> Option<Wanted<'_>>
     }
 }
 
+// What an argument for a section's function must be.
+fn section_want<'s>(
+    section: Option<&'s [Parameter]>,
+    given: usize,
+    place: usize,
+) -> Option<Wanted<'s>>
+    ensures { (names : Names) → option_map (want_of names) result ≡ slice_get (section_wants names given (option_map (λ ps. ps.now) section.entry)) place }
+{
+    match section {
+        Some(parameters) => parameter_want(parameters, place),
+        None if place < given.saturating_sub(3).max(1) => Some(Wanted::Anything),
+        None => None,
+    }
+}
+
 // What an argument of a primitive must be.
 fn primitive_want<'s>(
     primitive: Primitive,
     section: Option<&'s [Parameter]>,
+    given: usize,
     place: usize,
 ) -> Option<Wanted<'s>>
-    ensures { (names : Names) → option_map (want_of names) result ≡ slice_get (primitive_wants names (primitive_of primitive) (option_map (λ ps. ps.now) section.entry)) place }
+    ensures { (names : Names) → option_map (want_of names) result ≡ slice_get (primitive_wants names (primitive_of primitive) given (option_map (λ ps. ps.now) section.entry)) place }
 {
-    match section {
-        None => front_want(primitive, place),
-        Some(parameters) => match primitive {
-            Primitive::RtDetach => {
-                if place < 3 {
-                    front_want(Primitive::RtDetach, place)
-                } else {
-                    parameter_want(parameters, place - 3)
-                }
-            }
-            _ => front_want(primitive, place),
-        },
+    match primitive {
+        Primitive::RtDetach if place >= 3 => section_want(section, given, place - 3),
+        _ => front_want(primitive, place),
     }
 }
 
@@ -176,7 +185,11 @@ impl<'s> Callee<'s> {
     {
         match self {
             Callee::Function { parameters, .. } => parameter_want(parameters, place),
-            Callee::Primitive { primitive, section } => primitive_want(*primitive, *section, place),
+            Callee::Primitive {
+                primitive,
+                section,
+                given,
+            } => primitive_want(*primitive, *section, *given, place),
             Callee::Section { parameters } => parameter_want(parameters, place),
             Callee::Code { parameters, .. } => code_want(parameters, place),
             Callee::Unknown | Callee::NoCode => None,
@@ -189,7 +202,11 @@ impl<'s> Callee<'s> {
     {
         match self {
             Callee::Function { parameters, .. } => Some(parameters.len()),
-            Callee::Primitive { primitive, section } => Some(primitive_count(*primitive, *section)),
+            Callee::Primitive {
+                primitive,
+                section,
+                given,
+            } => Some(primitive_count(*primitive, *section, *given)),
             Callee::Section { parameters } => Some(parameters.len()),
             Callee::Code { parameters, .. } => Some(parameters.len()),
             Callee::Unknown | Callee::NoCode => None,
@@ -221,14 +238,14 @@ impl<'s> Callee<'s> {
 }
 
 // How many arguments a primitive wants.
-fn primitive_count(primitive: Primitive, section: Option<&[Parameter]>) -> usize
-    ensures { (names : Names) → result ≡ length (primitive_wants names (primitive_of primitive) (option_map (λ ps. ps.now) section.entry)) }
+fn primitive_count(primitive: Primitive, section: Option<&[Parameter]>, given: usize) -> usize
+    ensures { (names : Names) → result ≡ length (primitive_wants names (primitive_of primitive) given (option_map (λ ps. ps.now) section.entry)) }
 {
-    match section {
-        None => front_count(primitive),
-        Some(parameters) => match primitive {
-            Primitive::RtDetach => parameters.len() + 3,
-            _ => front_count(primitive),
+    match primitive {
+        Primitive::RtDetach => match section {
+            None => given.max(4),
+            Some(parameters) => parameters.len() + 3,
         },
+        _ => front_count(primitive),
     }
 }

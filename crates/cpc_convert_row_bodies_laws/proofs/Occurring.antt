@@ -1,5 +1,5 @@
 -- What an expression or a statement breaks depends on what the names stand for that occur in it, and on no other.
-use Rattle.std.proofs.Common.{◌≡◌, ◌&&◌, not, cond, List, [], ◌∷◌, ◌++◌, map, Option, Some, None, option_map, refl, sym, ◌∙◌, ap, ap₂, subst}
+use Rattle.std.proofs.Common.{◌≡◌, ◌&&◌, not, cond, List, [], ◌∷◌, ◌++◌, map, Option, Some, None, option_map, refl, sym, ◌∙◌, ap, ap₂, subst, length}
 use Rattle.std.specs.Prelude.{is_some}
 use Rattle.cpc_base.specs.Bytes.{Text}
 use Rattle.cpc_base.specs.declared.stop.Place.{Place}
@@ -20,7 +20,7 @@ use Rattle.cpc_check_rules.specs.declared.rule.Rule.TheVariants.{Disagree, Incom
 use Rattle.cpc_check_rules.specs.Rule.{at_if}
 use Rattle.cpc_check_rules.specs.Scopes.{meant, takes_typed}
 use Rattle.cpc_check_rules.specs.Operators.{Where, typed_at, first, name_breaks, no_rule, is_unmeasured, used_of, moves_unmeasured, between_unmeasured, is_incomplete_sum, binary_breaks, address_breaks, field_breaks, member_breaks, arrow_breaks, pointed, is_detached}
-use Rattle.cpc_check_rules.specs.Calls.{Wanted, Integer, Of, Callback, String, ForSection, Takes, NoCallee, points_to_integers, all_integers, takes_section, section_callee, section_of, is_callee, callee, named_callee, unmeant_callee, code_callee, wants, third, detached_wants, wanted_of, gives, pointer_breaks, unmeant_breaks, named_breaks, number_breaks, wanted, is_function, is_function_name, suits, suit_breaks, no_code, result}
+use Rattle.cpc_check_rules.specs.Calls.{Wanted, Integer, Of, Callback, String, ForSection, Takes, NoCallee, points_to_integers, all_integers, takes_section, section_callee, section_of, is_callee, callee, named_callee, unmeant_callee, code_callee, wants, third, detached_wants, wanted_of, gives, pointer_breaks, unmeant_breaks, named_breaks, number_breaks, wanted, is_function, is_function_name, suits, suit_breaks, no_code, result, Anything, count}
 use Rattle.cpc_check_rules.specs.ExprRules.{called_breaks, arg_breaks, expr_breaks, args_breaks}
 use Rattle.cpc_check_rules.specs.StmtRules.{place_breaks, target_breaks, fits_breaks, result_breaks, assign_breaks, given_breaks, to_breaks, tested_breaks, test_breaks, stmt_breaks}
 use Rattle.cpc_check_laws.proofs.OnePlace.{here, ident_here, expr_here, exprs_here, stmt_here}
@@ -278,6 +278,7 @@ module _ (items : Program) (bs cs : List S.Block) (mode : Mode) (u : Ty) (dialec
   suits_same (Callback t) e d h = ap (λ b. b && takes_typed t (bare_expr (expr_here e)) d) (function_same e h)
   suits_same String e d h = refl
   suits_same ForSection e d h = ap is_callee (section_same e h)
+  suits_same Anything e d h = refl
 
   pub all_suit_same : (ts : List Wanted) (es : Exprs) → AllNamesAmong Same es → AllSuit w ts es → AllSuit v ts es
   all_suit_same _ _ n NoneSuits = NoneSuits
@@ -315,6 +316,7 @@ module _ (items : Program) (bs cs : List S.Block) (mode : Mode) (u : Ty) (dialec
   arg_fine (Callback t) e h i = plain_fine (Callback t) e h i
   arg_fine String e h i = string_fine e h i
   arg_fine ForSection e h i = plain_fine ForSection e h i
+  arg_fine Anything e h i = plain_fine Anything e h i
 
   args_fine : (ts : List Wanted) (es : Exprs) → AllNamesAmong Same es → args_breaks w ts (exprs_here es) ≡ [] → args_breaks v ts (exprs_here es) ≡ []
   args_fine ts NoExpr h i = refl
@@ -333,7 +335,7 @@ module _ (items : Program) (bs cs : List S.Block) (mode : Mode) (u : Ty) (dialec
       third_names a b c es h = let i : AllNamesAmong Same (AndExpr b (AndExpr c es)) = h.1 in let j : AllNamesAmong Same (AndExpr c es) = i.1 in j.0
 
   wants_same : (prim : Primitive) (es : Exprs) → AllNamesAmong Same es → wants w.scope prim (exprs_here es) ≡ wants v.scope prim (exprs_here es)
-  wants_same P.RtDetach es h = ap (λ c. map wanted_of (takes_first P.RtDetach) ++ detached_wants c) (section_third es h)
+  wants_same P.RtDetach es h = ap (λ c. map wanted_of (takes_first P.RtDetach) ++ detached_wants (length (count (exprs_here es))) c) (section_third es h)
   wants_same P.Puts es h = refl
   wants_same prim es h = refl
 

@@ -14,7 +14,7 @@ use Rattle.cpc_tree.specs.Typing.{size}
 use Rattle.cpc_check_rules.specs.declared.rule.Rule.TheVariants.{Twice, Incomplete}
 use Rattle.cpc_check_rules.specs.Scopes.{Scope, measured, cell_limit}
 use Rattle.cpc_check_rules.specs.Operators.{Where}
-use Rattle.cpc_check_rules.specs.Calls.{Callee, Wanted, Integer, Of, Callback, String, ForSection, callee, wanted}
+use Rattle.cpc_check_rules.specs.Calls.{Callee, Wanted, Integer, Of, Callback, String, ForSection, callee, wanted, Anything}
 use Rattle.cpc_check_rules.specs.ExprRules.{called_breaks, arg_breaks, expr_breaks, args_breaks, call_breaks}
 use Rattle.cpc_check_rules.specs.StmtRules.{inner, behind, all_behind, target_breaks, to_breaks, test_breaks, maybe_test, start_breaks, started_breaks, return_breaks, stmt_breaks, stmts_breaks, maybe_breaks}
 use Rattle.cpc_check_rules.specs.FunctionRules.{reserved_breaks, locals, labels, label_breaks, stray_breaks, many_breaks}
@@ -85,6 +85,7 @@ module _ (p : Program) where
     arg_numbers (Of t) e f h = expr_numbers e f (split (expr_breaks w e) _ h).0
     arg_numbers (Callback t) e f h = expr_numbers e f (split (expr_breaks w e) _ h).0
     arg_numbers ForSection e f h = expr_numbers e f (split (expr_breaks w e) _ h).0
+    arg_numbers Anything e f h = expr_numbers e f (split (expr_breaks w e) _ h).0
     arg_numbers String e f h = expr_numbers e f (split (expr_breaks w e) _ h).0
 
     args_numbers : (ts : List Wanted) (es : LExprs) → AllFine es → args_breaks w ts es ≡ [] → AllNumbers p (bare_exprs es)
