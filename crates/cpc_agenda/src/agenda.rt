@@ -1,5 +1,5 @@
 //! Items that are ready, those of the round, and those that wait.
-ghost use Rattle.std.specs.Prelude.{◌≡◌, ◌+◌, ◌<◌, ◌^◌, IsTrue, [], ◌∷◌, IfErr, IfSome, IfNone, length, OnOk, OnErr};
+ghost use Rattle.std.specs.Prelude.{◌≡◌, ◌+◌, ◌<◌, ◌≤◌, ◌^◌, IsTrue, [], ◌∷◌, IfErr, IfSome, IfNone, length, OnOk, OnErr};
 ghost use Rattle.cpc_tree.specs.Erase.{Names};
 ghost use Rattle.cpc_tree.specs.Lists.{is_empty};
 ghost use Rattle.cpc_meaning.specs.Agenda as A;
@@ -103,9 +103,10 @@ impl<T: Drop> Agenda<T> {
         self.timers.waiting() > 0 || self.descr.waiting() > 0 || self.sections.waiting() > 0
     }
 
-    /// The clock that was told last, in microseconds.
+    /// The clock that was told last, in microseconds, at most 2^53.
     pub fn now(&self) -> u64
-        ensures { (names : Names) → result ≡ (lists_of names self.now).now }
+        ensures value { (names : Names) → result ≡ (lists_of names self.now).now }
+        ensures bounded { result ≤ 2 ^ 53 }
     {
         self.clock.micros()
     }

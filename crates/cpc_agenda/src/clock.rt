@@ -29,7 +29,8 @@ impl Clock {
 
     /// The time that was told last.
     pub(crate) fn micros(&self) -> u64
-        ensures { result ≡ self.now }
+        ensures value { result ≡ self.now }
+        ensures bounded { result ≤ 2 ^ 53 }
     {
         self.micros
     }

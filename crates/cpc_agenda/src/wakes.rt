@@ -74,7 +74,7 @@ impl<T: Drop> Agenda<T> {
                 true
             }
             Ok(None) => false,
-            Err(_) => false,
+            Err(_) => unreachable!(),
         }
     }
 
