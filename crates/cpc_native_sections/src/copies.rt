@@ -98,7 +98,7 @@ fn copied(
 pub fn copy_of(
     alloc: Global,
     program: &Program,
-    layouts: &Layouts,
+    layouts: &Layouts<'_>,
     function: Name,
     pointer: Value,
     store: &Store,

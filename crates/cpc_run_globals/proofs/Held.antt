@@ -1,12 +1,9 @@
 -- What the cells of types hold, part by part.
-use Rattle.std.proofs.Common.{◌≡◌, ℕ, zero, suc, ◌+◌, ◌<◌, ◌==◌, Bool, true, false, cond, List, [], ◌∷◌, ◌++◌, length, drop, get_or, map, Option, Some, None, refl, sym, ap, ◌∙◌, add-one, append_assoc, arith}
+use Rattle.std.proofs.Common.{◌≡◌, ℕ, zero, suc, ◌+◌, ◌-◌, ◌*◌, ◌<◌, ◌≤◌, Bool, true, false, cond, List, [], ◌∷◌, ◌++◌, length, take, drop, get_or, map, Option, Some, None, option_map, refl, sym, ap, ◌∙◌, add-one, append_assoc, arith}
 use Rattle.std.specs.Prelude.{bytes_eq}
-use Rattle.std.proofs.lemmas.Bool.Decides.{Decides-eqb}
-use Rattle.std.proofs.lemmas.List.{append-nil}
+use Rattle.std.proofs.lemmas.List.{append-nil, length-append}
 use Rattle.std.proofs.Math.Seq.{drop-cons}
 use Rattle.cpc_base.specs.Bytes.{Text}
-use Rattle.cpc_base.specs.declared.names.Name.{Name}
-use Rattle.cpc_check_rules.specs.Apart.{AreApart}
 use Rattle.cpc_store.specs.declared.values.Scalar.{Scalar}
 use Rattle.cpc_store.specs.declared.values.Scalar.TheVariants as S
 use Rattle.cpc_tree.specs.Erase.{Names, type_of, field_of}
@@ -14,14 +11,9 @@ use Rattle.cpc_tree.specs.declared.program.Field.{Field}
 use Rattle.cpc_tree.specs.Syntax.{Ty, TyVoid, TyInt, TyCondvar, TyPointer, TyCode, TyStruct, TyArray, Variable, Item, StructItem, GlobalItem, PrototypeItem, FunctionItem}
 use Rattle.cpc_tree.specs.Typing.{Cells, both, times, cells_in, fields_cells, struct_cells, ◌>>=◌}
 use Rattle.cpc_meaning.specs.Layout.{scalar_of, scalars}
-use Rattle.cpc_run_globals.specs.Layouts.{held, type_layout, fields_layout, repeated, layout_at, AreLayouts}
-use Rattle.cpc_run_globals.specs.declared.layouts.Layouts.{Layouts}
+use Rattle.cpc_run_globals.specs.Rows.{held, type_layout, fields_layout, repeated, joined}
 
 -- ---- rows
-
--- one row behind another, where both are there
-abbrev pub joined : Option (List Scalar) → Option (List Scalar) → Option (List Scalar)
-joined o p = o >>= (λ xs. p >>= (λ ys. Some (xs ++ ys)))
 
 scalars_both : (xs ys : List Ty) → scalars (xs ++ ys) ≡ joined (scalars xs) (scalars ys)
 scalars_both [] ys = go (scalars ys)
@@ -46,14 +38,43 @@ pub repeated_nothing : (n : ℕ) → repeated n [] ≡ []
 repeated_nothing zero = refl
 repeated_nothing (suc n) = repeated_nothing n
 
-pub nothing_there : (xs : List Scalar) → (length xs == 0) ≡ true → xs ≡ []
-nothing_there [] e = refl
-nothing_there (x ∷ xs) e = absurd (omega (arith, (Decides-eqb (length (x ∷ xs)) 0).0 e))
-
 -- and once more
 pub repeated_next : (n : ℕ) (row : List Scalar) → repeated n row ++ row ≡ repeated (suc n) row
 repeated_next zero row = sym (append-nil row)
 repeated_next (suc n) row = append_assoc row (repeated n row) row ∙ ap (λ xs. row ++ xs) (repeated_next n row)
+
+drop_front : (xs ys : List Scalar) → drop (length xs) (xs ++ ys) ≡ ys
+drop_front [] ys = refl
+drop_front (x ∷ xs) ys = drop_front xs ys
+
+take_front : (xs ys : List Scalar) → take (length xs) (xs ++ ys) ≡ xs
+take_front [] ys = refl
+take_front (x ∷ xs) ys = ap (λ zs. x ∷ zs) (take_front xs ys)
+
+module _ (row front cells : List Scalar) (start end : ℕ) (is : row ≡ front ++ cells) (at : length front ≡ start) (to : end ≡ length row) where
+  wide : end ≡ start + length cells
+  wide = to ∙ ap length is ∙ length-append front cells ∙ ap (λ k. k + length cells) at
+
+  -- no cell is to be repeated
+  pub nothing_more : (n : ℕ) → end ≤ start → row ≡ front ++ repeated n cells
+  nothing_more n e = go cells (omega (arith, wide, e)) is
+    where
+      go : (cs : List Scalar) → length cs ≡ 0 → row ≡ front ++ cs → row ≡ front ++ repeated n cs
+      go [] z f = f ∙ ap (λ xs. front ++ xs) (sym (repeated_nothing n))
+      go (c ∷ cs) z f = absurd (omega (arith, z))
+
+  -- none is to be left
+  pub nothing_left : take start row ≡ front ++ []
+  nothing_left = ap (λ k. take k row) (sym at) ∙ ap (take (length front)) is ∙ take_front front cells ∙ sym (append-nil front)
+
+  -- once more
+  pub once_more : (k : ℕ) (rows : List Scalar) → 0 < k → rows ≡ front ++ repeated k cells → rows ++ take (end - start) (drop start rows) ≡ front ++ repeated (k + 1) cells
+  once_more zero rows lt e = absurd (omega (arith, lt))
+  once_more (suc k) rows lt e =
+      let w : end - start ≡ length cells = omega (arith, wide) in
+      let piece : take (end - start) (drop start rows) ≡ cells = ap (λ m. take m (drop start rows)) w ∙ ap (λ m. take (length cells) (drop m rows)) (sym at) ∙ ap (λ xs. take (length cells) (drop (length front) xs)) e
+      ∙ ap (take (length cells)) (drop_front front (cells ++ repeated k cells)) ∙ take_front cells (repeated k cells) in
+      ap (λ xs. rows ++ xs) piece ∙ ap (λ xs. xs ++ cells) e ∙ append_assoc front (repeated (suc k) cells) cells ∙ ap (λ xs. front ++ xs) (repeated_next (suc k) cells) ∙ ap (λ m. front ++ repeated m cells) (sym (add-one (suc k)))
 
 -- ---- cells are scalars
 
@@ -100,19 +121,44 @@ type_whole items t = cells_whole (struct_cells items) (λ x. struct_whole items 
 
 -- ---- arrays
 
-pub array_held : (items : List Item) (t : Ty) (n : ℕ) (row : List Scalar) → Some row ≡ type_layout items t → Some (repeated n row) ≡ type_layout items (TyArray t n)
-array_held items t n row e = go (cells_in (struct_cells items) t) e
+array_layout : (items : List Item) (t : Ty) (n : ℕ) → type_layout items (TyArray t n) ≡ option_map (repeated n) (type_layout items t)
+array_layout items t n = go (cells_in (struct_cells items) t) (type_whole items t)
   where
-    go : (o : Cells) → Some row ≡ held o → Some (repeated n row) ≡ held (o >>= (λ xs. Some (times n xs)))
-    go None e = absurd (cc)
-    go (Some ts) e = sym (scalars_times n ts row (sym e))
+    go : (o : Cells) → Whole o → held (o >>= (λ xs. Some (times n xs))) ≡ option_map (repeated n) (held o)
+    go None h = refl
+    go (Some ts) h = scalars_times n ts h.0 h.1 ∙ ap (option_map (repeated n)) (sym h.1)
 
-pub array_absent : (items : List Item) (t : Ty) (n : ℕ) → None ≡ type_layout items t → None ≡ type_layout items (TyArray t n)
-array_absent items t n e = go (cells_in (struct_cells items) t) (type_whole items t) e
+repeated_sum : (n m : ℕ) (row : List Scalar) → repeated n row ++ repeated m row ≡ repeated (n + m) row
+repeated_sum zero m row = let e : m ≡ 0 + m = omega arith in ap (λ k. repeated k row) e
+repeated_sum (suc n) m row = let e : suc (n + m) ≡ suc n + m = omega arith in append_assoc row (repeated n row) (repeated m row) ∙ ap (λ xs. row ++ xs) (repeated_sum n m row) ∙ ap (λ k. repeated k row) e
+
+repeated_product : (n m : ℕ) (row : List Scalar) → repeated n (repeated m row) ≡ repeated (n * m) row
+repeated_product zero m row = let e : 0 ≡ 0 * m = omega arith in ap (λ k. repeated k row) e
+repeated_product (suc n) m row = let e : m + n * m ≡ suc n * m = omega arith in ap (λ xs. repeated m row ++ xs) (repeated_product n m row) ∙ repeated_sum m (n * m) row ∙ ap (λ k. repeated k row) e
+
+-- an array of what is an array of this
+pub peeled_array : (items : List Item) (t : Ty) (n m : ℕ) (o : Option (List Scalar)) → type_layout items t ≡ option_map (repeated m) o → type_layout items (TyArray t n) ≡ option_map (repeated (n * m)) o
+peeled_array items t n m o e = array_layout items t n ∙ ap (option_map (repeated n)) e ∙ twice o
   where
-    go : (o : Cells) → Whole o → None ≡ held o → None ≡ held (o >>= (λ xs. Some (times n xs)))
-    go None h e = refl
-    go (Some ts) h e = let f : None ≡ Some h.0 = e ∙ h.1 in absurd (cc)
+    twice : (o : Option (List Scalar)) → option_map (repeated n) (option_map (repeated m) o) ≡ option_map (repeated (n * m)) o
+    twice None = refl
+    twice (Some row) = ap Some (repeated_product n m row)
+
+module _ (old : List Scalar) (n : ℕ) (o q : Option (List Scalar)) (is : q ≡ option_map (repeated n) o) where
+  -- what is put behind a row is repeated there
+  pub times_put : (mid new : List Scalar) (start : ℕ) → joined (Some old) o ≡ Some mid → length old ≡ start → ((front cells : List Scalar) → mid ≡ front ++ cells → length front ≡ start → new ≡ front ++ repeated n cells) → joined (Some old) q ≡ Some new
+  times_put mid new start e at told = ap (joined (Some old)) is ∙ go o e
+    where
+      go : (o : Option (List Scalar)) → joined (Some old) o ≡ Some mid → joined (Some old) (option_map (repeated n) o) ≡ Some new
+      go None f = absurd cc
+      go (Some row) f = ap Some (sym (told old row (sym (ap (elim [ Some xs ↦ xs | None ↦ mid ]) f)) at))
+
+  pub times_absent : joined (Some old) o ≡ None → joined (Some old) q ≡ None
+  times_absent e = ap (joined (Some old)) is ∙ go o e
+    where
+      go : (o : Option (List Scalar)) → joined (Some old) o ≡ None → joined (Some old) (option_map (repeated n) o) ≡ None
+      go None f = refl
+      go (Some row) f = absurd cc
 
 -- ---- fields
 
@@ -128,9 +174,10 @@ held_both (Some ts) (Some us) = scalars_both ts us
 fields_next : (items : List Item) (f : Variable) (fs : List Variable) → fields_layout items (f ∷ fs) ≡ joined (type_layout items f.type) (fields_layout items fs)
 fields_next items f fs = held_both (cells_in (struct_cells items) f.type) (fields_cells (struct_cells items) fs)
 
-joined_both : (xs ys : List Scalar) (o : Option (List Scalar)) → joined (Some xs) (joined (Some ys) o) ≡ joined (Some (xs ++ ys)) o
-joined_both xs ys None = refl
-joined_both xs ys (Some zs) = ap Some (sym (append_assoc xs ys zs))
+joined_assoc : (xs : List Scalar) (o p : Option (List Scalar)) → joined (Some xs) (joined o p) ≡ joined (joined (Some xs) o) p
+joined_assoc xs None p = refl
+joined_assoc xs (Some ys) None = refl
+joined_assoc xs (Some ys) (Some zs) = ap Some (sym (append_assoc xs ys zs))
 
 next_field : (fs : List Field) (i : ℕ) (x : Field) → i < length fs → x ≡ get_or fs i x → drop i fs ≡ x ∷ drop (i + 1) fs
 next_field fs i x h is = drop-cons fs i x h ∙ ap (λ y. y ∷ drop (suc i) fs) (sym is) ∙ ap (λ j. x ∷ drop j fs) (sym (add-one i))
@@ -143,13 +190,13 @@ module _ (names : Names) (items : List Item) (fs : List Field) (i : ℕ) (x : Fi
   opened h is = ap (λ gs. joined (Some all) (fields_layout items (map (field_of names) gs))) (next_field fs i x h is) ∙ ap (joined (Some all)) (fields_next items (field_of names x) (map (field_of names) (drop (i + 1) fs)))
 
   -- one that is incomplete
-  pub field_absent : i < length fs → x ≡ get_or fs i x → None ≡ type_layout items (type_of names x.of) → joined (Some all) (fields_layout items (map (field_of names) (drop i fs))) ≡ None
-  field_absent h is e = opened h is ∙ ap (λ o. joined (Some all) (joined o rest)) (sym e)
+  pub field_absent : i < length fs → x ≡ get_or fs i x → joined (Some all) (type_layout items (type_of names x.of)) ≡ None → joined (Some all) (fields_layout items (map (field_of names) (drop i fs))) ≡ None
+  field_absent h is e = opened h is ∙ joined_assoc all (type_layout items (type_of names x.of)) rest ∙ ap (λ o. joined o rest) e
 
   -- one more field behind what is there
-  pub field_held : (row : List Scalar) → i < length fs → x ≡ get_or fs i x → Some row ≡ type_layout items (type_of names x.of)
-      → joined (Some all) (fields_layout items (map (field_of names) (drop i fs))) ≡ joined (Some (all ++ row)) (fields_layout items (map (field_of names) (drop (i + 1) fs)))
-  field_held row h is e = opened h is ∙ ap (λ o. joined (Some all) (joined o rest)) (sym e) ∙ joined_both all row rest
+  pub field_held : (new : List Scalar) → i < length fs → x ≡ get_or fs i x → joined (Some all) (type_layout items (type_of names x.of)) ≡ Some new
+      → joined (Some all) (fields_layout items (map (field_of names) (drop i fs))) ≡ joined (Some new) (fields_layout items (map (field_of names) (drop (i + 1) fs)))
+  field_held new h is e = opened h is ∙ joined_assoc all (type_layout items (type_of names x.of)) rest ∙ ap (λ o. joined o rest) e
 
 pub joined_end : (all : List Scalar) → joined (Some all) (Some []) ≡ Some all
 joined_end all = ap Some (append-nil all)
@@ -158,13 +205,6 @@ pub joined_start : (o : Option (List Scalar)) → o ≡ joined (Some []) o
 joined_start None = refl
 joined_start (Some xs) = refl
 
--- ---- the table
-
--- with one more struct
-pub struct_added : (old new : Layouts) (names : Names) (items : List Item) (t : Name) (fs : List Variable) (row : Option (List Scalar)) → AreApart names → AreLayouts old names items → row ≡ fields_layout items fs
-    → ((x : ℕ) → layout_at new x ≡ cond (t.0 == x) row (layout_at old x)) → AreLayouts new names (StructItem (names t) fs ∷ items)
-struct_added old new names items t fs row apart h e set = record { each = λ tag. set tag.0 ∙ go tag (t.0 == tag.0) ∙ ap (λ b. held (cond b (fields_cells (struct_cells items) fs) (struct_cells items (names tag)))) (sym (apart.told t tag)) }
-  where
-    go : (tag : Name) (b : Bool) → cond b row (layout_at old tag.0) ≡ held (cond b (fields_cells (struct_cells items) fs) (struct_cells items (names tag)))
-    go tag true = e
-    go tag false = h.each tag
+-- a row of its own
+pub of_row : (o r : Option (List Scalar)) (xs : List Scalar) → xs ≡ [] → joined (Some xs) o ≡ r → r ≡ o
+of_row o r xs is e = sym e ∙ ap (λ ys. joined (Some ys) o) is ∙ sym (joined_start o)

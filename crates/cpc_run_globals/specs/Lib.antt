@@ -1,3 +1,5 @@
 pub mod Counts
 pub mod Layouts
+pub mod Places
+pub mod Rows
 pub mod Starts

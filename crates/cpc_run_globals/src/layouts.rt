@@ -1,153 +1,148 @@
 //! What the cells of types hold.
-ghost use Rattle.std.specs.Prelude.{◌≡◌, ℕ, ◌<◌, ◌==◌, List, [], ◌∷◌, Some, None, map, option_map, IfOk, OnOk, length, reverse, if◌then◌else◌};
+ghost use Rattle.std.specs.Prelude.{◌≡◌, ◌∷◌, ◌++◌, ◌<◌, ◌≤◌, List, [], Some, None, map, option_map, slice_get, IfOk, IfSome, OnOk, length, reverse, if◌then◌else◌};
+ghost use Rattle.std.proofs.Props.{props};
+ghost use Rattle.cpc_store.specs.declared.values.Scalar as V;
 ghost use Rattle.cpc_tree.specs.Erase.{Names, type_of, field_of, item_of};
 ghost use Rattle.cpc_tree.specs.Syntax as S;
+ghost use Rattle.cpc_tree.specs.Syntax.{TyStruct};
 ghost use Rattle.cpc_check_rules.specs.Apart.{AreApart};
-ghost use Rattle.cpc_run_globals.specs.Layouts.{AreLayouts, layout_at, type_layout, fields_layout, repeated};
+ghost use Rattle.cpc_run_globals.specs.Rows.{type_layout, element_layout, fields_layout, joined, repeated};
+ghost use Rattle.cpc_run_globals.specs.Places.{EndsBelow, items_before, row_at, item_row, fields_row};
 
+use crate::peeled::{Element, peel};
+use crate::places::{Places, last_struct};
 use cpc_base::{Name, NoMemory};
 use cpc_store::Scalar;
 use cpc_tree::program::{CType, Field, Item};
 use std::alloc::Global;
 
-/// For each name what the cells of the struct hold whose tag it is, or nothing where there is none or it is incomplete.
+/// Where the structs of items stand, by which it is found what the cells of a type hold. Of no struct a row is kept.
 #[derive(Drop)]
-pub struct Layouts {
-    rows: Vec<Option<Vec<Scalar>>>,
+pub struct Layouts<'p> {
+    items: &'p [Item],
+    places: Places,
+    ghost below: { EndsBelow places } by { Prim.hlevel props },
 }
 
-// A row of one cell.
-fn one(alloc: Global, cell: Scalar) -> Result<Option<Vec<Scalar>>, NoMemory>
-    ensures { IfOk result (λ o. option_map (λ row. row.items) o ≡ Some (cell ∷ [])) }
+// The cells of a row from a place on stand there so many times over.
+fn repeat(row: &mut Vec<Scalar>, start: usize, times: u64) -> Result<(), NoMemory>
+    ensures { OnOk result ((front cells : List V.Scalar) → row.old.items ≡ front ++ cells → length front ≡ start → row.new.items ≡ front ++ repeated times cells) }
 {
-    let mut row = Vec::new(alloc);
-    row.push(cell)?;
-    Ok(Some(row))
+    let end = row.len();
+    if times == 0 {
+        row.truncate(start);
+        return Ok(());
+    }
+    if start >= end {
+        return Ok(());
+    }
+    for _round in 1..times {
+        row.extend_from_within(start..end)?;
+    }
+    Ok(())
 }
 
-// A row so many times over.
-fn repeated(alloc: Global, row: &[Scalar], count: u64) -> Result<Vec<Scalar>, NoMemory>
-    ensures { IfOk result (λ all. all.items ≡ repeated count row.now) }
+// The fields of the struct that an item declares; none where it declares none.
+fn fields_of(items: &[Item], place: usize) -> Option<&[Field]>
+    ensures { (names : Names) (b : List S.Item) → item_row names b (slice_get items.now place) ≡ fields_row names b (option_map (λ fs. fs.now) result) }
 {
-    let mut all = Vec::new(alloc);
-    if row.is_empty() {
-        return Ok(all);
+    match items.get(place) {
+        Some(Item::Struct { fields, .. }) => Some(fields),
+        _ => None,
     }
-    for _round in 0..count {
-        all.extend_from_slice(row)?;
-    }
-    Ok(all)
 }
 
-impl Layouts {
-    // No struct is there.
-    fn new(alloc: Global) -> Self
-        ensures { (x : ℕ) → layout_at result x ≡ None }
+impl<'p> Layouts<'p> {
+    ghost use Rattle.cpc_run_globals.specs.Layouts.{AreLayouts};
+
+    // The place of a struct that holds what the last struct of a tag among the first items does, of which there are so many.
+    fn find(&self, tag: Name, before: usize) -> Option<usize>
+        requires { before ≤ length self.now.items.now }
+        ensures earlier { IfSome result (λ place. place < before) }
+        ensures row { (names : Names) (items : List S.Item) → AreLayouts self.now names items → row_at names self.now.items.now result ≡ type_layout (items_before names self.now.items.now before) (TyStruct (names tag)) }
     {
-        Layouts {
-            rows: Vec::new(alloc),
+        let last = self.places.last(tag)?;
+        if last < before {
+            return Some(self.places.end(last));
         }
+        last_struct(self.items, tag, before)
     }
 
-    // What the struct of a tag holds.
-    fn at(&self, tag: Name) -> Option<&[Scalar]>
-        ensures { option_map (λ row. row.now) result ≡ layout_at self.now tag.0 }
+    // What the cells of a type hold that stands behind so many items is put behind a row; false where it is incomplete.
+    #[cycle(put)]
+    fn put(&self, before: usize, of: &CType, row: &mut Vec<Scalar>) -> Result<bool, NoMemory>
+        requires { before ≤ length self.now.items.now }
+        ensures { IfOk result (λ there. (names : Names) (items : List S.Item) → AreLayouts self.now names items
+            → joined (Some row.old.items) (type_layout (items_before names self.now.items.now before) (type_of names of.now)) ≡ (if there then Some row.new.items else None)) }
     {
-        match self.rows.get(tag.0 as usize) {
-            Some(Some(row)) => Some(row),
-            _ => None,
+        let peeled = peel(of)?;
+        let start = row.len();
+        if !self.put_element(before, peeled.element, row)? {
+            return Ok(false);
         }
+        repeat(row, start, peeled.times)?;
+        Ok(true)
     }
 
-    // A copy of what the struct of a tag holds.
-    fn copied(&self, alloc: Global, tag: Name) -> Result<Option<Vec<Scalar>>, NoMemory>
-        ensures { IfOk result (λ o. option_map (λ row. row.items) o ≡ layout_at self.now tag.0) }
+    // The same of a type that is no array.
+    #[cycle(put)]
+    fn put_element(
+        &self,
+        before: usize,
+        element: Element,
+        row: &mut Vec<Scalar>,
+    ) -> Result<bool, NoMemory>
+        requires { before ≤ length self.now.items.now }
+        ensures { IfOk result (λ there. (names : Names) (items : List S.Item) → AreLayouts self.now names items
+            → joined (Some row.old.items) (element_layout names (items_before names self.now.items.now before) element) ≡ (if there then Some row.new.items else None)) }
     {
-        match self.at(tag) {
-            Some(row) => {
-                let mut copy = Vec::new(alloc);
-                copy.extend_from_slice(row)?;
-                Ok(Some(copy))
+        match element {
+            Element::Incomplete => Ok(false),
+            Element::Cell(scalar) => {
+                row.push(scalar)?;
+                Ok(true)
             }
-            None => Ok(None),
+            Element::Struct(tag) => match self.find(tag, before) {
+                Some(place) => self.put_fields(place, row),
+                None => Ok(false),
+            },
         }
+    }
+
+    // The same of the struct that stands at a place.
+    #[cycle(put)]
+    fn put_fields(&self, place: usize, row: &mut Vec<Scalar>) -> Result<bool, NoMemory>
+        requires { place < length self.now.items.now }
+        ensures { IfOk result (λ there. (names : Names) (items : List S.Item) → AreLayouts self.now names items
+            → joined (Some row.old.items) (row_at names self.now.items.now (Some place)) ≡ (if there then Some row.new.items else None)) }
+    {
+        let Some(fields) = fields_of(self.items, place) else {
+            return Ok(false);
+        };
+        for field in fields {
+            if !self.put(place, &field.of, row)? {
+                return Ok(false);
+            }
+        }
+        Ok(true)
     }
 
     /// What the cells of a type hold, in order; nothing where it is incomplete. `NoMemory` is want of memory.
     pub fn of_type(&self, alloc: Global, of: &CType) -> Result<Option<Vec<Scalar>>, NoMemory>
         ensures { IfOk result (λ o. (names : Names) (items : List S.Item) → AreLayouts self.now names items → option_map (λ row. row.items) o ≡ type_layout items (type_of names of.now)) }
     {
-        match of {
-            CType::Void => Ok(None),
-            CType::Int(kind) => one(alloc, Scalar::Int(*kind)),
-            CType::Condvar => one(alloc, Scalar::Cond),
-            CType::Pointer(_) => one(alloc, Scalar::Pointer),
-            CType::Code { .. } => one(alloc, Scalar::Code),
-            CType::Struct(tag) => self.copied(alloc, *tag),
-            CType::Array(of, count) => match self.of_type(alloc, of)? {
-                Some(row) => Ok(Some(repeated(alloc, &row, *count)?)),
-                None => Ok(None),
-            },
+        let mut row = Vec::new(alloc);
+        if self.put(self.items.len(), of, &mut row)? {
+            return Ok(Some(row));
         }
+        Ok(None)
     }
 
-    // What the cells of fields hold, in order; nothing where one is incomplete.
-    fn of_fields(&self, alloc: Global, fields: &[Field]) -> Result<Option<Vec<Scalar>>, NoMemory>
-        ensures { IfOk result (λ o. (names : Names) (items : List S.Item) → AreLayouts self.now names items → option_map (λ row. row.items) o ≡ fields_layout items (map (field_of names) fields.now)) }
-    {
-        let mut all = Vec::new(alloc);
-        for field in fields {
-            match self.of_type(alloc, &field.of)? {
-                Some(row) => all.extend_from_slice(&row)?,
-                None => return Ok(None),
-            }
-        }
-        Ok(Some(all))
-    }
-
-    // Makes room for a name.
-    #[tactic(auto, using(std::proofs::lemmas::Grind::common_steps, crate::proofs::Rows::more_room))]
-    fn admit(&mut self, tag: Name) -> Result<(), NoMemory>
-        ensures same { OnOk result ((x : ℕ) → layout_at self.new x ≡ layout_at self.old x) }
-        ensures room { OnOk result (tag.0 < length self.new.rows.items) }
-    {
-        while self.rows.len() as u64 <= tag.0 {
-            self.rows.push(None)?;
-        }
-        Ok(())
-    }
-
-    // The struct of a tag holds this, whatever it held before.
-    #[tactic(auto, using(std::proofs::lemmas::Grind::common_steps, crate::proofs::Rows::one_set))]
-    fn set(&mut self, tag: Name, row: Option<Vec<Scalar>>) -> Result<(), NoMemory>
-        ensures { OnOk result ((x : ℕ) → layout_at self.new x ≡ (if tag.0 == x then option_map (λ row. row.items) row else layout_at self.old x)) }
-    {
-        self.admit(tag)?;
-        self.rows[tag.0 as usize] = row;
-        Ok(())
-    }
-
-    // The struct that an item declares, if it is one, is there after all those before it.
-    fn add(&mut self, alloc: Global, item: &Item) -> Result<(), NoMemory>
-        ensures { OnOk result ((names : Names) → AreApart names → (items : List S.Item) → AreLayouts self.old names items → AreLayouts self.new names (item_of names item.now ∷ items)) }
-    {
-        match item {
-            Item::Struct { tag, fields } => {
-                let row = self.of_fields(alloc, fields)?;
-                self.set(tag.name, row)
-            }
-            _ => Ok(()),
-        }
-    }
-
-    /// What the structs of these items hold. `NoMemory` is want of memory.
-    pub fn of(alloc: Global, items: &[Item]) -> Result<Layouts, NoMemory>
+    /// Where the structs of these items stand. `NoMemory` is want of memory.
+    pub fn of(alloc: Global, items: &'p [Item]) -> Result<Layouts<'p>, NoMemory>
         ensures { IfOk result (λ layouts. (names : Names) → AreApart names → AreLayouts layouts names (reverse (map (item_of names) items.now))) }
     {
-        let mut layouts = Layouts::new(alloc);
-        for item in items {
-            layouts.add(alloc, item)?;
-        }
-        Ok(layouts)
+        let places = Places::of(alloc, items)?;
+        Ok(Layouts { items, places })
     }
 }

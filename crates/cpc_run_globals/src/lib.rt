@@ -4,6 +4,8 @@
 mod counts;
 mod layouts;
 mod making;
+mod peeled;
+mod places;
 mod starts;
 
 pub use counts::global_cells;

@@ -41,7 +41,12 @@ pub fn make_block(alloc: Global, cells: &[Value], store: &mut Store) -> Result<(
 }
 
 // Makes the block of the global that an item declares, if it declares one; false where its type is incomplete.
-fn add(alloc: Global, item: &Item, layouts: &Layouts, store: &mut Store) -> Result<bool, NoMemory>
+fn add(
+    alloc: Global,
+    item: &Item,
+    layouts: &Layouts<'_>,
+    store: &mut Store,
+) -> Result<bool, NoMemory>
     ensures { IfOk result (λ done. (names : Names) (p rest : List T.Item) → AreLayouts layouts.now names (reverse p)
         → M.make_globals p (item_of names item.now ∷ rest) (store_of names store.old) ≡ (if done then M.make_globals p rest (store_of names store.new) else A.NoAnswer)) }
 {

@@ -53,7 +53,7 @@ fn copied(alloc: Global, job: &Job) -> Result<Job, NoMemory>
 #[derive(Drop)]
 pub struct Jobs<'p> {
     program: &'p Program,
-    layouts: Layouts,
+    layouts: Layouts<'p>,
     bound: u64,
     out: Out,
 }
