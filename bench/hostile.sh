@@ -148,6 +148,8 @@ awk -v folder="$room" '
     text("structs", 0, "", "struct s@{int a;};", program)
     text("fields", 0, "struct s{int a;", "int a@;", "};struct s v;" program)
     text("structs-in-structs", 0, "struct s0{int a;};", "struct s@{struct s# a;};", "struct s@ v;" program)
+    text("structs-full", 0, "struct s0{char a[65536];};", "struct s@{struct s# a;};", "struct s@ v;" program)
+    text("structs-of-two", 0, "struct s0{int a;};", "struct s@{struct s# a;int b;};", "struct s@ v[8];" program)
     text("functions", 0, "", "int f@(void){return @;}", program)
     text("calls-of-calls", 0, "int f0(int n){return n;}", "int f@(int n){int x;x=f#(n);return x;}", "int main(void){int x;x=f@(7);cpc_print(x);return 0;}")
     for (at = 1; at <= 254; at++) named = named "int a" at ","
