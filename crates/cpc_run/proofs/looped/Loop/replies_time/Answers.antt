@@ -15,5 +15,5 @@ returns-clause-did c = λ names fits printed s acted.
     let l = c.args.self.now in
     let same : to_z w128 c.now.result ≡ pos c.now.result = grind (arith, ints, to_z_pos) in
     subst (λ n. Did names c.reply.result c.reply.new.self printed s (settles names l s (reply (trees (program_in names l)) (stack_in names l.machine) (Whole Long (pos n)) s)))
-    (c.now.ensures names ∙ acted.lists.agenda.now)
+    (c.now.ensures.value names ∙ acted.lists.agenda.now)
     (subst (λ z. Did names c.reply.result c.reply.new.self printed s (settles names l s (reply (trees (program_in names l)) (stack_in names l.machine) (Whole Long z) s))) same (c.reply.ensures.did names fits printed s s acted))
