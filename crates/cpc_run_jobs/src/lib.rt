@@ -1,4 +1,4 @@
-//! The sections that are out: what was submitted and what no poll has told, with what runs them.
+//! The sections that are out: those that were submitted and that no poll has told. What runs them is lent to each call.
 #![tactic(auto)]
 
 mod ends;
