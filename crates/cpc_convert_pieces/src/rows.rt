@@ -1,5 +1,5 @@
 //! The rows of a piece, as statements.
-ghost use Rattle.std.specs.Prelude.{◌≡◌, ◌<◌, ℕ, suc, ◌++◌, false, None, All, option_map, map, length, get_or, slice_get, OnOk};
+ghost use Rattle.std.specs.Prelude.{◌≡◌, ◌<◌, ℕ, suc, ◌++◌, None, All, option_map, map, length, slice_get, OnOk};
 ghost use Rattle.cpc_tree.specs.Erase as E;
 ghost use Rattle.cpc_tree.specs.Erase.{Table};
 ghost use Rattle.cpc_tree.specs.Syntax as S;
@@ -12,12 +12,13 @@ ghost use Rattle.cpc_convert_names.specs.Called.{nodes_in};
 ghost use Rattle.cpc_convert_lines.specs.Around.{Stands, IsNode};
 ghost use Rattle.cpc_convert_lines.specs.Written.{written, puts};
 ghost use Rattle.cpc_convert_pieces.specs.Labels.{label_where};
+ghost use Rattle.cpc_convert_rows.specs.Marks.{is_set};
 ghost use Rattle.cpc_convert_rows.specs.Steps.{IsStepped};
 
 use cpc_base::NoMemory;
 use cpc_convert_lines::{Around, Out};
 use cpc_convert_nodes::{node, stub};
-use cpc_convert_rows::Stepped;
+use cpc_convert_rows::{Stepped, is_marked};
 use cpc_forms_code::Owner;
 use cpc_tree::program::Word;
 use std::alloc::Global;
@@ -83,16 +84,6 @@ fn behind(numbers: &[usize], place: usize) -> Option<usize>
     numbers.get(place + 1).copied()
 }
 
-// Whether a row wants a label, by marks.
-fn is_wanted(marks: &[bool], number: usize) -> bool
-    ensures { number < length marks.now → result ≡ get_or marks.now number false }
-{
-    match marks.get(number) {
-        Some(is_set) => *is_set,
-        None => false,
-    }
-}
-
 /// The rows of a piece of these numbers, which want labels where they are marked. `NoMemory` is want of memory.
 pub(crate) fn write_rows(
     alloc: Global,
@@ -101,16 +92,16 @@ pub(crate) fn write_rows(
     stepped: &Stepped<'_>,
     owner: Owner,
     numbers: &[usize],
-    marks: &[bool],
+    marks: &[u8],
 ) -> Result<(), NoMemory>
     ensures { OnOk result ((source : Table) (from to : E.Names) (p : S.Program) (r : Routine) → Stands source from to p r around.entry → IsStepped r stepped.now → All (IsNode around.entry) numbers.now
-        → length marks.now ≡ length (nodes_in around.entry.called.now.lifted.now) → ((k : ℕ) → k < length marks.now → get_or marks.now k false ≡ R.is_wanted k (R.put_rows (map (R.row_of p r (place_of owner)) numbers.now)))
+        → length marks.now ≡ length (nodes_in around.entry.called.now.lifted.now) → ((k : ℕ) → k < length marks.now → is_set marks.now k ≡ R.is_wanted k (R.put_rows (map (R.row_of p r (place_of owner)) numbers.now)))
         → (written to out.old).label ≡ None
         → written to out.new ≡ record { done = (written to out.old).done ++ R.rows_statements (R.put_rows (map (R.row_of p r (place_of owner)) numbers.now)) (R.put_rows (map (R.row_of p r (place_of owner)) numbers.now)); label = None }) }
 {
     for place in 0..numbers.len() {
         let number = numbers[place];
-        let ways = (behind(numbers, place), is_wanted(marks, number));
+        let ways = (behind(numbers, place), is_marked(marks, number));
         row(alloc, out, around, stepped, owner, number, ways)?;
     }
     Ok(())

@@ -1,5 +1,5 @@
 -- What a piece reaches, and the leaders among it.
-use Rattle.std.proofs.Common.{◌≡◌, ℕ, ◌+◌, ◌<◌, not, Bool, true, List, [], ◌∷◌, ◌++◌, length, take, slice_get, get_or, Option, Some, None, option_map, refl, sym, ◌∙◌, ap, subst}
+use Rattle.std.proofs.Common.{◌≡◌, ℕ, ◌+◌, ◌<◌, not, true, List, [], ◌∷◌, ◌++◌, length, take, slice_get, get_or, Option, Some, None, option_map, refl, sym, ◌∙◌, ap, subst}
 use Rattle.std.proofs.lemmas.List.{append_assoc, take_more, length-map}
 use Rattle.std.proofs.lemmas.Option.{slice_get-map}
 use Rattle.cpc_forms.specs.Graph.{Node, at_node}
@@ -49,11 +49,11 @@ step_read r s n o is e =
     go (Some node) = refl
 
 -- three marks at once
-pub marked_three : (marks : List Bool) (ns a b c : List ℕ) → AreMarked marks (((ns ++ a) ++ b) ++ c) → AreMarked marks (ns ++ (a ++ (b ++ c)))
+pub marked_three : (marks : List ℕ) (ns a b c : List ℕ) → AreMarked marks (((ns ++ a) ++ b) ++ c) → AreMarked marks (ns ++ (a ++ (b ++ c)))
 marked_three marks ns a b c = subst (AreMarked marks) (append_assoc (ns ++ a) b c ∙ append_assoc ns a (b ++ c))
 
 -- the marks of where control goes on
-pub marked_onwards : (r : Routine) (n : ℕ) (s : Step) (marks : List Bool) (ns : List ℕ) → s ≡ step_at r n → AreMarked marks (((ns ++ as_list s.yes) ++ as_list s.no) ++ as_list s.behind)
+pub marked_onwards : (r : Routine) (n : ℕ) (s : Step) (marks : List ℕ) (ns : List ℕ) → s ≡ step_at r n → AreMarked marks (((ns ++ as_list s.yes) ++ as_list s.no) ++ as_list s.behind)
     → AreMarked marks (ns ++ at_node [] (onwards r) (slice_get r.split.graph.nodes n))
 marked_onwards r n s marks ns e are =
     subst (λ x. AreMarked marks (ns ++ x)) (ap step_leads e ∙ sym (onwards_of r n))

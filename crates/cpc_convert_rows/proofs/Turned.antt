@@ -141,7 +141,7 @@ ordered s l m b owned a d e f first own so i j k h =
     ∙ (sym (turned_by test m ns) ∙ ap (λ n. turned n (chosen test (fronted n ns))) first))))
 
 -- one leader more
-pub leader_more : (l : Place) (r : Routine) (marks : List Bool) (nodes leaders all new : List ℕ) (i count : ℕ) (b : Bool)
+pub leader_more : (l : Place) (r : Routine) (marks : List ℕ) (nodes leaders all new : List ℕ) (i count : ℕ) (b : Bool)
     → (length marks ≡ count) → All (λ n. n < count) leaders → i < length leaders
     → nodes ≡ rows_nodes r.split l → AreMarked marks (first_of r.split l ∷ onwards_all r nodes)
     → ((ns : List ℕ) → AreMarked marks ns → get_or leaders i 0 < length marks → b ≡ (holds_number ns (get_or leaders i 0) && not (is_own r.split l (get_or leaders i 0))))
@@ -154,7 +154,7 @@ leader_more l r marks nodes leaders all new i count b long led lt are marked is 
     chosen_left (λ n. holds_number (reached r l) n && not (is_own r.split l n)) leaders i all new lt (e ∙ ap (λ c. all ++ number_where c n) (is (reached r l) here within))
 
 -- the same, where code sees the marks and the leaders as slices
-pub leader_seen : (l : Place) (r : Routine) (ms marks : List Bool) (nodes ls leaders all new : List ℕ) (i count : ℕ) (b : Bool) → ms ≡ marks → ls ≡ leaders
+pub leader_seen : (l : Place) (r : Routine) (ms marks : List ℕ) (nodes ls leaders all new : List ℕ) (i count : ℕ) (b : Bool) → ms ≡ marks → ls ≡ leaders
     → (length marks ≡ count) → All (λ n. n < count) leaders → i < length leaders
     → nodes ≡ rows_nodes r.split l → AreMarked marks (first_of r.split l ∷ onwards_all r nodes)
     → ((ns : List ℕ) → AreMarked ms ns → get_or ls i 0 < length ms → b ≡ (holds_number ns (get_or ls i 0) && not (is_own r.split l (get_or ls i 0))))

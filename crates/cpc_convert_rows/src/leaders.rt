@@ -16,7 +16,7 @@ use cpc_forms_code::Owner;
 use std::alloc::Global;
 
 // The numbers to which control goes on from a node are marked.
-fn mark_onwards(marks: &mut Vec<bool>, stepped: &Stepped<'_>, node: usize)
+fn mark_onwards(marks: &mut Vec<u8>, stepped: &Stepped<'_>, node: usize)
     ensures long { length marks.new.items ≡ length marks.old.items }
     ensures marks { (r : Routine) (ns : List ℕ) → IsStepped r stepped.now → AreMarked marks.old.items ns → AreMarked marks.new.items (ns ++ at_node [] (R.onwards r) (slice_get r.split.graph.nodes node)) }
 {
@@ -32,7 +32,7 @@ fn reached(
     stepped: &Stepped<'_>,
     owner: Owner,
     nodes: &[usize],
-) -> Result<Vec<bool>, NoMemory>
+) -> Result<Vec<u8>, NoMemory>
     ensures long { IfOk result (λ marks. length marks.items ≡ length stepped.now.steps.items) }
     ensures marks { IfOk result (λ marks. (r : Routine) → IsStepped r stepped.now → AreMarked marks.items (F.first_of r.split (place_of owner) ∷ R.onwards_all r nodes.now)) }
 {
@@ -45,7 +45,7 @@ fn reached(
 }
 
 // Whether a leader is marked, and another owner than this one owns it.
-fn is_other(stepped: &Stepped<'_>, owner: Owner, marks: &[bool], leader: usize) -> bool
+fn is_other(stepped: &Stepped<'_>, owner: Owner, marks: &[u8], leader: usize) -> bool
     ensures { (r : Routine) (ns : List ℕ) → IsStepped r stepped.now → AreMarked marks.now ns → leader < length marks.now → result ≡ (holds_number ns leader && not (R.is_own r.split (place_of owner) leader)) }
 {
     is_marked(marks, leader) && !stepped.is_own(owner, leader)

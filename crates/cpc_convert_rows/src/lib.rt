@@ -14,6 +14,7 @@ mod wanted;
 
 pub use flags::{any_returns, any_waits};
 pub use leaders::other_leaders;
+pub use marks::is_marked;
 pub use numbers::row_numbers;
 pub use rows::row_nodes;
 pub use stepped::Stepped;

@@ -17,7 +17,7 @@ use std::alloc::Global;
 #[derive(Drop)]
 struct Placed {
     all: Vec<usize>,
-    marks: Vec<bool>,
+    marks: Vec<u8>,
 }
 
 impl Placed {
@@ -33,7 +33,7 @@ impl Placed {
     }
 
     // One more number, if it is one of these leaders and has no place yet. `NoMemory` is want of memory.
-    fn add_leader(&mut self, leaders: &[bool], number: usize) -> Result<(), NoMemory>
+    fn add_leader(&mut self, leaders: &[u8], number: usize) -> Result<(), NoMemory>
         ensures long { OnOk result (length self.new.marks.items ≡ length self.old.marks.items) }
         ensures marks { OnOk result (AreMarked self.old.marks.items self.old.all.items → AreMarked self.new.marks.items self.new.all.items) }
         ensures all { OnOk result ((stubs : List ℕ) → AreMarked leaders.now stubs → length self.old.marks.items ≡ length leaders.now → AreLeaders (length leaders.now) stubs → AreMarked self.old.marks.items self.old.all.items
@@ -49,7 +49,7 @@ impl Placed {
     }
 
     // The same, where there may be none. `NoMemory` is want of memory.
-    fn add_some(&mut self, leaders: &[bool], to: Option<usize>) -> Result<(), NoMemory>
+    fn add_some(&mut self, leaders: &[u8], to: Option<usize>) -> Result<(), NoMemory>
         ensures long { OnOk result (length self.new.marks.items ≡ length self.old.marks.items) }
         ensures marks { OnOk result (AreMarked self.old.marks.items self.old.all.items → AreMarked self.new.marks.items self.new.all.items) }
         ensures all { OnOk result ((stubs : List ℕ) → AreMarked leaders.now stubs → length self.old.marks.items ≡ length leaders.now → AreLeaders (length leaders.now) stubs → AreMarked self.old.marks.items self.old.all.items
@@ -65,7 +65,7 @@ impl Placed {
     fn add_node(
         &mut self,
         stepped: &Stepped<'_>,
-        leaders: &[bool],
+        leaders: &[u8],
         node: usize,
     ) -> Result<(), NoMemory>
         ensures long { OnOk result (length self.new.marks.items ≡ length self.old.marks.items) }

@@ -1,9 +1,10 @@
 //! Which rows of a piece want a label.
-ghost use Rattle.std.specs.Prelude.{◌≡◌, ℕ, suc, slice_get, ◌<◌, ◌||◌, false, map, length, get_or, IfOk};
+ghost use Rattle.std.specs.Prelude.{◌≡◌, ℕ, suc, slice_get, ◌<◌, ◌||◌, map, length, IfOk};
 ghost use Rattle.cpc_tree.specs.Syntax.{Program};
 ghost use Rattle.cpc_forms_code.specs.Splits.{place_of};
 ghost use Rattle.cpc_convert_event.specs.Routines.{Routine};
 ghost use Rattle.cpc_convert_event.specs.Rows as R;
+ghost use Rattle.cpc_convert_rows.specs.Marks.{is_set};
 ghost use Rattle.cpc_convert_rows.specs.Steps.{IsStepped};
 ghost use Rattle.cpc_convert_rows.specs.Ways.{jumps_to};
 
@@ -24,9 +25,9 @@ fn is_next(number: usize, following: Option<usize>) -> bool
 }
 
 // The number to which lines fall is marked, unless it stands next.
-fn mark_fall(marks: &mut Vec<bool>, falls: Option<usize>, following: Option<usize>)
+fn mark_fall(marks: &mut Vec<u8>, falls: Option<usize>, following: Option<usize>)
     ensures long { length marks.new.items ≡ length marks.old.items }
-    ensures each { (k : ℕ) → k < length marks.old.items → get_or marks.new.items k false ≡ (get_or marks.old.items k false || jumps_to k following falls) }
+    ensures each { (k : ℕ) → k < length marks.old.items → is_set marks.new.items k ≡ (is_set marks.old.items k || jumps_to k following falls) }
 {
     if let Some(number) = falls {
         if is_next(number, following) {
@@ -38,7 +39,7 @@ fn mark_fall(marks: &mut Vec<bool>, falls: Option<usize>, following: Option<usiz
 
 // The numbers to which the lines of a row lead are marked.
 fn mark_row(
-    marks: &mut Vec<bool>,
+    marks: &mut Vec<u8>,
     stepped: &Stepped<'_>,
     owner: Owner,
     number: usize,
@@ -46,7 +47,7 @@ fn mark_row(
 )
     ensures long { length marks.new.items ≡ length marks.old.items }
     ensures each { (p : Program) (r : Routine) (k : ℕ) → IsStepped r stepped.now → k < length marks.old.items
-        → get_or marks.new.items k false ≡ (get_or marks.old.items k false || R.any_leads k (R.put_lines following (R.row_of p r (place_of owner) number).lines)) }
+        → is_set marks.new.items k ≡ (is_set marks.old.items k || R.any_leads k (R.put_lines following (R.row_of p r (place_of owner) number).lines)) }
 {
     if stepped.is_own(owner, number) {
         let step = stepped.step(number);
@@ -63,17 +64,17 @@ fn behind(numbers: &[usize], place: usize) -> Option<usize>
     numbers.get(place + 1).copied()
 }
 
-/// For each number whether the row of it wants a label in the piece of an owner that has rows of these numbers. `NoMemory` is want of
+/// Marks of the numbers whose rows want a label in the piece of an owner that has rows of these numbers. `NoMemory` is want of
 /// memory.
 pub fn wanted_rows(
     alloc: Global,
     stepped: &Stepped<'_>,
     owner: Owner,
     numbers: &[usize],
-) -> Result<Vec<bool>, NoMemory>
+) -> Result<Vec<u8>, NoMemory>
     ensures long { IfOk result (λ marks. length marks.items ≡ length stepped.now.steps.items) }
     ensures marks { IfOk result (λ marks. (p : Program) (r : Routine) (k : ℕ) → IsStepped r stepped.now → k < length marks.items
-        → get_or marks.items k false ≡ R.is_wanted k (R.put_rows (map (R.row_of p r (place_of owner)) numbers.now))) }
+        → is_set marks.items k ≡ R.is_wanted k (R.put_rows (map (R.row_of p r (place_of owner)) numbers.now))) }
 {
     let mut marks = unmarked(alloc, stepped.steps.len())?;
     for place in 0..numbers.len() {

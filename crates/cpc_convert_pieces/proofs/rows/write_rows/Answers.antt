@@ -13,8 +13,8 @@ loop-place-preserved c = λ source from to p r st is all long marks none.
     let w = c.in_ok-row.ensures source from to p r st is (all i 0 (omega arith)) in
     let within : n < length c.args.marks.now = subst (λ k. n < k) (sym long) (all i 0 (omega arith)) in (
       ap (λ (x : Written). x.label) w,
-      row_more p r (place_of c.args.owner) ns i (put_rows (map (row_of p r (place_of c.args.owner)) ns)) (written to c.loop-place.out).done _ c.behind.result c.is_wanted.result (omega arith) c.behind.ensures
-          (c.is_wanted.ensures within ∙ marks n within) (ap (λ (x : Written). x.done) w)
+      row_more p r (place_of c.args.owner) ns i (put_rows (map (row_of p r (place_of c.args.owner)) ns)) (written to c.loop-place.out).done _ c.behind.result c.is_marked.result (omega arith) c.behind.ensures
+          (c.is_marked.ensures.set ∙ marks n within) (ap (λ (x : Written). x.done) w)
           ∙ (c.loop-place.invariant source from to p r st is all long marks none).1,
     )
 

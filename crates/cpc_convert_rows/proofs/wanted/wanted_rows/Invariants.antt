@@ -1,8 +1,9 @@
-use Rattle.std.proofs.Common.{◌≡◌, ℕ, ◌<◌, ◌||◌, false, drop, map, length, get_or}
+use Rattle.std.proofs.Common.{◌≡◌, ℕ, ◌<◌, ◌||◌, drop, map, length}
 use Rattle.cpc_tree.specs.Syntax.{Program}
 use Rattle.cpc_forms_code.specs.Splits.{place_of}
 use Rattle.cpc_convert_event.specs.Routines.{Routine}
 use Rattle.cpc_convert_event.specs.Rows.{row_of, put_rows, is_wanted}
+use Rattle.cpc_convert_rows.specs.Marks.{is_set}
 use Rattle.cpc_convert_rows.specs.Steps.{IsStepped}
 use Rattle.cpc_convert_rows.proofs.wanted.wanted_rows.Given as goal
 
@@ -11,5 +12,5 @@ abbrev pub invariant-loop-place : goal.invariant-loop-place
 invariant-loop-place l = record {
   long : length l.marks.items ≡ length l.stepped.steps.items;
   marks : (p : Program) (r : Routine) (k : ℕ) → IsStepped r l.stepped → k < length l.marks.items
-      → (get_or l.marks.items k false || is_wanted k (put_rows (map (row_of p r (place_of l.fn.owner)) (drop l.place l.numbers)))) ≡ is_wanted k (put_rows (map (row_of p r (place_of l.fn.owner)) l.numbers));
+      → (is_set l.marks.items k || is_wanted k (put_rows (map (row_of p r (place_of l.fn.owner)) (drop l.place l.numbers)))) ≡ is_wanted k (put_rows (map (row_of p r (place_of l.fn.owner)) l.numbers));
 }
