@@ -22,6 +22,7 @@ use Rattle.cpc_check_laws.proofs.NativeValues.{both_none}
 use Rattle.cpc_check_laws.proofs.OnePlace.{here, ident_here, stmt_here, stmts_here}
 use Rattle.cpc_convert_chain_laws.specs.Flat.{before, is_plain, is_line, is_flat}
 use Rattle.cpc_convert_chain_laws.specs.Frames.{Load, loads_one, declares_one, opens_frame}
+use Rattle.cpc_convert_chain_laws.proofs.Rows.{before_append}
 use Rattle.cpc_check_complete_laws.specs.Sets.{Sets}
 use Rattle.cpc_check_complete_laws.specs.Flat.{named_at, all_named_at, called, Runs, NoRow, AndDeclare, AndLine, NoneOf, NoText, AndOther, Distinct, AndDistinct, OneOf, IsFirst, IsLater, AllOf, NoneAsked, AndKnown, names_of, line_labels, plain_gotos, line_gotos, labels_of, gotos_of, line_locals, locals_of, all_flat, NoneKept, NoneIsKept, AndUnkept, loaded, Loadable, NoLoad, AndLoad, AllHaveCells, NoCells, AndCells, Fresh, NoFresh, AndFresh}
 use Rattle.cpc_check_complete_laws.specs.Laws.{FlatFine}
@@ -34,7 +35,7 @@ distinct_parts : (x : Text) (xs : List Text) → Distinct (x ∷ xs) → NoneOf 
 distinct_parts _ _ (AndDistinct x xs n d) = (n, d)
 
 -- a text that is none of these is apart from each of them
-none_apart : (x y : Text) (ys : List Text) → NoneOf x ys → OneOf y ys → bytes_eq x y ≡ false
+pub none_apart : (x y : Text) (ys : List Text) → NoneOf x ys → OneOf y ys → bytes_eq x y ≡ false
 none_apart x y _ (AndOther z ys e n) (IsFirst _ _ i) = texts_differ x y (λ (k : x ≡ y). by_false_true (sym e ∙ (let j : z ≡ y = same_text z y i in ap (λ a. bytes_eq a x) j ∙ ap (λ a. bytes_eq y a) k ∙ text_same y)))
 none_apart x y _ (AndOther z ys e n) (IsLater _ _ o) = none_apart x y ys n o
 none_apart x y _ NoText o = elim o [ ]
@@ -154,16 +155,12 @@ opens_run v k e tag j ls ds h apart fresh loads cells =
     AndDeclare v (all_named_at v (opened e tag ls ds)) e (TyPointer (TyStruct tag)) (Some (ENamed k)) (map (loads_one e) ls ++ map declares_one ds) g.0 refl (start_fine u e (TyPointer (TyStruct tag)) (ENamed k) sets)
     (subst (Runs u (map (loads_one e) ls ++ map declares_one ds)) (sym (named_both u (map loaded ls) ds)) (runs_both u (all_named_at u (map loaded ls)) (all_named_at (all_named_at u (map loaded ls)) ds) (map (loads_one e) ls) (map declares_one ds) first second))
 
-before_both : (ss rs : List Stmt) (rest : Stmts) → before (ss ++ rs) rest ≡ before ss (before rs rest)
-before_both [] rs rest = refl
-before_both (s ∷ ss) rs rest = ap (AndStmt s) (before_both ss rs rest)
-
 -- so its body breaks none, where what stands behind the opening breaks none
 pub opens_fine : (v : Where) (k e tag : Text) (j : ℕ) (ls : List Load) (ds : List Variable) (rest : Stmts) → meant v.scope k ≡ ALocal j any_pointer → bytes_eq e k ≡ false → Fresh v.scope.blocks (opened e tag ls ds)
     → Loadable v.scope.items tag e ls → AllHaveCells v.scope.items ds
     → stmts_breaks (all_named_at v (opened e tag ls ds)) (stmts_here rest) ≡ [] → stmts_breaks v (stmts_here (opens_frame k e tag ls ds rest)) ≡ []
 opens_fine v k e tag j ls ds rest h apart fresh loads cells fine =
-    subst (λ ss. stmts_breaks v (stmts_here (AndStmt (Declare e (TyPointer (TyStruct tag)) (Some (ENamed k))) ss)) ≡ []) (before_both (map (loads_one e) ls) (map declares_one ds) rest)
+    subst (λ ss. stmts_breaks v (stmts_here (AndStmt (Declare e (TyPointer (TyStruct tag)) (Some (ENamed k))) ss)) ≡ []) (before_append (map (loads_one e) ls) (map declares_one ds) rest)
     (rows_fine v (all_named_at v (opened e tag ls ds)) (Declare e (TyPointer (TyStruct tag)) (Some (ENamed k)) ∷ (map (loads_one e) ls ++ map declares_one ds)) rest (opens_run v k e tag j ls ds h apart fresh loads cells) fine)
 
 -- ---- fresh names

@@ -15,13 +15,14 @@ use Rattle.cpc_check_rules.specs.FunctionRules.{repeated, reserved_breaks, param
 use Rattle.cpc_check_rules.specs.ItemRules.{Signature, declared_breaks, types, cps_breaks, parameters_breaks, sized_breaks, outside, parameter_block, in_body, body_breaks, function_breaks}
 use Rattle.cpc_check_laws.proofs.NativeValues.{both_none, cpc, event}
 use Rattle.cpc_check_laws.proofs.OnePlace.{here, ident_here, stmt_here, parameter_here, function_here, item_again}
+use Rattle.cpc_check_laws.proofs.NativeItems.{reserved_native, parameters_native}
 use Rattle.cpc_check_sound_laws.proofs.Unbroken.{split, holds_then}
 use Rattle.cpc_convert.specs.Converted.{respawned}
 use Rattle.cpc_check_complete_laws.specs.Kept.{KeepsItems}
 use Rattle.cpc_check_complete_laws.specs.Steps.{HasSteps}
 use Rattle.cpc_check_complete_laws.proofs.Names.{HidesNone, hides_none_more}
 use Rattle.cpc_check_complete_laws.proofs.Kept.{reserved_both, barless, over, stmts_kept}
-use Rattle.cpc_check_complete_laws.proofs.Respawned.{same_stray, same_label_breaks, unreserved, names_fine, few_fine}
+use Rattle.cpc_check_complete_laws.proofs.Respawned.{same_stray, same_label_breaks, names_fine, few_fine}
 
 -- the function, with each spawn as a call of the spawner
 abbrev pub respawning : Function → Function
@@ -45,9 +46,6 @@ hides_parameters block (p ∷ ps) hides h = one p.called p.type h (λ block hide
     one (Some x) t h rest =
         rest (record { called = x.text; type = t } ∷ block) (hides_none_more [] (block ∷ []) (record { called = x.text; type = t }) (barless x (parameter_names ps) h) hides)
         (reserved_both (x ∷ []) (parameter_names ps) h).1
-
-parameters_fine : (ps : List LParameter) → parameters_breaks D.Cpc ps ≡ [] → parameters_breaks D.Event ps ≡ []
-parameters_fine ps h = let k = split (repeated Twice [] (parameter_names ps)) _ h in both_none _ _ k.0 (unreserved (parameter_names ps) k.1)
 
 sized_fine : (before after : Program) → ((t : Ty) (n : ℕ) → size before t ≡ Some n → size after t ≡ Some n) → (ps : List LParameter) → sized_breaks (outside D.Cpc before).scope ps ≡ [] → sized_breaks (outside D.Event after).scope ps ≡ []
 sized_fine before after sizes [] h = refl
@@ -104,10 +102,10 @@ module _ (before after : Program) (f : Function) (native : is_cps f.mode ≡ fal
       let h7 = split (reserved_breaks D.Cpc (locals (stmt_here f.body) ++ labels (stmt_here f.body))) _ h6.1 in
       let h8 = split (label_breaks (stmt_here f.body)) _ h7.1 in
       let h9 = split (stray_breaks (stmt_here f.body)) _ h8.1 in
-      both_none _ _ (unreserved (ident_here f.called ∷ []) h1.0)
+      both_none _ _ (reserved_native (ident_here f.called ∷ []) h1.0)
       (both_none _ _ (ap (λ b. at_if (b && true) here CpsForm) native)
       (both_none _ _ declared
-      (both_none _ _ (parameters_fine ps h4.0)
+      (both_none _ _ (parameters_native ps h4.0)
       (both_none _ _ (sized_fine before after sizes ps h5.0)
       (both_none _ _ (body_kept steps h4.0 (reserved_both (locals (stmt_here f.body)) (labels (stmt_here f.body)) h7.0).0 h6.0)
       (both_none _ _ (names_fine f.body h7.0)

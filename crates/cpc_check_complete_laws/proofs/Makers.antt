@@ -5,9 +5,9 @@ use Rattle.std.specs.Option.{is_none}
 use Rattle.cpc_base.specs.Bytes.{Text}
 use Rattle.cpc_base.proofs.Truth.{by_false_true, eq_reflexive}
 use Rattle.cpc_num.specs.declared.kinds.Kind.{Kind}
-use Rattle.cpc_num.specs.declared.kinds.Kind.TheVariants.{Char, UChar, Int, UInt, Long, ULong}
+use Rattle.cpc_num.specs.declared.kinds.Kind.TheVariants.{Int, ULong}
 use Rattle.cpc_num.specs.declared.kinds.Op.TheVariants.{Ne}
-use Rattle.cpc_num.specs.Number.{same_kind}
+use Rattle.cpc_num.proofs.KindLemmas.{same_kind-refl}
 use Rattle.cpc_tree.specs.declared.program.Mode.TheVariants.{Native}
 use Rattle.cpc_tree.specs.Syntax.{Ty, TyVoid, TyInt, TyCondvar, TyPointer, TyCode, TyStruct, TyArray, Tys, NoTy, AndTy, Expr, ENamed, EInteger, EBinary, ECast, ESizeOf, EArrow, Exprs}
 use Rattle.cpc_tree.specs.Located.{bare_expr}
@@ -32,18 +32,10 @@ use Rattle.cpc_check_complete_laws.proofs.Called.{suit_none}
 
 -- ---- types
 
-kind_itself : (k : Kind) → same_kind k k ≡ true
-kind_itself Char = refl
-kind_itself UChar = refl
-kind_itself Int = refl
-kind_itself UInt = refl
-kind_itself Long = refl
-kind_itself ULong = refl
-
 mutual
   pub type_itself : (t : Ty) → same_type t t ≡ true
   type_itself TyVoid = refl
-  type_itself (TyInt k) = kind_itself k
+  type_itself (TyInt k) = same_kind-refl k
   type_itself TyCondvar = refl
   type_itself (TyPointer t) = type_itself t
   type_itself (TyCode r ts) = rw (type_itself r) (types_itself ts)

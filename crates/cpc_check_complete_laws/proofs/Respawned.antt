@@ -1,15 +1,13 @@
 -- A spawn as a call of the spawner leaves locals, labels, and breaks and continues as they are.
 use Rattle.std.proofs.Common.{◌≡◌, List, [], ◌∷◌, ◌++◌, refl, sym, ◌∙◌, ap, ap₂, drop, drop-drop}
 use Rattle.cpc_base.specs.declared.stop.Dialect.TheVariants as D
-use Rattle.cpc_base.proofs.Truth.{or_neither}
 use Rattle.cpc_tree.specs.Syntax.{Stmt, Block, If, While, DoWhile, For, Label, Stmts, NoStmt, AndStmt, MaybeStmt, Absent, Present}
-use Rattle.cpc_tree.specs.Located.{Ident, LParameter}
-use Rattle.cpc_check_rules.specs.declared.rule.Rule.TheVariants.{LabelTwice, Reserved}
-use Rattle.cpc_check_rules.specs.Rule.{at_if}
+use Rattle.cpc_tree.specs.Located.{LParameter}
+use Rattle.cpc_check_rules.specs.declared.rule.Rule.TheVariants.{LabelTwice}
 use Rattle.cpc_check_rules.specs.FunctionRules as F
-use Rattle.cpc_check_rules.specs.FunctionRules.{locals, locals_in, locals_maybe, labels, labels_in, labels_maybe, gotos, gotos_in, gotos_maybe, stray_breaks, stray_in, stray_maybe, label_breaks, repeated, missing, many_breaks, variables, parameter_names, reserved_breaks, is_kept, is_reserved, holds_bars}
-use Rattle.cpc_check_laws.proofs.NativeValues.{left_none, right_none, both_none, unbroken}
+use Rattle.cpc_check_rules.specs.FunctionRules.{locals, locals_in, locals_maybe, labels, labels_in, labels_maybe, gotos, gotos_in, gotos_maybe, stray_breaks, stray_in, stray_maybe, label_breaks, repeated, missing, many_breaks, variables, parameter_names, reserved_breaks}
 use Rattle.cpc_check_laws.proofs.OnePlace.{ident_here, stmt_here, stmts_here, maybe_here}
+use Rattle.cpc_check_laws.proofs.NativeItems.{none_first, reserved_native}
 use Rattle.cpc_convert.specs.Converted.{respawned, respawned_all, respawned_arm}
 
 mutual
@@ -91,20 +89,9 @@ mutual
 pub same_label_breaks : (s : Stmt) → label_breaks (stmt_here (respawned s)) ≡ label_breaks (stmt_here s)
 same_label_breaks s = ap₂ (λ x y. repeated LabelTwice [] x ++ missing x y) (same_labels s) (same_gotos s)
 
--- a name that is not reserved in the dialect Cpc is not in the dialect Event
-pub unreserved : (xs : List Ident) → reserved_breaks D.Cpc xs ≡ [] → reserved_breaks D.Event xs ≡ []
-unreserved [] h = refl
-unreserved (x ∷ xs) h =
-    let fine = (or_neither (is_kept x.text) (holds_bars x.text) (unbroken (is_reserved D.Cpc x.text) x.place Reserved (left_none _ _ h))).0 in
-    both_none _ _ (ap (λ b. at_if b x.place Reserved) fine) (unreserved xs (right_none (at_if (is_reserved D.Cpc x.text) x.place Reserved) _ h))
-
 -- names of locals and labels
 pub names_fine : (s : Stmt) → reserved_breaks D.Cpc (locals (stmt_here s) ++ labels (stmt_here s)) ≡ [] → reserved_breaks D.Event (locals (stmt_here (respawned s)) ++ labels (stmt_here (respawned s))) ≡ []
-names_fine s h = ap₂ (λ x y. reserved_breaks D.Event (x ++ y)) (same_locals s) (same_labels s) ∙ unreserved (locals (stmt_here s) ++ labels (stmt_here s)) h
-
-none_first : (xs : List Ident) → F.first_of xs ≡ [] → xs ≡ []
-none_first [] h = refl
-none_first (x ∷ xs) h = absurd cc
+names_fine s h = ap₂ (λ x y. reserved_breaks D.Event (x ++ y)) (same_locals s) (same_labels s) ∙ reserved_native (locals (stmt_here s) ++ labels (stmt_here s)) h
 
 -- the number of variables: the limit of the dialect Event is above that of the dialect Cpc
 pub few_fine : (ps : List LParameter) (s : Stmt) → many_breaks D.Cpc ps (stmt_here s) ≡ [] → many_breaks D.Event ps (stmt_here (respawned s)) ≡ []

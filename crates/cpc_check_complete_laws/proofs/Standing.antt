@@ -22,11 +22,9 @@ use Rattle.cpc_check_laws.proofs.OnePlace.{here, ident_here, expr_here, stmt_her
 use Rattle.cpc_check_sound_laws.proofs.Unbroken.{split, holds_then}
 use Rattle.cpc_check_complete_laws.specs.Steps.{IsStep, HasSteps, AllHaveSteps, ArmHasSteps}
 use Rattle.cpc_check_complete_laws.specs.Standing.{local_named, local_or, Tells, Standing, NothingStands, Stands, AllSized, NoneSized, AndSized}
+use Rattle.cpc_check_complete_laws.proofs.Kept.{over}
 
 -- ---- variables
-
-abbrev over : Program → List S.Block → S.Scope
-over items blocks = record { items = items; blocks = blocks }
 
 -- blocks with one name more
 abbrev with_variable : List S.Block → Variable → List S.Block

@@ -20,13 +20,15 @@ use Rattle.cpc_check_laws.proofs.NativeStatements.{start_native, stmts_native}
 
 -- ---- names
 
-reserved_native : (xs : List Ident) → reserved_breaks D.Cpc xs ≡ [] → reserved_breaks D.Event xs ≡ []
+-- a name that is not reserved in the dialect Cpc is not in the dialect Event
+pub reserved_native : (xs : List Ident) → reserved_breaks D.Cpc xs ≡ [] → reserved_breaks D.Event xs ≡ []
 reserved_native [] h = refl
 reserved_native (x ∷ xs) h =
     let fine : is_kept x.text ≡ false = or_not_first (is_kept x.text) (holds_bars x.text) (unbroken (is_reserved D.Cpc x.text) x.place Reserved (left_none _ _ h)) in
     both_none _ _ (ap (λ b. at_if b x.place Reserved) fine) (reserved_native xs (right_none (at_if (is_reserved D.Cpc x.text) x.place Reserved) _ h))
 
-none_first : (xs : List Ident) → F.first_of xs ≡ [] → xs ≡ []
+-- a row with no first has none
+pub none_first : (xs : List Ident) → F.first_of xs ≡ [] → xs ≡ []
 none_first [] h = refl
 none_first (x ∷ xs) h = absurd cc
 
@@ -69,7 +71,8 @@ global_native before x t start h =
     both_none _ _ (reserved_native (x ∷ []) (left_none _ _ h)) (both_none _ _ (left_none _ _ g)
     (both_none _ _ (left_none _ _ k) (outer_start before x t start (right_none (at_if _ x.place Incomplete) _ k))))
 
-parameters_native : (ps : List LParameter) → parameters_breaks D.Cpc ps ≡ [] → parameters_breaks D.Event ps ≡ []
+-- parameters that break nothing in the dialect Cpc break nothing in the dialect Event
+pub parameters_native : (ps : List LParameter) → parameters_breaks D.Cpc ps ≡ [] → parameters_breaks D.Event ps ≡ []
 parameters_native ps h = both_none _ _ (left_none _ _ h) (reserved_native (parameter_names ps) (right_none (repeated Twice [] (parameter_names ps)) _ h))
 
 prototype_native : (program before : Program) (q : Place) (mode : Mode) (x : Ident) (r : Ty) (ps : List LParameter) → is_cps mode ≡ false

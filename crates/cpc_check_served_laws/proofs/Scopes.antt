@@ -8,7 +8,7 @@ use Rattle.cpc_tree.specs.Typing.{Meant, NotMeant}
 use Rattle.cpc_check_rules.specs.declared.rule.Rule.TheVariants.{Reserved}
 use Rattle.cpc_check_rules.specs.Rule.{at_if}
 use Rattle.cpc_check_rules.specs.Scopes as S
-use Rattle.cpc_check_rules.specs.Scopes.{in_block, in_items, meant, with_name}
+use Rattle.cpc_check_rules.specs.Scopes.{in_block, in_items, meant}
 use Rattle.cpc_check_rules.specs.Operators.{Where}
 use Rattle.cpc_check_rules.specs.Calls.{is_event}
 use Rattle.cpc_check_rules.specs.FunctionRules.{is_kept, locals, locals_in, parameter_names, reserved_breaks}
@@ -17,6 +17,7 @@ use Rattle.cpc_check_rules.specs.StmtRules.{all_behind, behind, inner, variable}
 use Rattle.cpc_meaning.proofs.Functions.{same_text}
 use Rattle.cpc_check_sound_laws.proofs.Items.{last_first}
 use Rattle.cpc_check_sound_laws.proofs.Unbroken.{holds_not, split}
+use Rattle.cpc_check_sound_laws.proofs.Bodies.{meant_later}
 
 -- ---- names that are not kept
 
@@ -107,13 +108,8 @@ pub record Inside (w : Where) : Type 0 where
 pub inside_inner : (w : Where) → Inside w → Inside (inner w)
 inside_inner w i = record { free = i.free; event = i.event }
 
-named_later : (items : Program) (bs : List S.Block) (v : Variable) (x : Text) → bytes_eq v.called x ≡ false
-    → meant (with_name (record { items = items; blocks = bs }) v) x ≡ meant (record { items = items; blocks = bs }) x
-named_later items [] v x e = simp (e) refl
-named_later items (b ∷ bs) v x e = simp (e) refl
-
 pub inside_behind : (w : Where) (s : LStmt) → AreFree (locals s) → Inside w → Inside (behind w s)
-inside_behind w (Declare q y t start) own i = record { free = λ x kept. named_later w.scope.items w.scope.blocks (variable y t) x (differs y.text x own.0 kept) ∙ i.free x kept; event = i.event }
+inside_behind w (Declare q y t start) own i = record { free = λ x kept. meant_later w.scope.items w.scope.blocks (variable y t) x (differs y.text x own.0 kept) ∙ i.free x kept; event = i.event }
 inside_behind w (Block q ss) own i = i
 inside_behind w (Empty q) own i = i
 inside_behind w (Assign q o v op e) own i = i

@@ -39,7 +39,8 @@ meant_first : (items : Program) (bs : List R.Block) (v : Variable) (x : Text) �
 meant_first items [] v x e = simp (e) refl
 meant_first items (b ∷ bs) v x e = simp (e) refl
 
-meant_later : (items : Program) (bs : List R.Block) (v : Variable) (x : Text) → bytes_eq v.called x ≡ false → meant (with_name (record { items = items; blocks = bs }) v) x ≡ meant (record { items = items; blocks = bs }) x
+-- any other name means what it meant
+pub meant_later : (items : Program) (bs : List R.Block) (v : Variable) (x : Text) → bytes_eq v.called x ≡ false → meant (with_name (record { items = items; blocks = bs }) v) x ≡ meant (record { items = items; blocks = bs }) x
 meant_later items [] v x e = simp (e) refl
 meant_later items (b ∷ bs) v x e = simp (e) refl
 
@@ -317,7 +318,8 @@ pub all_sized : (p : Program) (xs ys : List Variable) → AllSized p xs → AllS
 all_sized p [] ys h k = k
 all_sized p (x ∷ xs) ys h k = (h.0, all_sized p xs ys h.1 k)
 
-behind_items : (w : Where) (s : LStmt) → (behind w s).scope.items ≡ w.scope.items
+-- a statement declares no item
+pub behind_items : (w : Where) (s : LStmt) → (behind w s).scope.items ≡ w.scope.items
 behind_items w (Declare q x t start) = refl
 behind_items w (Block q ss) = refl
 behind_items w (Empty q) = refl
@@ -335,7 +337,8 @@ behind_items w (Break q) = refl
 behind_items w (Continue q) = refl
 behind_items w (Return q e) = refl
 
-all_behind_items : (w : Where) (ss : LStmts) → (all_behind w ss).scope.items ≡ w.scope.items
+-- nor do statements
+pub all_behind_items : (w : Where) (ss : LStmts) → (all_behind w ss).scope.items ≡ w.scope.items
 all_behind_items w NoLStmt = refl
 all_behind_items w (AndLStmt s ss) = all_behind_items (behind w s) ss ∙ behind_items w s
 

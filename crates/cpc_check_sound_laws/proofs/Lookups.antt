@@ -12,7 +12,7 @@ no_either true a c k t f g e = f e
 no_either false a c k t f g e = g e
 
 -- an item is no local
-no_local : (n : ℕ) (p : Program) (x : Text) (k : ℕ) (t : Ty) → item_named n p x ≡ ALocal k t → ⊥
+pub no_local : (n : ℕ) (p : Program) (x : Text) (k : ℕ) (t : Ty) → item_named n p x ≡ ALocal k t → ⊥
 no_local n [] x k t e = absurd (cc)
 no_local n (StructItem tag fs ∷ items) x k t e = no_local n items x k t e
 no_local n (GlobalItem g u start ∷ items) x k t e = no_either (bytes_eq g x) _ _ k t (λ h. absurd (cc)) (no_local (suc n) items x k t) e

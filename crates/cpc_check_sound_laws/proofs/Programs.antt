@@ -52,7 +52,8 @@ ItemShape x = Unit {0}
 
 -- ---- single items
 
-types_are : (ps : List LParameter) → types ps ≡ map parameter_type (map bare_parameter ps)
+-- the types of parameters are those of what they are bare
+pub types_are : (ps : List LParameter) → types ps ≡ map parameter_type (map bare_parameter ps)
 types_are [] = refl
 types_are (p ∷ ps) = ap (λ ts. p.type ∷ ts) (types_are ps)
 
@@ -63,13 +64,15 @@ kept_not D.Cpc x e = (or_neither (is_kept x) _ e).0
 free_name : (dialect : Dialect) (x : Ident) → reserved_breaks dialect (x ∷ []) ≡ [] → is_kept x.text ≡ false
 free_name dialect x h = kept_not dialect x.text (holds_not (is_reserved dialect x.text) x.place Reserved (split (at_if (is_reserved dialect x.text) x.place Reserved) [] h).0)
 
-no_extern : (m : Mode) → is_own m ≡ true → is_extern m ≡ false
+-- a function that is defined is not extern
+pub no_extern : (m : Mode) → is_own m ≡ true → is_extern m ≡ false
 no_extern Native e = refl
 no_extern Cps e = refl
 no_extern Detached e = refl
 no_extern Extern e = by_false_true e
 
-extern_is : (m : Mode) → m ≡ Extern → is_extern m ≡ true
+-- the mode extern is told as extern
+pub extern_is : (m : Mode) → m ≡ Extern → is_extern m ≡ true
 extern_is m e = ap is_extern e
 
 -- the signature of a function, as a declaration and as a definition
@@ -127,6 +130,7 @@ module _ (dialect : Dialect) (program before rest : Program) (known : Known prog
   known_item (LPrototype q mode x r ps) s whole h = known_prototype q mode x r ps h
   known_item (LFunctionItem f) s whole h = known_definition f s whole h
 
+-- an item that breaks nothing is new
 fresh_item : (dialect : Dialect) (program before : Program) (x : LItem) → item_breaks dialect program before x ≡ [] → IsFresh before (bare_item x)
 fresh_item dialect program before (LStruct tag fs) h =
     let h1 = split (reserved_breaks dialect (tag ∷ [])) _ h in
@@ -150,7 +154,7 @@ known_all dialect program before (x ∷ xs) s whole h known =
     (known_all dialect program (before ++ bare_item x ∷ []) xs s.1 (whole ∙ sym e) k.1 (known_item dialect program before (map bare_item xs) known x s.0 whole k.0))
 
 -- the items so far grow to the whole program
-grows_all : (dialect : Dialect) (program before : Program) (xs : List LItem) → items_breaks dialect program before xs ≡ [] → Grows before (before ++ map bare_item xs)
+pub grows_all : (dialect : Dialect) (program before : Program) (xs : List LItem) → items_breaks dialect program before xs ≡ [] → Grows before (before ++ map bare_item xs)
 grows_all dialect program before [] h = subst (Grows before) (sym (append-nil before)) (grows_same before)
 grows_all dialect program before (x ∷ xs) h =
     let k = split (item_breaks dialect program before x) (items_breaks dialect program (before ++ bare_item x ∷ []) xs) h in

@@ -22,6 +22,7 @@ use Rattle.cpc_check_sound_laws.proofs.Answers.{no_some}
 use Rattle.cpc_check_sound_laws.proofs.Expressions.{sign_some, tested_is}
 use Rattle.cpc_check_sound_laws.proofs.Options.{then_some}
 use Rattle.cpc_check_sound_laws.proofs.Paths.{simple_addresses, found_addresses, function_boxed}
+use Rattle.cpc_check_sound_laws.proofs.Lookups.{no_local}
 use Rattle.cpc_convert_chain_laws.specs.Addresses.{avoids, avoids_all, avoids_if}
 use Rattle.cpc_convert_image_laws.specs.Locals.{reading_of}
 use Rattle.cpc_convert_event.specs.AddressLaws.{bars, avoids_simple, avoids_found}
@@ -31,7 +32,6 @@ use Rattle.cpc_lift_laws.specs.Boxes.{has_block, is_box_in}
 use Rattle.cpc_lift_laws.proofs.Lift.{boxes_exact}
 use Rattle.cpc_convert_accepted_laws.specs.Names.{HasNames}
 use Rattle.cpc_convert_accepted_laws.specs.Points.{UsedName, IsVariable, IsItem}
-use Rattle.cpc_convert_accepted_laws.proofs.Scoped.{no_local}
 use Rattle.cpc_convert_accepted_laws.proofs.Used.{typed_names, two_parts}
 
 -- ---- which slots are registers

@@ -23,6 +23,7 @@ use Rattle.cpc_check_sound_laws.proofs.Agreement.{Grows, sizes_grow}
 use Rattle.cpc_check_sound_laws.proofs.Growing.{IsFresh, grows_step, grows_same, grows_on}
 use Rattle.cpc_check_sound_laws.proofs.Programs.{BodyShape, ItemShape}
 use Rattle.cpc_check_sound_laws.proofs.Unbroken.{split, holds_not, holds_then}
+use Rattle.cpc_check_sound_laws.proofs.Bodies.{behind_items, all_behind_items}
 use Rattle.cpc_convert.specs.Members.{Has, OnTop, Below}
 use Rattle.cpc_convert_accepted_laws.specs.Pieces.{VariablesHaveCells}
 
@@ -48,28 +49,6 @@ sized_has items p s t e g h = go (size s.items t) refl h
         (n, sizes_grow items p g t n (subst (λ items. size items t ≡ Some n) e f), lt_means 0 n k.0, le_means n cell_limit k.1)
 
 -- ---- bodies
-
-behind_items : (w : Where) (s : LStmt) → (behind w s).scope.items ≡ w.scope.items
-behind_items w (Declare q x t start) = refl
-behind_items w (Block q ss) = refl
-behind_items w (Empty q) = refl
-behind_items w (Assign q o v op e) = refl
-behind_items w (Call q o to g es) = refl
-behind_items w (Detach q o k to g es) = refl
-behind_items w (Spawn q g es) = refl
-behind_items w (If q c s r) = refl
-behind_items w (While q c s) = refl
-behind_items w (DoWhile q s c) = refl
-behind_items w (For q ss c r s) = refl
-behind_items w (Goto q x) = refl
-behind_items w (Label x s) = refl
-behind_items w (Break q) = refl
-behind_items w (Continue q) = refl
-behind_items w (Return q e) = refl
-
-all_behind_items : (w : Where) (ss : LStmts) → (all_behind w ss).scope.items ≡ w.scope.items
-all_behind_items w NoLStmt = refl
-all_behind_items w (AndLStmt s ss) = all_behind_items (behind w s) ss ∙ behind_items w s
 
 module _ (p : Program) where
   mutual

@@ -5,25 +5,26 @@ use Rattle.std.proofs.Math.Nat.{mul-suc}
 use Rattle.cpc_base.specs.declared.stop.Dialect.TheVariants as D
 use Rattle.cpc_base.specs.declared.stop.Place.{Place}
 use Rattle.cpc_base.proofs.Truth.{lt_not_means}
-use Rattle.cpc_tree.specs.Located.{Ident, LStmt, Block, If, While, DoWhile, For, Label, LStmts, NoLStmt, AndLStmt, MaybeLStmt, NoneLStmt, SomeLStmt, LParameter, LItem, LStruct, LGlobal, LPrototype, LFunctionItem, bare_stmt, bare_stmts, bare_maybe, bare_item}
+use Rattle.cpc_tree.specs.Located.{LStmt, Block, If, While, DoWhile, For, Label, LStmts, NoLStmt, AndLStmt, MaybeLStmt, NoneLStmt, SomeLStmt, LParameter, LItem, LStruct, LGlobal, LPrototype, LFunctionItem, bare_stmt, bare_stmts, bare_maybe, bare_item}
 use Rattle.cpc_tree.specs.Points.{Point, Here, End, Part, Nth, TheTest, TheYes, TheNo, TheStep, TheBody}
 use Rattle.cpc_tree.specs.Syntax.{Function, FunctionItem}
 use Rattle.cpc_tree.specs.declared.program.Mode.{Mode}
 use Rattle.cpc_tree.specs.declared.program.Mode.TheVariants.{Extern, Native, Cps, Detached}
 use Rattle.cpc_check_rules.specs.declared.rule.Rule.{Rule}
 use Rattle.cpc_check_rules.specs.declared.rule.Rule.TheVariants.{TooBroad}
-use Rattle.cpc_check_rules.specs.FunctionRules.{statements, statements_in, statements_maybe, variables, first_of, many_breaks}
+use Rattle.cpc_check_rules.specs.FunctionRules.{statements, statements_in, statements_maybe, variables, many_breaks}
 use Rattle.cpc_check_rules.specs.Operators.{is_cps}
 use Rattle.cpc_check_rules.specs.Rule.{Broken}
 use Rattle.cpc_check_rules.specs.Rules.{breadth, breadth_limit, broad_breaks}
 use Rattle.cpc_meaning.specs.Threads.{is_cps_mode}
 use Rattle.cpc_convert.specs.Members.{Has, OnTop, Below}
+use Rattle.cpc_check_laws.proofs.NativeItems.{none_first}
 use Rattle.cpc_forms.specs.Order.{within, one_later, points_of, points_in, points_arm, points}
 
 -- ---- points
 
 -- the points of a part are as many
-same_many : (part : Part) (xs : List Point) → length (within part xs) ≡ length xs
+pub same_many : (part : Part) (xs : List Point) → length (within part xs) ≡ length xs
 same_many part xs = length-map xs _
 
 mutual
@@ -79,11 +80,16 @@ within_limit n a v k h le =
     let wide = mul-suc a v in
     omega (arith, top, wide, le)
 
-cps_same : (m : Mode) → is_cps_mode m ≡ is_cps m
+-- what is cps for the meaning is so for the rules
+pub cps_same : (m : Mode) → is_cps_mode m ≡ is_cps m
 cps_same Extern = refl
 cps_same Native = refl
 cps_same Cps = refl
 cps_same Detached = refl
+
+-- and what is not is not
+pub not_cps : (m : Mode) → is_cps_mode m ≡ false → is_cps m ≡ false
+not_cps m e = sym (cps_same m) ∙ e
 
 -- cps functions by which the limit is kept have few points
 pub points_within : (n : ℕ) (xs : List LItem) → broad_breaks n xs ≡ [] → (f : Function) → Has (FunctionItem f) (map bare_item xs) → is_cps_mode f.mode ≡ true → length (points f.body) ≤ 1000001
@@ -105,12 +111,8 @@ points_within n (LFunctionItem g ∷ xs) h f (Below _ _ _ has) c =
 
 -- ---- variables
 
-none_left : (xs : List Ident) → first_of xs ≡ [] → xs ≡ []
-none_left [] h = refl
-none_left (x ∷ xs) h = absurd (cc)
-
 pub few_variables : (ps : List LParameter) (body : LStmt) → many_breaks D.Cpc ps body ≡ [] → length (variables ps body) ≤ 255
 few_variables ps body h =
-    let e = ap length (none_left (drop 255 (variables ps body)) h) in
+    let e = ap length (none_first (drop 255 (variables ps body)) h) in
     let k = length-drop 255 (variables ps body) in
     omega (arith, e, k)

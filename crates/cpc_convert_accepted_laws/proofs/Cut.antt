@@ -31,19 +31,26 @@ use Rattle.cpc_convert_accepted_laws.specs.Lifted.{ProgramsAreSplit}
 
 -- ---- owners
 
-same_itself : (l : Place) → same_place l l ≡ true
-same_itself Start = refl
-same_itself (At n) = grind arith
+-- a place is itself
+pub place_self : (l : Place) → same_place l l ≡ true
+place_self Start = refl
+place_self (At n) = grind arith
 
-one_place : (k l : Place) → same_place k l ≡ true → k ≡ l
-one_place Start Start e = refl
-one_place (At m) (At n) e = let i : m ≡ n = grind arith in ap (λ k. At k) i
-one_place Start (At n) e = absurd (cc)
-one_place (At m) Start e = absurd (cc)
+-- places that are told the same are one
+pub place_same : (k l : Place) → same_place k l ≡ true → k ≡ l
+place_same Start Start e = refl
+place_same (At m) (At n) e = let i : m ≡ n = grind arith in ap (λ k. At k) i
+place_same Start (At n) e = absurd (cc)
+place_same (At m) Start e = absurd (cc)
 
 owned_is : (l : Place) (o : Option Place) → is_owned_by l o ≡ true → o ≡ Some l
 owned_is l None e = absurd (cc)
-owned_is l (Some k) e = ap (λ k. Some k) (one_place k l e)
+owned_is l (Some k) e = ap (λ k. Some k) (place_same k l e)
+
+-- as many owners as nodes
+pub owners_long : (flow : Flow) (n k : ℕ) → length (owners_from flow n k) ≡ k
+owners_long flow n zero = refl
+owners_long flow n (suc k) = ap suc (owners_long flow (suc n) k)
 
 none_beyond : (flow : Flow) (k size m : ℕ) → size ≤ m → slice_get (owners_from flow k size) m ≡ None
 none_beyond flow k zero m le = refl
@@ -55,7 +62,7 @@ none_beyond flow k (suc size) (suc m) le = none_beyond flow (suc k) size m (omeg
 forth : (m n : ℕ) (l : Place) (os : List (Option Place)) → is_owned_by l (owner_at (slice_get os n)) ≡ true → Member (InGraph l (m + n)) (positions_from m os)
 forth m n l [] e = absurd (cc)
 forth m zero l (None ∷ os) e = absurd (cc)
-forth m zero l (Some k ∷ os) e = let i : m ≡ m + 0 = omega arith in subst (λ a. Member a (InGraph k m ∷ positions_from (suc m) os)) (ap (λ j. InGraph j m) (one_place k l e) ∙ ap (InGraph l) i) (First _ _)
+forth m zero l (Some k ∷ os) e = let i : m ≡ m + 0 = omega arith in subst (λ a. Member a (InGraph k m ∷ positions_from (suc m) os)) (ap (λ j. InGraph j m) (place_same k l e) ∙ ap (InGraph l) i) (First _ _)
 forth m (suc n) l (None ∷ os) e = let i : suc m + n ≡ m + suc n = omega arith in subst (λ j. Member (InGraph l j) (positions_from (suc m) os)) i (forth (suc m) n l os e)
 forth m (suc n) l (Some k ∷ os) e = let i : suc m + n ≡ m + suc n = omega arith in Later _ _ _ (subst (λ j. Member (InGraph l j) (positions_from (suc m) os)) i (forth (suc m) n l os e))
 
@@ -72,7 +79,7 @@ further m o os a w = let i : suc m + w.number ≡ m + suc w.number = omega arith
 back : (m : ℕ) (os : List (Option Place)) (a : Position) → Member a (positions_from m os) → Owned m os a
 back m [] a h = elim h [ ]
 back m (None ∷ os) a h = further m None os a (back (suc m) os a h)
-back m (Some l ∷ os) _ (First _ _) = let i : m ≡ m + 0 = omega arith in record { owner = l; number = 0; is = ap (InGraph l) i; own = same_itself l }
+back m (Some l ∷ os) _ (First _ _) = let i : m ≡ m + 0 = omega arith in record { owner = l; number = 0; is = ap (InGraph l) i; own = place_self l }
 back m (Some l ∷ os) a (Later _ _ _ h) = further m (Some l) os a (back (suc m) os a h)
 
 from_start : (os : List (Option Place)) (l : Place) (n : ℕ) → Owned 0 os (InGraph l n) → is_owned_by l (owner_at (slice_get os n)) ≡ true
@@ -116,7 +123,7 @@ module _ (p : Program) (x : Text) where
   held_stands _ (OutOfGraphs point e) = ap (λ g. may_stand (option_map split_of g) (InTree point)) e
   held_stands _ (OwnedNode f l n node e c there own) =
       ap (λ g. may_stand (option_map split_of g) (InGraph l n)) (ap (graph_where p) e ∙ ap (λ b. graph_if b p f) c)
-      ∙ (ap (λ o. is_owned_by l (owner_at o)) (owner_there (graph_of p f) n node there) ∙ (ap (is_owned_by l) own ∙ same_itself l))
+      ∙ (ap (λ o. is_owned_by l (owner_at o)) (owner_there (graph_of p f) n node there) ∙ (ap (is_owned_by l) own ∙ place_self l))
 
   node_held : (f : Function) (l : Place) (n : ℕ) → function_named p x ≡ Some f → is_cps_mode f.mode ≡ true → is_own (split_of (graph_of p f)) l n ≡ true → IsHeld p x (InGraph l n)
   node_held f l n e c h = by (cases_lt n (length (graph_of p f).nodes))

@@ -1,5 +1,5 @@
 -- The functions of an accepted program.
-use Rattle.std.proofs.Common.{◌≡◌, ◌⊎◌, inl, inr, ◌&&◌, ◌==◌, not, ℕ, arith, Bool, true, false, cond, List, [], ◌∷◌, ◌++◌, map, slice_get, Some, bytes_eq, codes, refl, sym, ◌∙◌, ap, subst}
+use Rattle.std.proofs.Common.{◌≡◌, ◌⊎◌, inl, inr, ◌&&◌, ◌==◌, not, ℕ, Bool, true, false, cond, List, [], ◌∷◌, ◌++◌, map, slice_get, Some, bytes_eq, codes, refl, sym, ◌∙◌, ap, subst}
 use Rattle.cpc_base.specs.Bytes.{Text}
 use Rattle.cpc_base.specs.declared.stop.Place.{Place}
 use Rattle.cpc_num.specs.declared.kinds.Kind.TheVariants.{Int}
@@ -27,7 +27,7 @@ use Rattle.cpc_convert.specs.Converted.{marked}
 use Rattle.cpc_convert.specs.Members.{Has, OnTop, Below}
 use Rattle.cpc_convert_accepted_laws.specs.Functions.{ScopesMeanVariables, AcceptedIsShown, AcceptedHasMain}
 use Rattle.cpc_convert_accepted_laws.specs.Names.{HasNames}
-use Rattle.cpc_convert_accepted_laws.proofs.Marks.{marks_are}
+use Rattle.cpc_convert_accepted_laws.proofs.Marks.{marks_are, bar_turned}
 use Rattle.cpc_convert_accepted_laws.proofs.Names.{accepted_has_names}
 use Rattle.cpc_convert_accepted_laws.proofs.Scoped.{meant_that, means_variable}
 use Rattle.cpc_convert_accepted_laws.proofs.Steady.{scopes_like}
@@ -47,15 +47,12 @@ scopes_mean_variables p x f a is = scopes_like p x Means (meant_that p f [] tt) 
 
 -- ---- names in faults
 
-turned : (c : ℕ) → (95 == c) ≡ (c == 95)
-turned c = grind arith
-
 -- two characters that are no two bars
 two_bars : (b c : ℕ) (x : Text) → begins_with (95 ∷ 95 ∷ []) (b ∷ c ∷ x) ≡ false → begins_with_bars (b ∷ c ∷ x) ≡ false
 two_bars b c x h = go (b == 95) (c == 95) refl refl
   where
     go : (d e : Bool) → (b == 95) ≡ d → (c == 95) ≡ e → (d && e) ≡ false
-    go true true i j = absurd (let k : begins_with (95 ∷ 95 ∷ []) (b ∷ c ∷ x) ≡ true = simp (turned b, turned c, i, j) refl in let l : true ≡ false = sym k ∙ h in cc)
+    go true true i j = absurd (let k : begins_with (95 ∷ 95 ∷ []) (b ∷ c ∷ x) ≡ true = simp (bar_turned b, bar_turned c, i, j) refl in let l : true ≡ false = sym k ∙ h in cc)
     go true false i j = refl
     go false e i j = refl
 

@@ -1,5 +1,5 @@
 -- Each state of the lifted run agrees with one of the threads over split graphs, so what these keep holds of it.
-use Rattle.std.proofs.Common.{◌≡◌, ◌⊎◌, inl, inr, ℕ, zero, suc, Bool, true, false, List, [], ◌∷◌, length, map, slice_get, Option, Some, None, refl, sym, ◌∙◌, ap, subst}
+use Rattle.std.proofs.Common.{◌≡◌, ◌⊎◌, inl, inr, ℕ, suc, Bool, true, false, List, [], ◌∷◌, length, map, slice_get, Option, Some, None, refl, sym, ◌∙◌, ap, subst}
 use Rattle.std.specs.List.{All}
 use Rattle.std.proofs.lemmas.List.Elements.{All-nil, All-cons, All-head, All-tail}
 use Rattle.cpc_base.specs.Bytes.{Text}
@@ -27,6 +27,7 @@ use Rattle.cpc_meaning.proofs.Both as B
 use Rattle.cpc_meaning.proofs.Machines.{ThreadsMeet, PendingBoth, SuspendedBoth, StatesMeet, Meet}
 use Rattle.cpc_meaning.proofs.Meeting.{BothSome, SomeBoth, NoneBoth}
 use Rattle.cpc_meaning_pointer_laws.specs.Made.{IsMade, IsMadeIf, IsMadeSlot, IsMadeStore, IsMadeFrame}
+use Rattle.cpc_meaning_pointer_laws.proofs.Blocks.{element}
 use Rattle.cpc_forms.specs.Split.{Position, split_form}
 use Rattle.cpc_lift_laws.specs.Boxes.{is_box}
 use Rattle.cpc_lift_laws.specs.Lifted.{TidyFrame, TidyFrames, TidyRunning}
@@ -62,11 +63,6 @@ use Rattle.cpc_convert_accepted_laws.proofs.Points.{accepted_positions_known}
 use Rattle.cpc_convert_accepted_laws.proofs.Steady.{splits_steady, accepted_splits_hold}
 
 -- ---- lists
-
-all_at : {X : Type 0} (P : X → Type 0) (xs : List X) (k : ℕ) (x : X) → All P xs → slice_get xs k ≡ Some x → P x
-all_at P [] k x h e = absurd (cc)
-all_at P (y ∷ ys) zero x h e = let i : y ≡ x = cc in subst P i (All-head P y ys h)
-all_at P (y ∷ ys) (suc k) x h e = all_at P ys k x (All-tail P y ys h) e
 
 all_with : {X : Type 0} (P Q R : X → Type 0) → ((x : X) → P x → Q x → R x) → (xs : List X) → All P xs → All Q xs → All R xs
 all_with P Q R f [] h k = All-nil R
@@ -144,7 +140,7 @@ module _ (p : Program) (C : Text → Type 0) (natives : HoldsOfNatives p C) wher
     held_values vs m c = all_with (IsMade s) (IsCode p) (IsHeld C) held vs m c
 
     held_store : IsMadeStore s → IsCodeStore p s → IsHeldStore C s
-    held_store m c class n k cells v e i = held v (m class n k cells v e i) (all_at (IsCode p) cells k v (c class n cells e) i)
+    held_store m c class n k cells v e i = held v (m class n k cells v e i) (element (IsCode p) cells k v (c class n cells e) i)
 
     -- ---- frames
 
@@ -167,7 +163,7 @@ module _ (p : Program) (C : Text → Type 0) (natives : HoldsOfNatives p C) wher
           number = one_length keep (is_box p f) xs ys m ∙ size.number ∙ ap (λ g. length (variables g)) same;
           kept = λ k x e g.
               let w = slots_are_known s fits.function xs fits.slots made k x e in
-              (w.0, sym (same_slot keep (is_box p f) xs ys m k g) ∙ w.1, kept_slot fits.function k x w.0 (all_at (IsCodeSlot p) xs k w.0 code w.1) w.2);
+              (w.0, sym (same_slot keep (is_box p f) xs ys m k g) ∙ w.1, kept_slot fits.function k x w.0 (element (IsCodeSlot p) xs k w.0 code w.1) w.2);
           cleared = tidy;
           fits = part.fits fits.slots.fits;
           held = all_with (IsMadeSlot s) (IsCodeSlot p) (IsHeldSlot C) held_slot ys (part.made made) (part.codes p code);

@@ -1,3 +1,4 @@
+pub mod Below
 pub mod Cut
 pub mod Lifted
 pub mod Marks

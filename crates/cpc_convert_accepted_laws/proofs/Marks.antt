@@ -14,17 +14,18 @@ use Rattle.cpc_convert_accepted_laws.specs.Names.{IsPlain}
 
 -- ---- two bars
 
-turned : (c : ℕ) → (95 == c) ≡ (c == 95)
-turned c = grind arith
+-- a bar is told from either side
+pub bar_turned : (c : ℕ) → (95 == c) ≡ (c == 95)
+bar_turned c = grind arith
 
 -- one more character, behind none and behind a bar
 after_none : (c : ℕ) (x : Text) (b : Bool) → (c == 95) ≡ b → marks_in false x ≡ holds_bars x → marks_in true x ≡ (begins_with (95 ∷ []) x || holds_bars x) → cond b (marks_in true x) (marks_in false x) ≡ holds_bars (c ∷ x)
-after_none c x true e h k = simp (turned c, e) k
-after_none c x false e h k = simp (turned c, e) h
+after_none c x true e h k = simp (bar_turned c, e) k
+after_none c x false e h k = simp (bar_turned c, e) h
 
 after_bar : (c : ℕ) (x : Text) (b : Bool) → (c == 95) ≡ b → marks_in false x ≡ holds_bars x → cond b true (marks_in false x) ≡ (begins_with (95 ∷ []) (c ∷ x) || holds_bars (c ∷ x))
-after_bar c x true e h = simp (turned c, e) refl
-after_bar c x false e h = simp (turned c, e) h
+after_bar c x true e h = simp (bar_turned c, e) refl
+after_bar c x false e h = simp (bar_turned c, e) h
 
 mutual
   -- two bars stand in a name by either test

@@ -22,7 +22,7 @@ use Rattle.cpc_check_sound_laws.proofs.Agendas.{Each}
 use Rattle.cpc_check_sound_laws.proofs.Items.{named_more, named_rest, agreed, Agreed, defined_rest}
 use Rattle.cpc_check_sound_laws.proofs.Grammar.{items_shape}
 use Rattle.cpc_check_sound_laws.proofs.Knowing.{primitive_kept}
-use Rattle.cpc_check_sound_laws.proofs.Programs.{ItemShape}
+use Rattle.cpc_check_sound_laws.proofs.Programs.{ItemShape, types_are}
 use Rattle.cpc_check_sound_laws.proofs.Unbroken.{split, holds_not}
 use Rattle.cpc_convert.specs.Members.{Has, OnTop, Below}
 use Rattle.cpc_forms.specs.Flow.{Flow, flow_of, is_leader}
@@ -111,10 +111,6 @@ module _ (x : Text) (new : Signature) (defines : new.is_defined ≡ true) where
       go : (b : Bool) → (b && clashes new g.mode true) ≡ false → function_named before x ≡ None → cond b (Some g) (function_named before x) ≡ None
       go true e rest = absurd (defined_clashes g e)
       go false e rest = rest
-
-types_are : (ps : List LParameter) → types ps ≡ map parameter_type (map bare_parameter ps)
-types_are [] = refl
-types_are (p ∷ ps) = ap (λ ts. p.type ∷ ts) (types_are ps)
 
 -- what is declared of a function that is defined
 abbrev defined : LFunction → Signature

@@ -16,6 +16,8 @@ use Rattle.cpc_check_sound_laws.specs.Typed.{is_variable, is_pointer_call, Calls
 use Rattle.cpc_check_sound_laws.proofs.Accepted.{accepted_is_typed, accepted_facts}
 use Rattle.cpc_check_sound_laws.proofs.Agreement.{Facts, item_of}
 use Rattle.cpc_check_sound_laws.proofs.Paths.{function_typed}
+use Rattle.cpc_meaning_kept_laws.proofs.Modes.{same_name}
+use Rattle.cpc_meaning_kept_laws.proofs.Trees.{statement_is}
 use Rattle.cpc_forms.specs.Split.{Position, split_form}
 use Rattle.cpc_convert_image_laws.specs.InPlace.{is_cps}
 use Rattle.cpc_convert_accepted_laws.specs.Names.{HasNames}
@@ -25,12 +27,6 @@ use Rattle.cpc_convert_accepted_laws.proofs.Names.{accepted_has_names}
 use Rattle.cpc_convert_accepted_laws.proofs.Scoped.{means_variable}
 use Rattle.cpc_convert_accepted_laws.proofs.Statements.{found_known}
 use Rattle.cpc_convert_accepted_laws.proofs.Steady.{stood_like}
-
-same_name : (x y : Text) → ENamed x ≡ ENamed y → x ≡ y
-same_name x y e = cc
-
-found_same : (x y : Found) → AtStatement x ≡ AtStatement y → x ≡ y
-found_same x y e = cc
 
 arrival_same : (x y : Found) → AtArrival x ≡ AtArrival y → x ≡ y
 arrival_same x y e = cc
@@ -55,7 +51,7 @@ module _ (p : Program) (names : HasNames p) (typed : TypedProgram D.Cpc p) (fact
 
     point_good : (point : Point) → Good f (scope_from (Some f) point) (stood_at (Some f) point)
     point_good (Here path) = record {
-      statement = λ s e. subst (IsGood f (scope_in_function f path)) (found_same _ s e) (path_good path);
+      statement = λ s e. subst (IsGood f (scope_in_function f path)) (statement_is _ s e) (path_good path);
       arrival = λ s e. absurd (cc);
     }
     point_good (Arrival path) = record {
@@ -65,7 +61,7 @@ module _ (p : Program) (names : HasNames p) (typed : TypedProgram D.Cpc p) (fact
     point_good End = record { statement = λ s e. absurd (cc); arrival = λ s e. absurd (cc) }
 
     nothing_good : Good f [] (AtStatement Nothing)
-    nothing_good = record { statement = λ s e. subst (IsGood f []) (found_same Nothing s e) (tt, tt); arrival = λ s e. absurd (cc) }
+    nothing_good = record { statement = λ s e. subst (IsGood f []) (statement_is Nothing s e) (tt, tt); arrival = λ s e. absurd (cc) }
 
     good : (a : Position) → Good f ((split_form p).code.scope x a) ((split_form p).code.stood x a)
     good = stood_like p x (λ stood scope. Good f scope stood) nothing_good (λ point. subst (λ o. Good f (scope_from o point) (stood_at o point)) (sym is) (point_good point))

@@ -6,6 +6,7 @@ use Rattle.cpc_tree.specs.Registers.{as_variable, variables, or_empty, parameter
 use Rattle.cpc_tree.specs.Syntax.{Ty, Stmt, Block, Declare, If, While, DoWhile, For, Label, Stmts, NoStmt, AndStmt, MaybeStmt, Absent, Present, Variable, Parameter, Function, StructItem, GlobalItem, PrototypeItem, FunctionItem, Program}
 use Rattle.cpc_tree.specs.Typing.{Local, Scope, Meant, ALocal, named, item_named}
 use Rattle.cpc_meaning.proofs.Functions.{same_text}
+use Rattle.cpc_check_sound_laws.proofs.Lookups.{no_local}
 
 -- a variable of this number in scope
 abbrev local_at : ℕ → Variable → Local
@@ -98,7 +99,7 @@ in_scope_that : (f : Function) (path : Path) → Scoped (IsThat f) (scope_in_fun
 in_scope_that f path = function_scoped (IsThat f) f path (each_that f 0 (variables f) (λ k. let i : 0 + k ≡ k = omega arith in ap (slice_get (variables f)) i))
 
 -- no item is a variable
-abbrev is_local : Meant → Bool
+abbrev pub is_local : Meant → Bool
 is_local (ALocal k t) = true
 is_local m = false
 
@@ -112,9 +113,6 @@ item_no_local n (StructItem tag fs ∷ items) x = item_no_local n items x
 item_no_local n (GlobalItem g u start ∷ items) x = neither (bytes_eq g x) _ _ refl (item_no_local (suc n) items x)
 item_no_local n (PrototypeItem mode f r ps ∷ items) x = neither (bytes_eq f x) _ _ refl (item_no_local n items x)
 item_no_local n (FunctionItem f ∷ items) x = neither (bytes_eq f.called x) _ _ refl (item_no_local n items x)
-
-pub no_local : (n : ℕ) (items : Program) (x : Text) (k : ℕ) (t : Ty) → item_named n items x ≡ ALocal k t → ⊥
-no_local n items x k t e = let i : true ≡ false = sym (ap is_local e) ∙ item_no_local n items x in cc
 
 -- where these names are the variables of their numbers, a name that means a variable is its name
 pub meant_that : (p : Program) (f : Function) (scope : Scope) → Scoped (IsThat f) scope → (y : Text) (k : ℕ) (t : Ty) → named p scope y ≡ ALocal k t → slice_get (variables f) k ≡ Some (record { called = y; type = t })

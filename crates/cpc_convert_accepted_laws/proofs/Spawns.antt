@@ -1,5 +1,5 @@
 -- Where a thread is spawned, a spawn stands.
-use Rattle.std.proofs.Common.{◌≡◌, List, [], ◌∷◌, Option, Some, None, refl, ap, subst}
+use Rattle.std.proofs.Common.{◌≡◌, List, [], ◌∷◌, Option, Some, None, refl, subst}
 use Rattle.cpc_base.specs.Bytes.{Text}
 use Rattle.cpc_store.specs.Store.{Value, Unset, Store}
 use Rattle.cpc_tree.specs.declared.program.Mode.TheVariants.{Extern}
@@ -14,6 +14,7 @@ use Rattle.cpc_meaning.specs.Plain.{Form, Frame, Asks, context, frames_step}
 use Rattle.cpc_meaning.specs.Requests.{Asked, Builtin, Host, ToSpawn, Section, Request, takes, all_taken, all_long, arguments, section_takes}
 use Rattle.cpc_meaning.specs.Slots.{free_slots}
 use Rattle.cpc_meaning.proofs.Functions.{gives_then}
+use Rattle.cpc_meaning.proofs.Machines.{needed_is}
 use Rattle.cpc_meaning_pointer_laws.proofs.Blocks.{Only, any_then}
 use Rattle.cpc_convert_accepted_laws.proofs.Asks.{step_asks}
 
@@ -103,10 +104,6 @@ module _ (c : Context) (result : Ty) where
       any_then (SpawnSo (AtArrival found)) (needed (target_of found)) _ λ x.
       any_then (SpawnSo (AtArrival found)) (deliver c x v) _ λ r. tt
   act_so o AtEnd = leaves_so AtEnd Unset
-
-needed_is : {A : Type 0} (o : Option A) (x : A) → needed o ≡ Gives x → o ≡ Some x
-needed_is None x e = absurd (cc)
-needed_is (Some y) x e = let i : y ≡ x = cc in ap (λ z. Some z) i
 
 -- where a step spawns, the first frame is one of a function that is there, and the spawn stands there
 pub record Spawning {P : Type 0} (p : Form P) (f : Text) : Type 0 where

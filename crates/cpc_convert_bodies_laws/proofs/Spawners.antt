@@ -1,5 +1,5 @@
 -- The body of a spawner breaks no rule, wherever what it names is known.
-use Rattle.std.proofs.Common.{◌≡◌, ℕ, zero, suc, ◌+◌, ◌≤◌, Bool, true, false, cond, List, [], ◌∷◌, ◌++◌, map, reverse, length, slice_get, bytes_eq, decimal, Some, None, refl, sym, ◌∙◌, ap, subst, arith, nat_le, pos}
+use Rattle.std.proofs.Common.{◌≡◌, ℕ, zero, suc, ◌+◌, ◌≤◌, Bool, true, false, cond, List, [], ◌∷◌, ◌++◌, map, reverse, length, slice_get, bytes_eq, Some, None, refl, sym, ◌∙◌, ap, subst, arith, nat_le, pos}
 use Rattle.std.specs.Prelude.{is_some}
 use Rattle.std.proofs.lemmas.Bool.Decides.{nat_tests}
 use Rattle.cpc_base.specs.Bytes.{Text}
@@ -9,7 +9,7 @@ use Rattle.cpc_num.specs.declared.kinds.Kind.TheVariants.{Int}
 use Rattle.cpc_tree.specs.declared.program.Mode.TheVariants.{Native}
 use Rattle.cpc_tree.specs.Located.{bare}
 use Rattle.cpc_tree.specs.Registers.{variables}
-use Rattle.cpc_tree.specs.Syntax.{Ty, TyVoid, TyInt, TyPointer, TyStruct, ENamed, EInteger, Stmt, Block, Declare, Stmts, NoStmt, AndStmt, Variable, Function, FunctionItem, Program}
+use Rattle.cpc_tree.specs.Syntax.{Ty, TyVoid, TyInt, TyPointer, TyStruct, ENamed, EInteger, Stmt, Block, Declare, NoStmt, AndStmt, Variable, Function, FunctionItem, Program}
 use Rattle.cpc_tree.specs.Typing.{ALocal, is_scalar, size, field, field_from, ◌>>=◌}
 use Rattle.cpc_check_rules.specs.Scopes.{Scope, in_block, in_items, meant, measured, cell_limit, is_here}
 use Rattle.cpc_check_rules.specs.Scopes as S
@@ -28,6 +28,7 @@ use Rattle.cpc_convert_chain_laws.specs.Structs.{NotCalled, NoneSo, NotSo, Scala
 use Rattle.cpc_convert_chain_laws.specs.Frames.{Save, saves_one, asks_block, fills_frame}
 use Rattle.cpc_convert_chain_laws.specs.Driver.{drive_name, code_field, next_field, head_fields, readies}
 use Rattle.cpc_convert_chain_laws.proofs.Structs.{field_at}
+use Rattle.cpc_convert_chain_laws.proofs.Rows.{before_append}
 use Rattle.cpc_check_complete_laws.specs.Laws.{FlatFine}
 use Rattle.cpc_check_complete_laws.specs.Flat.{Runs, AndDeclare, named_at, called, Savable, NoSave, AndSave, Distinct, NoneDistinct, AllOf, NoneAsked, NoneKept, NoneIsKept, AndUnkept, all_flat, labels_of, gotos_of, locals_of}
 use Rattle.cpc_check_complete_laws.proofs.Flat.{rows_fine, flat_fine, first_meant, later_meant}
@@ -45,8 +46,8 @@ use Rattle.cpc_convert_native_laws.proofs.SpawnerCall.{passed_few, behind_head}
 use Rattle.cpc_convert_native_laws.proofs.SpawnerScope.{no_frame, no_driver, no_piece, frame_piece}
 use Rattle.cpc_convert_rules_laws.specs.Laws.{Knows, BodyFine}
 use Rattle.cpc_convert_rules_laws.proofs.KeptRows.{Source}
-use Rattle.cpc_convert_rules_laws.proofs.Names.{made_unkept}
 use Rattle.cpc_convert_rules_laws.proofs.Theorem.{source_of}
+use Rattle.cpc_convert_rules_laws.proofs.FunctionRows.{variable_free}
 use Rattle.cpc_convert_bodies_laws.specs.Laws.{SpawnersFine}
 
 -- ---- structs
@@ -104,19 +105,11 @@ saves_locals : (e : _) (ps : List Save) (rest : List Stmt) → locals_of (map (s
 saves_locals e [] rest = refl
 saves_locals e (p ∷ ps) rest = saves_locals e ps rest
 
-before_both : (ss rs : List Stmt) (rest : Stmts) → before (ss ++ rs) rest ≡ before ss (before rs rest)
-before_both [] rs rest = refl
-before_both (s ∷ ss) rs rest = ap (AndStmt s) (before_both ss rs rest)
-
 names_many : (xs : List Variable) → length (parameter_names (map parameter_here (map parameter_of xs))) ≡ length xs
 names_many [] = refl
 names_many (x ∷ xs) = ap suc (names_many xs)
 
 -- ---- names that are not kept
-
-variable_unkept : (k : ℕ) (x : Text) → is_kept x ≡ false → is_kept (variable_name k x) ≡ false
-unfolding variable_name
-variable_unkept k x e = made_unkept x (decimal k) e
 
 -- no parameter is called by a name that the language keeps
 kept_apart : (y : Text) → is_kept y ≡ true → (k count : ℕ) (xs : List Variable) → ((j : ℕ) (x : Variable) → slice_get xs j ≡ Some x → is_kept x.called ≡ false) → NotCalled y (passed_from k count xs)
@@ -125,7 +118,7 @@ kept_apart y e k (suc n) [] h = NoneSo
 kept_apart y e k (suc n) (x ∷ xs) h = go (is_scalar x.type) (kept_apart y e (suc k) n xs (λ j z i. h (suc j) z i))
   where
     apart : bytes_eq y (variable_name k x.called) ≡ false
-    apart = texts_differ y (variable_name k x.called) (λ (i : y ≡ variable_name k x.called). absurd (let z : true ≡ false = sym e ∙ (ap is_kept i ∙ variable_unkept k x.called (h 0 x refl)) in cc))
+    apart = texts_differ y (variable_name k x.called) (λ (i : y ≡ variable_name k x.called). absurd (let z : true ≡ false = sym e ∙ (ap is_kept i ∙ variable_free k x.called (h 0 x refl)) in cc))
 
     go : (b : Bool) → NotCalled y (passed_from (suc k) n xs) → NotCalled y (variable_if b (record { called = variable_name k x.called; type = x.type }) (passed_from (suc k) n xs))
     go true r = NotSo (record { called = variable_name k x.called; type = x.type }) (passed_from (suc k) n xs) apart r
@@ -230,7 +223,7 @@ module _ (p : Program) (source : Source p) (f : Function) (c : IsCps p f) (items
   is_body : g.body ≡ Block (before (Declare frame_name (TyPointer (TyStruct tag)) None ∷ lines) NoStmt)
   is_body =
       ap (λ r. Block (AndStmt (Declare frame_name (TyPointer (TyStruct tag)) None) (AndStmt (asks_block frame_name tag) r)))
-      (sym (before_both (fills_frame (ENamed frame_name) (ENamed frame_name) code_field next_field tag (EInteger Int (pos 0)) (map save_of xs)) (readies frame_name ∷ []) NoStmt))
+      (sym (before_append (fills_frame (ENamed frame_name) (ENamed frame_name) code_field next_field tag (EInteger Int (pos 0)) (map save_of xs)) (readies frame_name ∷ []) NoStmt))
 
   pub spawner_fine : BodyFine items g
   spawner_fine =

@@ -1,58 +1,37 @@
 -- A name that no local of a piece has means in the piece what it means among the items: so does that of a spawner.
-use Rattle.std.proofs.Common.{◌≡◌, ◌⊎◌, inl, inr, ℕ, suc, ◌<◌, ◌^◌, Bool, true, false, not, ◌&&◌, ◌||◌, ◌==◌, cond, List, [], ◌∷◌, ◌++◌, map, length, decimal, bytes_eq, refl, sym, ◌∙◌, ap, subst, codes, arith}
-use Rattle.std.proofs.lemmas.Fmt.{decimal_is_IsNumeral}
-use Rattle.std.specs.Str.Parse.{AllDigits}
-use Rattle.std.specs.Char.{digit_value}
+use Rattle.std.proofs.Common.{◌≡◌, ◌⊎◌, inl, inr, ℕ, ◌<◌, ◌^◌, Bool, true, false, not, ◌&&◌, ◌||◌, ◌==◌, cond, List, [], ◌∷◌, map, length, decimal, bytes_eq, refl, sym, ◌∙◌, ap, codes, arith}
 use Rattle.cpc_base.specs.Bytes.{Text}
-use Rattle.cpc_base.proofs.Truth.{eq_reflexive, or_by_second, not_under_ten}
+use Rattle.cpc_base.proofs.Truth.{eq_reflexive, or_by_second}
 use Rattle.cpc_tree.specs.declared.program.Mode.TheVariants.{Native}
 use Rattle.cpc_tree.specs.Lists.{holds_number}
 use Rattle.cpc_tree.specs.Registers.{variables, outer_scope}
-use Rattle.cpc_tree.specs.Syntax.{Ty, TyVoid, TyPointer, TyStruct, Variable, Function, Program}
-use Rattle.cpc_tree.specs.Typing.{Scope, ALocal, AFunction, named, item_named, parameter_type}
+use Rattle.cpc_tree.specs.Syntax.{Ty, TyVoid, TyPointer, TyStruct, Function, Program}
+use Rattle.cpc_tree.specs.Typing.{ALocal, AFunction, named, item_named, parameter_type}
 use Rattle.cpc_meaning.proofs.Functions.{texts_differ}
 use Rattle.cpc_convert.specs.Marks.{has_marks}
 use Rattle.cpc_convert.specs.Converted.{marked, spawner_name}
-use Rattle.cpc_convert.proofs.Marks.{marked_is, no_bar_decimal}
+use Rattle.cpc_convert.proofs.Marks.{marked_is, no_bar_decimal, decimal_no_spawn}
 use Rattle.cpc_forms.specs.Flow.{Place, Start, At}
 use Rattle.cpc_graph_laws.proofs.Formed.{in_either}
 use Rattle.cpc_lift_laws.proofs.Boxes.{boxes_are_below}
 use Rattle.cpc_lift_laws.proofs.Lift.{boxes_exact}
 use Rattle.cpc_convert_chain_laws.specs.Driver.{any_pointer}
-use Rattle.cpc_convert_chain_laws.specs.Frames.{Load, declared_scope}
 use Rattle.cpc_convert_chain_laws.proofs.Scopes.{NotLoaded, NoneLoaded, NotThisLoad, loaded_other}
 use Rattle.cpc_convert_event.specs.Converted.{converted}
 use Rattle.cpc_convert_event.specs.FlatLaws.{piece_scope}
 use Rattle.cpc_convert_event.specs.Frames.{arriving_type}
 use Rattle.cpc_convert_event.specs.NameLaws.{IsCps, IsOwner}
 use Rattle.cpc_convert_event.specs.Names.{piece_name, variable_name}
-use Rattle.cpc_convert_event.specs.Pieces.{parameter_of, load_of, takes_value, value_load, loaded, loads_of, words_if, words_of, begun, declares_of, piece_function}
+use Rattle.cpc_convert_event.specs.Pieces.{parameter_of, takes_value, value_load, loaded, loads_of, words_if, words_of, begun, declares_of, piece_function}
 use Rattle.cpc_convert_event.specs.Routines.{Routine, routine_of, closure_of, is_plain, is_parameter, passed, variable_of, locals_of, chosen}
 use Rattle.cpc_convert_event.proofs.Apart.{spawner_is, no_bar_spawn, no_bar_nothing, spawn_nothing}
 use Rattle.cpc_convert_event.proofs.Locals.{NoneCalled}
 use Rattle.cpc_convert_event.proofs.Meanings.{items_meant}
 use Rattle.cpc_convert_event.proofs.Numbers.{chosen_is}
+use Rattle.cpc_convert_native_laws.proofs.SpawnerScope.{variable_is}
 use Rattle.cpc_convert_piece_laws.specs.Known.{CpsKnown}
 use Rattle.cpc_convert_piece_laws.proofs.Frames.{kept_small}
-use Rattle.cpc_convert_piece_laws.proofs.Scopes.{unmarked_name}
-
--- ---- rows of variables
-
-declared_other : (q : Program) (y : Text) (scope : Scope) (n : ℕ) (vs : List Variable) → NoneCalled y vs → named q (declared_scope scope n vs) y ≡ named q scope y
-declared_other q y scope n [] h = refl
-declared_other q y scope n (v ∷ vs) h = declared_other q y (record { called = v.called; type = v.type; slot = n } ∷ scope) (suc n) vs h.1 ∙ ap (λ b. cond b (ALocal n v.type) (named q scope y)) h.0
-
-none_append : (y : Text) (xs ys : List Variable) → NoneCalled y xs → NoneCalled y ys → NoneCalled y (xs ++ ys)
-none_append y [] ys h g = g
-none_append y (x ∷ xs) ys h g = (h.0, none_append y xs ys h.1 g)
-
-loads_none : (y : Text) (xs : List Variable) → NoneCalled y xs → NotLoaded y (map load_of xs)
-loads_none y [] h = NoneLoaded
-loads_none y (x ∷ xs) h = NotThisLoad (load_of x) (map load_of xs) h.0 (loads_none y xs h.1)
-
-loads_append : (y : Text) (xs ys : List Load) → NotLoaded y xs → NotLoaded y ys → NotLoaded y (xs ++ ys)
-loads_append y _ ys NoneLoaded g = g
-loads_append y _ ys (NotThisLoad l ls e h) g = NotThisLoad l (ls ++ ys) e (loads_append y ls ys h g)
+use Rattle.cpc_convert_piece_laws.proofs.Scopes.{unmarked_name, none_append, declared_other, loads_none, loads_append}
 
 -- ---- a name that is that of no variable, and no word
 
@@ -116,17 +95,6 @@ module _ (p : Program) (f : Function) (known : CpsKnown p f) (l : Place) (owner 
 
 -- ---- spawners
 
-variable_is : (k : ℕ) (x : Text) → variable_name k x ≡ marked x (decimal k)
-unfolding variable_name
-variable_is k x = refl
-
-not_digits : (c : ℕ) (d e : Text) → (digit_value c < 10 → ⊥) → AllDigits 10 d → d ≡ c ∷ e → ⊥
-not_digits c d e h a k = h (subst (AllDigits 10) k a).0
-
--- no number is spelled so
-no_spawn : (k : ℕ) → k < 2 ^ 63 → decimal k ≡ codes "spawn" → ⊥
-no_spawn k h e = not_digits 115 (decimal k) _ (not_under_ten 28 (omega arith)) (decimal_is_IsNumeral k (omega arith)).0.1 e
-
 module _ (p : Program) (f : Function) (known : CpsKnown p f) (l : Place) (owner : IsOwner (routine_of p f) l) (g : Function) (cps : IsCps p g) where
   unmarked : has_marks g.called ≡ false
   unmarked = known.names.unmarked _ cps.has
@@ -136,7 +104,7 @@ module _ (p : Program) (f : Function) (known : CpsKnown p f) (l : Place) (owner 
   spawner_meant =
       not_hidden p f known l owner (spawner_name g.called)
       (λ k x small hx. texts_differ (variable_name k x) (spawner_name g.called)
-      (λ (e : variable_name k x ≡ spawner_name g.called). no_spawn k small (marked_is x g.called (decimal k) (codes "spawn") hx unmarked (no_bar_decimal k small) no_bar_spawn (sym (variable_is k x) ∙ (e ∙ spawner_is g.called))).1))
+      (λ (e : variable_name k x ≡ spawner_name g.called). decimal_no_spawn k small (marked_is x g.called (decimal k) (codes "spawn") hx unmarked (no_bar_decimal k small) no_bar_spawn (sym (variable_is k x) ∙ (e ∙ spawner_is g.called))).1))
       (λ w hw. texts_differ (marked w (codes "")) (spawner_name g.called)
       (λ (e : marked w (codes "") ≡ spawner_name g.called). spawn_nothing (sym (marked_is w g.called (codes "") (codes "spawn") hw unmarked no_bar_nothing no_bar_spawn (e ∙ spawner_is g.called)).1)))
       ∙ (items_meant p known.names).spawners g cps

@@ -4,12 +4,9 @@ use Rattle.std.specs.List.{All}
 use Rattle.cpc_base.specs.Bytes.{Text}
 use Rattle.cpc_base.specs.declared.stop.Dialect.TheVariants as D
 use Rattle.cpc_base.proofs.Lists.{length_of_map}
-use Rattle.cpc_check_rules.specs.Operators as O
 use Rattle.cpc_check_sound_laws.specs.Typed.{AllGet, IsTyped}
 use Rattle.cpc_store.specs.declared.values.Class.TheVariants.{Frame}
 use Rattle.cpc_store.specs.Store.{Value, Unset, At as Pointer, Blocks}
-use Rattle.cpc_tree.specs.declared.program.Mode.{Mode}
-use Rattle.cpc_tree.specs.declared.program.Mode.TheVariants.{Extern, Native, Cps, Detached}
 use Rattle.cpc_tree.specs.Points.{Point, Arrival, Simple, enter}
 use Rattle.cpc_tree.specs.Registers.{variables}
 use Rattle.cpc_tree.specs.Syntax.{Ty, TyVoid, ENamed, Exprs, Stmt, Stmts, Call, Spawn, Function, Program}
@@ -24,7 +21,7 @@ use Rattle.cpc_meaning.specs.Plain.{Frame as CallFrame, context}
 use Rattle.cpc_meaning.specs.Requests.{Request, ToSpawn, arguments}
 use Rattle.cpc_meaning.specs.Runs.{slots_registers}
 use Rattle.cpc_meaning.specs.Start.{before_bars}
-use Rattle.cpc_meaning.specs.Threads.{is_cps_mode, shown_in}
+use Rattle.cpc_meaning.specs.Threads.{shown_in}
 use Rattle.cpc_meaning.specs.Trees.{trees}
 use Rattle.cpc_meaning.specs.Ways.{InPlace}
 use Rattle.cpc_meaning.proofs.Functions.{gives_then}
@@ -63,7 +60,7 @@ use Rattle.cpc_convert_laws.proofs.Spawning.{SpawnerRuns}
 use Rattle.cpc_convert_native_laws.specs.Convertible.{Convertible}
 use Rattle.cpc_convert_native_laws.specs.Instance.{StaysAs}
 use Rattle.cpc_convert_native_laws.proofs.SpawnerCall.{AllScalar, get_scalar, passed_types, spawner_takes, passed_few, fit_all}
-use Rattle.cpc_convert_native_laws.proofs.Spawners.{spawner_runs}
+use Rattle.cpc_convert_native_laws.proofs.Spawners.{spawner_runs, cps_mode, asked_same}
 use Rattle.cpc_convert_piece_laws.specs.Known.{CpsKnown, ProgramKnown}
 use Rattle.cpc_convert_piece_laws.specs.Rows.{RowAt, row_index}
 use Rattle.cpc_convert_piece_laws.specs.Stood.{NodeAt, LocalsStand, Stood}
@@ -77,23 +74,11 @@ use Rattle.cpc_convert_piece_laws.proofs.Uses.{names_kept_among, use_kept, IsKep
 use Rattle.cpc_convert_call_laws.proofs.Shown.{spawner_meant}
 use Rattle.cpc_convert_call_laws.proofs.Steps.{arrival_goes}
 
-cps_mode : (m : Mode) → O.is_cps m ≡ true → is_cps_mode m ≡ true
-cps_mode Cps e = refl
-cps_mode Extern e = absurd (cc)
-cps_mode Native e = absurd (cc)
-cps_mode Detached e = absurd (cc)
-
 -- the steps of a spawn are few
 few_steps : (n v steps leads : ℕ) → n ≤ v → steps ≡ suc (suc (suc (suc n)) + 2) → 16 + 3 * v ≤ leads → steps + 1 < leads
 few_steps n v steps leads a b c = omega (arith, a, b, c)
 
 -- ---- what is spawned
-
-request_same : (a b : Request) → Gives (AsksFor a) ≡ Gives (AsksFor b) → a ≡ b
-request_same a b e = cc
-
-asked_same : (g : Text) (us vs : List Value) → asks (ToSpawn g) us ≡ Gives (AsksFor (record { asked = ToSpawn g; arguments = vs })) → us ≡ vs
-asked_same g us vs e = ap (λ (a : Request). a.arguments) (request_same (record { asked = ToSpawn g; arguments = us }) (record { asked = ToSpawn g; arguments = vs }) e)
 
 module _ (p : Program) (facts : ProgramKnown p) (h : Convertible p) (fine : CallFrame Position → Option Value → Type 0) (given : Text → List Value → Type 0) (bounds : Bounds) (wide : (g : Function) → IsCps p g → 16 + 3 * length (variables g) ≤ bounds.leads) (f : Function) (known : CpsKnown p f) (enough : 5 + length (variables f) ≤ bounds.onward) (begins : 0 < bounds.leads) (l : Place) (owner : IsOwner (routine_of p f) l)
     (shown : before_bars (piece_name f.called l) ≡ shown_in p f.called) (lower pointer result frame : Value)

@@ -1,5 +1,5 @@
 -- The start takes up the first frame of a call: its piece stands before the first node, or gives the frame of the leader that this is to the driver.
-use Rattle.std.proofs.Common.{◌≡◌, inl, ℕ, zero, suc, ◌+◌, ◌*◌, ◌≤◌, Bool, true, false, not, ◌&&◌, ◌||◌, ◌==◌, List, [], ◌∷◌, ◌++◌, length, slice_get, slice_set, Option, Some, None, refl, sym, ◌∙◌, ap, subst, arith}
+use Rattle.std.proofs.Common.{◌≡◌, inl, ℕ, suc, ◌+◌, ◌*◌, ◌≤◌, Bool, true, false, not, ◌&&◌, ◌||◌, ◌==◌, List, [], ◌∷◌, ◌++◌, length, slice_get, slice_set, Option, Some, None, refl, sym, ◌∙◌, ap, subst, arith}
 use Rattle.std.proofs.lemmas.List.Sums.{sum_by_push}
 use Rattle.cpc_base.specs.Bytes.{Text}
 use Rattle.cpc_base.proofs.Truth.{eq_reflexive, or_by_second}
@@ -24,7 +24,7 @@ use Rattle.cpc_forms.specs.Split.{Position, InGraph, first_position, owner_or, s
 use Rattle.cpc_graph_laws.specs.Laws.{flow_in}
 use Rattle.cpc_graph_laws.proofs.Leaders.{inside}
 use Rattle.cpc_graph_laws.proofs.Marked.{leaders_are_listed}
-use Rattle.cpc_lift_laws.specs.Lifted.{tidy_slot, tidy_slots}
+use Rattle.cpc_lift_laws.specs.Lifted.{tidy_slots}
 use Rattle.cpc_lift_laws.specs.Search.{closure}
 use Rattle.cpc_convert_image_laws.specs.Held.{beside}
 use Rattle.cpc_convert_chain_laws.specs.Chains.{Saved, frame_cells, Top}
@@ -44,8 +44,10 @@ use Rattle.cpc_convert_laws.specs.Items.{value_in, copied, first_saved, saved_at
 use Rattle.cpc_convert_laws.proofs.Entry.{Opens}
 use Rattle.cpc_convert_laws.proofs.Setting.{Setting}
 use Rattle.cpc_convert_laws.proofs.Starting.{StartLeads, start_opens}
+use Rattle.cpc_convert_laws.proofs.Tidy.{slot_kept}
 use Rattle.cpc_convert_native_laws.specs.Instance.{cut_of}
 use Rattle.cpc_convert_accepted_laws.specs.Lifted.{kept_of}
+use Rattle.cpc_convert_accepted_laws.proofs.Cut.{place_self}
 use Rattle.cpc_convert_native_laws.proofs.SpawnerCall.{passed_few}
 use Rattle.cpc_convert_piece_laws.specs.Known.{CpsKnown}
 use Rattle.cpc_convert_piece_laws.specs.Rows.{row_point}
@@ -54,7 +56,7 @@ use Rattle.cpc_convert_piece_laws.proofs.Frames.{registers_all, code, saves_of, 
 use Rattle.cpc_convert_piece_laws.proofs.Scopes.{q}
 use Rattle.cpc_convert_piece_laws.proofs.Stubs.{stub_walk}
 use Rattle.cpc_convert_piece_laws.proofs.Tidied.{closure_kept, stood_tidied}
-use Rattle.cpc_convert_piece_laws.proofs.Ways.{is_split, place_self}
+use Rattle.cpc_convert_piece_laws.proofs.Ways.{is_split}
 use Rattle.cpc_convert_entry_laws.specs.Taken.{KeptIn, IsValue, IsBlock, FrameTaken, CallTaken}
 use Rattle.cpc_convert_entry_laws.proofs.Counting.{start_locals, start_number}
 use Rattle.cpc_convert_entry_laws.proofs.Leaders.{EntryAt, entry_at, entry_row}
@@ -81,11 +83,6 @@ opens_wider z' a b rise name w bs s k f l n slots o next t h g = record {
 }
 
 -- ---- slots that forget what they need not keep
-
-tidied_slot : (keep : ℕ → Bool) (slots : List Slot) (k : ℕ) → keep k ≡ true → slice_get (tidy_slots keep slots) k ≡ slice_get slots k
-tidied_slot keep [] k e = refl
-tidied_slot keep (x ∷ xs) zero e = ap (λ b. Some (tidy_slot b x)) e
-tidied_slot keep (x ∷ xs) (suc k) e = tidied_slot (λ n. keep (suc n)) xs k e
 
 kept_same : (slots slots' : List Slot) (t : Ty) (k : ℕ) (b : Bool) → slice_get slots' k ≡ slice_get slots k → KeptIn slots t k b → KeptIn slots' t k b
 kept_same slots slots' t k _ e (IsValue v g fits) = IsValue v (e ∙ g) fits
@@ -189,7 +186,7 @@ module _ (p : Program) (fine : CallFrame Position → Option Value → Type 0) (
       in_start k h = ap (λ ks. holds_number ks k) same_kept ∙ h
 
       same_slot : (k : ℕ) → holds_number (closure_of r l) k ≡ true → slice_get tidied k ≡ slice_get slots k
-      same_slot k h = tidied_slot (keep l) slots k (closure_kept p known.names f known.found.cps l refl entry k h)
+      same_slot k h = slot_kept (keep l) slots k (closure_kept p known.names f known.found.cps l refl entry k h)
 
       leader_owns : is_own r.split l entry ≡ true
       leader_owns = ap (λ o. is_owned_by l (owner_at o)) at.owned ∙ place_self l

@@ -1,5 +1,5 @@
 -- Where pieces begin: at a leader, or at a first node of the start's own; and that these have rows.
-use Rattle.std.proofs.Common.{◌≡◌, ℕ, zero, suc, ◌<◌, true, false, not, ◌||◌, length, slice_get, Option, Some, None, refl, sym, ◌∙◌, ap, subst, arith}
+use Rattle.std.proofs.Common.{◌≡◌, ℕ, ◌<◌, true, false, not, ◌||◌, length, slice_get, Option, Some, None, refl, sym, ◌∙◌, ap, subst, arith}
 use Rattle.std.proofs.lemmas.Option.{slice_get_within}
 use Rattle.cpc_base.proofs.Truth.{eq_means}
 use Rattle.cpc_base.proofs.Lists.{found_within}
@@ -11,7 +11,6 @@ use Rattle.cpc_forms.specs.Flow.{Place, Start, At, Flow, resumes_at, goes_to, so
 use Rattle.cpc_forms.specs.Graph.{Node, node_of, graph_of, at_node}
 use Rattle.cpc_forms.specs.Order.{is_in, number_of}
 use Rattle.cpc_forms.specs.Pieces.{is_owned_by}
-use Rattle.cpc_forms.specs.Split.{owners_from}
 use Rattle.cpc_forms.proofs.Numbers.{one_node}
 use Rattle.cpc_graph_laws.specs.Laws.{flow_in}
 use Rattle.cpc_graph_laws.proofs.Controls.{led}
@@ -26,6 +25,7 @@ use Rattle.cpc_graph_laws.proofs.Standing.{begin_is_in}
 use Rattle.cpc_convert_event.specs.NameLaws.{ALeader}
 use Rattle.cpc_convert_event.specs.Routines.{Routine, routine_of}
 use Rattle.cpc_convert_event.specs.Rows.{owner_at, is_own, stands_with, has_row}
+use Rattle.cpc_convert_accepted_laws.proofs.Cut.{owners_long}
 use Rattle.cpc_convert_piece_laws.specs.Stood.{NodeAt}
 use Rattle.cpc_convert_piece_laws.proofs.Frames.{held_has}
 use Rattle.cpc_convert_entry_laws.specs.Laws.{LeadersHaveRows}
@@ -35,10 +35,6 @@ owned_is n None h = absurd (cc)
 owned_is n (Some None) h = absurd (cc)
 owned_is n (Some (Some Start)) h = absurd (cc)
 owned_is n (Some (Some (At m))) h = ap (λ k. Some (Some (At k))) (eq_means m n h)
-
-owners_number : (flow : Flow) (n k : ℕ) → length (owners_from flow n k) ≡ k
-owners_number flow n zero = refl
-owners_number flow n (suc k) = ap suc (owners_number flow (suc n) k)
 
 module _ (p : Program) (f : Function) where
   abbrev r : Routine
@@ -88,7 +84,7 @@ module _ (p : Program) (f : Function) where
   leader_at n h =
       let owned = owned_is n (slice_get r.split.owners n) h in
       let within = slice_get_within r.split.owners n (Some (At n)) owned in
-      let number = owners_number flow 0 (length (graph_of p f).nodes) in
+      let number = owners_long flow 0 (length (graph_of p f).nodes) in
       let node = found_within (graph_of p f).nodes n (let z : n < length (graph_of p f).nodes = omega (arith, within, number) in z) in
       let owns : Some (owner_of flow n) ≡ Some (Some (At n)) = sym (owner_there (graph_of p f) n node.0 node.1) ∙ owned in
       let is : owner_of flow n ≡ Some (At n) = cc in

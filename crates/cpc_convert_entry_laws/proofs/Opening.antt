@@ -38,14 +38,15 @@ use Rattle.cpc_convert_event.specs.NameLaws.{IsOwner}
 use Rattle.cpc_convert_event.specs.Names.{piece_name, pointer_name, frame_name, value_name}
 use Rattle.cpc_convert_event.specs.Pieces.{load_of, called_so, takes_value, loaded, loads_of, declares_of, boxing_of}
 use Rattle.cpc_convert_event.specs.Routines.{Routine, routine_of, locals_of, variable_if}
-use Rattle.cpc_convert_event.specs.Rows.{Row, row_of, first_number, numbers_of, is_own, lines_by, put_lines, put_rows, rows_statements, piece_statements}
+use Rattle.cpc_convert_event.specs.Rows.{row_of, numbers_of, is_own, lines_by, put_lines, put_rows, rows_statements, piece_statements}
 use Rattle.cpc_convert_event.proofs.Addresses.{variables_are_registers}
 use Rattle.cpc_convert_event.proofs.Flat.{boxes_done, pieces_flat}
 use Rattle.cpc_convert_event.proofs.Lines.{AreLines, bare_lines}
 use Rattle.cpc_convert_piece_laws.specs.Known.{CpsKnown}
-use Rattle.cpc_convert_piece_laws.specs.Rows.{next_number, put_row, RowAt, row_index, row_rest, row_point}
+use Rattle.cpc_convert_piece_laws.specs.Rows.{put_row, RowAt, row_index, row_rest, row_point}
 use Rattle.cpc_convert_piece_laws.proofs.Frames.{Target, code, body, is_code}
 use Rattle.cpc_convert_piece_laws.proofs.Scopes.{meant, primitive_meant}
+use Rattle.cpc_convert_piece_laws.proofs.Rows.{same_next}
 
 blank_more : (a b : ℕ) → blank (a + b) [] ≡ blank a (blank b [])
 blank_more zero b = ap (λ n. blank n []) (let z : 0 + b ≡ b = omega arith in z)
@@ -56,10 +57,6 @@ all_true [] h = refl
 all_true (s ∷ ss) h = ap (λ b. b && all_lines ss) h.0 ∙ all_true ss h.1
 
 -- ---- the first row
-
-same_next : (rs : List Row) → next_number (put_rows rs) ≡ first_number rs
-same_next [] = refl
-same_next (r ∷ rs) = refl
 
 -- a row with none before it
 pub record FirstRow (p : Program) (r : Routine) (l : Place) (n : ℕ) : Type 0 where

@@ -4,7 +4,7 @@ use Rattle.cpc_base.specs.Bytes.{Text}
 use Rattle.cpc_base.proofs.Lists.{length_of_map, length_of_append, item_in_front}
 use Rattle.cpc_tree.specs.Lists.{holds_number}
 use Rattle.cpc_tree.specs.Registers.{variables}
-use Rattle.cpc_tree.specs.Syntax.{Ty, Stmts, NoStmt, AndStmt, Function, Program}
+use Rattle.cpc_tree.specs.Syntax.{Stmts, NoStmt, AndStmt, Function, Program}
 use Rattle.cpc_store.specs.declared.values.Class.TheVariants.{Frame}
 use Rattle.cpc_store.specs.Store.{Value, Blocks, Store, cells_of}
 use Rattle.cpc_meaning.specs.Eval.{Slot, Register}
@@ -26,7 +26,7 @@ use Rattle.cpc_convert_event.specs.Frames.{arriving_type}
 use Rattle.cpc_convert_event.specs.LocalLaws.{piece_locals}
 use Rattle.cpc_convert_event.specs.NameLaws.{IsOwner, ALeader}
 use Rattle.cpc_convert_event.specs.Names.{piece_name, pointer_name, frame_name, value_name}
-use Rattle.cpc_convert_event.specs.Pieces.{called_so, load_of, takes_value, loads_of, words_if, words_of, declares_of}
+use Rattle.cpc_convert_event.specs.Pieces.{called_so, load_of, takes_value, loads_of, words_of, declares_of}
 use Rattle.cpc_convert_event.specs.Routines.{Routine, routine_of, closure_of, local_of, locals_of}
 use Rattle.cpc_convert_event.specs.Rows.{piece_statements}
 use Rattle.cpc_convert_event.proofs.Filling.{frames_filled}
@@ -42,6 +42,7 @@ use Rattle.cpc_convert_piece_laws.specs.Stood.{LocalsStand, Arrives, NoneArrives
 use Rattle.cpc_convert_piece_laws.proofs.Arrivals.{value_index}
 use Rattle.cpc_convert_piece_laws.proofs.Frames.{code, kept_number}
 use Rattle.cpc_convert_piece_laws.proofs.Scopes.{q}
+use Rattle.cpc_convert_piece_laws.proofs.Words.{words_few}
 use Rattle.cpc_convert_entry_laws.specs.Taken.{FrameTaken}
 use Rattle.cpc_convert_entry_laws.proofs.Leaders.{LeaderAt, leader_at}
 use Rattle.cpc_convert_entry_laws.proofs.Opening.{call_number, FirstRow, first_row, is_piece, locals_number, called_locals, is_called, opened, before_boxes, opening_steps, under, opening_walk}
@@ -52,18 +53,8 @@ pub chain_fits : (bs : Blocks) (fs : List Saved) (next : Value) (owned : List �
 chain_fits bs _ _ _ NoChain = refl
 chain_fits bs _ _ _ (AndChain f fs b next v owned live apart more) = refl
 
-words_number : (a b c : Bool) (t : Ty) → length (words_if a b c t) ≤ 3
-words_number true true true t = omega arith
-words_number true true false t = omega arith
-words_number true false true t = omega arith
-words_number true false false t = omega arith
-words_number false true true t = omega arith
-words_number false true false t = omega arith
-words_number false false true t = omega arith
-words_number false false false t = omega arith
-
 pub words_of_number : (p : Program) (r : Routine) (l : Place) → length (words_of p r l) ≤ 3
-words_of_number p r l = words_number _ _ _ r.function.result
+words_of_number p r l = words_few _ _ _ r.function.result
 
 module _ (p : Program) (f : Function) (known : CpsKnown p f) (n : ℕ) (leads : Has n (routine_of p f).split.leaders) where
   abbrev r : Routine

@@ -1,5 +1,5 @@
 -- What the rows of the conversion ask of states of the lifted run, from what is kept along the run of the split form beside it.
-use Rattle.std.proofs.Common.{◌≡◌, ℕ, zero, suc, ◌<◌, Bool, List, [], ◌∷◌, length, slice_get, Option, Some, option_map, refl, ap, subst, arith}
+use Rattle.std.proofs.Common.{◌≡◌, ℕ, zero, suc, ◌<◌, Bool, List, [], ◌∷◌, length, Option, Some, option_map, refl, ap, subst, arith}
 use Rattle.std.specs.List.{All}
 use Rattle.std.proofs.lemmas.List.Elements.{All-nil, All-cons, All-head, All-tail}
 use Rattle.cpc_base.specs.Bytes.{Text}
@@ -27,6 +27,7 @@ use Rattle.cpc_meaning.proofs.Machines.{ThreadsMeet, PendingBoth, StatesMeet, Me
 use Rattle.cpc_meaning.proofs.Meeting.{BothSome, SomeBoth, NoneBoth}
 use Rattle.cpc_meaning.proofs.Steps.{next_meet}
 use Rattle.cpc_meaning_pointer_laws.specs.Made.{IsMade}
+use Rattle.cpc_meaning_pointer_laws.proofs.Blocks.{element}
 use Rattle.cpc_meaning_kept_laws.specs.Codes.{IsCode}
 use Rattle.cpc_meaning_kept_laws.specs.Kept.{KeptThread, KeptJob, NoFrames}
 use Rattle.cpc_meaning_kept_laws.specs.Layers.{Holds}
@@ -46,12 +47,6 @@ use Rattle.cpc_convert_laws.proofs.Setting.{Setting, from_form, to_form, HeldJob
 use Rattle.cpc_convert_known_laws.specs.Jobs.{SectionsTake, IsNoCode, JobsFine}
 use Rattle.cpc_convert_known_laws.proofs.BoxRuns.{lifted_boxes_stay}
 use Rattle.cpc_convert_known_laws.proofs.JobRuns.{jobs_fine}
-
--- the value at a place of a list of which it holds
-all_at : {A : Type 0} (P : A → Type 0) (xs : List A) (k : ℕ) (x : A) → All P xs → slice_get xs k ≡ Some x → P x
-all_at P [] k x h e = absurd (cc)
-all_at P (y ∷ ys) zero x h e = let same : y ≡ x = cc in subst P same (All-head P y ys h)
-all_at P (y ∷ ys) (suc k) x h e = all_at P ys k x (All-tail P y ys h) e
 
 -- the first of two lists whose elements correspond, where the second has one
 first_of : {X Y : Type 0} (R : X → Y → Type 0) (xs : List X) (ys : List Y) (y : Y) (us : List Y) → Both R xs ys → ys ≡ y ∷ us → (x : X) × (ws : List X) × (xs ≡ x ∷ ws) × R x y
@@ -125,7 +120,7 @@ module _ (z : Setting) (box : Text → ℕ → Bool) (there : Text → Position 
     known_by facts _ _ (Meet s k j a b jobs h tr o r g) holds boxes fine tidy =
         let kept = holds.kept in
         record {
-          store = λ class n k cells v e i. made_held z facts.codes s kept.no_frames v (kept.store class n k cells v e i) (all_at (IsCode z.source) cells k v (kept.codes class n cells e) i);
+          store = λ class n k cells v e i. made_held z facts.codes s kept.no_frames v (kept.store class n k cells v e i) (element (IsCode z.source) cells k v (kept.codes class n cells e) i);
           jobs = jobs_held z s kept.no_frames jobs kept.jobs fine;
           boxes = boxes;
           running = λ frame below p e. facts.fine _ _ (Meet s k j a b jobs h tr o r g) holds tidy frame below p e;

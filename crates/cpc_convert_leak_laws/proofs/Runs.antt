@@ -45,6 +45,7 @@ use Rattle.cpc_convert_laws.proofs.Rows.{Shows, Near, Midway, AtFirst, AtLast, M
 use Rattle.cpc_convert_laws.proofs.Setting.{Setting, from_form, Known}
 use Rattle.cpc_convert_accepted_laws.specs.Functions.{HasMain}
 use Rattle.cpc_convert_accepted_laws.specs.Lifted.{kept_of, lifted_threads, lifted_after}
+use Rattle.cpc_convert_accepted_laws.proofs.Counts.{cps_same}
 use Rattle.cpc_convert_native_laws.specs.Instance.{StaysAs}
 use Rattle.cpc_convert_native_laws.proofs.Wholes.{kept_there, kept_named}
 use Rattle.cpc_convert_arrival_laws.specs.Taken.{IsFine}
@@ -56,7 +57,6 @@ use Rattle.cpc_convert_runs_laws.proofs.Had.{Had}
 use Rattle.cpc_convert_runs_laws.proofs.Join.{setting, PiecesDo, FineSays, rows}
 use Rattle.cpc_convert_runs_laws.proofs.Known.{state_known}
 use Rattle.cpc_convert_runs_laws.proofs.Locals.{ArePlacesThin, stood_thin}
-use Rattle.cpc_convert_runs_laws.proofs.Natives.{cps_same}
 use Rattle.cpc_convert_leak_laws.specs.Need.{thread_weight}
 use Rattle.cpc_convert_leak_laws.specs.Held.{live_blocks}
 use Rattle.cpc_convert_leak_laws.proofs.Ended.{thread_idle, callback_idle, idle_rests}

@@ -30,9 +30,10 @@ use Rattle.cpc_convert_arrival_laws.specs.Taken.{IsFine}
 use Rattle.cpc_meaning_native_laws.specs.Plain.{is_plain}
 use Rattle.cpc_meaning_native_laws.proofs.Stands.{function_plain}
 use Rattle.cpc_convert_accepted_laws.proofs.Known.{accepted_is_fine}
+use Rattle.cpc_convert_accepted_laws.proofs.Counts.{cps_same}
 use Rattle.cpc_convert_runs_laws.specs.Laws.{IsNative}
 use Rattle.cpc_convert_runs_laws.specs.Runs.{CallsCps}
-use Rattle.cpc_convert_runs_laws.proofs.Natives.{cps_same, CpsAmong, some_cps, native_converted}
+use Rattle.cpc_convert_runs_laws.proofs.Natives.{CpsAmong, some_cps, native_converted}
 use Rattle.cpc_convert_runs_laws.proofs.Pieces.{pieces_do}
 use Rattle.cpc_convert_runs_laws.proofs.Had.{Had, accepted_had}
 use Rattle.cpc_convert_runs_laws.proofs.Join.{PiecesDo}

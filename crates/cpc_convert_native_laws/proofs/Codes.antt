@@ -1,6 +1,7 @@
 -- A name that stays finds a function in both programs, the one that stands for it, or none in either.
 use Rattle.std.proofs.Common.{◌≡◌, Bool, true, false, cond, List, [], ◌∷◌, ◌++◌, map, Option, Some, None, bytes_eq, refl, sym, ◌∙◌, ap, subst, codes}
 use Rattle.cpc_base.specs.Bytes.{Text}
+use Rattle.cpc_base.proofs.Lists.{append_empty}
 use Rattle.cpc_tree.specs.Syntax.{Ty, Function, Item, StructItem, GlobalItem, PrototypeItem, FunctionItem, Program}
 use Rattle.cpc_tree.specs.Typing.{AFunction, item_named, function_named}
 use Rattle.cpc_tree.specs.declared.program.Mode.{Mode}
@@ -47,10 +48,6 @@ pass_none (FunctionItem f ∷ its) items x e = go (bytes_eq f.called x) refl (is
     go false i true k rest = rest k
     go false i false k rest = ap (λ c. cond c (Some (kept_function f)) (function_named (kept_items its ++ items) x)) i ∙ rest k
 
-append_nil : (xs : List Item) → xs ++ [] ≡ xs
-append_nil [] = refl
-append_nil (x ∷ xs) = ap (λ ys. x ∷ ys) (append_nil xs)
-
 no_function : {A : Type 0} (f : Function) → Some f ≡ None → A
 no_function f e = absurd (cc)
 
@@ -79,7 +76,7 @@ module _ (p : Program) (x : Text) (none : function_named p x ≡ None) where
   no_driver e items = ap (λ b. cond b (Some drive_function) (function_named items x)) e
 
   none_among : (rs : List Routine) → ((g : Function) → Has g (all_made p rs) → bytes_eq g.called x ≡ false) → bytes_eq drive_name x ≡ false → function_named (converted_with p rs) x ≡ None
-  none_among [] made e = ap (λ ys. function_named ys x) (sym (append_nil (kept_items p))) ∙ pass_none p [] x none
+  none_among [] made e = ap (λ ys. function_named ys x) (sym (append_empty (kept_items p))) ∙ pass_none p [] x none
   none_among (r ∷ rs) made e =
       skip_functions (all_structs p (r ∷ rs)) (map prototype (all_made p (r ∷ rs)) ++ FunctionItem drive_function ∷ behind p (r ∷ rs)) x (all_structs_are p (r ∷ rs))
       ∙ (skip_prototypes (all_made p (r ∷ rs)) (FunctionItem drive_function ∷ behind p (r ∷ rs)) x

@@ -7,12 +7,11 @@ use Rattle.cpc_base.specs.declared.stop.Dialect.TheVariants as D
 use Rattle.cpc_base.proofs.Truth.{by_false_true, or_neither, and_not_fails}
 use Rattle.cpc_base.proofs.Lists.{some_is}
 use Rattle.cpc_tree.specs.declared.program.Mode.{Mode}
-use Rattle.cpc_tree.specs.declared.program.Mode.TheVariants.{Extern, Native, Cps, Detached}
 use Rattle.cpc_tree.specs.Syntax.{Ty, Function, FunctionItem, Program}
 use Rattle.cpc_tree.specs.Located.{Ident, LStmt, Block, NoLStmt, AndLStmt, LParameter, LFunction, LItem, LStruct, LGlobal, LPrototype, LFunctionItem, bare_stmt, bare_parameter, bare_function, bare_item, bare}
 use Rattle.cpc_tree.specs.ItemGrammar.{all_named}
 use Rattle.cpc_tree.specs.Points.{Path, Nth, found, scope_at}
-use Rattle.cpc_tree.specs.Typing.{Scope, Meant, ALocal, AGlobal, AFunction, NotMeant, item_named, function_named, parameter_type, parameter_types}
+use Rattle.cpc_tree.specs.Typing.{Scope, Meant, ALocal, AGlobal, AFunction, NotMeant, item_named, function_named, parameter_types}
 use Rattle.cpc_tree.specs.Registers.{parameter_scope, outer_scope, scope_in_function}
 use Rattle.cpc_check_rules.specs.declared.rule.Rule.TheVariants.{Reserved, Twice, Disagree, Undeclared}
 use Rattle.cpc_check_rules.specs.Rule.{at_if}
@@ -21,7 +20,6 @@ use Rattle.cpc_check_rules.specs.Scopes.{in_items, meant}
 use Rattle.cpc_check_rules.specs.Operators.{Where, is_detached}
 use Rattle.cpc_check_rules.specs.FunctionRules.{is_kept, is_reserved, reserved_breaks}
 use Rattle.cpc_check_rules.specs.ItemRules.{outside, is_extern, Signature, is_clash, is_disagreeing, is_item, is_function, declared_breaks, is_host_like, types, cps_breaks, parameters_breaks, prototype_breaks, sized_breaks, parameter_block, in_body, body_breaks, function_breaks, item_breaks, items_breaks}
-use Rattle.cpc_check_sound_laws.specs.Typed.{is_own}
 use Rattle.cpc_meaning.proofs.Functions.{text_same}
 use Rattle.cpc_check_sound_laws.proofs.Agendas.{Each}
 use Rattle.cpc_check_sound_laws.proofs.Agreement.{Matches, Grows, Facts, At}
@@ -30,7 +28,7 @@ use Rattle.cpc_check_sound_laws.proofs.Bodies.{at_name}
 use Rattle.cpc_check_sound_laws.proofs.Grammar.{items_shape}
 use Rattle.cpc_check_sound_laws.proofs.Items.{signed, named_more, function_there}
 use Rattle.cpc_check_sound_laws.proofs.Knowing.{Same, Known, nothing_known, known_struct, known_global, known_function}
-use Rattle.cpc_check_sound_laws.proofs.Programs.{BodyShape, ItemShape}
+use Rattle.cpc_check_sound_laws.proofs.Programs.{BodyShape, ItemShape, types_are, no_extern, extern_is}
 use Rattle.cpc_check_sound_laws.proofs.Accepted.{accepted_facts}
 use Rattle.cpc_check_sound_laws.proofs.Unbroken.{split, holds_not}
 use Rattle.cpc_convert_image_laws.specs.Names.{AllNamesFound}
@@ -43,21 +41,8 @@ use Rattle.cpc_convert_native_laws.proofs.Closing.{in_closed}
 
 -- ---- declarations
 
-types_are : (ps : List LParameter) → types ps ≡ map parameter_type (map bare_parameter ps)
-types_are [] = refl
-types_are (p ∷ ps) = ap (λ ts. p.type ∷ ts) (types_are ps)
-
 free_name : (x : Ident) → reserved_breaks D.Cpc (x ∷ []) ≡ [] → is_kept x.text ≡ false
 free_name x h = (or_neither (is_kept x.text) _ (holds_not (is_reserved D.Cpc x.text) x.place Reserved (split (at_if (is_reserved D.Cpc x.text) x.place Reserved) [] h).0)).0
-
-no_extern : (m : Mode) → is_own m ≡ true → is_extern m ≡ false
-no_extern Native e = refl
-no_extern Cps e = refl
-no_extern Detached e = refl
-no_extern Extern e = by_false_true e
-
-extern_is : (m : Mode) → m ≡ Extern → is_extern m ≡ true
-extern_is m e = ap is_extern e
 
 abbrev signature : Mode → Ty → List LParameter → Bool → Signature
 signature mode r ps is_defined = record { mode = mode; result = r; parameters = types ps; is_defined = is_defined }

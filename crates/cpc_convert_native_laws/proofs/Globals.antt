@@ -1,6 +1,7 @@
 -- The globals of the event program are those of the program: what is made has none.
 use Rattle.std.proofs.Common.{◌≡◌, Bool, true, false, List, [], ◌∷◌, ◌++◌, map, Option, Some, None, refl, sym, ◌∙◌, ap}
 use Rattle.cpc_base.specs.Bytes.{Text}
+use Rattle.cpc_base.proofs.Lists.{append_empty}
 use Rattle.cpc_store.specs.declared.values.Class.TheVariants.{Static}
 use Rattle.cpc_store.specs.declared.values.Scalar.{Scalar}
 use Rattle.cpc_store.specs.Store.{Store, empty_store, alloc}
@@ -71,12 +72,8 @@ module _ (q : Program) where
         go None rest = refl
         go (Some xs) rest = rest (alloc Static (start_cells start xs) s)
 
-append_nil : (xs : List Item) → xs ++ [] ≡ xs
-append_nil [] = refl
-append_nil (x ∷ xs) = ap (λ ys. x ∷ ys) (append_nil xs)
-
 all_globals : (p q : Program) → Extends p q → GlobalsComplete p → (rs : List Routine) (s : Store) → make_globals q (converted_with p rs) s ≡ make_globals p p s
-all_globals p q types full [] s = ap (λ xs. make_globals q xs s) (sym (append_nil (kept_items p))) ∙ kept_globals q p types [] (λ s. refl) p full s
+all_globals p q types full [] s = ap (λ xs. make_globals q xs s) (sym (append_empty (kept_items p))) ∙ kept_globals q p types [] (λ s. refl) p full s
 all_globals p q types full (r ∷ rs) s =
     skip_structs q (all_structs p (r ∷ rs)) _ s (all_structs_are p (r ∷ rs))
     ∙ (skip_prototypes q (all_made p (r ∷ rs)) _ s

@@ -13,14 +13,11 @@ use Rattle.cpc_convert_event.specs.NameLaws.{IsNamed}
 use Rattle.cpc_convert_event.proofs.Meanings.{items_meant}
 use Rattle.cpc_convert_accepted_laws.specs.Known.{Stays}
 use Rattle.cpc_convert_accepted_laws.specs.Points.{UsedName, IsVariable, IsItem}
+use Rattle.cpc_convert_accepted_laws.proofs.Scoped.{is_local}
 
 -- ---- items
 
 -- no item is a variable
-abbrev is_local : Meant → Bool
-is_local (ALocal k t) = true
-is_local m = false
-
 neither : (b : Bool) (a m : Meant) → is_local a ≡ false → is_local m ≡ false → is_local (cond b a m) ≡ false
 neither true a m e f = e
 neither false a m e f = f

@@ -26,6 +26,7 @@ use Rattle.cpc_convert_image_laws.specs.Stacks.{frame_of}
 use Rattle.cpc_convert_event.specs.Converted.{kept_function, converted}
 use Rattle.cpc_convert_accepted_laws.specs.Known.{Stays}
 use Rattle.cpc_convert_accepted_laws.specs.Points.{IsAskedByNative}
+use Rattle.cpc_convert_accepted_laws.proofs.Counts.{not_cps}
 use Rattle.cpc_convert_laws.specs.Bounds.{Bounds}
 use Rattle.cpc_convert_laws.specs.Running.{Places, SamePoint}
 use Rattle.cpc_convert_laws.proofs.Joined.{NativeDoes, Plainly, Spawning, MainIs, NativeMain}
@@ -36,7 +37,7 @@ use Rattle.cpc_convert_native_laws.specs.Convertible.{Convertible}
 use Rattle.cpc_convert_native_laws.specs.Instance.{is_whole, StaysAs, cut_of, may_be_at, may_be}
 use Rattle.cpc_convert_native_laws.proofs.Instance.{setting_of}
 use Rattle.cpc_convert_native_laws.proofs.Names.{used_kept}
-use Rattle.cpc_convert_native_laws.proofs.Points.{is_no_cps, Good, good_here, good_arrival, good_end, native_point}
+use Rattle.cpc_convert_native_laws.proofs.Points.{Good, good_here, good_arrival, good_end, native_point}
 use Rattle.cpc_convert_native_laws.proofs.Respawned.{Kind, ASpawn, Another, kind_of}
 use Rattle.cpc_convert_native_laws.proofs.Wholes.{kept_there, kept_named, wholes_are_found}
 
@@ -99,7 +100,7 @@ module _ (p : Program) (h : Convertible p) (there : Places) (fine : Frame Positi
           native_point p h f fn is c (Stays p) (StaysAs p) (SamePoint (cut_of p)) (record { kept = kept_there p h.names f fn is c; same = refl }) (λ b. (refl, whole)) b g
           (λ x u. used_kept (Stays p) p h.named ((split_form p).code.scope f (InTree b)) x u.used (λ mode r ps s i. s)) s slots;
       written = λ s k e. g.written slots s k e;
-      asks = λ s o below r e. answered_alike ((split_form p).code.stood f (InTree b)) g.no_spawn r.asked (h.positions.asks (frame_of f (InTree b) slots) fn s o below r is (is_no_cps fn.mode c) e);
+      asks = λ s o below r e. answered_alike ((split_form p).code.stood f (InTree b)) g.no_spawn r.asked (h.positions.asks (frame_of f (InTree b) slots) fn s o below r is (not_cps fn.mode c) e);
     }
 
   -- a spawn of native code is made by the spawner

@@ -7,8 +7,6 @@ use Rattle.cpc_tree.specs.Points.{Path, Point, Here, Arrival, End, Found, Simple
 use Rattle.cpc_tree.specs.Registers.{scope_in_function}
 use Rattle.cpc_tree.specs.Syntax.{Exprs, Stmt, Call, Detach, Spawn, Function, Program}
 use Rattle.cpc_tree.specs.Typing.{Scope, named, function_named}
-use Rattle.cpc_tree.specs.declared.program.Mode.{Mode}
-use Rattle.cpc_tree.specs.declared.program.Mode.TheVariants.{Extern, Native, Cps, Detached}
 use Rattle.cpc_meaning.specs.Act.{Stood, AtStatement, AtArrival}
 use Rattle.cpc_meaning.specs.Eval.{Slot}
 use Rattle.cpc_meaning.specs.Plain.{context, asking}
@@ -24,18 +22,12 @@ use Rattle.cpc_convert_image_laws.specs.Relations as R
 use Rattle.cpc_convert_image_laws.specs.Stacks.{frame_of, Onwards, BothGoTo, GoesNowhere, NativePoint}
 use Rattle.cpc_convert_event.specs.Converted.{kept_function, converted}
 use Rattle.cpc_convert_accepted_laws.specs.Points.{UsedName, StaysItself, FoundKnown, IsSpawn}
+use Rattle.cpc_convert_accepted_laws.proofs.Counts.{not_cps}
 use Rattle.cpc_convert_native_laws.specs.Convertible.{Convertible}
 use Rattle.cpc_convert_native_laws.specs.Instance.{ClosedName, UsedAt}
 use Rattle.cpc_convert_native_laws.proofs.Names.{names_grow, names_join}
 use Rattle.cpc_convert_native_laws.proofs.Respawned.{same_next, same_scope_from}
 use Rattle.cpc_convert_native_laws.proofs.Wholes.{kept_named}
-
--- a mode that is not cps
-pub is_no_cps : (m : Mode) → is_cps_mode m ≡ false → O.is_cps m ≡ false
-is_no_cps Extern e = refl
-is_no_cps Native e = refl
-is_no_cps Detached e = refl
-is_no_cps Cps e = absurd (cc)
 
 -- a spawn is not the same as a call
 no_spawn : (p : Program) (scope : Scope) (st : Stmt) → respawned_found (Simple st) ≡ Simple st → IsSpawn st ⊎ StaysItself p scope st → StaysItself p scope st
@@ -98,7 +90,7 @@ module _ (p : Program) (h : Convertible p) (f : Text) (fn : Function) (is : func
 
     -- a statement stays itself
     itself : (st : Stmt) → s ≡ Simple st → StaysItself p (scope_here (Here path)) st
-    itself st i = no_spawn p (scope_here (Here path)) st (subst (λ s. respawned_found s ≡ s) i stays) (h.positions.native f fn (InTree (Here path)) st is (is_no_cps fn.mode c) (stood_here ∙ ap (λ s. AtStatement s) i))
+    itself st i = no_spawn p (scope_here (Here path)) st (subst (λ s. respawned_found s ≡ s) i stays) (h.positions.native f fn (InTree (Here path)) st is (not_cps fn.mode c) (stood_here ∙ ap (λ s. AtStatement s) i))
 
     -- what is known makes its names known, and what arrives there is written
     names_of : (b : Point) (s : Found) → ((st : Stmt) → s ≡ Simple st → StaysItself p (scope_here b) st) → FoundKnown p (scope_here b) s → AllNamesFound (UsedName p (scope_here b)) s

@@ -6,7 +6,7 @@ use Rattle.cpc_check_sound_laws.specs.Typed.{AllGet}
 use Rattle.cpc_store.specs.Store.{Value, Unset, Store}
 use Rattle.cpc_tree.specs.Points.{locals_in, declared}
 use Rattle.cpc_tree.specs.Registers.{as_variable, variables, addresses_in, addressed, parameter_scope, or_empty}
-use Rattle.cpc_tree.specs.Syntax.{Ty, TyVoid, TyInt, TyCondvar, TyPointer, TyCode, TyStruct, TyArray, Expr, ENamed, Exprs, NoExpr, AndExpr, Stmts, NoStmt, AndStmt, Variable, Parameter, Function, Program}
+use Rattle.cpc_tree.specs.Syntax.{Ty, TyPointer, TyStruct, Expr, ENamed, Exprs, NoExpr, AndExpr, Stmts, NoStmt, AndStmt, Variable, Parameter, Function, Program}
 use Rattle.cpc_tree.specs.Typing.{Local, Scope, ALocal, named, field, is_scalar, parameter_type, parameter_types}
 use Rattle.cpc_meaning.specs.Answer.{Gives}
 use Rattle.cpc_meaning.specs.Eval.{Slot, Register, assigned}
@@ -26,6 +26,7 @@ use Rattle.cpc_convert_event.specs.Names.{start_name, frame_name, variable_name}
 use Rattle.cpc_convert_event.specs.Pieces.{parameter_of, spawner_function}
 use Rattle.cpc_convert_event.specs.Routines.{variable_if, passed_from, passed}
 use Rattle.cpc_convert_event.proofs.Fields.{Rising, NoneRises, OneRises}
+use Rattle.cpc_convert_accepted_laws.proofs.Pieces.{converts_scalar}
 use Rattle.cpc_convert_native_laws.proofs.SpawnerScope.{past}
 
 -- ---- what is passed
@@ -37,15 +38,6 @@ type_of x = x.type
 abbrev pub AllScalar : List Ty → Type 0
 AllScalar [] = Unit {0}
 AllScalar (t ∷ ts) = (is_scalar t ≡ true) × AllScalar ts
-
-converts_scalar : (t u : Ty) → converts t u ≡ true → is_scalar t ≡ true
-converts_scalar (TyInt k) u e = refl
-converts_scalar TyCondvar u e = refl
-converts_scalar (TyPointer t) u e = refl
-converts_scalar (TyCode r ps) u e = refl
-converts_scalar TyVoid u e = absurd (cc)
-converts_scalar (TyStruct tag) u e = absurd (cc)
-converts_scalar (TyArray t n) u e = absurd (cc)
 
 -- where all have arguments they are
 pub get_scalar : (p : Program) (scope : Scope) (ts : List Ty) (es : Exprs) → AllGet p scope ts es → AllScalar ts

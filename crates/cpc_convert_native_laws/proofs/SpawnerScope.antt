@@ -22,11 +22,13 @@ use Rattle.cpc_convert_event.proofs.Fields.{word_apart, Rising, NoneRises, OneRi
 
 -- ---- texts
 
-variable_is : (k : ℕ) (x : Text) → variable_name k x ≡ marked x (decimal k)
+-- the name of a variable is its number and its word
+pub variable_is : (k : ℕ) (x : Text) → variable_name k x ≡ marked x (decimal k)
 unfolding variable_name
 variable_is k x = refl
 
-not_digits : (c : ℕ) (d e : Text) → (digit_value c < 10 → ⊥) → AllDigits 10 d → d ≡ c ∷ e → ⊥
+-- what begins with no digit are no digits
+pub not_digits : (c : ℕ) (d e : Text) → (digit_value c < 10 → ⊥) → AllDigits 10 d → d ≡ c ∷ e → ⊥
 not_digits c d e h a k = h (subst (AllDigits 10) k a).0
 
 -- a number is not spelled so

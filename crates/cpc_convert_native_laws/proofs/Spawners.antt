@@ -80,7 +80,8 @@ use Rattle.cpc_convert_native_laws.proofs.SpawnerCall.{AllScalar, get_scalar, pa
 use Rattle.cpc_convert_native_laws.proofs.SpawnerScope.{no_plain, no_frame, no_driver, no_piece, frame_piece, past_both, unhidden}
 use Rattle.cpc_convert_native_laws.proofs.Wholes.{kept_named}
 
-cps_mode : (m : Mode) → O.is_cps m ≡ true → is_cps_mode m ≡ true
+-- what is cps for the rules is so for the meaning
+pub cps_mode : (m : Mode) → O.is_cps m ≡ true → is_cps_mode m ≡ true
 cps_mode Cps e = refl
 cps_mode Extern e = absurd (cc)
 cps_mode Native e = absurd (cc)
@@ -92,10 +93,12 @@ enough n v steps leads a b c = omega (arith, a, b, c)
 
 -- ---- what is spawned
 
+-- what is asked for is one request
 request_same : (r s : Request) → Gives (AsksFor r) ≡ Gives (AsksFor s) → r ≡ s
 request_same r s e = cc
 
-asked_same : (g : Text) (us vs : List Value) → asks (ToSpawn g) us ≡ Gives (AsksFor (record { asked = ToSpawn g; arguments = vs })) → us ≡ vs
+-- and its arguments are those that it was asked with
+pub asked_same : (g : Text) (us vs : List Value) → asks (ToSpawn g) us ≡ Gives (AsksFor (record { asked = ToSpawn g; arguments = vs })) → us ≡ vs
 asked_same g us vs e = ap (λ (r : Request). r.arguments) (request_same (record { asked = ToSpawn g; arguments = us }) (record { asked = ToSpawn g; arguments = vs }) e)
 
 -- the arguments of a spawn are converted

@@ -1,17 +1,18 @@
 -- What the names of a node mean in the piece of its owner, and that the locals stand after an act of both.
-use Rattle.std.proofs.Common.{◌≡◌, ℕ, suc, ◌<◌, ◌^◌, Bool, true, false, not, ◌==◌, cond, List, [], ◌∷◌, map, length, codes, slice_get, bytes_eq, Some, refl, sym, ◌∙◌, ap, subst, arith}
+use Rattle.std.proofs.Common.{◌≡◌, ℕ, ◌<◌, ◌^◌, Bool, true, false, not, ◌==◌, List, [], length, codes, slice_get, bytes_eq, Some, refl, sym, ◌∙◌, ap, subst, arith}
 use Rattle.cpc_base.specs.Bytes.{Text}
 use Rattle.cpc_base.proofs.Truth.{eq_reflexive, eq_means}
 use Rattle.cpc_tree.specs.declared.program.Mode.TheVariants.{Native, Detached, Extern, Cps}
 use Rattle.cpc_tree.specs.Lists.{holds_number}
 use Rattle.cpc_tree.specs.Registers.{variables}
-use Rattle.cpc_tree.specs.Syntax.{Ty, StructItem, GlobalItem, PrototypeItem, FunctionItem, Variable, Function, Program}
-use Rattle.cpc_tree.specs.Typing.{Meant, ALocal, AGlobal, AFunction, NotMeant, named, item_named, parameter_type, is_scalar}
+use Rattle.cpc_tree.specs.Syntax.{Ty, Variable, Function, Program}
+use Rattle.cpc_tree.specs.Typing.{Meant, ALocal, AGlobal, AFunction, NotMeant, named, item_named, is_scalar}
 use Rattle.cpc_store.specs.Store.{Value}
 use Rattle.cpc_meaning.specs.Eval.{Slot, Register}
 use Rattle.cpc_meaning.specs.Ways.{ways}
 use Rattle.cpc_meaning.proofs.Functions.{text_same}
 use Rattle.cpc_convert.specs.Marks.{has_marks}
+use Rattle.cpc_check_sound_laws.proofs.Lookups.{no_local}
 use Rattle.cpc_convert_image_laws.specs.InPlace.{is_cps}
 use Rattle.cpc_convert_image_laws.specs.Locals.{HasField, StandsFor, local_type}
 use Rattle.cpc_convert_image_laws.specs.Native.{KeptItem, KeptGlobal, KeptFunction, LeftOut, KeptNothing}
@@ -40,26 +41,6 @@ use Rattle.cpc_convert_piece_laws.specs.Stood.{NodeAt, LocalsStand}
 use Rattle.cpc_convert_piece_laws.proofs.Frames.{Target, scope, kept_small, held_has}
 use Rattle.cpc_convert_piece_laws.proofs.Scopes.{unmarked_name, meant}
 use Rattle.cpc_convert_piece_laws.proofs.Ways.{is_split}
-
--- no item is a variable
-pub not_local : (n : ℕ) (items : Program) (x : Text) (k : ℕ) (t : Ty) → item_named n items x ≡ ALocal k t → ⊥
-not_local n [] x k t e = absurd (cc)
-not_local n (StructItem tag fs ∷ items) x k t e = not_local n items x k t e
-not_local n (GlobalItem g u start ∷ items) x k t e = go (bytes_eq g x) e (λ i. not_local (suc n) items x k t i)
-  where
-    go : (b : Bool) → cond b (AGlobal n u) (item_named (suc n) items x) ≡ ALocal k t → (item_named (suc n) items x ≡ ALocal k t → ⊥) → ⊥
-    go true i deeper = absurd (cc)
-    go false i deeper = deeper i
-not_local n (PrototypeItem mode f r ps ∷ items) x k t e = go (bytes_eq f x) e (λ i. not_local n items x k t i)
-  where
-    go : (b : Bool) → cond b (AFunction mode r (map parameter_type ps)) (item_named n items x) ≡ ALocal k t → (item_named n items x ≡ ALocal k t → ⊥) → ⊥
-    go true i deeper = absurd (cc)
-    go false i deeper = deeper i
-not_local n (FunctionItem f ∷ items) x k t e = go (bytes_eq f.called x) e (λ i. not_local n items x k t i)
-  where
-    go : (b : Bool) → cond b (AFunction f.mode f.result (map parameter_type f.parameters)) (item_named n items x) ≡ ALocal k t → (item_named n items x ≡ ALocal k t → ⊥) → ⊥
-    go true i deeper = absurd (cc)
-    go false i deeper = deeper i
 
 module _ (p : Program) (f : Function) (known : CpsKnown p f) (l : Place) (owner : IsOwner (routine_of p f) l) where
   abbrev r : Routine
@@ -155,7 +136,7 @@ module _ (p : Program) (f : Function) (known : CpsKnown p f) (l : Place) (owner 
         kept m e free k = subst (λ y. KeptItem (Stays p) x m y) (sym (shown (ap is_cps e ∙ free) ∙ e)) k
 
         go : (m : Meant) → item_named 0 p x ≡ m → KeptItem (Stays p) x m (named (Target p f known l owner) (scope p f known l owner) x)
-        go (ALocal k t) e = absurd (not_local 0 p x k t e)
+        go (ALocal k t) e = absurd (no_local 0 p x k t e)
         go (AGlobal k t) e = kept (AGlobal k t) e refl (KeptGlobal k t)
         go (AFunction Native t ts) e = kept (AFunction Native t ts) e refl (KeptFunction Native t ts (record { unmarked = plain; not_cps = ap is_cps e }))
         go (AFunction Detached t ts) e = kept (AFunction Detached t ts) e refl (KeptFunction Detached t ts (record { unmarked = plain; not_cps = ap is_cps e }))

@@ -45,8 +45,9 @@ use Rattle.cpc_convert_event.proofs.Filling.{frames_filled}
 use Rattle.cpc_convert_event.proofs.Locals.{closure_rise}
 use Rattle.cpc_convert_event.proofs.Lookups.{functions_found}
 use Rattle.cpc_convert_event.proofs.BoxesThere.{structs_there}
-use Rattle.cpc_convert_event.proofs.Numbers.{AllBelow, NoneBelow, OneBelow, Rises, NoneRise, OneRise, rises_below}
+use Rattle.cpc_convert_event.proofs.Numbers.{Rises, NoneRise, OneRise, rises_below}
 use Rattle.cpc_convert_laws.specs.Items.{value_in, copied}
+use Rattle.cpc_convert_accepted_laws.proofs.Below.{below_held}
 use Rattle.cpc_convert_piece_laws.specs.Known.{CpsKnown}
 use Rattle.cpc_convert_piece_laws.specs.Stood.{LocalsStand}
 use Rattle.cpc_convert_piece_laws.proofs.Places.{Before}
@@ -76,14 +77,6 @@ held_has (m ∷ ns) n h = go (m == n) refl h (λ i. held_has ns n i)
     go : (b : Bool) → (m == n) ≡ b → (b || holds_number ns n) ≡ true → (holds_number ns n ≡ true → Has n ns) → Has n (m ∷ ns)
     go true e i deeper = subst (λ k. Has k (m ∷ ns)) (eq_means m n e) (OnTop m ns)
     go false e i deeper = Below n m ns (deeper i)
-
-below_held : (high : ℕ) (ns : List ℕ) (n : ℕ) → AllBelow high ns → holds_number ns n ≡ true → n < high
-below_held high _ n NoneBelow h = absurd (cc)
-below_held high _ n (OneBelow m ns less more) h = go (m == n) refl h (λ i. below_held high ns n more i)
-  where
-    go : (b : Bool) → (m == n) ≡ b → (b || holds_number ns n) ≡ true → (holds_number ns n ≡ true → n < high) → n < high
-    go true e i deeper = let z = eq_means m n e in omega (arith, z, less)
-    go false e i deeper = deeper i
 
 rises_length : (high low : ℕ) (ns : List ℕ) → Rises high low ns → low ≤ high → length ns + low ≤ high
 rises_length high low _ (NoneRise _) h = omega (arith, h)

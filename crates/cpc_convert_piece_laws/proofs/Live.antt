@@ -1,20 +1,16 @@
 -- The boxes of the frame that runs are live.
-use Rattle.std.proofs.Common.{◌≡◌, ℕ, zero, suc, ◌≤◌, Bool, true, false, List, [], ◌∷◌, ◌++◌, is_some, Option, Some, refl, subst, arith}
+use Rattle.std.proofs.Common.{◌≡◌, ℕ, ◌≤◌, Bool, true, false, List, [], ◌∷◌, ◌++◌, is_some, Option, Some, refl, subst, arith}
 use Rattle.std.proofs.lemmas.List.Elements.{All-nil, All-cons}
 use Rattle.cpc_store.specs.Store.{Value, Blocks, Store}
 use Rattle.cpc_meaning.specs.Eval.{Slot, Register, Boxed}
 use Rattle.cpc_meaning.specs.Plain.{Frame as CallFrame}
 use Rattle.cpc_convert_image_laws.specs.Held.{IsLiveSlot, BoxesLive}
-use Rattle.cpc_convert_chain_laws.specs.Chains.{same, count, lives, block, one_if}
-use Rattle.cpc_convert_chain_laws.proofs.Chains.{count_append}
+use Rattle.cpc_convert_chain_laws.specs.Chains.{count, lives, block, one_if}
+use Rattle.cpc_convert_chain_laws.proofs.Chains.{count_append, same_number}
 use Rattle.cpc_convert_laws.specs.Boxes.{slots_boxes, frames_boxes, running_boxes, thread_boxes, OwnsBoxes}
 use Rattle.cpc_convert_laws.specs.Sums.{all_joined}
 use Rattle.cpc_forms.specs.Split.{Position}
 use Rattle.cpc_convert_laws.proofs.Relation.{Source}
-
-same_self : (b : ℕ) → same b b ≡ 1
-same_self zero = refl
-same_self (suc b) = same_self b
 
 lives_some : (bs : Blocks) (b : ℕ) → 1 ≤ lives bs b → is_some (block bs b) ≡ true
 lives_some bs b h = go (is_some (block bs b)) h
@@ -27,7 +23,7 @@ slots_live : (s : Store) (slots : List Slot) → ((b : ℕ) → count b (slots_b
 slots_live s [] h = All-nil (IsLiveSlot s)
 slots_live s (Register v ∷ slots) h = All-cons (IsLiveSlot s) (Register v) slots tt (slots_live s slots h)
 slots_live s (Boxed n ∷ slots) h =
-    All-cons (IsLiveSlot s) (Boxed n) slots (lives_some s.auto n (let self = same_self n in let all = h n in omega (arith, self, all)))
+    All-cons (IsLiveSlot s) (Boxed n) slots (lives_some s.auto n (let self = same_number n in let all = h n in omega (arith, self, all)))
     (slots_live s slots (λ b. let all = h b in omega (arith, all)))
 
 -- where no box of a state is doubled, and all are live

@@ -41,6 +41,7 @@ use Rattle.cpc_convert_event.specs.Names.{piece_name}
 use Rattle.cpc_convert_event.specs.Routines.{Routine, routine_of}
 use Rattle.cpc_convert_event.specs.Rows.{owner_at, is_own, has_row, lines_by, Put, Plain, Jump, is_next, put_line, put_lines, put_statement, leads, any_leads, is_wanted, row_statements, rows_statements}
 use Rattle.cpc_convert_accepted_laws.specs.Known.{Stays}
+use Rattle.cpc_convert_accepted_laws.proofs.Cut.{place_self}
 use Rattle.cpc_convert_laws.specs.Bounds.{Bounds}
 use Rattle.cpc_convert_laws.proofs.Inside.{Onward, Does as Performs, Sticks, Breaks, Moves}
 use Rattle.cpc_convert_laws.proofs.Relation.{Shared, world_of}
@@ -53,7 +54,7 @@ use Rattle.cpc_convert_piece_laws.proofs.Filled.{row_filled}
 use Rattle.cpc_convert_piece_laws.proofs.Frames.{same_registers, Target, code, body, scope, is_code}
 use Rattle.cpc_convert_piece_laws.proofs.Onwards.{z, goes_onward}
 use Rattle.cpc_convert_piece_laws.proofs.Places.{Before, FirstLine, first_line, wanted_in, goes_row}
-use Rattle.cpc_convert_piece_laws.proofs.Ways.{way_next, onwards_way, row_for, goes_is, place_self}
+use Rattle.cpc_convert_piece_laws.proofs.Ways.{way_next, onwards_way, row_for, goes_is}
 
 -- what an answer gives is that control goes on, as a test holds
 abbrev pub OnlyGoes : Answer Act → Type 0

@@ -16,7 +16,8 @@ use Rattle.cpc_convert_piece_laws.specs.Laws.{AllRowsStand}
 abbrev pub numbers : List PutRow → List ℕ
 numbers rs = map (λ (r : PutRow). r.number) rs
 
-same_next : (rs : List Row) → next_number (put_rows rs) ≡ first_number rs
+-- the row behind is the first of those that are put behind
+pub same_next : (rs : List Row) → next_number (put_rows rs) ≡ first_number rs
 same_next [] = refl
 same_next (r ∷ rs) = refl
 

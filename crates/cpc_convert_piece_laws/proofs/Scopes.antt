@@ -1,10 +1,9 @@
 -- What names mean in a piece: words, primitives, pieces, the driver and spawners; and what its locals hold.
-use Rattle.std.proofs.Common.{◌≡◌, ℕ, zero, suc, ◌+◌, ◌<◌, ◌^◌, Bool, true, false, cond, List, [], ◌∷◌, ◌++◌, map, length, decimal, slice_get, bytes_eq, Option, Some, None, refl, sym, ◌∙◌, ap, subst, codes, arith}
+use Rattle.std.proofs.Common.{◌≡◌, ℕ, suc, ◌+◌, ◌<◌, ◌^◌, Bool, true, false, cond, List, [], ◌∷◌, ◌++◌, map, length, decimal, slice_get, bytes_eq, Option, Some, None, refl, sym, ◌∙◌, ap, subst, codes, arith}
 use Rattle.std.proofs.lemmas.Fmt.{decimal_is_IsNumeral}
-use Rattle.std.specs.Str.Parse.{AllDigits}
-use Rattle.std.specs.Char.{digit_value}
 use Rattle.cpc_base.specs.Bytes.{Text}
 use Rattle.cpc_base.proofs.Truth.{not_under_ten}
+use Rattle.cpc_base.proofs.Lists.{item_within}
 use Rattle.cpc_tree.specs.declared.program.Mode.TheVariants.{Native}
 use Rattle.cpc_tree.specs.Primitives.{Primitive, primitive_named}
 use Rattle.cpc_tree.specs.Registers.{variables, outer_scope}
@@ -18,8 +17,7 @@ use Rattle.cpc_convert.specs.Converted.{marked}
 use Rattle.cpc_convert.proofs.Marks.{marked_is, no_bar_decimal}
 use Rattle.cpc_convert_image_laws.specs.InPlace.{is_cps}
 use Rattle.cpc_forms.specs.Flow.{Place, Start, At}
-use Rattle.cpc_lift_laws.specs.Boxes.{is_box}
-use Rattle.cpc_lift_laws.specs.Lift.{boxes_from, variables_in, variable_count}
+use Rattle.cpc_lift_laws.specs.Lift.{variables_in, variable_count}
 use Rattle.cpc_convert_chain_laws.specs.Boxes.{AllRegisters}
 use Rattle.cpc_convert_chain_laws.specs.Driver.{any_pointer}
 use Rattle.cpc_convert_chain_laws.specs.Frames.{Holds, Load, declared_scope}
@@ -36,19 +34,14 @@ use Rattle.cpc_convert_event.specs.NameLaws.{IsCps, IsOwner}
 use Rattle.cpc_convert_event.proofs.Apart.{behind, piece_is, no_bar_behind, no_bar_nothing, piece_nothing}
 use Rattle.cpc_convert_event.proofs.Locals.{NoneCalled, closure_rise, loaded_below, locals_meant}
 use Rattle.cpc_convert_event.proofs.Meanings.{items_meant}
-use Rattle.cpc_convert_event.proofs.Numbers.{AllBelow, NoneBelow, OneBelow, below_append, below_chosen, Rises, NoneRise, OneRise, rises_lower, rises_below}
+use Rattle.cpc_convert_event.proofs.Numbers.{AllBelow, NoneBelow, OneBelow, below_append, below_chosen, Rises, rises_below}
 use Rattle.cpc_convert_event.proofs.Scopes.{nothing_hidden}
+use Rattle.cpc_convert_accepted_laws.proofs.Below.{boxes_rise}
+use Rattle.cpc_convert_native_laws.proofs.SpawnerScope.{not_digits, variable_is}
 use Rattle.cpc_convert_piece_laws.specs.Known.{CpsKnown}
 use Rattle.cpc_convert_piece_laws.specs.Stood.{LocalsStand}
 
 -- ---- names that are made, apart
-
-variable_is : (k : ℕ) (x : Text) → variable_name k x ≡ marked x (decimal k)
-unfolding variable_name
-variable_is k x = refl
-
-not_digits : (c : ℕ) (d e : Text) → (digit_value c < 10 → ⊥) → AllDigits 10 d → d ≡ c ∷ e → ⊥
-not_digits c d e h a k = h (subst (AllDigits 10) k a).0
 
 -- what stands behind the bars of a piece's name is no number
 piece_number : (k : ℕ) (m : Place) → k < 2 ^ 63 → decimal k ≡ behind m → ⊥
@@ -66,34 +59,25 @@ word_piece w f m hw hf =
 
 -- ---- scopes
 
-declared_other : (q : Program) (y : Text) (scope : Scope) (n : ℕ) (vs : List Variable) → NoneCalled y vs → named q (declared_scope scope n vs) y ≡ named q scope y
+-- names that are declared hide no other
+pub declared_other : (q : Program) (y : Text) (scope : Scope) (n : ℕ) (vs : List Variable) → NoneCalled y vs → named q (declared_scope scope n vs) y ≡ named q scope y
 declared_other q y scope n [] h = refl
 declared_other q y scope n (v ∷ vs) h = declared_other q y (record { called = v.called; type = v.type; slot = n } ∷ scope) (suc n) vs h.1 ∙ ap (λ b. cond b (ALocal n v.type) (named q scope y)) h.0
 
-none_append : (y : Text) (xs ys : List Variable) → NoneCalled y xs → NoneCalled y ys → NoneCalled y (xs ++ ys)
+-- a name that neither row has, both have not
+pub none_append : (y : Text) (xs ys : List Variable) → NoneCalled y xs → NoneCalled y ys → NoneCalled y (xs ++ ys)
 none_append y [] ys h g = g
 none_append y (x ∷ xs) ys h g = (h.0, none_append y xs ys h.1 g)
 
-loads_none : (y : Text) (xs : List Variable) → NoneCalled y xs → NotLoaded y (map load_of xs)
+-- a name that no variable has is not loaded
+pub loads_none : (y : Text) (xs : List Variable) → NoneCalled y xs → NotLoaded y (map load_of xs)
 loads_none y [] h = NoneLoaded
 loads_none y (x ∷ xs) h = NotThisLoad (load_of x) (map load_of xs) h.0 (loads_none y xs h.1)
 
-loads_append : (y : Text) (xs ys : List Load) → NotLoaded y xs → NotLoaded y ys → NotLoaded y (xs ++ ys)
+-- a name that neither row loads, both do not
+pub loads_append : (y : Text) (xs ys : List Load) → NotLoaded y xs → NotLoaded y ys → NotLoaded y (xs ++ ys)
 loads_append y _ ys NoneLoaded g = g
 loads_append y _ ys (NotThisLoad l ls e h) g = NotThisLoad l (ls ++ ys) e (loads_append y ls ys h g)
-
-boxes_rise : (p : Program) (f : Text) (k n : ℕ) → Rises (k + n) k (boxes_from p f k n)
-boxes_rise p f k zero = NoneRise k
-boxes_rise p f k (suc n) = go (is_box p f k) (subst (λ m. Rises m (suc k) (boxes_from p f (suc k) n)) (let z : suc k + n ≡ k + suc n = omega arith in z) (boxes_rise p f (suc k) n))
-  where
-    go : (b : Bool) → Rises (k + suc n) (suc k) (boxes_from p f (suc k) n) → Rises (k + suc n) k (cond b (k ∷ boxes_from p f (suc k) n) (boxes_from p f (suc k) n))
-    go true r = OneRise k k _ (omega arith) (omega arith) r
-    go false r = rises_lower (k + suc n) k (suc k) _ (omega arith) r
-
-below_length : (xs : List Variable) (i : ℕ) (x : Variable) → slice_get xs i ≡ Some x → i < length xs
-below_length [] i x e = absurd (cc)
-below_length (y ∷ ys) zero x e = omega arith
-below_length (y ∷ ys) (suc i) x e = let d = below_length ys i x e in omega (arith, d)
 
 module _ (p : Program) (f : Function) (known : CpsKnown p f) where
   abbrev pub r : Routine
@@ -197,7 +181,7 @@ module _ (p : Program) (f : Function) (known : CpsKnown p f) where
 
     -- a local holds some value
     pub local_slot : (slots : List Slot) → AllRegisters slots → length slots ≡ length (piece_locals p r l) → (i : ℕ) (x : Variable) → slice_get (piece_locals p r l) i ≡ Some x → (v : Value) × (slice_get slots i ≡ Some (Register v))
-    local_slot slots all number i x e = let less = below_length (piece_locals p r l) i x e in register_at slots i all (omega (arith, less, number))
+    local_slot slots all number i x e = let less = item_within (piece_locals p r l) i x e in register_at slots i all (omega (arith, less, number))
 
     pub local_holds : (slots : List Slot) → (i : ℕ) (x : Variable) → slice_get (piece_locals p r l) i ≡ Some x → (v : Value) → slice_get slots i ≡ Some (Register v) → Holds q (piece_scope p r l) slots x.called x.type v
     local_holds slots i x e v at = record { slot = i; is_local = meant.meant q i x e; is_slot = at }

@@ -37,7 +37,8 @@ use Rattle.cpc_convert_piece_laws.proofs.Places.{first_line}
 use Rattle.cpc_convert_piece_laws.proofs.Scopes.{meant, local_slot, local_holds}
 use Rattle.cpc_convert_piece_laws.proofs.Frames.{held_has, puts_do, Target, code, body, scope, is_code, Word, word_set, saves_of, fills_of, with_frame, frame_passed, frame_walk}
 
-some_there : (xs : List ℕ) (n : ℕ) → holds_number xs n ≡ true → not (is_empty xs) ≡ true
+-- a row that holds a number is not empty
+pub some_there : (xs : List ℕ) (n : ℕ) → holds_number xs n ≡ true → not (is_empty xs) ≡ true
 some_there [] n h = absurd (cc)
 some_there (x ∷ xs) n h = refl
 

@@ -1,5 +1,5 @@
 -- What a piece knows of a frame is not touched where the frame forgets what it need not keep.
-use Rattle.std.proofs.Common.{◌≡◌, ℕ, zero, suc, Bool, true, false, List, [], ◌∷◌, cond, slice_get, Some, refl, sym, ◌∙◌, ap}
+use Rattle.std.proofs.Common.{◌≡◌, ℕ, Bool, true, false, List, cond, refl, sym, ◌∙◌, ap}
 use Rattle.cpc_store.specs.Store.{Value}
 use Rattle.cpc_tree.specs.Lists.{holds_number}
 use Rattle.cpc_tree.specs.Syntax.{Function, Program}
@@ -7,20 +7,16 @@ use Rattle.cpc_meaning.specs.Eval.{Slot}
 use Rattle.cpc_forms.specs.Flow.{Place}
 use Rattle.cpc_forms.specs.Split.{InGraph, split_form}
 use Rattle.cpc_lift_laws.specs.Lift.{closure_in}
-use Rattle.cpc_lift_laws.specs.Lifted.{tidy_slot, tidy_slots}
+use Rattle.cpc_lift_laws.specs.Lifted.{tidy_slots}
 use Rattle.cpc_convert_image_laws.specs.Locals.{Stands, AsValue, AsBlock}
 use Rattle.cpc_convert_event.specs.Routines.{routine_of, closure_of, keeper, owner_number}
 use Rattle.cpc_convert_event.specs.ClosureLaws.{lifting}
 use Rattle.cpc_convert_event.specs.NameLaws.{IsNamed, IsCps}
 use Rattle.cpc_convert_event.proofs.Closures.{closures_lifted}
+use Rattle.cpc_convert_laws.proofs.Tidy.{slot_kept}
 use Rattle.cpc_convert_accepted_laws.specs.Lifted.{kept_of}
 use Rattle.cpc_convert_piece_laws.specs.Stood.{LocalsStand, AtRow, AtCall}
 use Rattle.cpc_convert_piece_laws.specs.Laws.{StoodIsTidied}
-
-tidied_slot : (keep : ℕ → Bool) (slots : List Slot) (k : ℕ) → keep k ≡ true → slice_get (tidy_slots keep slots) k ≡ slice_get slots k
-tidied_slot keep [] k e = refl
-tidied_slot keep (x ∷ xs) zero e = ap (λ b. Some (tidy_slot b x)) e
-tidied_slot keep (x ∷ xs) (suc k) e = tidied_slot (λ n. keep (suc n)) xs k e
 
 -- what an owner keeps is kept
 pub closure_kept : (p : Program) → IsNamed p → (g : Function) → IsCps p g → (l : Place) → keeper (routine_of p g).split l ≡ l → (n k : ℕ) → holds_number (closure_of (routine_of p g) l) k ≡ true → kept_of p g.called (InGraph l n) k ≡ true
@@ -33,8 +29,8 @@ closure_kept p ok g c l own n k h =
     or_kept false c e = e
 
 stands_tidied : (keep : ℕ → Bool) (slots slots' : List Slot) (mark : Bool) (k i : ℕ) → keep k ≡ true → Stands slots slots' mark k i → Stands (tidy_slots keep slots) slots' mark k i
-stands_tidied keep slots slots' _ k i e (AsValue _ _ v a b) = AsValue k i v (tidied_slot keep slots k e ∙ a) b
-stands_tidied keep slots slots' _ k i e (AsBlock _ _ n a b) = AsBlock k i n (tidied_slot keep slots k e ∙ a) b
+stands_tidied keep slots slots' _ k i e (AsValue _ _ v a b) = AsValue k i v (slot_kept keep slots k e ∙ a) b
+stands_tidied keep slots slots' _ k i e (AsBlock _ _ n a b) = AsBlock k i n (slot_kept keep slots k e ∙ a) b
 
 module _ (p : Program) (ok : IsNamed p) (g : Function) (c : IsCps p g) (l : Place) (own : keeper (routine_of p g).split l ≡ l) (n : ℕ) where
   abbrev keep : ℕ → Bool
@@ -47,7 +43,7 @@ module _ (p : Program) (ok : IsNamed p) (g : Function) (c : IsCps p g) (l : Plac
     next = h.next;
     pointer = h.pointer;
     kept = λ k i e j. stands_tidied keep slots slots' _ k i (closure_kept p ok g c l own n k e) (h.kept k i e j);
-    fits = λ k e v j. h.fits k e v (sym (tidied_slot keep slots k (closure_kept p ok g c l own n k e)) ∙ j);
+    fits = λ k e v j. h.fits k e v (sym (slot_kept keep slots k (closure_kept p ok g c l own n k e)) ∙ j);
   }
 
 pub stood_tidied : StoodIsTidied

@@ -11,6 +11,7 @@ use Rattle.cpc_store.specs.Store.{Value}
 use Rattle.cpc_meaning.specs.Eval.{Slot}
 use Rattle.cpc_meaning.specs.Act.{AtStatement}
 use Rattle.cpc_meaning.specs.Ways.{ways}
+use Rattle.cpc_check_sound_laws.proofs.Lookups.{no_local}
 use Rattle.cpc_forms.specs.Flow.{Place}
 use Rattle.cpc_forms.specs.Graph.{at_node}
 use Rattle.cpc_forms.specs.Split.{InGraph, split_form, position_stood}
@@ -23,11 +24,11 @@ use Rattle.cpc_convert_accepted_laws.specs.Points.{UsedName}
 use Rattle.cpc_convert_accepted_laws.proofs.Lifted.{programs_are_closed}
 use Rattle.cpc_convert_piece_laws.specs.Known.{CpsKnown}
 use Rattle.cpc_convert_piece_laws.specs.Stood.{NodeAt, LocalsStand}
-use Rattle.cpc_convert_piece_laws.proofs.Environment.{not_local, Used, scope_is}
+use Rattle.cpc_convert_piece_laws.proofs.Environment.{Used, scope_is}
 use Rattle.cpc_convert_piece_laws.proofs.Ways.{is_split, kept_is, stands_there}
 
 slot_held : (p : Program) (scope : Scope) (x : Text) (k : ℕ) (t : Ty) → named p scope x ≡ ALocal k t → holds_number (slot_of scope x) k ≡ true
-slot_held p [] x k t e = absurd (not_local 0 p x k t e)
+slot_held p [] x k t e = absurd (no_local 0 p x k t e)
 slot_held p (l ∷ scope) x k t e = go (bytes_eq l.called x) e (λ i. slot_held p scope x k t i)
   where
     go : (b : Bool) → cond b (ALocal l.slot l.type) (named p scope x) ≡ ALocal k t → (named p scope x ≡ ALocal k t → holds_number (slot_of scope x) k ≡ true) → holds_number (cond b (l.slot ∷ []) (slot_of scope x)) k ≡ true

@@ -1,12 +1,12 @@
 -- Where ways lead in a piece: to a node of the piece, or to another leader, each of which has its row; and what is kept along them.
 use Rattle.std.proofs.Common.{◌≡◌, ℕ, Bool, true, false, not, ◌&&◌, ◌||◌, ◌==◌, cond, List, [], ◌∷◌, slice_get, is_some, nat_le, nat_lt, Some, option_map, refl, sym, ◌∙◌, ap, subst, arith}
 use Rattle.std.proofs.lemmas.Bool.Decides.{nat_tests}
-use Rattle.cpc_base.proofs.Truth.{eq_reflexive, eq_means, or_by_second}
+use Rattle.cpc_base.proofs.Truth.{eq_means, or_by_second}
 use Rattle.cpc_tree.specs.Lists.{holds_number}
 use Rattle.cpc_tree.specs.Points.{Point, Here, Arrival, End}
 use Rattle.cpc_tree.specs.Syntax.{Function, Program}
 use Rattle.cpc_meaning.specs.Ways.{way_from, ways}
-use Rattle.cpc_forms.specs.Flow.{Place, Start, At, Flow, is_leader, owner_of, owner_by}
+use Rattle.cpc_forms.specs.Flow.{Place, At, Flow, is_leader, owner_of, owner_by}
 use Rattle.cpc_forms.specs.Graph.{Node, node_of, graph_of, graph_if, graph_where, way, at_node}
 use Rattle.cpc_forms.specs.Order.{number_of}
 use Rattle.cpc_forms.specs.Pieces.{same_place, is_owned_by, piece_nodes}
@@ -30,20 +30,11 @@ use Rattle.cpc_convert_event.proofs.Labels.{rows_stand_once}
 use Rattle.cpc_convert_event.proofs.Numbers.{chosen_has}
 use Rattle.cpc_convert_accepted_laws.specs.Lifted.{kept_of}
 use Rattle.cpc_convert_accepted_laws.proofs.Lifted.{programs_are_closed}
+use Rattle.cpc_convert_accepted_laws.proofs.Cut.{place_self, place_same}
 use Rattle.cpc_convert_piece_laws.specs.Known.{CpsKnown}
 use Rattle.cpc_convert_piece_laws.specs.Rows.{RowAt}
 use Rattle.cpc_convert_piece_laws.specs.Stood.{NodeAt}
 use Rattle.cpc_convert_piece_laws.proofs.Rows.{rows_stand}
-
-place_same : (k l : Place) → same_place k l ≡ true → k ≡ l
-place_same Start Start e = refl
-place_same Start (At n) e = absurd (cc)
-place_same (At m) Start e = absurd (cc)
-place_same (At m) (At n) e = ap At (eq_means m n e)
-
-pub place_self : (l : Place) → same_place l l ≡ true
-place_self Start = refl
-place_self (At n) = eq_reflexive n
 
 lt_other : (m n : ℕ) → nat_le m n ≡ false → nat_lt n m ≡ true
 lt_other m n h = grind (arith, nat_tests)

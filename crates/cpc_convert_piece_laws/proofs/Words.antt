@@ -1,5 +1,5 @@
 -- The words of a piece: for the frame that it gives, for one below that, and for the value that it returns, where a node uses them.
-use Rattle.std.proofs.Common.{◌≡◌, ℕ, Bool, true, false, not, ◌||◌, ◌==◌, List, [], ◌∷◌, slice_get, Some, refl, ◌∙◌, ap, codes}
+use Rattle.std.proofs.Common.{◌≡◌, ℕ, ◌≤◌, Bool, true, false, not, ◌||◌, ◌==◌, List, [], ◌∷◌, length, slice_get, Some, refl, ◌∙◌, ap, arith, codes}
 use Rattle.cpc_base.proofs.Truth.{eq_means, or_by_second}
 use Rattle.cpc_tree.specs.Lists.{holds_number, is_empty}
 use Rattle.cpc_tree.specs.Syntax.{Ty, Function, Program}
@@ -19,13 +19,25 @@ use Rattle.cpc_convert_piece_laws.proofs.Scopes.{meant}
 use Rattle.cpc_convert_piece_laws.proofs.Stubs.{first_word}
 use Rattle.cpc_convert_piece_laws.proofs.Ways.{owner_is, listed}
 
-any_has : (r : Routine) (test : Node → Bool) (ns : List ℕ) (n : ℕ) (node : Node) → slice_get r.split.graph.nodes n ≡ Some node → holds_number ns n ≡ true → test node ≡ true → any_node r test ns ≡ true
+-- a test holds of one of these nodes where it holds of this one
+pub any_has : (r : Routine) (test : Node → Bool) (ns : List ℕ) (n : ℕ) (node : Node) → slice_get r.split.graph.nodes n ≡ Some node → holds_number ns n ≡ true → test node ≡ true → any_node r test ns ≡ true
 any_has r test [] n node e h t = absurd (cc)
 any_has r test (k ∷ ns) n node e h t = go (k == n) refl h (λ i. any_has r test ns n node e i t)
   where
     go : (b : Bool) → (k == n) ≡ b → (b || holds_number ns n) ≡ true → (holds_number ns n ≡ true → any_node r test ns ≡ true) → any_node r test (k ∷ ns) ≡ true
     go true i j deeper = ap (λ b. b || any_node r test ns) (ap (λ m. at_node false test (slice_get r.split.graph.nodes m)) (eq_means k n i) ∙ (ap (at_node false test) e ∙ t))
     go false i j deeper = or_by_second (at_node false test (slice_get r.split.graph.nodes k)) (any_node r test ns) (deeper j)
+
+-- three words at most
+pub words_few : (a b c : Bool) (t : Ty) → length (words_if a b c t) ≤ 3
+words_few true true true t = omega arith
+words_few true true false t = omega arith
+words_few true false true t = omega arith
+words_few true false false t = omega arith
+words_few false true true t = omega arith
+words_few false true false t = omega arith
+words_few false false true t = omega arith
+words_few false false false t = omega arith
 
 second_word : (a b c : Bool) (t : Ty) → b ≡ true → StandsIn (called_so under_name to_frame) (words_if a b c t)
 second_word true true c t e = (1, refl)

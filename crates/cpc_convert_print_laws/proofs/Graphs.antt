@@ -1,13 +1,12 @@
 -- What stands at the nodes of an accepted cps function that can be printed, and the numbers of its nodes and variables.
-use Rattle.std.proofs.Common.{◌≡◌, ℕ, zero, suc, ◌+◌, ◌≤◌, ◌<◌, ◌^◌, Bool, true, false, cond, List, [], ◌∷◌, ◌++◌, map, length, slice_get, option_map, Option, Some, None, refl, sym, subst, ap, ◌∙◌, arith}
+use Rattle.std.proofs.Common.{◌≡◌, ℕ, zero, suc, ◌+◌, ◌≤◌, ◌<◌, ◌^◌, Bool, true, false, List, [], ◌∷◌, ◌++◌, map, length, slice_get, option_map, Option, Some, None, refl, sym, subst, ap, ◌∙◌, arith}
 use Rattle.std.proofs.lemmas.List.{length-map, length-append}
 use Rattle.std.proofs.lemmas.Option.{slice_get-map}
-use Rattle.cpc_base.specs.Bytes.{Text}
 use Rattle.cpc_base.specs.declared.stop.Dialect.TheVariants as D
 use Rattle.cpc_check_sound_laws.specs.Typed.{Gets, AllGet, EachGets, GetsTaken, AllGetTaken, TakesArguments, Calls, CallsHost, CallsFunction, CallsPrimitive, CallsPointer, is_for, IsTyped}
 use Rattle.cpc_tree.specs.declared.program.Mode.{Mode}
 use Rattle.cpc_tree.specs.Primitives.{Primitive, Print, Putc, Puts, Now, CondNew, CondFree, Signal, SignalAll, Exit, Malloc, Free, Yield, Sleep, IoWait, Wait, RtFrame, RtBox, RtFrameFree, RtUnbox, RtReady, RtWait, RtSleep, RtIo, RtDetach, Taken, AnyInteger, SetOf, FreeOf, takes_first}
-use Rattle.cpc_tree.specs.Points.{Part, Nth, TheTest, TheYes, TheNo, TheStep, TheBody, Path, Point, Here, Arrival, End, Simple, Test, Nothing}
+use Rattle.cpc_tree.specs.Points.{Nth, TheTest, TheYes, TheNo, TheStep, TheBody, Path, Point, Here, Arrival, End, Simple, Test, Nothing}
 use Rattle.cpc_tree.specs.Syntax.{Ty, TyVoid, TyInt, TyCondvar, TyPointer, TyCode, TyStruct, TyArray, Expr, ENamed, EInteger, ECharacter, EText, EUnary, EBinary, EAnd, EOr, EChoose, ECast, ESizeOf, EIndex, EMember, EArrow, ECall, Exprs, NoExpr, AndExpr, Stmt, Block, Empty, Declare, Assign, Call, Detach, Spawn, If, While, DoWhile, For, Goto, Label, Break, Continue, Return, Stmts, NoStmt, AndStmt, MaybeStmt, Absent, Present, Function, Program}
 use Rattle.cpc_tree.specs.Typing.{Scope, Typed, typing, function_named}
 use Rattle.cpc_tree.specs.StmtGrammar.{is_call}
@@ -15,18 +14,16 @@ use Rattle.cpc_meaning.specs.Act.{Stood, AtStatement, AtArrival, AtEnd}
 use Rattle.cpc_meaning.specs.Trees.{scope_from}
 use Rattle.cpc_meaning.specs.Threads.{is_cps_mode}
 use Rattle.cpc_meaning.specs.Ways.{way_from, arrival_from, ways}
-use Rattle.cpc_lift_laws.specs.Lift.{boxes_from}
-use Rattle.cpc_lift_laws.specs.Boxes.{is_box}
 use Rattle.cpc_lift_laws.proofs.Scopes.{scopes_are_below}
 use Rattle.cpc_forms.specs.Flow.{Start}
 use Rattle.cpc_forms.specs.Graph.{Node, graph_of, graph_if, graph_where, node_of, at_node}
-use Rattle.cpc_forms.specs.Order.{points_of, points_in, points_arm, points, within, one_later, below, number, number_in, number_arm, number_of, of_one}
+use Rattle.cpc_forms.specs.Order.{points_of, points_in, points_arm, points, within, one_later, number, number_in, number_arm, number_of, of_one}
 use Rattle.cpc_convert_event.specs.NameLaws.{IsCps}
 use Rattle.cpc_convert_event.specs.Routines.{routine_of}
 use Rattle.cpc_convert_event.specs.Lines.{behind_arrival}
-use Rattle.cpc_convert_event.proofs.Numbers.{Rises, NoneRise, OneRise, rises_lower}
 use Rattle.cpc_convert_accepted_laws.specs.Names.{HasNames}
 use Rattle.cpc_convert_accepted_laws.specs.Points.{PositionsKnown}
+use Rattle.cpc_convert_accepted_laws.proofs.Counts.{same_many}
 use Rattle.cpc_convert_print_laws.proofs.Known.{FunctionReads, StoodPrints, stood_prints}
 use Rattle.cpc_convert_print_laws.proofs.Lines.{AllNoCalls, SimpleSound, StoodSound, ScopeSmall, SmallIf}
 use Rattle.cpc_convert_print_laws.proofs.Rows.{NodePrints}
@@ -38,23 +35,20 @@ at_most : (b : Bool) → of_one b ≤ 1
 at_most true = omega arith
 at_most false = omega arith
 
-within_same : (part : Part) (xs : List Point) → length (within part xs) ≡ length xs
-within_same part xs = length-map xs (below part)
-
 later_same : (xs : List Point) → length (map one_later xs) ≡ length xs
 later_same xs = length-map xs one_later
 
 -- a statement has a point
 some_point : (s : Stmt) → 1 ≤ length (points_of s)
 some_point (Block NoStmt) = omega arith
-some_point (Block (AndStmt s ss)) = let a = some_point s in let b = within_same (Nth 0) (points_of s) in let c = length-append (within (Nth 0) (points_of s)) (map one_later (points_in ss)) in omega (arith, a, b, c)
+some_point (Block (AndStmt s ss)) = let a = some_point s in let b = same_many (Nth 0) (points_of s) in let c = length-append (within (Nth 0) (points_of s)) (map one_later (points_in ss)) in omega (arith, a, b, c)
 some_point (Call to f es) = omega arith
 some_point (Detach to f es) = omega arith
 some_point (If t a b) = omega arith
 some_point (While t s) = omega arith
 some_point (DoWhile s t) = let a = length-append (within TheBody (points_of s)) (Here (TheTest ∷ []) ∷ []) in omega (arith, a)
 some_point (For first t step s) = let a = length-append (points_in first) (Here (TheTest ∷ []) ∷ (within TheStep (points_arm step) ++ within TheBody (points_of s))) in omega (arith, a)
-some_point (Label l s) = let a = some_point s in let b = within_same TheBody (points_of s) in omega (arith, a, b)
+some_point (Label l s) = let a = some_point s in let b = same_many TheBody (points_of s) in omega (arith, a, b)
 some_point Empty = omega arith
 some_point (Declare x t start) = omega arith
 some_point (Assign e op v) = omega arith
@@ -66,21 +60,21 @@ some_point (Return v) = omega arith
 
 -- how many points an if has, and a for
 if_points : (t : Expr) (a : Stmt) (b : MaybeStmt) → length (points_of (If t a b)) ≡ suc (length (points_of a) + length (points_arm b))
-if_points t a b = let x = length-append (within TheYes (points_of a)) (within TheNo (points_arm b)) in let y = within_same TheYes (points_of a) in let z = within_same TheNo (points_arm b) in omega (arith, x, y, z)
+if_points t a b = let x = length-append (within TheYes (points_of a)) (within TheNo (points_arm b)) in let y = same_many TheYes (points_of a) in let z = same_many TheNo (points_arm b) in omega (arith, x, y, z)
 
 for_points : (first : Stmts) (t : Option Expr) (step : MaybeStmt) (s : Stmt) → length (points_of (For first t step s)) ≡ length (points_in first) + suc (length (points_arm step) + length (points_of s))
 for_points first t step s =
     let w = length-append (points_in first) (Here (TheTest ∷ []) ∷ (within TheStep (points_arm step) ++ within TheBody (points_of s))) in
     let x = length-append (within TheStep (points_arm step)) (within TheBody (points_of s)) in
-    let y = within_same TheStep (points_arm step) in
-    let z = within_same TheBody (points_of s) in
+    let y = same_many TheStep (points_arm step) in
+    let z = same_many TheBody (points_of s) in
     omega (arith, w, x, y, z)
 
 do_points : (s : Stmt) (t : Expr) → length (points_of (DoWhile s t)) ≡ length (points_of s) + 1
-do_points s t = let a = length-append (within TheBody (points_of s)) (Here (TheTest ∷ []) ∷ []) in let b = within_same TheBody (points_of s) in omega (arith, a, b)
+do_points s t = let a = length-append (within TheBody (points_of s)) (Here (TheTest ∷ []) ∷ []) in let b = same_many TheBody (points_of s) in omega (arith, a, b)
 
 more_points : (s : Stmt) (ss : Stmts) → length (points_in (AndStmt s ss)) ≡ length (points_of s) + length (points_in ss)
-more_points s ss = let a = length-append (within (Nth 0) (points_of s)) (map one_later (points_in ss)) in let b = within_same (Nth 0) (points_of s) in let c = later_same (points_in ss) in omega (arith, a, b, c)
+more_points s ss = let a = length-append (within (Nth 0) (points_of s)) (map one_later (points_in ss)) in let b = same_many (Nth 0) (points_of s) in let c = later_same (points_in ss) in omega (arith, a, b, c)
 
 one_of : (s : Stmt) (b : Bool) → of_one b ≤ length (points_of s)
 one_of s b = let a = at_most b in let c = some_point s in omega (arith, a, c)
@@ -102,7 +96,7 @@ mutual
   number_most (If t a c) (TheTest ∷ path) b = one_of (If t a c) b
   number_most (If t a c) (TheStep ∷ path) b = one_of (If t a c) b
   number_most (If t a c) (TheBody ∷ path) b = one_of (If t a c) b
-  number_most (While t s) (TheBody ∷ path) b = let x = number_most s path b in let y = within_same TheBody (points_of s) in omega (arith, x, y)
+  number_most (While t s) (TheBody ∷ path) b = let x = number_most s path b in let y = same_many TheBody (points_of s) in omega (arith, x, y)
   number_most (While t s) [] b = one_of (While t s) b
   number_most (While t s) (Nth k ∷ path) b = one_of (While t s) b
   number_most (While t s) (TheTest ∷ path) b = one_of (While t s) b
@@ -123,7 +117,7 @@ mutual
   number_most (For first t step s) [] b = one_of (For first t step s) b
   number_most (For first t step s) (TheYes ∷ path) b = one_of (For first t step s) b
   number_most (For first t step s) (TheNo ∷ path) b = one_of (For first t step s) b
-  number_most (Label l s) (TheBody ∷ path) b = let x = number_most s path b in let y = within_same TheBody (points_of s) in omega (arith, x, y)
+  number_most (Label l s) (TheBody ∷ path) b = let x = number_most s path b in let y = same_many TheBody (points_of s) in omega (arith, x, y)
   number_most (Label l s) [] b = one_of (Label l s) b
   number_most (Label l s) (Nth k ∷ path) b = one_of (Label l s) b
   number_most (Label l s) (TheTest ∷ path) b = one_of (Label l s) b
@@ -334,13 +328,3 @@ module _ (tight : Bool) (H : ℕ) (room : 8 ≤ H) (h : ℕ) (p : Program) (name
         arrival = subst (λ (n : Node). SmallIf tight H room n.arrival) (sym q.1) (way_small (arrival_from p (Some f) q.0));
         behind = behind_small node.arrival;
       }
-
--- ---- the numbers of boxes
-
-pub boxes_rise : (p : Program) (f : Text) (k n : ℕ) → Rises (k + n) k (boxes_from p f k n)
-boxes_rise p f k zero = NoneRise k
-boxes_rise p f k (suc n) = go (is_box p f k) (subst (λ m. Rises m (suc k) (boxes_from p f (suc k) n)) (let z : suc k + n ≡ k + suc n = omega arith in z) (boxes_rise p f (suc k) n))
-  where
-    go : (b : Bool) → Rises (k + suc n) (suc k) (boxes_from p f (suc k) n) → Rises (k + suc n) k (cond b (k ∷ boxes_from p f (suc k) n) (boxes_from p f (suc k) n))
-    go true r = OneRise k k _ (omega arith) (omega arith) r
-    go false r = rises_lower (k + suc n) k (suc k) _ (omega arith) r

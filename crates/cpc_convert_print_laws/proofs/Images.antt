@@ -149,7 +149,7 @@ deeper true x y h = omega (arith, h)
 deeper false x y h = h
 
 -- a pair of parentheses
-round_one : (b : Bool) (x : ℕ) → deeper_if b x ≤ x + 1
+pub round_one : (b : Bool) (x : ℕ) → deeper_if b x ≤ x + 1
 round_one true x = omega arith
 round_one false x = omega arith
 

@@ -12,24 +12,20 @@ use Rattle.cpc_tree.specs.Syntax.{Ty, TyStruct, Expr, ENamed, EInteger, EBinary,
 use Rattle.cpc_tree.specs.ExprGrammar.{Rank, Postfix, Unary, Tier, Whole}
 use Rattle.cpc_tree.specs.StmtGrammar.{is_call}
 use Rattle.cpc_tree.specs.TypePrint.{base_row, declarator_row, declarator_depth, PrintableType, PrintableVariable}
-use Rattle.cpc_tree.specs.ExprPrint.{deeper_if, is_loose, tier_below, expr_row, expr_depth, args_row, args_depth, PrintableExpr, PrintableExprs}
+use Rattle.cpc_tree.specs.ExprPrint.{is_loose, tier_below, expr_row, expr_depth, args_row, args_depth, PrintableExpr, PrintableExprs}
 use Rattle.cpc_tree.specs.StmtPrint.{assigning_mark, mark_row, call_row, stmt_row, block_row, stmt_depth, block_depth, is_local, HasMark, PrintableStmt, PrintableBlock}
 use Rattle.cpc_printer_laws.proofs.Fitting.{Spelled, spelled_both}
 use Rattle.cpc_convert_image_laws.specs.Images.{Readings, image, images, followed, image_stmt}
 use Rattle.cpc_convert_chain_laws.specs.Flat.{before}
 use Rattle.cpc_convert_chain_laws.specs.Frames.{frame_through}
-use Rattle.cpc_convert_print_laws.proofs.Images.{ReadingsSpelled, spelled_round, image_spelled, image_printable, image_deep, image_no_call}
+use Rattle.cpc_convert_print_laws.proofs.Images.{ReadingsSpelled, spelled_round, image_spelled, image_printable, image_deep, image_no_call, round_one}
 use Rattle.cpc_convert_print_laws.proofs.Source.{ExprPrints, EachPrints, SimplePrints}
 use Rattle.cpc_convert_print_laws.proofs.Types.{TypeSpelled, declarator_made}
-
-most : (b : Bool) (x : ℕ) → deeper_if b x ≤ x + 1
-most true x = omega arith
-most false x = omega arith
 
 -- how deep a cast of a name to a pointer to a struct nests, and what is found through it
 cast_deep : (to tag : Text) (k : Rank) → expr_depth true k (frame_through to tag) ≤ 3
 unfolding expr_depth declarator_depth
-cast_deep to tag k = let a = most (is_loose k (Tier 0)) 2 in omega (arith, a)
+cast_deep to tag k = let a = round_one (is_loose k (Tier 0)) 2 in omega (arith, a)
 
 module _ (tight : Bool) (H : ℕ) (room : 8 ≤ H) where
   -- ---- expressions
@@ -52,7 +48,7 @@ module _ (tight : Bool) (H : ℕ) (room : 8 ≤ H) where
   arrow_made x f n m = record {
     printable = tt;
     spelled = λ k. spelled_round D.Event (is_loose k Postfix) (Named x ∷ Mark P.Arrow ∷ Named f ∷ []) (n, (tt, (m, tt)));
-    deep = λ k. let a = most (is_loose k Postfix) 2 in omega (arith, room, a);
+    deep = λ k. let a = round_one (is_loose k Postfix) 2 in omega (arith, room, a);
   }
 
   through_spelled : (to tag : Text) (k : Rank) → IsName D.Event to → IsName D.Event tag → Spelled D.Event (expr_row tight k (frame_through to tag))
@@ -64,7 +60,7 @@ module _ (tight : Bool) (H : ℕ) (room : 8 ≤ H) where
   through_made to tag f n m l = record {
     printable = (tt, tt);
     spelled = λ k. spelled_round D.Event (is_loose k Postfix) _ (spelled_both D.Event (expr_row tight Postfix (frame_through to tag)) (Mark P.Arrow ∷ Named f ∷ []) (through_spelled to tag Postfix n m) (tt, (l, tt)));
-    deep = λ k. let c = cast_deep to tag Postfix in let a = most (is_loose k Postfix) (expr_depth true Postfix (frame_through to tag) + 1) in omega (arith, room, a, c);
+    deep = λ k. let c = cast_deep to tag Postfix in let a = round_one (is_loose k Postfix) (expr_depth true Postfix (frame_through to tag) + 1) in omega (arith, room, a, c);
   }
 
   pub size_made : (tag : Text) → IsName D.Event tag → ExprMade (ESizeOf (TyStruct tag))
@@ -72,7 +68,7 @@ module _ (tight : Bool) (H : ℕ) (room : 8 ≤ H) where
   size_made tag m = record {
     printable = tt;
     spelled = λ k. spelled_round D.Event (is_loose k Unary) _ (tt, (tt, (tt, (m, (tt, tt)))));
-    deep = λ k. let a = most (is_loose k Unary) 1 in omega (arith, room, a);
+    deep = λ k. let a = round_one (is_loose k Unary) 1 in omega (arith, room, a);
   }
 
   -- `x != 0`
@@ -81,7 +77,7 @@ module _ (tight : Bool) (H : ℕ) (room : 8 ≤ H) where
   set_made x n = record {
     printable = (tt, tt);
     spelled = λ k. spelled_round D.Event (is_loose k (Tier (suc (tier_below O.Ne)))) _ (n, (tt, ((tt, refl), tt)));
-    deep = λ k. let a = most (is_loose k (Tier (suc (tier_below O.Ne)))) 2 in omega (arith, room, a);
+    deep = λ k. let a = round_one (is_loose k (Tier (suc (tier_below O.Ne)))) 2 in omega (arith, room, a);
   }
 
   module _ (h : ℕ) (below : h + 3 ≤ H) (r : Readings) (names : ReadingsSpelled r) where

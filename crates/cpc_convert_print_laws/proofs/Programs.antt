@@ -32,6 +32,7 @@ use Rattle.cpc_convert_event.proofs.Locals.{closure_rise, counted, loaded_below}
 use Rattle.cpc_convert_event.specs.Rows.{numbers_of}
 use Rattle.cpc_convert_accepted_laws.specs.Names.{HasNames}
 use Rattle.cpc_convert_accepted_laws.specs.Points.{PositionsKnown}
+use Rattle.cpc_convert_accepted_laws.proofs.Below.{boxes_rise, below_numbers}
 use Rattle.cpc_convert_print_laws.proofs.Names as N
 use Rattle.cpc_convert_print_laws.proofs.Images.{row_widened}
 use Rattle.cpc_convert_print_laws.proofs.Items.{Prints, no_items, and_item, first_item, later_items, both_items, PrintsItem, PrintsFunction, PrintsFunctions, no_functions, both_functions}
@@ -39,10 +40,10 @@ use Rattle.cpc_convert_print_laws.proofs.Known.{FunctionReads, ProgramReads}
 use Rattle.cpc_convert_print_laws.proofs.Lines.{AllVariables}
 use Rattle.cpc_convert_print_laws.proofs.Made.{named_made, zero_made, arrow_made, set_made, line_row, row_in, InBody, nothing_in, and_in, starts_made, assign_made, call_made, puts_made, return_made, while_made, LineMade}
 use Rattle.cpc_convert_print_laws.proofs.Functions.{int_made, any_made, to_struct_made, variable_of_type, frame_struct_made, parameter_made, function_made}
-use Rattle.cpc_convert_print_laws.proofs.Graphs.{node_prints, boxes_rise}
+use Rattle.cpc_convert_print_laws.proofs.Graphs.{node_prints}
 use Rattle.cpc_convert_print_laws.proofs.Pieces.{made_all, structs_made, boxes_made}
 use Rattle.cpc_convert_print_laws.proofs.Respawned.{all_printable, all_spelled, all_deep}
-use Rattle.cpc_convert_print_laws.proofs.Rows.{all_below, below_numbers}
+use Rattle.cpc_convert_print_laws.proofs.Rows.{all_below}
 use Rattle.cpc_convert_print_laws.proofs.Variables.{program_reads}
 
 -- ---- what stays

@@ -15,7 +15,7 @@ use Rattle.cpc_tree.specs.TypePrint.{base_of, base_row, declarator_row}
 use Rattle.cpc_tree.specs.ExprPrint.{deeper_if, is_loose, tier_below, expr_row, expr_depth, args_row, args_depth, PrintableExpr, PrintableExprs}
 use Rattle.cpc_tree.specs.StmtPrint.{assigning_mark, assignment_mark, mark_row, call_row, section_row, maybe_row, maybe_depth, local_row, local_depth, simple_row, simple_depth, locals_row, first_row, first_depth, step_row, step_depth, stmt_row, block_row, stmt_depth, block_depth, HasMark, PrintableMaybe, PrintableStart, PrintableValue, PrintableSimple, begun_place, PrintableLocals, PrintableFirst, PrintableStep, PrintableStmt, PrintableBlock}
 use Rattle.cpc_printer_laws.proofs.Fitting.{Spelled, spelled_parts}
-use Rattle.cpc_convert_print_laws.proofs.Images.{spelled_round, spelled_inside, spelled_with}
+use Rattle.cpc_convert_print_laws.proofs.Images.{spelled_round, spelled_inside, spelled_with, round_one}
 use Rattle.cpc_convert_print_laws.proofs.Types.{declarator_name}
 
 -- ---- expressions at any place
@@ -24,12 +24,8 @@ least : (b : Bool) (x : ℕ) → x ≤ deeper_if b x
 least true x = omega arith
 least false x = omega arith
 
-most : (b : Bool) (x : ℕ) → deeper_if b x ≤ x + 1
-most true x = omega arith
-most false x = omega arith
-
 one_more : (b c : Bool) (x : ℕ) → deeper_if b x ≤ deeper_if c x + 1
-one_more b c x = let l = least c x in let m = most b x in omega (arith, l, m)
+one_more b c x = let l = least c x in let m = round_one b x in omega (arith, l, m)
 
 -- an expression is spelled at one place as at another
 other_place : (tight : Bool) (k j : Rank) (e : Expr) → Spelled D.Cpc (expr_row tight k e) → Spelled D.Cpc (expr_row tight j e)

@@ -8,7 +8,7 @@ use Rattle.cpc_num.specs.declared.kinds.Kind.TheVariants as N
 use Rattle.cpc_tree.specs.Tokens.{Lexeme, Mark, Named}
 use Rattle.cpc_tree.specs.Spelling.{IsName}
 use Rattle.cpc_tree.specs.Syntax.{Ty, TyVoid, TyInt, TyCondvar, TyPointer, TyCode, TyStruct, TyArray}
-use Rattle.cpc_tree.specs.TypePrint.{kind_row, base_of, base_row, stars, star_count, param_row, declarator_row, declarator_depth, param_depth, IsStarred, PrintableType, PrintableVariable}
+use Rattle.cpc_tree.specs.TypePrint.{kind_row, base_row, stars, star_count, param_row, declarator_row, declarator_depth, param_depth, IsStarred, PrintableType, PrintableVariable}
 use Rattle.cpc_printer_laws.proofs.Fitting.{Spelled, spelled_both, spelled_parts}
 
 -- stars are marks
@@ -28,16 +28,6 @@ kind_spelled d N.Int = (tt, tt)
 kind_spelled d N.UInt = (tt, tt)
 kind_spelled d N.Long = (tt, tt)
 kind_spelled d N.ULong = (tt, (tt, tt))
-
--- what a declaration begins with is that of its base type
-pub base_same : (t : Ty) → base_row (base_of t) ≡ base_row t
-base_same (TyPointer t) = base_same t
-base_same (TyCode t ts) = base_same t
-base_same (TyArray t n) = base_same t
-base_same TyVoid = refl
-base_same (TyInt kind) = refl
-base_same TyCondvar = refl
-base_same (TyStruct tag) = refl
 
 module _ (d : Dialect) (tight : Bool) where
   -- a type whose tokens can be spelled

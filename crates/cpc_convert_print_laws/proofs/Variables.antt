@@ -15,11 +15,12 @@ use Rattle.cpc_tree.specs.ExprPrint.{expr_row}
 use Rattle.cpc_tree.specs.StmtPrint.{maybe_row, local_row, local_depth, call_row, section_row, locals_row, first_row, first_depth, step_row, stmt_row, block_row, stmt_depth, block_depth, PrintableLocals, PrintableFirst, PrintableStmt, PrintableBlock}
 use Rattle.cpc_tree.specs.ItemPrint.{mode_row, head_row, body_row, body_depth, item_row, item_depth, PrintableItem, PrintableBody}
 use Rattle.cpc_printer_laws.proofs.Fitting.{Spelled, spelled_parts}
+use Rattle.cpc_printer_laws.proofs.FitTypes.{base_row_of}
 use Rattle.cpc_convert.specs.Members.{Has, OnTop, Below}
 use Rattle.cpc_convert_print_laws.proofs.Items.{Prints, PrintsItem, first_item, later_items}
 use Rattle.cpc_convert_print_laws.proofs.Known.{VariablePrints, FunctionReads, ProgramReads}
 use Rattle.cpc_convert_print_laws.proofs.Source.{FoundPrints, stmt_found}
-use Rattle.cpc_convert_print_laws.proofs.Types.{base_same, declarator_name, declarator_rest, param_type, param_name, type_variable, variable_within}
+use Rattle.cpc_convert_print_laws.proofs.Types.{declarator_name, declarator_rest, param_type, param_name, type_variable, variable_within}
 
 module _ (tight : Bool) (h : ℕ) where
   abbrev EachPrints : List Variable → Type 0
@@ -59,14 +60,14 @@ module _ (tight : Bool) (h : ℕ) where
     locals_print base b before NoStmt p s d = tt
     locals_print base b before (AndStmt (Declare x t start) ss) p s d =
         let (u, v) = spelled_parts D.Cpc (local_row tight x t start) (locals_row tight ss) s.1 in
-        let own = subst (Spelled D.Cpc) (base_same t) (subst (λ (r : Ty). Spelled D.Cpc (base_row r)) (sym p.0) b) in
+        let own = subst (Spelled D.Cpc) (base_row_of t) (subst (λ (r : Ty). Spelled D.Cpc (base_row r)) (sym p.0) b) in
         (local_prints x t start p.1.0 own u (omega (arith, d)), locals_print base b _ ss p.2 v (omega (arith, d)))
     locals_print base b before (AndStmt (Call (Some u) v vs) ss) p s d = locals_print base b None ss p.3 (spelled_parts D.Cpc (call_row tight v vs) (locals_row tight ss) s.1).1 (omega (arith, d))
     locals_print base b before (AndStmt (Detach (Some u) y vs) ss) p s d = locals_print base b None ss p.2 (spelled_parts D.Cpc (section_row tight y vs) (locals_row tight ss) s.1).1 (omega (arith, d))
     locals_print base b before (AndStmt _ ss) p s d = absurd p
 
   base_base : (t : Ty) → base_row (base_of t) ≡ base_row t
-  base_base t = base_same t
+  base_base t = base_row_of t
 
   first_print : (ss : Stmts) → PrintableFirst ss → Spelled D.Cpc (first_row tight ss) → first_depth true ss ≤ h → EachPrints (locals_in ss)
   unfolding first_depth

@@ -1,6 +1,5 @@
 -- What a piece does where its function is left: it evaluates the value, gives back the boxes, writes the value to the frame below, and gives this to the driver.
 use Rattle.cpc_base.specs.Bytes.{Text}
-use Rattle.cpc_base.proofs.Truth.{eq_means, or_by_second}
 use Rattle.cpc_base.proofs.Lists.{length_of_map}
 use Rattle.cpc_convert_accepted_laws.specs.Known.{Stays}
 use Rattle.cpc_convert_accepted_laws.specs.Points.{UsedName}
@@ -28,7 +27,7 @@ use Rattle.cpc_convert_event.specs.Lines.{all_do, hands_over, node_lines, unbox_
 use Rattle.cpc_convert_event.specs.LocalLaws.{StandsIn, piece_locals}
 use Rattle.cpc_convert_event.specs.NameLaws.{IsOwner}
 use Rattle.cpc_convert_event.specs.Names.{next_name, piece_name, result_name, value_tag}
-use Rattle.cpc_convert_event.specs.Pieces.{any_node, below_if, called_so, is_result}
+use Rattle.cpc_convert_event.specs.Pieces.{below_if, called_so, is_result}
 use Rattle.cpc_convert_event.specs.Routines.{Routine, local_of, readings_of, routine_of}
 use Rattle.cpc_convert_event.specs.Rows.{has_row, put_statement, rows_nodes}
 use Rattle.cpc_convert_image_laws.proofs.Live.{read_live}
@@ -52,7 +51,7 @@ use Rattle.cpc_convert_piece_laws.proofs.Rowed.{DoesHere, first_fault, first_ste
 use Rattle.cpc_convert_piece_laws.proofs.Scopes.{local_holds, local_slot, meant, next_holds, primitive_meant}
 use Rattle.cpc_convert_piece_laws.proofs.Uses.{IsKept, names_kept, use_kept}
 use Rattle.cpc_convert_piece_laws.proofs.Ways.{listed, owner_is}
-use Rattle.cpc_convert_piece_laws.proofs.Words.{result_word, value_word}
+use Rattle.cpc_convert_piece_laws.proofs.Words.{result_word, value_word, any_has}
 use Rattle.cpc_convert_piece_laws.specs.Known.{CpsKnown, ProgramKnown}
 use Rattle.cpc_convert_piece_laws.specs.Rows.{RowAt, next_number, put_row, row_index}
 use Rattle.cpc_convert_piece_laws.specs.Stood.{LocalsStand, NodeAt}
@@ -60,7 +59,6 @@ use Rattle.cpc_convert_return_laws.proofs.Boxes.{unboxing}
 use Rattle.cpc_convert_return_laws.proofs.Unboxed.{Comes, first_come, none_freed, unboxes_come}
 use Rattle.cpc_convert_return_laws.specs.Kept.{KeepsBoxes}
 use Rattle.cpc_forms.specs.Flow.{Place}
-use Rattle.cpc_forms.specs.Graph.{Node, at_node}
 use Rattle.cpc_forms.specs.Split.{InGraph, Position, split_form}
 use Rattle.cpc_lift_laws.specs.Boxes.{is_box}
 use Rattle.cpc_lift_laws.specs.Lift.{boxes_from}
@@ -76,13 +74,12 @@ use Rattle.cpc_meaning.specs.Start.{before_bars}
 use Rattle.cpc_meaning.specs.Threads.{shown_in}
 use Rattle.cpc_meaning.specs.Ways.{InPlace}
 use Rattle.cpc_store.specs.Store.{Blocks, Store, Unset, Value}
-use Rattle.cpc_tree.specs.Lists.{holds_number}
 use Rattle.cpc_tree.specs.Points.{Point, Simple}
 use Rattle.cpc_tree.specs.Primitives.{RtUnbox}
 use Rattle.cpc_tree.specs.Registers.{variables}
 use Rattle.cpc_tree.specs.Syntax.{AndStmt, Assign, ENamed, Expr, Function, Program, Return, Stmt, Stmts, Ty, TyPointer, TyStruct}
 use Rattle.cpc_tree.specs.Typing.{NotMeant, is_scalar, named}
-use Rattle.std.proofs.Common.{Bool, List, None, Option, Some, [], ap, arith, codes, cond, false, length, map, refl, slice_get, slice_set, subst, suc, sym, true, zero, ℕ, ◌*◌, ◌++◌, ◌+◌, ◌<◌, ◌∙◌, ◌∷◌, ◌≡◌, ◌≤◌, ◌==◌, ◌||◌}
+use Rattle.std.proofs.Common.{Bool, List, None, Option, Some, [], ap, arith, codes, cond, false, length, map, refl, slice_get, slice_set, subst, suc, sym, true, zero, ℕ, ◌*◌, ◌++◌, ◌+◌, ◌<◌, ◌∙◌, ◌∷◌, ◌≡◌, ◌≤◌}
 use Rattle.std.specs.List.{All}
 
 -- there are no more boxes than variables
@@ -96,15 +93,6 @@ few_from p f k (suc n) = go (is_box p f k) (few_from p f (suc k) n)
 
 few_boxes : (p : Program) (f : Function) → CpsKnown p f → length (routine_of p f).boxes ≤ length (variables f)
 few_boxes p f known = subst (λ n. length (boxes_from p f.called 0 n) ≤ length (variables f)) (sym (counted p known.names f known.found.cps)) (few_from p f.called 0 (length (variables f)))
-
--- a test holds of one of these nodes where it holds of this one
-any_has : (r : Routine) (test : Node → Bool) (ns : List ℕ) (n : ℕ) (node : Node) → slice_get r.split.graph.nodes n ≡ Some node → holds_number ns n ≡ true → test node ≡ true → any_node r test ns ≡ true
-any_has r test [] n node e h t = absurd (cc)
-any_has r test (k ∷ ns) n node e h t = go (k == n) refl h (λ i. any_has r test ns n node e i t)
-  where
-    go : (b : Bool) → (k == n) ≡ b → (b || holds_number ns n) ≡ true → (holds_number ns n ≡ true → any_node r test ns ≡ true) → any_node r test (k ∷ ns) ≡ true
-    go true i j deeper = ap (λ b. b || any_node r test ns) (ap (λ m. at_node false test (slice_get r.split.graph.nodes m)) (eq_means k n i) ∙ (ap (at_node false test) e ∙ t))
-    go false i j deeper = or_by_second (at_node false test (slice_get r.split.graph.nodes k)) (any_node r test ns) (deeper j)
 
 -- the statements that give back boxes, by the names of their locals
 same_lines : (r : Routine) (ks : List ℕ) → map (λ k. unboxes_one (local_of r k).called) ks ≡ map unboxes_one (map (λ k. (local_of r k).called) ks)

@@ -26,7 +26,7 @@ use Rattle.cpc_convert_chain_laws.specs.Flat.{before, is_line, is_flat, are_flat
 use Rattle.cpc_convert_chain_laws.specs.Frames.{Load, loads_one, declares_one, frees_frame}
 use Rattle.cpc_convert_event.specs.Frames.{arriving_type}
 use Rattle.cpc_convert_event.specs.NameLaws.{IsOwner}
-use Rattle.cpc_convert_event.specs.Names.{piece_name, pointer_name, frame_name, next_name, value_name, variable_name, node_label}
+use Rattle.cpc_convert_event.specs.Names.{piece_name, pointer_name, frame_name, next_name, value_name, node_label}
 use Rattle.cpc_convert_event.specs.Pieces.{load_of, next_load, takes_value, value_load, loads_of, called_so, words_if, words_of, begun, declares_of, fills_if, box_lines, boxing_lines, boxing_of, piece_body, piece_function}
 use Rattle.cpc_convert_event.specs.Pieces as P
 use Rattle.cpc_convert_event.specs.Routines.{Routine, routine_of, closure_of, is_plain, is_parameter, variable_of, variable_or, local_of, locals_of, chosen, number_before}
@@ -37,9 +37,11 @@ use Rattle.cpc_convert_event.proofs.Lines.{AreLines, bare_lines, lines_append, p
 use Rattle.cpc_convert_accepted_laws.specs.Pieces.{VariablesHaveCells}
 use Rattle.cpc_convert_piece_laws.specs.Known.{CpsKnown}
 use Rattle.cpc_convert_piece_laws.proofs.Frames.{kept_number}
+use Rattle.cpc_convert_piece_laws.proofs.Words.{words_few}
 use Rattle.cpc_convert_rules_laws.specs.Laws.{Knows, BodyFine}
 use Rattle.cpc_convert_rules_laws.proofs.KeptRows.{Source}
 use Rattle.cpc_convert_rules_laws.proofs.Names.{made_unkept}
+use Rattle.cpc_convert_rules_laws.proofs.FunctionRows.{variable_free}
 use Rattle.cpc_convert_shape_laws.proofs.Calls.{CpsTyped}
 use Rattle.cpc_convert_row_bodies_laws.proofs.Gotos.{gotos_lead}
 use Rattle.cpc_convert_row_bodies_laws.proofs.Inside.{begins, inside}
@@ -124,10 +126,6 @@ unkept_both : (xs ys : List Text) → NoneKept xs → NoneKept ys → NoneKept (
 unkept_both _ ys NoneIsKept h = h
 unkept_both _ ys (AndUnkept x xs e g) h = AndUnkept x (xs ++ ys) e (unkept_both xs ys g h)
 
-variable_unkept : (k : ℕ) (x : Text) → is_kept x ≡ false → is_kept (variable_name k x) ≡ false
-unfolding variable_name
-variable_unkept k x e = made_unkept x (decimal k) e
-
 label_unkept : (n : ℕ) → is_kept (node_label n) ≡ false
 unfolding node_label
 label_unkept n = made_unkept (codes "at" ++ decimal n) (codes "") refl
@@ -141,16 +139,6 @@ words_unkept false true true t = AndUnkept _ _ refl (AndUnkept _ _ refl NoneIsKe
 words_unkept false true false t = AndUnkept _ _ refl NoneIsKept
 words_unkept false false true t = AndUnkept _ _ refl NoneIsKept
 words_unkept false false false t = NoneIsKept
-
-words_few : (a b c : Bool) (t : Ty) → length (words_if a b c t) ≤ 3
-words_few true true true t = omega arith
-words_few true true false t = omega arith
-words_few true false true t = omega arith
-words_few true false false t = omega arith
-words_few false true true t = omega arith
-words_few false true false t = omega arith
-words_few false false true t = omega arith
-words_few false false false t = omega arith
 
 names_append : (xs ys : List Variable) → names_of (xs ++ ys) ≡ names_of xs ++ names_of ys
 names_append [] ys = refl
@@ -258,7 +246,7 @@ module _ (p : Program) (source : Source p) (f : Function) (known : CpsKnown p f)
   -- ---- names
 
   local_unkept : (j : ℕ) → is_kept (local_of r j).called ≡ false
-  local_unkept j = variable_unkept j (variable_of r j).called (by (slice_get (variables f) j) refl)
+  local_unkept j = variable_free j (variable_of r j).called (by (slice_get (variables f) j) refl)
     where
       by : (o : Option Variable) → slice_get (variables f) j ≡ o → is_kept (variable_or o).called ≡ false
       by None e = refl

@@ -12,6 +12,7 @@ use Rattle.cpc_check_rules.specs.Scopes.{in_items, meant}
 use Rattle.cpc_check_rules.specs.Operators.{Where}
 use Rattle.cpc_check_laws.proofs.NativeValues.{event}
 use Rattle.cpc_check_sound_laws.proofs.Knowing.{primitive_kept}
+use Rattle.cpc_check_sound_laws.proofs.Lookups.{no_local}
 use Rattle.cpc_check_complete_laws.specs.Standing.{local_named, Tells}
 use Rattle.cpc_check_complete_laws.specs.Flat.{all_named_at}
 use Rattle.cpc_check_complete_laws.proofs.Flat.{opened}
@@ -33,7 +34,6 @@ use Rattle.cpc_convert_event.specs.Routines.{Routine, routine_of, passed}
 use Rattle.cpc_convert_event.proofs.Scopes.{nothing_hidden}
 use Rattle.cpc_convert_accepted_laws.proofs.Used.{primitive_unmarked}
 use Rattle.cpc_convert_piece_laws.specs.Known.{CpsKnown}
-use Rattle.cpc_convert_piece_laws.proofs.Environment.{not_local}
 use Rattle.cpc_convert_piece_laws.proofs.Scopes.{piece_meant}
 use Rattle.cpc_convert_piece_laws.proofs.Scopes as scopes
 use Rattle.cpc_convert_call_laws.proofs.Shown.{spawner_meant}
@@ -98,7 +98,7 @@ module _ (p : Program) (f : Function) (known : CpsKnown p f) (l : Place) (owner 
   shown x h = told_free sc blocks told x (none_named (converted p) sc x h) (in_items (reverse all) x)
 
   pub plain : (x : Text) → has_marks x ≡ false → meant inside.scope x ≡ in_items (reverse all) x
-  plain x h = shown x (λ i t e. not_local 0 (converted p) x i t (sym (nothing_hidden p (converted p) r l x h) ∙ e))
+  plain x h = shown x (λ i t e. no_local 0 (converted p) x i t (sym (nothing_hidden p (converted p) r l x h) ∙ e))
 
   function_shown : (x : Text) (mode : _) (u : Ty) (ts : List Ty) → named (converted p) sc x ≡ AFunction mode u ts → meant inside.scope x ≡ in_items (reverse all) x
   function_shown x mode u ts h = shown x (λ i t e. let z : AFunction mode u ts ≡ ALocal i t = sym h ∙ e in absurd (cc))

@@ -1,5 +1,5 @@
 -- No two rows of a piece have one label, and each goto leads to the label of a row.
-use Rattle.std.proofs.Common.{◌≡◌, ◌⊎◌, inl, inr, ⊎_elim, ℕ, zero, suc, ◌+◌, ◌<◌, ◌^◌, Bool, true, false, ◌==◌, List, [], ◌∷◌, ◌++◌, map, reverse, length, decimal, bytes_eq, codes, refl, sym, ◌∙◌, ap, subst, arith}
+use Rattle.std.proofs.Common.{◌≡◌, ◌⊎◌, inl, inr, ⊎_elim, ℕ, ◌+◌, ◌<◌, ◌^◌, Bool, true, false, ◌==◌, List, [], ◌∷◌, ◌++◌, map, reverse, length, decimal, bytes_eq, codes, refl, sym, ◌∙◌, ap, subst, arith}
 use Rattle.std.proofs.lemmas.List.{reverse-append, reverse-reverse}
 use Rattle.cpc_base.specs.Bytes.{Text}
 use Rattle.cpc_base.proofs.Truth.{eq_reflexive, or_neither}
@@ -9,8 +9,7 @@ use Rattle.cpc_meaning.proofs.Functions.{texts_differ}
 use Rattle.cpc_check_complete_laws.specs.Flat.{NoneOf, NoText, AndOther, Distinct, NoneDistinct, AndDistinct, line_labels, labels_of}
 use Rattle.cpc_convert.specs.Converted.{marked}
 use Rattle.cpc_convert.proofs.Marks.{decimal_is}
-use Rattle.cpc_forms.specs.Flow.{Place, Flow, flow_of}
-use Rattle.cpc_forms.specs.Split.{owners_from}
+use Rattle.cpc_forms.specs.Flow.{Place, flow_of}
 use Rattle.cpc_forms.specs.Graph.{graph_of}
 use Rattle.cpc_forms.specs.Pieces as P
 use Rattle.cpc_convert_event.specs.Names.{node_label}
@@ -19,9 +18,10 @@ use Rattle.cpc_convert_event.specs.Rows.{is_own, row_of, PutRow, numbers_of, fir
 use Rattle.cpc_convert_event.proofs.Lines.{is_bare, AreBare, lines_done, puts_done}
 use Rattle.cpc_convert_event.proofs.Labels.{leaders_rise, rows_stand_once}
 use Rattle.cpc_convert_event.proofs.Numbers.{AllBelow, NoneBelow, OneBelow, Rises, rises_below}
+use Rattle.cpc_convert_accepted_laws.proofs.Below.{below_numbers}
+use Rattle.cpc_convert_accepted_laws.proofs.Cut.{owners_long}
 use Rattle.cpc_convert_piece_laws.proofs.Rows.{numbers}
 use Rattle.cpc_convert_row_bodies_laws.specs.Laws.{LabelsStandOnce}
-use Rattle.cpc_convert_row_bodies_laws.proofs.Below.{below_numbers}
 
 -- ---- labels of statements
 
@@ -94,10 +94,6 @@ module _ (all : List PutRow) where
 
 -- ---- the rows of a piece
 
-owners_length : (flow : Flow) (k n : ℕ) → length (owners_from flow k n) ≡ n
-owners_length flow k zero = refl
-owners_length flow k (suc n) = ap suc (owners_length flow (suc k) n)
-
 module _ (p : Program) (f : Function) (l : Place) (few : length (graph_of p f).nodes < 2 ^ 63) where
   abbrev r : Routine
   r = routine_of p f
@@ -107,7 +103,7 @@ module _ (p : Program) (f : Function) (l : Place) (few : length (graph_of p f).n
 
   numbers_below : AllBelow size (numbers_of p r l)
   numbers_below =
-      let e = owners_length (flow_of (graph_of p f)) 0 size in
+      let e = owners_long (flow_of (graph_of p f)) 0 size in
       below_numbers p r l size (omega (arith, e)) (rises_below size 0 r.split.leaders (subst (λ k. Rises k 0 r.split.leaders) (let z : 0 + size ≡ size = omega arith in z) (leaders_rise (flow_of (graph_of p f)) 0 size)))
 
   abbrev rows : List ℕ → List PutRow

@@ -1,4 +1,3 @@
-pub mod Below
 pub mod Labels
 pub mod Ways
 pub mod Gotos

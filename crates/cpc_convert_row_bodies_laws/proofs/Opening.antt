@@ -2,7 +2,7 @@
 use Rattle.std.proofs.Common.{◌≡◌, ℕ, zero, suc, ◌+◌, ◌<◌, ◌≤◌, ◌^◌, Bool, true, false, not, ◌&&◌, ◌==◌, ◌||◌, cond, List, [], ◌∷◌, ◌++◌, map, length, slice_get, nat_le, bytes_eq, Option, Some, None, refl, sym, ◌∙◌, ap, subst, arith}
 use Rattle.std.proofs.lemmas.Bool.Decides.{nat_tests}
 use Rattle.cpc_base.specs.Bytes.{Text}
-use Rattle.cpc_base.proofs.Truth.{eq_reflexive, eq_means, lt_means, or_by_second, bytes_eq_fails_back, and_both}
+use Rattle.cpc_base.proofs.Truth.{eq_reflexive, eq_means, lt_means, or_by_second, and_both}
 use Rattle.cpc_num.specs.declared.kinds.Kind.TheVariants.{Int}
 use Rattle.cpc_tree.specs.Lists.{holds_number}
 use Rattle.cpc_tree.specs.Points.{locals}
@@ -15,11 +15,11 @@ use Rattle.cpc_check_rules.specs.Scopes.{meant, measured, cell_limit, has_cells,
 use Rattle.cpc_check_rules.specs.Operators.{Where}
 use Rattle.cpc_check_rules.specs.StmtRules.{stmt_breaks}
 use Rattle.cpc_check_laws.proofs.OnePlace.{stmt_here}
-use Rattle.cpc_check_complete_laws.specs.Flat.{Runs, NoRow, AndLine, NoneOf, NoText, AndOther, Distinct, NoneDistinct, AndDistinct, OneOf, IsFirst, IsLater, names_of, loaded, Loadable, NoLoad, AndLoad, AllHaveCells, NoCells, AndCells, Fresh}
-use Rattle.cpc_check_complete_laws.proofs.Flat.{opens_run, fresh_in, runs_both}
+use Rattle.cpc_check_complete_laws.specs.Flat.{Runs, NoRow, AndLine, NoneOf, NoText, AndOther, Distinct, NoneDistinct, AndDistinct, names_of, loaded, Loadable, NoLoad, AndLoad, AllHaveCells, NoCells, AndCells, Fresh}
+use Rattle.cpc_check_complete_laws.proofs.Flat.{opens_run, fresh_in, runs_both, none_apart}
 use Rattle.cpc_check_complete_laws.proofs.Frames.{boxes_fine, fills_fine, frees_fine}
 use Rattle.cpc_check_complete_laws.proofs.Makers.{takes_itself}
-use Rattle.cpc_meaning.proofs.Functions.{same_text, texts_differ}
+use Rattle.cpc_meaning.proofs.Functions.{texts_differ}
 use Rattle.cpc_convert_image_laws.specs.Locals.{local_type}
 use Rattle.cpc_convert_image_laws.specs.Relations.{Less, AsIs, Untold}
 use Rattle.cpc_forms.specs.Flow.{Place, Start, At}
@@ -75,11 +75,6 @@ distinct_from q scope n (x ∷ xs) h =
 none_left : (x : Text) (xs ys : List Variable) → NoneOf x (names_of (xs ++ ys)) → NoneOf x (names_of xs)
 none_left x [] ys h = NoText
 none_left x (z ∷ xs) ys (AndOther _ _ e h) = AndOther z.called (names_of xs) e (none_left x xs ys h)
-
-one_none : (y x : Text) (xs : List Text) → NoneOf y xs → OneOf x xs → bytes_eq y x ≡ false
-one_none y x _ (AndOther z _ e h) (IsFirst _ _ i) = bytes_eq_fails_back x y (subst (λ w. bytes_eq w y ≡ false) (same_text z x i) e)
-one_none y x _ (AndOther z _ e h) (IsLater _ _ o) = one_none y x _ h o
-one_none y x _ NoText o = elim o [ ]
 
 -- ---- loads
 
@@ -278,7 +273,7 @@ module _ (p : Program) (f : Function) (known : CpsKnown p f) (all : Program) (k 
     fresh = go all_apart
       where
         go : Distinct (names_of (called_so pointer_name any_pointer ∷ declared p f known l owner all k)) → Fresh (first_blocks p f known l owner all k) (declared p f known l owner all k)
-        go (AndDistinct _ _ n d) = fresh_in (called_so pointer_name any_pointer ∷ []) [] (declared p f known l owner all k) d (λ x o. ap (λ b. cond b (Some any_pointer) None) (one_none pointer_name x _ n o))
+        go (AndDistinct _ _ n d) = fresh_in (called_so pointer_name any_pointer ∷ []) [] (declared p f known l owner all k) d (λ x o. ap (λ b. cond b (Some any_pointer) None) (none_apart pointer_name x _ n o))
 
     frame_apart : NoneOf frame_name (names_of (map loaded (loads_of p r l)))
     frame_apart = go all_apart

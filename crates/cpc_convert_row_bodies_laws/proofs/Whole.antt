@@ -1,9 +1,9 @@
 -- All rows of a piece break no rule: those of its nodes, and those that go to other leaders.
-use Rattle.std.proofs.Common.{◌≡◌, ◌⊎◌, inl, inr, ⊎_elim, ℕ, Bool, true, false, not, ◌&&◌, ◌||◌, ◌==◌, List, [], ◌∷◌, ◌++◌, map, length, slice_get, nat_le, nat_lt, Option, Some, None, option_map, refl, sym, ◌∙◌, ap, subst}
+use Rattle.std.proofs.Common.{◌≡◌, ◌⊎◌, ⊎_elim, ℕ, Bool, true, false, not, ◌&&◌, ◌||◌, ◌==◌, List, [], ◌∷◌, ◌++◌, map, length, slice_get, Option, Some, None, option_map, refl, sym, ◌∙◌, ap, subst}
 use Rattle.std.proofs.lemmas.Option.{slice_get-map}
 use Rattle.cpc_base.proofs.Truth.{eq_reflexive, eq_means, or_by_second, and_both, by_true_false}
 use Rattle.cpc_base.proofs.Lists.{found_within}
-use Rattle.cpc_tree.specs.Lists.{holds_number, is_empty}
+use Rattle.cpc_tree.specs.Lists.{holds_number}
 use Rattle.cpc_tree.specs.Points.{Point, Here, Arrival, End, found}
 use Rattle.cpc_tree.specs.Registers.{variables}
 use Rattle.cpc_tree.specs.Syntax.{Function, Program}
@@ -12,7 +12,6 @@ use Rattle.cpc_meaning.specs.Act.{AtArrival}
 use Rattle.cpc_meaning.specs.Ways.{Manner, InPlace, ByFrame, AsCps}
 use Rattle.cpc_check_complete_laws.specs.Flat.{Runs, NoRow}
 use Rattle.cpc_check_complete_laws.proofs.Flat.{runs_both}
-use Rattle.cpc_convert.specs.Members.{Has, OnTop, Below}
 use Rattle.cpc_forms.specs.Flow.{Place, Start, At, Flow, is_leader, owner_of, owner_by, owner_step, owner_within, as_list}
 use Rattle.cpc_forms.specs.Graph.{Node, node_of, graph_of, way, at_node}
 use Rattle.cpc_forms.specs.Order.{points}
@@ -33,21 +32,23 @@ use Rattle.cpc_convert_event.specs.NameLaws.{IsOwner, TheStart, ALeader}
 use Rattle.cpc_convert_event.specs.Names.{node_label, to_name}
 use Rattle.cpc_convert_event.specs.Pieces.{called_so, to_frame, any_node, is_entry, is_result, is_wait}
 use Rattle.cpc_convert_event.specs.Routines.{Routine, routine_of, chosen, closure_of, owner_number}
-use Rattle.cpc_convert_event.specs.Rows.{owner_at, is_own, stands_with, has_row, turned, rows_nodes, behind_call, onwards, onwards_all, reached, stubs_of, lines_by, row_of, falls, number_where, stub_behind, numbers_from, numbers_of, first_number, PutRow, put_rows, put_lines, put_statement, is_wanted, row_statements, rows_statements, piece_statements}
+use Rattle.cpc_convert_event.specs.Rows.{owner_at, is_own, stands_with, has_row, rows_nodes, behind_call, onwards, onwards_all, reached, stubs_of, lines_by, row_of, numbers_from, numbers_of, first_number, PutRow, put_rows, put_lines, put_statement, is_wanted, row_statements, rows_statements, piece_statements}
 use Rattle.cpc_convert_event.proofs.Lines.{puts_done, lines_done}
 use Rattle.cpc_convert_event.proofs.Numbers.{held_either, chosen_is}
+use Rattle.cpc_convert_accepted_laws.proofs.Cut.{place_self}
 use Rattle.cpc_convert_piece_laws.specs.Known.{CpsKnown}
 use Rattle.cpc_convert_piece_laws.specs.Stood.{NodeAt}
 use Rattle.cpc_convert_piece_laws.proofs.Frames.{held_has}
 use Rattle.cpc_convert_piece_laws.proofs.Scopes as scopes
-use Rattle.cpc_convert_piece_laws.proofs.Stubs.{first_word}
-use Rattle.cpc_convert_piece_laws.proofs.Ways.{place_self, way_next, owner_is, other_leads, keeps_along}
+use Rattle.cpc_convert_piece_laws.proofs.Stubs.{first_word, some_there}
+use Rattle.cpc_convert_piece_laws.proofs.Ways.{way_next, owner_is, other_leads, keeps_along}
 use Rattle.cpc_convert_call_laws.proofs.Framed.{framed_calls_arrive}
 use Rattle.cpc_convert_rules_laws.specs.Laws.{Knows}
 use Rattle.cpc_convert_rules_laws.proofs.KeptRows.{Source}
 use Rattle.cpc_convert_shape_laws.proofs.Calls.{CpsTyped}
-use Rattle.cpc_convert_shape_laws.proofs.Numbers.{own_row, owned_below}
+use Rattle.cpc_convert_shape_laws.proofs.Numbers.{own_row, owned_below, turned_is, from_is}
 use Rattle.cpc_convert_shape_laws.proofs.Rows.{own_point}
+use Rattle.cpc_convert_shape_laws.proofs.Shape.{has_held}
 use Rattle.cpc_convert_row_bodies_laws.proofs.Framing.{stub_run}
 use Rattle.cpc_convert_row_bodies_laws.proofs.Gotos.{node_at}
 use Rattle.cpc_convert_row_bodies_laws.proofs.Nodes.{IsFormed}
@@ -56,37 +57,6 @@ use Rattle.cpc_convert_row_bodies_laws.proofs.Rowing.{LinesRun, labelled_run}
 
 -- ---- numbers in lists
 
-where_is : (a b : Bool) (n m : ℕ) → holds_number (number_where (a && b) n) m ≡ true → (a ≡ true) × (n ≡ m)
-where_is true true n m h = (refl, one (n == m) refl h)
-  where
-    one : (c : Bool) → (n == m) ≡ c → (c || false) ≡ true → n ≡ m
-    one true e i = eq_means n m e
-    one false e i = absurd (cc)
-where_is true false n m h = absurd (cc)
-where_is false b n m h = absurd (cc)
-
-behind_is : (stubs placed : List ℕ) (o : Option ℕ) (m : ℕ) → holds_number (stub_behind stubs placed o) m ≡ true → holds_number stubs m ≡ true
-behind_is stubs placed None m h = absurd (cc)
-behind_is stubs placed (Some n) m h = let w = where_is (holds_number stubs n) (not (holds_number placed n)) n m h in subst (λ k. holds_number stubs k ≡ true) w.1 w.0
-
--- what is listed is a node or a leader that is not the piece's own
-from_is : (p : Program) (r : Routine) (l : Place) (stubs placed ns : List ℕ) (m : ℕ) → holds_number (numbers_from p r l stubs placed ns) m ≡ true → (holds_number ns m ≡ true) ⊎ (holds_number stubs m ≡ true)
-from_is p r l stubs placed [] m h = absurd (cc)
-from_is p r l stubs placed (n ∷ ns) m h = go (n == m) refl h (λ i. from_is p r l stubs (b ++ placed) ns m i)
-  where
-    b : List ℕ
-    b = stub_behind stubs placed (falls (row_of p r l n).lines)
-
-    go : (c : Bool) → (n == m) ≡ c → (c || holds_number (b ++ numbers_from p r l stubs (b ++ placed) ns) m) ≡ true
-        → (holds_number (numbers_from p r l stubs (b ++ placed) ns) m ≡ true → (holds_number ns m ≡ true) ⊎ (holds_number stubs m ≡ true)) → ((c || holds_number ns m) ≡ true) ⊎ (holds_number stubs m ≡ true)
-    go true e i deeper = inl refl
-    go false e i deeper =
-        held_either b (numbers_from p r l stubs (b ++ placed) ns) m ((holds_number ns m ≡ true) ⊎ (holds_number stubs m ≡ true)) i
-        (λ j. inr (behind_is stubs placed (falls (row_of p r l n).lines) m j)) (λ j. deeper j)
-
-turned_is : (m : ℕ) (ns : List ℕ) (n : ℕ) → holds_number (turned m ns) n ≡ true → holds_number ns n ≡ true
-turned_is m ns n h = held_either (chosen (λ k. nat_le m k) ns) (chosen (λ k. nat_lt k m) ns) n (holds_number ns n ≡ true) h (λ i. (chosen_is (λ k. nat_le m k) ns n i).0) (λ i. (chosen_is (λ k. nat_lt k m) ns n i).0)
-
 list_is : (o : Option ℕ) (n : ℕ) → holds_number (as_list o) n ≡ true → o ≡ Some n
 list_is None n h = absurd (cc)
 list_is (Some m) n h = one (m == n) refl h
@@ -94,14 +64,6 @@ list_is (Some m) n h = one (m == n) refl h
     one : (c : Bool) → (m == n) ≡ c → (c || false) ≡ true → Some m ≡ Some n
     one true e i = ap (λ j. Some j) (eq_means m n e)
     one false e i = absurd (cc)
-
-has_held : (ns : List ℕ) (n : ℕ) → Has n ns → holds_number ns n ≡ true
-has_held _ n (OnTop _ ns) = ap (λ b. b || holds_number ns n) (eq_reflexive n)
-has_held _ n (Below _ m ns h) = or_by_second (m == n) (holds_number ns n) (has_held ns n h)
-
-some_there : (xs : List ℕ) (n : ℕ) → holds_number xs n ≡ true → not (is_empty xs) ≡ true
-some_there [] n h = absurd (cc)
-some_there (x ∷ xs) n h = refl
 
 module _ (p : Program) (f : Function) (known : CpsKnown p f) (l : Place) (owner : IsOwner (routine_of p f) l) where
   abbrev r : Routine

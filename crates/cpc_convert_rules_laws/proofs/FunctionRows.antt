@@ -3,9 +3,8 @@ use Rattle.std.proofs.Common.{◌≡◌, ℕ, zero, suc, ◌==◌, ◌&&◌, not
 use Rattle.cpc_base.specs.Bytes.{Text}
 use Rattle.cpc_base.specs.declared.stop.Dialect.TheVariants as D
 use Rattle.cpc_base.proofs.Truth.{eq_reflexive, and_holds}
-use Rattle.cpc_num.specs.declared.kinds.Kind.{Kind}
-use Rattle.cpc_num.specs.declared.kinds.Kind.TheVariants.{Char, UChar, Int, UInt, Long, ULong}
-use Rattle.cpc_num.specs.Number.{same_kind}
+use Rattle.cpc_num.specs.declared.kinds.Kind.TheVariants.{Int}
+use Rattle.cpc_num.proofs.KindLemmas.{same_kind-refl}
 use Rattle.cpc_tree.specs.declared.program.Mode.TheVariants.{Native}
 use Rattle.cpc_tree.specs.Registers.{variables}
 use Rattle.cpc_tree.specs.Syntax.{Ty, TyVoid, TyInt, TyCondvar, TyPointer, TyCode, TyStruct, TyArray, Tys, NoTy, AndTy, Variable, Function, FunctionItem, Program}
@@ -37,18 +36,10 @@ use Rattle.cpc_convert_rules_laws.proofs.Types.{scalar_sized, scalars_apart}
 
 -- ---- types are themselves
 
-kind_itself : (k : Kind) → same_kind k k ≡ true
-kind_itself Char = refl
-kind_itself UChar = refl
-kind_itself Int = refl
-kind_itself UInt = refl
-kind_itself Long = refl
-kind_itself ULong = refl
-
 mutual
   type_itself : (t : Ty) → same_type t t ≡ true
   type_itself TyVoid = refl
-  type_itself (TyInt k) = kind_itself k
+  type_itself (TyInt k) = same_kind-refl k
   type_itself TyCondvar = refl
   type_itself (TyPointer t) = type_itself t
   type_itself (TyCode r ps) = and_holds (same_type r r) (same_types ps ps) (type_itself r) (types_itself ps)
@@ -78,7 +69,8 @@ agrees_itself g is_defined e =
     ap (λ m. same_mode m m && (same_type g.result g.result && same_list (types (map parameter_here g.parameters)) (map parameter_type g.parameters))) e
     ∙ and_holds (same_type g.result g.result) _ (type_itself g.result) (ap (λ ts. same_list ts (map parameter_type g.parameters)) (types_here g.parameters) ∙ list_itself (map parameter_type g.parameters))
 
-free_name : (x : Text) → is_kept x ≡ false → reserved_breaks D.Event (ident_here x ∷ []) ≡ []
+-- a name that is not kept is not reserved
+pub free_name : (x : Text) → is_kept x ≡ false → reserved_breaks D.Event (ident_here x ∷ []) ≡ []
 free_name x e = both_none _ _ (ap (λ b. at_if b here Reserved) e) refl
 
 -- the prototype of a function whose name is not declared before, and which the program defines
@@ -116,7 +108,8 @@ free_if : (b : Bool) (x : Variable) (xs : List Variable) → is_kept x.called �
 free_if true x xs e h = both_none _ _ (ap (λ b. at_if b here Reserved) e) h
 free_if false x xs e h = h
 
-variable_free : (k : ℕ) (x : Text) → is_kept x ≡ false → is_kept (variable_name k x) ≡ false
+-- nor is it as the name of a variable
+pub variable_free : (k : ℕ) (x : Text) → is_kept x ≡ false → is_kept (variable_name k x) ≡ false
 unfolding variable_name
 variable_free k x e = made_unkept x (decimal k) e
 

@@ -9,7 +9,6 @@ use Rattle.cpc_tree.specs.Typing.{Meant, ALocal, AGlobal, AFunction, NotMeant, i
 use Rattle.cpc_tree.specs.Registers.{or_empty, as_variable}
 use Rattle.cpc_tree.specs.Points.{locals}
 use Rattle.cpc_check_rules.specs.Scopes.{in_items}
-use Rattle.cpc_check_rules.specs.Operators as O
 use Rattle.cpc_check_rules.specs.ItemRules.{Signature, is_function}
 use Rattle.cpc_meaning.specs.Threads.{is_cps_mode}
 use Rattle.cpc_meaning.proofs.Functions.{same_text, text_same}
@@ -97,12 +96,6 @@ function_has q f h = go q (split q h)
 
     go : (q : Program) → (a : Program) × (b : Program) × (q ≡ a ++ FunctionItem f ∷ b) → is_function f.called q ≡ true
     go q s = subst (λ xs. is_function f.called xs ≡ true) (sym s.2) (function_there s.0 s.1 f f.called (text_same f.called))
-
-pub not_cps : (m : Mode) → is_cps_mode m ≡ false → O.is_cps m ≡ false
-not_cps Native e = refl
-not_cps Cps e = absurd (cc)
-not_cps Detached e = refl
-not_cps Extern e = refl
 
 -- ---- what a spawner takes
 

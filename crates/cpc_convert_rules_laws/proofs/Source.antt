@@ -6,7 +6,6 @@ use Rattle.cpc_base.specs.declared.stop.Dialect.TheVariants as D
 use Rattle.cpc_base.proofs.Truth.{by_false_true, or_neither, and_not_fails}
 use Rattle.cpc_base.proofs.Lists.{some_is}
 use Rattle.cpc_tree.specs.declared.program.Mode.{Mode}
-use Rattle.cpc_tree.specs.declared.program.Mode.TheVariants.{Extern, Native, Cps, Detached}
 use Rattle.cpc_tree.specs.Syntax.{Ty, Variable, Parameter, Function, Item, StructItem, GlobalItem, PrototypeItem, FunctionItem, Program}
 use Rattle.cpc_tree.specs.Typing.{AFunction, NotMeant, function_named, parameter_type, parameter_types}
 use Rattle.cpc_check_rules.specs.declared.rule.Rule.TheVariants.{Reserved, Twice, Disagree, Undeclared}
@@ -22,6 +21,7 @@ use Rattle.cpc_check_sound_laws.proofs.Answers.{no_some}
 use Rattle.cpc_check_sound_laws.proofs.Unbroken.{holds_not}
 use Rattle.cpc_check_sound_laws.proofs.Items.{signed, function_there}
 use Rattle.cpc_check_sound_laws.proofs.Knowing.{Known, nothing_known, known_struct, known_global, known_function}
+use Rattle.cpc_check_sound_laws.proofs.Programs.{no_extern}
 use Rattle.cpc_convert.specs.Members.{Has}
 use Rattle.cpc_convert_rules_laws.proofs.Rows.{rows, row_first, row_rest, has_at}
 
@@ -55,12 +55,6 @@ settles before x new h = (
   holds_not (is_clash x new before) here Twice (left_none _ _ h),
   holds_not (is_disagreeing x new before) here Disagree (right_none (at_if (is_clash x new before) here Twice) _ h),
 )
-
-no_extern : (m : Mode) → is_own m ≡ true → is_extern m ≡ false
-no_extern Native e = refl
-no_extern Cps e = refl
-no_extern Detached e = refl
-no_extern Extern e = by_false_true e
 
 -- ---- what is known
 

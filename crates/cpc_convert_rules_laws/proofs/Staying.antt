@@ -16,6 +16,7 @@ use Rattle.cpc_check_rules.specs.StmtRules.{start_breaks}
 use Rattle.cpc_check_rules.specs.ItemRules.{Signature, outside, is_struct, is_item, is_function, is_oversized, field_names, fields_breaks, is_extern, is_host_like, types, cps_breaks, declared_breaks, parameters_breaks, global_start, item_breaks}
 use Rattle.cpc_check_laws.proofs.NativeValues.{left_none, right_none, both_none}
 use Rattle.cpc_check_laws.proofs.OnePlace.{here, ident_here, expr_here, variable_here, parameter_here, item_here, item_again}
+use Rattle.cpc_check_laws.proofs.NativeItems.{reserved_native}
 use Rattle.cpc_meaning.specs.Threads.{is_cps_mode}
 use Rattle.cpc_meaning.proofs.Functions.{text_same}
 use Rattle.cpc_check_sound_laws.specs.Typed.{is_own}
@@ -27,14 +28,14 @@ use Rattle.cpc_check_complete_laws.specs.Reads.{Carries}
 use Rattle.cpc_check_complete_laws.proofs.Acts.{start_carried}
 use Rattle.cpc_check_complete_laws.proofs.KeptFunctions.{function_kept}
 use Rattle.cpc_check_complete_laws.proofs.Names.{unread, image_if_unread, stays}
-use Rattle.cpc_check_complete_laws.proofs.Respawned.{unreserved}
 use Rattle.cpc_convert.specs.Marks.{has_marks}
 use Rattle.cpc_convert.specs.Members.{Has, OnTop, Below}
 use Rattle.cpc_convert.proofs.Members.{has_either}
 use Rattle.cpc_convert_event.specs.Converted.{kept_function, kept_items}
+use Rattle.cpc_convert_accepted_laws.proofs.Counts.{not_cps}
 use Rattle.cpc_convert_rules_laws.proofs.Items.{beside_all, beside_each, no_struct, struct_none, no_item, item_none}
 use Rattle.cpc_convert_rules_laws.proofs.Kept.{KeptItem, KeepStruct, KeepGlobal, KeepPrototype, KeepFunction, KeptAt, kept_split, kept_has, has_kept, kept_last}
-use Rattle.cpc_convert_rules_laws.proofs.KeptRows.{Front, Source, grown, keeps, defined, beside_other, beside_kept, declares_kept, function_has, not_cps}
+use Rattle.cpc_convert_rules_laws.proofs.KeptRows.{Front, Source, grown, keeps, defined, beside_other, beside_kept, declares_kept, function_has}
 use Rattle.cpc_convert_rules_laws.proofs.Rows.{rows, each_row, has_at}
 use Rattle.cpc_convert_rules_laws.proofs.Source.{signature, row_split, settles}
 use Rattle.cpc_convert_rules_laws.proofs.Types.{sized_more, fields_more, struct_more}
@@ -43,7 +44,7 @@ use Rattle.cpc_convert_rules_laws.proofs.Types.{sized_more, fields_more, struct_
 parameters_fine : (ps : List Parameter) → parameters_breaks D.Cpc (map parameter_here ps) ≡ [] → parameters_breaks D.Event (map parameter_here ps) ≡ []
 parameters_fine ps h =
     let xs = parameter_names (map parameter_here ps) in
-    both_none _ _ (left_none _ _ h) (unreserved xs (right_none (repeated Twice [] xs) _ h))
+    both_none _ _ (left_none _ _ h) (reserved_native xs (right_none (repeated Twice [] xs) _ h))
 
 no_form : (m : Mode) → is_cps_mode m ≡ false → cps_breaks D.Event m here ≡ []
 no_form m e = ap (λ b. at_if (b && true) here CpsForm) (not_cps m e)
@@ -94,7 +95,7 @@ module _ (p front q : Program) (source : Source p) (ahead : Front p front) (insi
       let over = holds_not (is_oversized (size (before ++ StructItem tag (map bare_variable (map variable_here fs)) ∷ []) (TyStruct tag))) here Incomplete (left_none _ _ h2) in
       let h3 = right_none (at_if (is_oversized (size (before ++ StructItem tag (map bare_variable (map variable_here fs)) ∷ []) (TyStruct tag))) here Incomplete) _ h2 in
       let h4 = right_none (repeated Twice [] (field_names (map variable_here fs))) _ h3 in
-      both_none _ _ (unreserved (ident_here tag ∷ []) (left_none _ _ h)) (both_none _ _ (ap (λ b. at_if b here Twice) (none twice))
+      both_none _ _ (reserved_native (ident_here tag ∷ []) (left_none _ _ h)) (both_none _ _ (ap (λ b. at_if b here Twice) (none twice))
       (both_none _ _ (ap (λ b. at_if b here Incomplete) (fits over g h4)) (both_none _ _ (left_none _ _ h3) (fields_more (outside D.Cpc before).scope (outside D.Event (ev before)).scope g (map variable_here fs) h4))))
     where
       plain : has_marks tag ≡ false
@@ -156,7 +157,7 @@ module _ (p front q : Program) (source : Source p) (ahead : Front p front) (insi
       let h2 = right_none (at_if (is_item y before) here Twice) _ h1 in
       let s = holds_then (is_sized (outside D.Cpc before).scope t) here Incomplete (left_none _ _ h2) in
       let h3 = right_none (at_if (not (is_sized (outside D.Cpc before).scope t)) here Incomplete) _ h2 in
-      both_none _ _ (unreserved (ident_here y ∷ []) (left_none _ _ h)) (both_none _ _ (ap (λ b. at_if b here Twice) (none twice))
+      both_none _ _ (reserved_native (ident_here y ∷ []) (left_none _ _ h)) (both_none _ _ (ap (λ b. at_if b here Twice) (none twice))
       (both_none _ _ (ap (λ b. at_if (not b) here Incomplete) (sized_more (outside D.Cpc before).scope (outside D.Event (ev before)).scope g t s)) (start_row before back (GlobalItem y t o) is y t o h3)))
     where
       plain : has_marks y ≡ false
@@ -177,7 +178,7 @@ module _ (p front q : Program) (source : Source p) (ahead : Front p front) (insi
       let h4 = right_none (at_if (is_extern m && not (is_host_like r (types (map parameter_here ps)))) here Disagree) _ h3 in
       let there = holds_not (not (is_extern m) && not (is_function f p)) here Undeclared (left_none _ _ h4) in
       let h5 = right_none (at_if (not (is_extern m) && not (is_function f p)) here Undeclared) _ h4 in
-      both_none _ _ (unreserved (ident_here f ∷ []) (left_none _ _ h)) (both_none _ _ (no_form m e)
+      both_none _ _ (reserved_native (ident_here f ∷ []) (left_none _ _ h)) (both_none _ _ (no_form m e)
       (both_none _ _ (settled before back (PrototypeItem m f r ps) is f new (source.names.items (PrototypeItem m f r ps) (it_is before back (PrototypeItem m f r ps) is)).unmarked (left_none _ _ h2))
       (both_none _ _ (left_none _ _ h3) (both_none _ _ (ap (λ b. at_if b here Undeclared) (stays_there m refl)) (parameters_fine ps h5)))))
     where

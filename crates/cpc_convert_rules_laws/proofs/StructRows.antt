@@ -9,13 +9,13 @@ use Rattle.cpc_num.specs.declared.kinds.Kind.TheVariants.{Int}
 use Rattle.cpc_tree.specs.Registers.{variables}
 use Rattle.cpc_tree.specs.Syntax.{TyInt, TyVoid, TyStruct, Variable, Function, Item, StructItem, GlobalItem, PrototypeItem, FunctionItem, Program}
 use Rattle.cpc_tree.specs.Typing.{◌>>=◌, cells, size, is_scalar, struct_cells, fields_cells}
-use Rattle.cpc_check_rules.specs.declared.rule.Rule.TheVariants.{Reserved, Twice, Incomplete}
+use Rattle.cpc_check_rules.specs.declared.rule.Rule.TheVariants.{Twice, Incomplete}
 use Rattle.cpc_check_rules.specs.Rule.{at_if}
 use Rattle.cpc_check_rules.specs.Scopes.{has_cells}
-use Rattle.cpc_check_rules.specs.FunctionRules.{is_kept, reserved_breaks}
+use Rattle.cpc_check_rules.specs.FunctionRules.{is_kept}
 use Rattle.cpc_check_rules.specs.ItemRules.{outside, is_oversized, item_breaks}
 use Rattle.cpc_check_laws.proofs.NativeValues.{both_none}
-use Rattle.cpc_check_laws.proofs.OnePlace.{here, ident_here, item_here, item_again}
+use Rattle.cpc_check_laws.proofs.OnePlace.{here, item_here, item_again}
 use Rattle.cpc_meaning.specs.Threads.{is_cps_mode}
 use Rattle.cpc_check_sound_laws.proofs.Agreement.{Grows, sizes_grow}
 use Rattle.cpc_check_sound_laws.proofs.Options.{then_some, then_of}
@@ -53,6 +53,7 @@ use Rattle.cpc_convert_rules_laws.proofs.Parts.{frames, front_of, front_structs,
 use Rattle.cpc_convert_rules_laws.proofs.Rows.{rows, Once, each_row, once_front, has_at}
 use Rattle.cpc_convert_rules_laws.proofs.Tags.{frames_once, all_boxes_once, box_frame}
 use Rattle.cpc_convert_rules_laws.proofs.Types.{grows_of, beyond_none, beyond_whole, own_size, sized, scalars_fit, scalars_sized, scalars_apart}
+use Rattle.cpc_convert_rules_laws.proofs.FunctionRows.{free_name}
 
 -- ---- lengths
 
@@ -75,13 +76,10 @@ passed_length k (suc n) (x ∷ xs) = if_length (is_scalar x.type) _ (passed_from
 data FrameFine : Item → Type 0 where
   IsFine : (tag : Text) (fs : List Variable) → ScalarFields fs → length fs ≤ 1024 → is_kept tag ≡ false → FrameFine (StructItem tag fs)
 
-free_tag : (tag : Text) → is_kept tag ≡ false → reserved_breaks D.Event (ident_here tag ∷ []) ≡ []
-free_tag tag e = both_none _ _ (ap (λ b. at_if b here Reserved) e) refl
-
 -- its row, where no struct before it has its tag
 fine_row : (q before : Program) (x : Item) → FrameFine x → ((fs : List Variable) → Has (StructItem (tag_of x) fs) before → ⊥) → item_breaks D.Event q before (item_here x) ≡ []
 fine_row q before _ (IsFine tag fs s l e) none =
-    both_none _ _ (free_tag tag e) (both_none _ _ (ap (λ b. at_if b here Twice) (no_struct tag before none))
+    both_none _ _ (free_name tag e) (both_none _ _ (ap (λ b. at_if b here Twice) (no_struct tag before none))
     (both_none _ _ (ap (λ b. at_if b here Incomplete) (subst (λ y. is_oversized (size (before ++ y ∷ []) (TyStruct tag)) ≡ false) (sym (item_again (StructItem tag fs))) (scalars_fit before tag fs s l)))
     (both_none _ _ (scalars_apart fs s) (scalars_sized (outside D.Event before).scope fs s))))
 
@@ -182,7 +180,7 @@ module _ (p : Program) (source : Source p) where
   box_row : (q before : Program) (tag : Text) (x : Variable) (m : ℕ) → is_kept tag ≡ false → ((fs : List Variable) → Has (StructItem tag fs) before → ⊥) → size before x.type ≡ Some m → 0 < m → m ≤ 2 ^ 16
       → item_breaks D.Event q before (item_here (StructItem tag (x ∷ []))) ≡ []
   box_row q before tag x m free none e some le =
-      both_none _ _ (free_tag tag free) (both_none _ _ (ap (λ b. at_if b here Twice) (no_struct tag before none)) (both_none _ _ (ap (λ b. at_if b here Incomplete) (box_fits before tag x m e le)) (both_none _ _ refl
+      both_none _ _ (free_name tag free) (both_none _ _ (ap (λ b. at_if b here Twice) (no_struct tag before none)) (both_none _ _ (ap (λ b. at_if b here Incomplete) (box_fits before tag x m e le)) (both_none _ _ refl
       (both_none _ _ (ap (λ b. at_if (not b) here Incomplete) (sized (outside D.Event before).scope x.type m e (has_some m some le))) refl))))
 
   module _ (cells : (f : Function) → IsCps p f → VariablesHaveCells p f) where

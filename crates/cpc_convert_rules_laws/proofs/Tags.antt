@@ -1,5 +1,5 @@
 -- The tags of the structs that are made: of frames and of boxes, each once.
-use Rattle.std.proofs.Common.{◌≡◌, ⊎_elim, ℕ, zero, suc, ◌+◌, ◌<◌, ◌^◌, Bool, true, false, cond, [], ◌∷◌, ◌++◌, map, get_or, decimal, refl, sym, ◌∙◌, ap, subst, append_assoc, codes, arith}
+use Rattle.std.proofs.Common.{◌≡◌, ⊎_elim, ℕ, ◌+◌, ◌<◌, ◌^◌, Bool, true, false, [], ◌∷◌, ◌++◌, map, get_or, decimal, refl, sym, ◌∙◌, ap, subst, append_assoc, codes, arith}
 use Rattle.cpc_base.specs.Bytes.{Text}
 use Rattle.cpc_base.specs.declared.stop.Dialect.TheVariants as D
 use Rattle.cpc_tree.specs.Syntax.{Ty, Function, Item, StructItem, GlobalItem, PrototypeItem, FunctionItem, Program}
@@ -13,7 +13,7 @@ use Rattle.cpc_convert.proofs.Marks.{NoBar, marked_is, decimal_is}
 use Rattle.cpc_forms.specs.Flow.{Place, Start, At}
 use Rattle.cpc_forms.specs.Pieces as P
 use Rattle.cpc_lift_laws.specs.Boxes.{is_box}
-use Rattle.cpc_lift_laws.specs.Lift.{boxes, boxes_from, variable_count}
+use Rattle.cpc_lift_laws.specs.Lift.{boxes, variable_count}
 use Rattle.cpc_lift_laws.proofs.Lift.{boxes_exact}
 use Rattle.cpc_lift_laws.proofs.Boxes.{boxes_are_below}
 use Rattle.cpc_convert_chain_laws.specs.Driver.{frame_tag}
@@ -25,7 +25,8 @@ use Rattle.cpc_convert_event.specs.NameLaws.{IsNamed, IsCps}
 use Rattle.cpc_convert_event.proofs.Apart.{behind, piece_is, value_is, box_is, frame_is, no_bar, differ_at, no_bar_behind, no_bar_nothing}
 use Rattle.cpc_convert_event.proofs.Framed.{tag_of}
 use Rattle.cpc_convert_event.proofs.Made.{Mapped, OfNumber, map_has}
-use Rattle.cpc_convert_event.proofs.Numbers.{Rises, NoneRise, OneRise, rises_lower, rises_once}
+use Rattle.cpc_convert_event.proofs.Numbers.{rises_once}
+use Rattle.cpc_convert_accepted_laws.proofs.Below.{boxes_rise}
 use Rattle.cpc_convert_rules_laws.proofs.Made.{held, once_map, leaders_once, MadeOf, apart_of, leaders_told, start_told}
 use Rattle.cpc_convert_rules_laws.proofs.Rows.{rows, Once, NoneOnce, AndOnce, once_both, has_at}
 
@@ -119,15 +120,6 @@ module _ (p : Program) where
       go false c h rest = box_later _ items (tag_of x) (rest h)
       go true c h rest =
           ⊎_elim (λ a. box_one f items c x (map_has (box_of (routine_of p f)) x (routine_of p f).boxes a)) (λ a. box_later _ items (tag_of x) (rest a)) (has_either x (boxes_of (routine_of p f)) (all_boxes (routines_in p items)) h)
-
--- the numbers of boxes rise
-boxes_rise : (p : Program) (f : Text) (k n : ℕ) → Rises (k + n) k (boxes_from p f k n)
-boxes_rise p f k zero = NoneRise k
-boxes_rise p f k (suc n) = go (is_box p f k) (subst (λ m. Rises m (suc k) (boxes_from p f (suc k) n)) (let z : suc k + n ≡ k + suc n = omega arith in z) (boxes_rise p f (suc k) n))
-  where
-    go : (b : Bool) → Rises (k + suc n) (suc k) (boxes_from p f (suc k) n) → Rises (k + suc n) k (cond b (k ∷ boxes_from p f (suc k) n) (boxes_from p f (suc k) n))
-    go true r = OneRise k k _ (omega arith) (omega arith) r
-    go false r = rises_lower (k + suc n) k (suc k) _ (omega arith) r
 
 pub boxes_once : (p : Program) (f : Function) → P.Once (routine_of p f).boxes
 boxes_once p f = rises_once (0 + variable_count p f.called) 0 (boxes p f.called) (boxes_rise p f.called 0 (variable_count p f.called))

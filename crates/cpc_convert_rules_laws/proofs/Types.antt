@@ -13,7 +13,7 @@ use Rattle.cpc_check_rules.specs.FunctionRules.{among, repeated}
 use Rattle.cpc_check_rules.specs.ItemRules.{is_oversized, field_names, fields_breaks, sized_breaks}
 use Rattle.cpc_check_laws.proofs.NativeValues.{left_none, right_none, both_none}
 use Rattle.cpc_check_laws.proofs.OnePlace.{here, variable_here}
-use Rattle.cpc_meaning.proofs.Functions.{text_same}
+use Rattle.cpc_meaning.proofs.Functions.{text_same, scalar_size}
 use Rattle.cpc_check_sound_laws.proofs.Answers.{no_some}
 use Rattle.cpc_check_sound_laws.proofs.Options.{then_some, then_of}
 use Rattle.cpc_check_sound_laws.proofs.Agreement.{Grows, sizes_grow}
@@ -102,15 +102,6 @@ pub sized_more : (s u : Scope) → Grows s.items u.items → (t : Ty) → is_siz
 sized_more s u g t h =
     let n = size_of s t h in
     ap has_cells (sizes_grow s.items u.items g t n.0 n.1) ∙ (ap has_cells (sym n.1) ∙ h)
-
-pub scalar_size : (items : Program) (t : Ty) → is_scalar t ≡ true → size items t ≡ Some 1
-scalar_size items (TyInt k) e = refl
-scalar_size items TyCondvar e = refl
-scalar_size items (TyPointer t) e = refl
-scalar_size items (TyCode r ps) e = refl
-scalar_size items TyVoid e = absurd (cc)
-scalar_size items (TyStruct tag) e = absurd (cc)
-scalar_size items (TyArray t n) e = absurd (cc)
 
 pub scalar_sized : (s : Scope) (t : Ty) → is_scalar t ≡ true → is_sized s t ≡ true
 scalar_sized s t e = sized s t 1 (scalar_size s.items t e) refl

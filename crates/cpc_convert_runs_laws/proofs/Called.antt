@@ -28,8 +28,8 @@ use Rattle.cpc_convert_accepted_laws.specs.Lifted.{kept_of, lifted_threads, lift
 use Rattle.cpc_convert_accepted_laws.specs.Moves.{Shuffled, MadeCondition, FreedCondition, Signalled, SignalledAll, BeganRound, WasPolled, Added, IsReady, Sleeps, AwaitsIo, WaitsOn, AwaitsSection, IsKept}
 use Rattle.cpc_convert_accepted_laws.proofs.Spawns.{step_spawns}
 use Rattle.cpc_convert_accepted_laws.proofs.Walk.{Next, next_so}
+use Rattle.cpc_convert_accepted_laws.proofs.Counts.{cps_same}
 use Rattle.cpc_convert_runs_laws.specs.Runs.{NamesCps}
-use Rattle.cpc_convert_runs_laws.proofs.Natives.{cps_same}
 
 -- nothing is said of a result
 abbrev Any : Value → Type 0

@@ -3,7 +3,6 @@ use Rattle.std.proofs.Common.{◌≡◌, ◌⊎◌, inl, inr, ◌&&◌, not, ℕ
 use Rattle.cpc_base.specs.Bytes.{Text}
 use Rattle.cpc_base.specs.declared.stop.Dialect.TheVariants as D
 use Rattle.cpc_base.proofs.Truth.{and_first, and_second, and_holds, not_holds}
-use Rattle.cpc_tree.specs.declared.program.Mode.{Mode}
 use Rattle.cpc_tree.specs.declared.program.Mode.TheVariants.{Extern, Native, Cps, Detached}
 use Rattle.cpc_tree.specs.Located.{LStmt, Block, Assign, Call, Detach, Spawn, If, While, DoWhile, For, Label, LStmts, NoLStmt, AndLStmt, MaybeLStmt, NoneLStmt, SomeLStmt, LItem, LStruct, LGlobal, LPrototype, LFunctionItem, bare_stmt, bare_stmts, bare_maybe, bare_function, bare_item, bare}
 use Rattle.cpc_tree.specs.Syntax as S
@@ -27,6 +26,7 @@ use Rattle.cpc_convert.specs.Members.{Has, OnTop, Below}
 use Rattle.cpc_convert_event.specs.Converted.{kept_function, item_unless, kept_items, routine_if, routines_in, converted_with}
 use Rattle.cpc_convert_accepted_laws.specs.Names.{HasNames}
 use Rattle.cpc_convert_accepted_laws.proofs.Names.{accepted_has_names}
+use Rattle.cpc_convert_accepted_laws.proofs.Counts.{cps_same}
 use Rattle.cpc_meaning_native_laws.specs.Plain.{is_plain_stmt, are_plain, is_plain_arm, is_plain_function, is_plain}
 use Rattle.cpc_meaning_native_laws.specs.Shape.{is_step, is_shaped, all_shaped, is_shaped_arm, is_block, are_shaped}
 use Rattle.cpc_meaning_native_laws.proofs.Native.{native_is_plain}
@@ -35,12 +35,6 @@ use Rattle.cpc_convert_runs_laws.specs.Laws.{AcceptedIsNative}
 use Rattle.cpc_convert_runs_laws.proofs.Signed.{item_declares}
 
 -- ---- cps functions
-
-pub cps_same : (m : Mode) → is_cps_mode m ≡ is_cps m
-cps_same Extern = refl
-cps_same Native = refl
-cps_same Cps = refl
-cps_same Detached = refl
 
 -- a cps function among these items
 abbrev pub CpsAmong : Program → Type 0

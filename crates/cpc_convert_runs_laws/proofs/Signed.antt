@@ -18,12 +18,9 @@ use Rattle.cpc_check_rules.specs.ItemRules.{Signature, is_clash, is_disagreeing,
 use Rattle.cpc_meaning.proofs.Functions.{same_text, text_same}
 use Rattle.cpc_check_sound_laws.proofs.Items.{last_first, named_more, named_rest, signed, Agreed, agreed}
 use Rattle.cpc_check_sound_laws.proofs.Unbroken.{split, holds_not}
+use Rattle.cpc_check_sound_laws.proofs.Programs.{types_are}
 
 -- ---- declarations
-
-types_are : (ps : List LParameter) → types ps ≡ map parameter_type (map bare_parameter ps)
-types_are [] = refl
-types_are (p ∷ ps) = ap (λ ts. p.type ∷ ts) (types_are ps)
 
 -- a function is declared as the program has it
 abbrev pub Declares : Program → Item → Type 0

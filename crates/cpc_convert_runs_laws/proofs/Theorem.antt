@@ -26,6 +26,7 @@ use Rattle.cpc_convert_laws.proofs.Pass.{follows_lifted}
 use Rattle.cpc_convert_laws.proofs.Setting.{Setting, Known}
 use Rattle.cpc_convert_accepted_laws.specs.Functions.{HasMain}
 use Rattle.cpc_convert_accepted_laws.specs.Lifted.{lifted_threads, lifted_after}
+use Rattle.cpc_convert_accepted_laws.proofs.Counts.{cps_same}
 use Rattle.cpc_convert_native_laws.specs.Instance.{StaysAs}
 use Rattle.cpc_convert_native_laws.proofs.Wholes.{kept_there, kept_named}
 use Rattle.cpc_meaning_native_laws.proofs.Alike.{plain_runs_same, plain_runs_within}
@@ -38,7 +39,7 @@ use Rattle.cpc_convert_runs_laws.proofs.Called.{cps_from_then, OfCps, AllCpsIn}
 use Rattle.cpc_convert_runs_laws.proofs.Had.{Had, accepted_had}
 use Rattle.cpc_convert_runs_laws.proofs.Join.{setting, PiecesDo, FineSays, rows, same_runs}
 use Rattle.cpc_convert_runs_laws.proofs.Known.{state_known}
-use Rattle.cpc_convert_runs_laws.proofs.Natives.{cps_same, CpsAmong, some_cps, native_converted}
+use Rattle.cpc_convert_runs_laws.proofs.Natives.{CpsAmong, some_cps, native_converted}
 use Rattle.cpc_convert_runs_laws.proofs.Pass.{matches_native}
 use Rattle.cpc_convert_runs_laws.proofs.Pieces.{pieces_do}
 

@@ -11,6 +11,7 @@ use Rattle.cpc_tree.specs.Typing.{Scope, Meant, AFunction, NotMeant, ALocal, AGl
 use Rattle.cpc_meaning.specs.Ways.{AsCps, meant_manner, manner_of}
 use Rattle.cpc_check_sound_laws.specs.Control.{StaysIn}
 use Rattle.cpc_check_sound_laws.specs.Typed.{AllGet, Calls, CallsHost, CallsFunction, CallsPrimitive, CallsPointer, is_variable, is_pointer_call, FoundTyped}
+use Rattle.cpc_meaning_kept_laws.proofs.Modes.{same_name}
 use Rattle.cpc_convert_event.specs.NameLaws.{IsNamed, IsCps}
 use Rattle.cpc_convert_accepted_laws.specs.Names.{HasNames}
 
@@ -30,9 +31,6 @@ no_variable (ALocal k t) prim e c = absurd (cc)
 no_variable (AGlobal n t) prim e c = absurd (cc)
 no_variable (AFunction m r ps) prim e c = absurd (cc)
 no_variable NotMeant prim e c = absurd (cc)
-
-same_name : (x y : Text) → ENamed x ≡ ENamed y → x ≡ y
-same_name x y e = cc
 
 module _ (p : Program) (f : Function) (known : CpsTyped p f) where
   -- a primitive is no function

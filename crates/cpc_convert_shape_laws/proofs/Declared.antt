@@ -32,7 +32,7 @@ use Rattle.cpc_convert_event.proofs.Closures.{closures_lifted}
 use Rattle.cpc_convert_event.proofs.Locals.{locals_meant}
 use Rattle.cpc_convert_accepted_laws.specs.Lifted.{kept_of}
 use Rattle.cpc_convert_accepted_laws.proofs.Lifted.{programs_are_closed}
-use Rattle.cpc_convert_piece_laws.proofs.Ways.{place_self}
+use Rattle.cpc_convert_accepted_laws.proofs.Cut.{place_self}
 use Rattle.cpc_convert_shape_laws.specs.Shape.{HasLocals}
 use Rattle.cpc_convert_shape_laws.proofs.Calls.{CpsTyped}
 use Rattle.cpc_convert_shape_laws.proofs.Owned.{got_has}

@@ -1,5 +1,6 @@
 -- The globals and the declarations of `extern` functions of an event program are those of its source.
 use Rattle.std.proofs.Common.{◌≡◌, ℕ, Bool, true, false, List, [], ◌∷◌, ◌++◌, map, refl, sym, ◌∙◌, ap}
+use Rattle.cpc_base.proofs.Lists.{append_empty}
 use Rattle.cpc_tree.specs.declared.program.Mode.TheVariants.{Native, Extern, Detached, Cps}
 use Rattle.cpc_tree.specs.Syntax.{Function, Item, StructItem, GlobalItem, PrototypeItem, FunctionItem, Program}
 use Rattle.cpc_tree.specs.Typing.{function_named}
@@ -68,10 +69,6 @@ kept_externs (FunctionItem f ∷ items) rest e = go (is_cps_mode f.mode) (kept_e
     go true i = i
     go false i = i
 
-append_nil : (xs : List Item) → xs ++ [] ≡ xs
-append_nil [] = refl
-append_nil (x ∷ xs) = ap (λ ys. x ∷ ys) (append_nil xs)
-
 module _ (p : Program) where
   abbrev behind_boxes : List Routine → List Item
   behind_boxes rs = map function_item (all_made p rs) ++ main_if (is_cps (function_named p main_name))
@@ -87,7 +84,7 @@ module _ (p : Program) where
       (a.0 ∙ (b.0 ∙ c.0), a.1 ∙ (b.1 ∙ c.1))
 
   with_have : (rs : List Routine) → Alike (converted_with p rs) p
-  with_have [] = (ap globals (sym (append_nil (kept_items p))) ∙ kept_globals p [] refl, ap externs (sym (append_nil (kept_items p))) ∙ kept_externs p [] refl)
+  with_have [] = (ap globals (sym (append_empty (kept_items p))) ∙ kept_globals p [] refl, ap externs (sym (append_empty (kept_items p))) ∙ kept_externs p [] refl)
   with_have (r ∷ rs) =
       let rest = FunctionItem drive_function ∷ behind_driver (r ∷ rs) in
       let a = structs_have (all_structs p (r ∷ rs)) (map prototype (all_made p (r ∷ rs)) ++ rest) (all_structs_are p (r ∷ rs)) in

@@ -16,8 +16,10 @@ use Rattle.cpc_convert_event.specs.Routines.{Routine, routine_of, chosen}
 use Rattle.cpc_convert_event.specs.Rows.{owner_at, is_own, has_row, turned, rows_nodes, reached, stubs_of, row_of, falls, number_where, stub_behind, numbers_from, numbers_of}
 use Rattle.cpc_convert_event.proofs.Labels.{rows_stand_once}
 use Rattle.cpc_convert_event.proofs.Numbers.{held_either, chosen_is}
-use Rattle.cpc_convert_piece_laws.proofs.Ways.{listed, place_self}
+use Rattle.cpc_convert_accepted_laws.proofs.Cut.{place_self}
+use Rattle.cpc_convert_piece_laws.proofs.Ways.{listed}
 
+-- a number that is listed where both tests hold
 where_is : (a b : Bool) (n m : ℕ) → holds_number (number_where (a && b) n) m ≡ true → (a ≡ true) × (n ≡ m)
 where_is true true n m h = (refl, one (n == m) refl h)
   where
@@ -27,12 +29,13 @@ where_is true true n m h = (refl, one (n == m) refl h)
 where_is true false n m h = absurd (cc)
 where_is false b n m h = absurd (cc)
 
+-- a stub behind a row is a stub
 behind_is : (stubs placed : List ℕ) (o : Option ℕ) (m : ℕ) → holds_number (stub_behind stubs placed o) m ≡ true → holds_number stubs m ≡ true
 behind_is stubs placed None m h = absurd (cc)
 behind_is stubs placed (Some n) m h = let w = where_is (holds_number stubs n) (not (holds_number placed n)) n m h in subst (λ k. holds_number stubs k ≡ true) w.1 w.0
 
 -- what is listed is a node or a leader that is not the piece's own
-from_is : (p : Program) (r : Routine) (l : Place) (stubs placed ns : List ℕ) (m : ℕ) → holds_number (numbers_from p r l stubs placed ns) m ≡ true → (holds_number ns m ≡ true) ⊎ (holds_number stubs m ≡ true)
+pub from_is : (p : Program) (r : Routine) (l : Place) (stubs placed ns : List ℕ) (m : ℕ) → holds_number (numbers_from p r l stubs placed ns) m ≡ true → (holds_number ns m ≡ true) ⊎ (holds_number stubs m ≡ true)
 from_is p r l stubs placed [] m h = absurd (cc)
 from_is p r l stubs placed (n ∷ ns) m h = go (n == m) refl h (λ i. from_is p r l stubs (b ++ placed) ns m i)
   where
@@ -46,7 +49,8 @@ from_is p r l stubs placed (n ∷ ns) m h = go (n == m) refl h (λ i. from_is p 
         held_either b (numbers_from p r l stubs (b ++ placed) ns) m ((holds_number ns m ≡ true) ⊎ (holds_number stubs m ≡ true)) i
         (λ j. inr (behind_is stubs placed (falls (row_of p r l n).lines) m j)) (λ j. deeper j)
 
-turned_is : (m : ℕ) (ns : List ℕ) (n : ℕ) → holds_number (turned m ns) n ≡ true → holds_number ns n ≡ true
+-- a row that is turned holds no other number
+pub turned_is : (m : ℕ) (ns : List ℕ) (n : ℕ) → holds_number (turned m ns) n ≡ true → holds_number ns n ≡ true
 turned_is m ns n h = held_either (chosen (λ k. nat_le m k) ns) (chosen (λ k. nat_lt k m) ns) n (holds_number ns n ≡ true) h (λ i. (chosen_is (λ k. nat_le m k) ns n i).0) (λ i. (chosen_is (λ k. nat_lt k m) ns n i).0)
 
 not_own : (a b : Bool) → (a && not b) ≡ true → b ≡ true → ⊥

@@ -40,7 +40,8 @@ use Rattle.cpc_convert_shape_laws.proofs.Items.{found_has, From, FromKept, FromM
 use Rattle.cpc_convert_shape_laws.proofs.Piece.{is_piece}
 use Rattle.cpc_convert_shape_laws.proofs.Points.{made_in}
 
-has_held : (ns : List ℕ) (n : ℕ) → Has n ns → holds_number ns n ≡ true
+-- a number of a row is held by it
+pub has_held : (ns : List ℕ) (n : ℕ) → Has n ns → holds_number ns n ≡ true
 has_held _ n (OnTop _ ns) = ap (λ b. b || holds_number ns n) (eq_reflexive n)
 has_held _ n (Below _ m ns h) = or_by_second (m == n) (holds_number ns n) (has_held ns n h)
 

@@ -27,10 +27,6 @@ each_of P (y ∷ xs) all (suc k) x e = each_of P xs (All-tail P y xs all) k x e
 
 -- ---- owners
 
-pub owners_long : (flow : Flow) (n k : ℕ) → length (owners_from flow n k) ≡ k
-owners_long flow n zero = refl
-owners_long flow n (suc k) = ap suc (owners_long flow (suc n) k)
-
 -- what is owned is there
 pub own_below : (l : Place) (os : List (Option Place)) (n : ℕ) (o : Option (Option Place)) → slice_get os n ≡ o → is_owned_by l (owner_at o) ≡ true → n < length os
 own_below l os n None e h = absurd (cc)

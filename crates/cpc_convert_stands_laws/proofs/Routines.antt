@@ -19,6 +19,7 @@ use Rattle.cpc_meaning.specs.Threads.{is_cps, is_cps_mode}
 use Rattle.cpc_meaning.specs.Ways as W
 use Rattle.cpc_meaning.specs.Ways.{is_cps_statement}
 use Rattle.cpc_convert_accepted_laws.specs.Names.{HasNames, IsFound}
+use Rattle.cpc_convert_accepted_laws.proofs.Cut.{owners_long}
 use Rattle.cpc_forms.specs.Flow.{Place, Start, flow_of, is_leader}
 use Rattle.cpc_forms.specs.Order.{points}
 use Rattle.cpc_forms.specs.Graph as F
@@ -53,7 +54,7 @@ use Rattle.cpc_convert_standing.specs.Whole.{IsCps, IsComplete, rows_of}
 use Rattle.cpc_convert_stands_laws.specs.Laws.{AreTexts, AreRoutines, AreComplete, LiftedAreRoutines, LiftedAreComplete, routine_in}
 use Rattle.cpc_convert_stands_laws.proofs.Alike as A
 use Rattle.cpc_convert_stands_laws.proofs.Gathered.{source_in, Formed, There, Known, Gathered, gathered, all_there, unmapped, of_each}
-use Rattle.cpc_convert_stands_laws.proofs.Listed.{all_by, each_of, owners_long, own_below, first_owner, closure_below}
+use Rattle.cpc_convert_stands_laws.proofs.Listed.{all_by, each_of, own_below, first_owner, closure_below}
 use Rattle.cpc_convert_stands_laws.proofs.Marks.{IsBelow, boxes_are, boxes_seen, marked_so, positions_same, ways_same, uses_same, leaders_below}
 use Rattle.cpc_convert_stands_laws.proofs.Means.{item_has, means_found, entry_found, statement_means, arrival_means}
 

@@ -1,5 +1,5 @@
 -- No local of a piece hides the start of a cps function, or the driver.
-use Rattle.std.proofs.Common.{◌≡◌, ℕ, suc, ◌<◌, ◌^◌, ◌==◌, ◌&&◌, Bool, true, false, not, ◌||◌, cond, List, [], ◌∷◌, ◌++◌, map, decimal, bytes_eq, refl, sym, ◌∙◌, ap, subst, codes, arith, ⊎_elim}
+use Rattle.std.proofs.Common.{◌≡◌, ℕ, suc, ◌<◌, ◌^◌, ◌==◌, ◌&&◌, Bool, true, false, not, ◌||◌, cond, List, [], ◌∷◌, decimal, bytes_eq, refl, sym, ◌∙◌, ap, subst, codes, arith, ⊎_elim}
 use Rattle.std.proofs.lemmas.Fmt.{decimal_is_IsNumeral}
 use Rattle.std.specs.Str.Parse.{AllDigits}
 use Rattle.cpc_base.specs.Bytes.{Text}
@@ -18,13 +18,13 @@ use Rattle.cpc_graph_laws.proofs.Formed.{in_either}
 use Rattle.cpc_lift_laws.proofs.Boxes.{boxes_are_below}
 use Rattle.cpc_lift_laws.proofs.Lift.{boxes_exact}
 use Rattle.cpc_convert_chain_laws.specs.Driver.{any_pointer, drive_name, DriverMeant}
-use Rattle.cpc_convert_chain_laws.specs.Frames.{Load, declared_scope}
+use Rattle.cpc_convert_chain_laws.specs.Frames.{declared_scope}
 use Rattle.cpc_convert_chain_laws.proofs.Scopes.{NotLoaded, NoneLoaded, NotThisLoad, loaded_other}
 use Rattle.cpc_convert_event.specs.FlatLaws.{piece_scope}
 use Rattle.cpc_convert_event.specs.Frames.{arriving_type}
 use Rattle.cpc_convert_event.specs.NameLaws.{IsCps, IsOwner, TheStart}
 use Rattle.cpc_convert_event.specs.Names.{start_name, piece_name, variable_name}
-use Rattle.cpc_convert_event.specs.Pieces.{load_of, takes_value, value_load, loaded, loads_of, words_if, words_of, begun, declares_of, piece_function}
+use Rattle.cpc_convert_event.specs.Pieces.{takes_value, value_load, loaded, loads_of, words_if, words_of, begun, declares_of, piece_function}
 use Rattle.cpc_convert_event.specs.Routines.{Routine, routine_of, variable_of, locals_of, is_parameter, is_plain, closure_of}
 use Rattle.cpc_convert_event.proofs.Apart.{behind, piece_is, no_bar_behind, no_bar_nothing, piece_nothing}
 use Rattle.cpc_convert_event.proofs.Fields.{word_apart}
@@ -34,7 +34,7 @@ use Rattle.cpc_convert_event.proofs.Numbers.{chosen_is}
 use Rattle.cpc_convert_piece_laws.specs.Known.{CpsKnown}
 use Rattle.cpc_convert_wait_laws.specs.Laws.{StartsAreMeant}
 use Rattle.cpc_convert_piece_laws.proofs.Frames.{Target, kept_small}
-use Rattle.cpc_convert_piece_laws.proofs.Scopes.{unmarked_name}
+use Rattle.cpc_convert_piece_laws.proofs.Scopes.{unmarked_name, none_append, loads_none, loads_append}
 
 -- a name that is no word of a piece and no variable's
 pub record IsOther (y : Text) : Type 0 where
@@ -46,18 +46,6 @@ pub record IsOther (y : Text) : Type 0 where
   pub to : bytes_eq (codes "to__") y ≡ false
   pub under : bytes_eq (codes "under__") y ≡ false
   pub result : bytes_eq (codes "result__") y ≡ false
-
-none_append : (y : Text) (xs ys : List Variable) → NoneCalled y xs → NoneCalled y ys → NoneCalled y (xs ++ ys)
-none_append y [] ys h g = g
-none_append y (x ∷ xs) ys h g = (h.0, none_append y xs ys h.1 g)
-
-loads_none : (y : Text) (xs : List Variable) → NoneCalled y xs → NotLoaded y (map load_of xs)
-loads_none y [] h = NoneLoaded
-loads_none y (x ∷ xs) h = NotThisLoad (load_of x) (map load_of xs) h.0 (loads_none y xs h.1)
-
-loads_append : (y : Text) (xs ys : List Load) → NotLoaded y xs → NotLoaded y ys → NotLoaded y (xs ++ ys)
-loads_append y _ ys NoneLoaded g = g
-loads_append y _ ys (NotThisLoad l ls e h) g = NotThisLoad l (ls ++ ys) e (loads_append y ls ys h g)
 
 declared_other : (q : Program) (y : Text) (scope : _) (n : ℕ) (vs : List Variable) → NoneCalled y vs → named q (declared_scope scope n vs) y ≡ named q scope y
 declared_other q y scope n [] h = refl

@@ -26,7 +26,8 @@ use Rattle.cpc_meaning_kept_laws.specs.Laws.{AcceptedKeepsModes, AcceptedHold}
 use Rattle.cpc_meaning_kept_laws.proofs.Trees.{statement_is, native_there, accepted_is_steady}
 use Rattle.cpc_meaning_kept_laws.proofs.LayerRuns.{threads_hold}
 
-same_name : (x y : Text) → ENamed x ≡ ENamed y → x ≡ y
+-- names that are one expression are one text
+pub same_name : (x y : Text) → ENamed x ≡ ENamed y → x ≡ y
 same_name x y e = cc
 
 no_function : {A : Type 0} (m : Meant) (mode : Mode) (r : Ty) (ps : List Ty) → m ≡ NotMeant → m ≡ AFunction mode r ps → A

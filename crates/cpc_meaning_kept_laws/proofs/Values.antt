@@ -2,10 +2,9 @@
 use Rattle.std.proofs.Common.{◌≡◌, ℕ, zero, suc, List, [], ◌∷◌, slice_get, slice_set, true, cond, Option, Some, None, Ok, Err, refl, sym, ◌∙◌, ap, subst}
 use Rattle.cpc_base.proofs.Lists.{some_is}
 use Rattle.cpc_num.specs.declared.kinds.Kind.{Kind}
-use Rattle.cpc_num.specs.declared.kinds.Kind.TheVariants.{Char, UChar, Int, UInt, Long, ULong}
+use Rattle.cpc_num.specs.declared.kinds.Kind.TheVariants.{Int}
 use Rattle.cpc_num.specs.declared.kinds.Fault.TheVariants as F
-use Rattle.cpc_num.specs.Number.{same_kind}
-use Rattle.cpc_num.proofs.KindLemmas.{convert-convert}
+use Rattle.cpc_num.proofs.KindLemmas.{convert-convert, same_kind-refl}
 use Rattle.cpc_tree.specs.Syntax.{Ty, TyVoid, TyInt, TyCondvar, TyPointer, TyCode, TyStruct, TyArray}
 use Rattle.cpc_store.specs.declared.values.Scalar.{Scalar}
 use Rattle.cpc_store.specs.Store.{Value, Unset, Whole, Null, At, Code, Cond, Store, suits}
@@ -79,14 +78,6 @@ set_fits (u ∷ ts) (x ∷ slots) (suc k) t slot h e g = (h.0, set_fits ts slots
 
 -- ---- copies
 
-kind_itself : (kind : Kind) → same_kind kind kind ≡ true
-kind_itself Char = refl
-kind_itself UChar = refl
-kind_itself Int = refl
-kind_itself UInt = refl
-kind_itself Long = refl
-kind_itself ULong = refl
-
 -- a value of a cell, where there is one
 abbrev SuitsIf : Option Scalar → Value → Type 0
 SuitsIf None v = Unit {0}
@@ -101,7 +92,7 @@ assigned_suits (TyPointer t) Unset = refl
 assigned_suits (TyCode r ps) Unset = refl
 assigned_suits (TyStruct tag) Unset = tt
 assigned_suits (TyArray t n) Unset = tt
-assigned_suits (TyInt kind) (Whole j z) = kind_itself kind
+assigned_suits (TyInt kind) (Whole j z) = same_kind-refl kind
 assigned_suits (TyPointer t) (Whole j z) = refl
 assigned_suits (TyPointer t) Null = refl
 assigned_suits (TyPointer t) (At c n k) = refl

@@ -3,7 +3,6 @@ use Rattle.std.proofs.Common.{◌≡◌, ℕ, ◌^◌, ◌≤◌, ◌<◌, Bool,
 use Rattle.std.specs.Prelude.{option_map}
 use Rattle.std.specs.Option.{is_none}
 use Rattle.std.proofs.lemmas.Bool.Decides.{nat_tests}
-use Rattle.std.proofs.lemmas.List.{append-nil}
 use Rattle.cpc_base.specs.declared.stop.Place.{Place}
 use Rattle.cpc_base.specs.declared.stop.Dialect.{Dialect}
 use Rattle.cpc_base.proofs.Truth.{by_false_true}
@@ -11,17 +10,17 @@ use Rattle.cpc_tree.specs.declared.program.UnaryOp.TheVariants.{Minus, Plus, Not
 use Rattle.cpc_tree.specs.Syntax.{Ty, Program}
 use Rattle.cpc_tree.specs.Located.{Ident, LExpr, LNamed, LInteger, LCharacter, LText, LUnary, LBinary, LAnd, LOr, LChoose, LCast, LSizeOf, LIndex, LMember, LArrow, LCall, LExprs, NoLExpr, AndLExpr, LStmt, Block, Empty, Declare, Assign, Call, Detach, Spawn, If, While, DoWhile, For, Goto, Label, Break, Continue, Return, LStmts, NoLStmt, AndLStmt, MaybeLStmt, NoneLStmt, SomeLStmt, LItem, LStruct, LGlobal, LPrototype, LFunctionItem, bare_expr, bare_exprs, bare_stmt, bare_stmts, bare_maybe, bare_item}
 use Rattle.cpc_tree.specs.Typing.{size}
-use Rattle.cpc_check_rules.specs.declared.rule.Rule.TheVariants.{Twice, Incomplete}
+use Rattle.cpc_check_rules.specs.declared.rule.Rule.TheVariants.{Incomplete}
 use Rattle.cpc_check_rules.specs.Scopes.{Scope, measured, cell_limit}
 use Rattle.cpc_check_rules.specs.Operators.{Where}
 use Rattle.cpc_check_rules.specs.Calls.{Callee, Wanted, Integer, Of, Callback, String, ForSection, callee, wanted, Anything}
 use Rattle.cpc_check_rules.specs.ExprRules.{called_breaks, arg_breaks, expr_breaks, args_breaks, call_breaks}
 use Rattle.cpc_check_rules.specs.StmtRules.{inner, behind, all_behind, target_breaks, to_breaks, test_breaks, maybe_test, start_breaks, started_breaks, return_breaks, stmt_breaks, stmts_breaks, maybe_breaks}
 use Rattle.cpc_check_rules.specs.FunctionRules.{reserved_breaks, locals, labels, label_breaks, stray_breaks, many_breaks}
-use Rattle.cpc_check_rules.specs.ItemRules.{Signature, outside, is_struct, declared_breaks, types, cps_breaks, parameters_breaks, sized_breaks, in_body, body_breaks, item_breaks, items_breaks}
+use Rattle.cpc_check_rules.specs.ItemRules.{Signature, outside, declared_breaks, types, cps_breaks, parameters_breaks, sized_breaks, in_body, body_breaks, item_breaks, items_breaks}
 use Rattle.cpc_check_sound_laws.proofs.Unbroken.{split, holds_not}
 use Rattle.cpc_check_sound_laws.proofs.Agreement.{Grows, sizes_grow}
-use Rattle.cpc_check_sound_laws.proofs.Growing.{IsFresh, grows_step, grows_same, grows_on}
+use Rattle.cpc_check_sound_laws.proofs.Programs.{grows_all}
 use Rattle.cpc_eval.specs.Numbers.{FitsSize, HasNumbers, MaybeNumbers, AllNumbers, StmtNumbers, StmtsNumbers, ArmNumbers, ItemsNumbers}
 use Rattle.cpc_native_laws.proofs.Literals.{Fine, AllFine, FineIf, FineStmt, FineStmts, FineArm, FineBody, FineItem, FineItems}
 
@@ -190,21 +189,6 @@ module _ (p : Program) where
 
 -- ---- items
 
-fresh : (dialect : Dialect) (program before : Program) (x : LItem) → item_breaks dialect program before x ≡ [] → IsFresh before (bare_item x)
-fresh dialect program before (LStruct tag fs) h = holds_not (is_struct tag.text before) tag.place Twice (split _ _ (split (reserved_breaks dialect (tag ∷ [])) _ h).1).0
-fresh dialect program before (LGlobal x t start) h = tt
-fresh dialect program before (LPrototype q mode x r ps) h = tt
-fresh dialect program before (LFunctionItem f) h = tt
-
--- the items so far grow to all items
-grows : (dialect : Dialect) (program before : Program) (xs : List LItem) → items_breaks dialect program before xs ≡ [] → Grows before (before ++ map bare_item xs)
-grows dialect program before [] h = subst (Grows before) (sym (append-nil before)) (grows_same before)
-grows dialect program before (x ∷ xs) h =
-    let k = split (item_breaks dialect program before x) (items_breaks dialect program (before ++ bare_item x ∷ []) xs) h in
-    let next = before ++ bare_item x ∷ [] in
-    subst (Grows before) (append_assoc before (bare_item x ∷ []) (map bare_item xs))
-    (grows_on before next (next ++ map bare_item xs) (grows_step before (bare_item x) (fresh dialect program before x k.0)) (grows dialect program next xs k.1))
-
 -- of a function where it stands
 item_numbers : (dialect : Dialect) (p before : Program) (x : LItem) (rest : Program) → Grows (before ++ bare_item x ∷ []) p → FineItem x → item_breaks dialect p before x ≡ [] → ItemsNumbers p rest → ItemsNumbers p (bare_item x ∷ rest)
 item_numbers dialect p before (LStruct tag fs) rest g f h k = k
@@ -227,4 +211,4 @@ items_numbers dialect p before (x ∷ xs) e f h =
     let k = split (item_breaks dialect p before x) (items_breaks dialect p (before ++ bare_item x ∷ []) xs) h in
     let next = before ++ bare_item x ∷ [] in
     let whole : p ≡ next ++ map bare_item xs = e ∙ sym (append_assoc before (bare_item x ∷ []) (map bare_item xs)) in
-    item_numbers dialect p before x (map bare_item xs) (subst (Grows next) (sym whole) (grows dialect p next xs k.1)) f.0 k.0 (items_numbers dialect p next xs whole f.1 k.1)
+    item_numbers dialect p before x (map bare_item xs) (subst (Grows next) (sym whole) (grows_all dialect p next xs k.1)) f.0 k.0 (items_numbers dialect p next xs whole f.1 k.1)
