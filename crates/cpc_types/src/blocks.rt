@@ -1,5 +1,5 @@
 //! The blocks round a place, and the names declared in them.
-ghost use Rattle.std.specs.Prelude.{◌≡◌, [], OnOk, OnErr, option_map, reverse};
+ghost use Rattle.std.specs.Prelude.{◌≡◌, [], IfOk, OnOk, OnErr, option_map, reverse};
 ghost use Rattle.cpc_tree.specs.Erase.{Names, type_of};
 ghost use Rattle.cpc_check_rules.specs.Apart.{AreApart};
 ghost use Rattle.cpc_tree.specs.Syntax.{Program};
@@ -69,17 +69,27 @@ impl Blocks {
         Ok(())
     }
 
-    /// Drops all blocks, and begins one that holds the parameters that have names. `NoMemory` is want of memory, after
-    /// which some of them may be missing.
+    // One block, which holds the parameters that have names.
     #[tactic(auto, using(std::proofs::lemmas::Grind::common_steps, crate::proofs::Entered::parameter_entered))]
-    pub(crate) fn enter(&mut self, alloc: Global, parameters: &[Parameter]) -> Result<(), NoMemory>
-        ensures { OnOk result ((names : Names) (items : Program) → inside names items self.new ≡ with_parameters names (R.with_block (record { items = items; blocks = [] })) parameters.now) }
+    fn of_parameters(alloc: Global, parameters: &[Parameter]) -> Result<Blocks, NoMemory>
+        ensures { IfOk result (λ blocks. (names : Names) (items : Program) → inside names items blocks ≡ with_parameters names (R.with_block (record { items = items; blocks = [] })) parameters.now) }
     {
-        self.clear();
-        self.begin()?;
+        let mut blocks = Blocks::new(alloc);
+        blocks.begin()?;
         for parameter in parameters {
-            self.add(alloc, parameter)?;
+            blocks.add(alloc, parameter)?;
         }
+        Ok(blocks)
+    }
+
+    /// Drops all blocks, and begins one that holds the parameters that have names. `NoMemory` is want of memory, and leaves
+    /// the blocks as they were.
+    pub(crate) fn enter(&mut self, alloc: Global, parameters: &[Parameter]) -> Result<(), NoMemory>
+        ensures ok { OnOk result ((names : Names) (items : Program) → inside names items self.new ≡ with_parameters names (R.with_block (record { items = items; blocks = [] })) parameters.now) }
+        ensures err { OnErr result (self.new.entries.items ≡ self.old.entries.items) }
+    {
+        let blocks = Blocks::of_parameters(alloc, parameters)?;
+        *self = blocks;
         Ok(())
     }
 

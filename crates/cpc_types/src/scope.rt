@@ -60,9 +60,10 @@ impl<'p> Scope<'p> {
     }
 
     /// Drops all blocks, and begins one that holds the parameters of a function that have names. `NoMemory` is want of
-    /// memory, after which some of them may be missing.
+    /// memory, and leaves the scope as it was.
     pub fn enter_function(&mut self, function: &Function) -> Result<(), NoMemory>
-        ensures scope { OnOk result ((names : Names) → scope_of names self.new ≡ with_parameters names (R.with_block (record { items = items_of names self.old; blocks = [] })) function.now.parameters.items) }
+        ensures ok { OnOk result ((names : Names) → scope_of names self.new ≡ with_parameters names (R.with_block (record { items = items_of names self.old; blocks = [] })) function.now.parameters.items) }
+        ensures err { OnErr result ((names : Names) → scope_of names self.new ≡ scope_of names self.old) }
         ensures items { (names : Names) → items_of names self.new ≡ items_of names self.old }
         ensures all { all_items self.new ≡ all_items self.old }
     {

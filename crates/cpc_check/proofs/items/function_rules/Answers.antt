@@ -21,7 +21,7 @@ returns-clause-noted c = λ names spells earlier.
     subst (λ b. first_of c.head_rules.new.first ≡ noted (first_of c.args.first.now) (head_parts dialect b f)) items
     (c.in_ok-head_rules.ensures names spells (subst (λ b. AreEarlier names b c.args.earlier.now) (sym items) earlier)) in
     let stands = body_stands names dialect c.args.function.now xs c.args.count (scope_of names c.enter_items.new.self) (scope_of names c.enter_function.new.self) (items_of names c.enter_items.new.self)
-    c.requires.stands (sym (items_are names c.enter_items.new.self)) (c.enter_items.ensures.scope names) (c.in_ok-enter_function.ensures.scope names) in
+    c.requires.stands (sym (items_are names c.enter_items.new.self)) (c.enter_items.ensures.scope names) (c.in_ok-enter_function.ensures.ok names) in
     let body = subst (λ w. first_of c.body_rules.new.first ≡ noted (first_of c.head_rules.new.first) (R.body_breaks w f.body)) stands (c.in_ok-body_rules.ensures.noted names spells) in
     noted_function dialect before f (first_of c.args.first.now) (first_of c.head_rules.new.first) (first_of c.body_rules.new.first) (first_of c.tail_rules.new.first)
     (function_whole dialect before f) head body (c.in_ok-tail_rules.ensures names spells)
