@@ -277,7 +277,7 @@ module _ (d : Dialect) (p : Program) (f : Function) (scope : Scope) (ts : List T
       (k.0, subst (λ us. AllSuit us ws) (sym k.2) j, (λ e. by_false_true (sym apart ∙ e)), subst (Awaits p scope found) (sym k.1) awaits))
 
   call_comes : (found : Found) (g : Expr) (es : Exprs) (r : Ty) → Calls d p f.mode scope g es r → boxes g → AllBoxed slots (addresses_all scope es) → Awaits p scope found r → Comes (ActOk d p f scope ts slots s found) (calls_expr c g es)
-  call_comes found _ _ _ (CallsHost x r ps es apart is_x gets) bg b awaits =
+  call_comes found _ _ _ (CallsHost x r ps es apart is_x gets many) bg b awaits =
       subst (λ m. Comes (ActOk d p f scope ts slots s found) (calls_named c x es m (primitive_named x) (function_named p x))) (sym is_x) (host_comes found x es apart gets b awaits r ps (primitive_named x) (function_named p x))
   call_comes found _ _ _ (CallsFunction x mode r ps g es own is_x is_g closed cps gets) bg b awaits =
       subst (λ m. Comes (ActOk d p f scope ts slots s found) (calls_named c x es m (primitive_named x) (function_named p x))) (sym is_x)

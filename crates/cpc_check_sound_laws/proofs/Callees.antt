@@ -142,7 +142,7 @@ module _ (d : Dialect) (p : Program) (facts : Facts p) (f : Function) (w : Where
   host_call x r ps es e closed gets =
       let is_m : named p scope x ≡ AFunction Extern r ps = subst (λ m. Matches x m (named p scope x)) e (at.names x) in
       let long = facts.extern x r ps (item_of p scope x Extern r ps is_m) in
-      subst (Calls d p f.mode scope (ENamed x) (bare_exprs es)) (sym long.0) (CallsHost x r ps (bare_exprs es) (sym around ∙ closed) is_m (long.1 (bare_exprs es) scope gets))
+      subst (Calls d p f.mode scope (ENamed x) (bare_exprs es)) (sym long.0) (CallsHost x r ps (bare_exprs es) (sym around ∙ closed) is_m (long.1 (bare_exprs es) scope gets) gets)
 
   own_call : (x : Text) (mode : Mode) (r : Ty) (ps : List Ty) (es : LExprs) → is_own mode ≡ true → meant w.scope x ≡ AFunction mode r ps → (is_detached w.mode ≡ true → is_detached mode ≡ true) → (is_cps mode ≡ true → is_cps w.mode ≡ true) → AllGet p scope ps (bare_exprs es)
       → Calls d p f.mode scope (ENamed x) (bare_exprs es) r

@@ -140,7 +140,7 @@ is_pointer_call p scope f = true
 -- a call in a function of this mode, and the type of its value; a detached function calls detached ones, `malloc` and `free` alone, and a cps
 -- function is called by cps functions alone, as what gives up the processor is
 pub data Calls (d : Dialect) (p : Program) (around : Mode) (scope : Scope) : Expr → Exprs → Ty → Type 0 where
-  CallsHost : (x : Text) (r : Ty) (ps : List Ty) (es : Exprs) → is_detached around ≡ false → named p scope x ≡ AFunction Extern r ps → EachGets p scope (TyInt Long) es
+  CallsHost : (x : Text) (r : Ty) (ps : List Ty) (es : Exprs) → is_detached around ≡ false → named p scope x ≡ AFunction Extern r ps → EachGets p scope (TyInt Long) es → AllGet p scope ps es
       → Calls d p around scope (ENamed x) es (TyInt Long)
   CallsFunction : (x : Text) (mode : Mode) (r : Ty) (ps : List Ty) (f : Function) (es : Exprs) → is_own mode ≡ true → named p scope x ≡ AFunction mode r ps → function_named p x ≡ Some f
       → (is_detached around ≡ true → is_detached f.mode ≡ true) → (is_cps f.mode ≡ true → is_cps around ≡ true) → AllGet p scope (parameter_types f) es → Calls d p around scope (ENamed x) es f.result

@@ -222,13 +222,13 @@ module _ (p : Program) (names : HasNames p) (f : Function) (is : function_named 
   -- ---- calls
 
   callee_avoids : (around : Mode) (g : Expr) (es : Exprs) (t : Ty) → Calls D.Cpc p around scope g es t → AllHeld f (addresses scope g) → Avoids g
-  callee_avoids around _ _ _ (CallsHost x r ps es apart is_x gets) w = refl
+  callee_avoids around _ _ _ (CallsHost x r ps es apart is_x gets many) w = refl
   callee_avoids around _ _ _ (CallsFunction x mode r ps g es own is_x is_g closed may gets) w = refl
   callee_avoids around _ _ _ (CallsPrimitive x prim es is_x is_prim is_d closed may gets) w = refl
   callee_avoids around _ _ _ (CallsPointer g typed r ps es apart is_pointer is_t is_u gets) w = typed_avoids g typed is_t w
 
   call_avoids : (around : Mode) (g : Expr) (es : Exprs) (t : Ty) → Calls D.Cpc p around scope g es t → AllHeld f (addresses_all scope es) → AllAvoid es
-  call_avoids around _ _ _ (CallsHost x r ps es apart is_x gets) w = each_gets_avoid _ es gets w
+  call_avoids around _ _ _ (CallsHost x r ps es apart is_x gets many) w = each_gets_avoid _ es gets w
   call_avoids around _ _ _ (CallsFunction x mode r ps g es own is_x is_g closed may gets) w = all_get_avoid (parameter_types g) es gets w
   call_avoids around _ _ _ (CallsPrimitive x prim es is_x is_prim is_d closed may gets) w = primitive_avoids prim es is_d gets w
   call_avoids around _ _ _ (CallsPointer g typed r ps es apart is_pointer is_t is_u gets) w = all_get_avoid (list_of_tys ps) es gets w

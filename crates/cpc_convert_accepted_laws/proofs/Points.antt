@@ -89,7 +89,7 @@ module _ (p : Program) (names : HasNames p) (typed : TypedProgram D.Cpc p) (fact
         go false e = refl
 
     called_native : (e : Expr) (es : Exprs) (t : Ty) → Calls D.Cpc p f.mode scope e es t → (y : Text) → e ≡ ENamed y → is_cps (named p scope y) ≡ false
-    called_native _ _ _ (CallsHost x r ps es apart is_x gets) y e = ap (λ z. is_cps (named p scope z)) (sym (same_name x y e)) ∙ ap is_cps is_x
+    called_native _ _ _ (CallsHost x r ps es apart is_x gets many) y e = ap (λ z. is_cps (named p scope z)) (sym (same_name x y e)) ∙ ap is_cps is_x
     called_native _ _ _ (CallsFunction x mode r ps g es own is_x is_g closed may gets) y e =
         let there = facts.function x mode r ps (item_of p scope x mode r ps is_x) own in
         let same : there.0 ≡ g = let i : Some there.0 ≡ Some g = sym there.1 ∙ is_g in cc in

@@ -72,7 +72,7 @@ module _ (p : Program) (names : HasNames p) (around : Mode) (scope : Scope) wher
 
   -- the arguments of a call
   call_names : (f : Expr) (es : Exprs) (t : Ty) → Calls D.Cpc p around scope f es t → AllNamesAmong Used es
-  call_names _ _ _ (CallsHost x r ps es apart is_x gets) = each_gets_names p names scope _ es gets
+  call_names _ _ _ (CallsHost x r ps es apart is_x gets many) = each_gets_names p names scope _ es gets
   call_names _ _ _ (CallsFunction x mode r ps g es own is_x is_g closed may gets) = all_get_names p names scope (parameter_types g) es gets
   call_names _ _ _ (CallsPrimitive x prim es is_x is_prim is_d closed may gets) = primitive_names prim es is_d gets
   call_names _ _ _ (CallsPointer f typed r ps es apart is_pointer is_t is_u gets) = all_get_names p names scope (list_of_tys ps) es gets
@@ -83,7 +83,7 @@ module _ (p : Program) (names : HasNames p) (around : Mode) (scope : Scope) wher
   CalleeStays e = Unit {0}
 
   callee_names : (f : Expr) (es : Exprs) (t : Ty) → Calls D.Cpc p around scope f es t → CalleeStays f → AllNames Used f
-  callee_names _ _ _ (CallsHost x r ps es apart is_x gets) c = is_used p names scope x c (λ none. no_function (named p scope x) _ r ps is_x none)
+  callee_names _ _ _ (CallsHost x r ps es apart is_x gets many) c = is_used p names scope x c (λ none. no_function (named p scope x) _ r ps is_x none)
   callee_names _ _ _ (CallsFunction x mode r ps g es own is_x is_g closed may gets) c = is_used p names scope x c (λ none. no_function (named p scope x) mode r ps is_x none)
   callee_names _ _ _ (CallsPrimitive x prim es is_x is_prim is_d closed may gets) c = is_used p names scope x c (λ none. primitive_unmarked x prim is_prim)
   callee_names _ _ _ (CallsPointer f typed r ps es apart is_pointer is_t is_u gets) c = typed_names p names scope f typed is_t
@@ -96,7 +96,7 @@ module _ (p : Program) (names : HasNames p) (around : Mode) (scope : Scope) wher
   -- a primitive that is called by its name is one of the dialect, and only cps functions call those that wait
   pub called_primitive : (f : Expr) (es : Exprs) (t : Ty) → Calls D.Cpc p around scope f es t → (y : Text) → f ≡ ENamed y → named p scope y ≡ NotMeant → (prim : Primitive) → primitive_named y ≡ Some prim
       → (is_for D.Cpc prim ≡ true) × (gives_up prim ≡ true → O.is_cps around ≡ true)
-  called_primitive _ _ _ (CallsHost x r ps es apart is_x gets) y e none prim i = no_function (named p scope y) Extern r ps (ap (named p scope) (sym (same_name x y e)) ∙ is_x) none
+  called_primitive _ _ _ (CallsHost x r ps es apart is_x gets many) y e none prim i = no_function (named p scope y) Extern r ps (ap (named p scope) (sym (same_name x y e)) ∙ is_x) none
   called_primitive _ _ _ (CallsFunction x mode r ps g es own is_x is_g closed may gets) y e none prim i = no_function (named p scope y) mode r ps (ap (named p scope) (sym (same_name x y e)) ∙ is_x) none
   called_primitive _ _ _ (CallsPrimitive x q es is_x is_q is_d closed may gets) y e none prim i =
       let same : q ≡ prim = let k : Some q ≡ Some prim = sym is_q ∙ ap primitive_named (same_name x y e) ∙ i in cc in

@@ -89,7 +89,7 @@ module _ (p : Program) (facts : Facts p) (f : Function) (det : is_detached f.mod
     args_closed (t ∷ ts) (AndLExpr e es) h = let k = split (arg_breaks w t e (expr_breaks w e)) _ h in (arg_closed t e k.0, args_closed ts es k.1)
 
     callee_closed : (g : Expr) (es : Exprs) (t : Ty) → Calls D.Cpc p f.mode scope g es t → AllNames Closed g
-    callee_closed _ _ _ (CallsHost x r ps es apart is_x gets) = absurd (let z : true ≡ false = sym det ∙ apart in cc)
+    callee_closed _ _ _ (CallsHost x r ps es apart is_x gets many) = absurd (let z : true ≡ false = sym det ∙ apart in cc)
     callee_closed _ _ _ (CallsFunction x mode r ps g es own is_x is_g closes may gets) = λ m u us i. record { function = g; named = is_g; detached = closes det }
     callee_closed _ _ _ (CallsPrimitive x prim es none is_prim is_d closes may gets) = λ m u us i. absurd (let k = sym none ∙ i in cc)
     callee_closed _ _ _ (CallsPointer g typed r ps es apart is_pointer is_t is_u gets) = absurd (let z : true ≡ false = sym det ∙ apart in cc)

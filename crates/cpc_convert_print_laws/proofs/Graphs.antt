@@ -259,7 +259,7 @@ arguments_none p scope RtSleep es i g = all_taken_none p scope (takes_first RtSl
 arguments_none p scope RtIo es i g = all_taken_none p scope (takes_first RtIo) es g
 
 calls_none : (p : Program) (around : Mode) (scope : Scope) (f : Expr) (es : Exprs) (r : Ty) → Calls D.Cpc p around scope f es r → AllNoCalls es
-calls_none p around scope _ es _ (CallsHost x r ps _ d m g) = each_gets_none p scope _ es g
+calls_none p around scope _ es _ (CallsHost x r ps _ d m g many) = each_gets_none p scope _ es g
 calls_none p around scope _ es _ (CallsFunction x mode r ps k _ o m n d c g) = all_get_none p scope _ es g
 calls_none p around scope _ es _ (CallsPrimitive x prim _ m n i d c g) = arguments_none p scope prim es i g
 calls_none p around scope f es r (CallsPointer _ typed _ ps _ d i t u g) = all_get_none p scope _ es g

@@ -43,7 +43,7 @@ module _ (p : Program) (f : Function) (known : CpsTyped p f) where
 
   called : (scope : Scope) (e : Expr) (es : Exprs) (t : Ty) (y : Text) (g : Function) → Calls D.Cpc p f.mode scope e es t → e ≡ ENamed y → meant_manner (named p scope y) (primitive_named y) ≡ AsCps → function_named p y ≡ Some g
       → AllGet p scope (parameter_types g) es
-  called scope _ es _ y g (CallsHost x r ps _ apart is_x gets) e c i = absurd (no_host (named p scope y) (primitive_named y) r ps (ap (named p scope) (sym (same_name x y e)) ∙ is_x) c)
+  called scope _ es _ y g (CallsHost x r ps _ apart is_x gets many) e c i = absurd (no_host (named p scope y) (primitive_named y) r ps (ap (named p scope) (sym (same_name x y e)) ∙ is_x) c)
   called scope _ es _ y g (CallsFunction x mode r ps h _ own is_x is_h closed may gets) e c i =
       let z : Some h ≡ Some g = sym is_h ∙ (ap (function_named p) (same_name x y e) ∙ i) in
       let same : h ≡ g = cc in

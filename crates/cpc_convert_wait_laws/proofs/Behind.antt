@@ -117,7 +117,7 @@ module _ (p : Program) (names : HasNames p) (f : Function) (scope : Scope) where
     pointer_manner NotMeant prim e = absurd (cc)
 
     call_waits : (e : Expr) (es : Exprs) (r : Ty) → Calls D.Cpc p f.mode scope e es r → manner_of p scope (Simple (Call to e es)) ≡ AsCps → Waiting p scope (Call to e es)
-    call_waits _ es _ (CallsHost x r ps _ a e b) m = absurd (let z : InPlace ≡ AsCps = sym (ap (λ k. meant_manner k (primitive_named x)) e) ∙ m in cc)
+    call_waits _ es _ (CallsHost x r ps _ a e b many) m = absurd (let z : InPlace ≡ AsCps = sym (ap (λ k. meant_manner k (primitive_named x)) e) ∙ m in cc)
     call_waits _ es _ (CallsFunction x mode r ps g _ own e i a b gets) m = function_waits x mode r ps g es e i gets m
     call_waits _ es _ (CallsPrimitive x prim _ e i a b d g) m =
         CallsWait to x es prim e i (sym (ap (λ k. meant_manner k (primitive_named x)) e ∙ ap primitive_manner i) ∙ m) (not_function x e (function_named p x) refl)

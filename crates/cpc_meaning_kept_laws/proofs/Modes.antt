@@ -49,7 +49,7 @@ module _ (d : Dialect) (p : Program) (around : Mode) (scope : Scope) where
   -- a function that is called by its name
   call_modes : (e : Expr) (es : Exprs) (t : Ty) → Calls d p around scope e es t → (y : Text) → e ≡ ENamed y → (mode : Mode) (r : Ty) (ps : List Ty) (g : Function)
       → named p scope y ≡ AFunction mode r ps → is_own mode ≡ true → function_named p y ≡ Some g → is_cps g.mode ≡ true → is_cps around ≡ true
-  call_modes _ _ _ (CallsHost x q qs es apart is_x gets) y e mode r ps g m o is cps = own_is_no_host (named p scope y) mode r q ps qs (ap (named p scope) (sym (same_name x y e)) ∙ is_x) m o
+  call_modes _ _ _ (CallsHost x q qs es apart is_x gets many) y e mode r ps g m o is cps = own_is_no_host (named p scope y) mode r q ps qs (ap (named p scope) (sym (same_name x y e)) ∙ is_x) m o
   call_modes _ _ _ (CallsFunction x k q qs h es own is_x is_h closed may gets) y e mode r ps g m o is cps = may (ap (λ g. is_cps g.mode) (same_function p x y h g (same_name x y e) is_h is) ∙ cps)
   call_modes _ _ _ (CallsPrimitive x prim es is_x is_prim is_d closed may gets) y e mode r ps g m o is cps = no_function (named p scope y) mode r ps (ap (named p scope) (sym (same_name x y e)) ∙ is_x) m
   call_modes _ _ _ (CallsPointer f typed q qs es apart is_pointer is_t is_u gets) y e mode r ps g m o is cps = no_variable (named p scope y) (AFunction mode r ps) (ap (is_pointer_call p scope) (sym e) ∙ is_pointer) m refl
@@ -57,7 +57,7 @@ module _ (d : Dialect) (p : Program) (around : Mode) (scope : Scope) where
   -- a primitive that is called
   wait_modes : (e : Expr) (es : Exprs) (t : Ty) → Calls d p around scope e es t → (y : Text) → e ≡ ENamed y → (prim : Primitive)
       → named p scope y ≡ NotMeant → primitive_named y ≡ Some prim → gives_up prim ≡ true → is_cps around ≡ true
-  wait_modes _ _ _ (CallsHost x q qs es apart is_x gets) y e prim m is up = no_function (named p scope y) Extern q qs m (ap (named p scope) (sym (same_name x y e)) ∙ is_x)
+  wait_modes _ _ _ (CallsHost x q qs es apart is_x gets many) y e prim m is up = no_function (named p scope y) Extern q qs m (ap (named p scope) (sym (same_name x y e)) ∙ is_x)
   wait_modes _ _ _ (CallsFunction x k q qs h es own is_x is_h closed may gets) y e prim m is up = no_function (named p scope y) k q qs m (ap (named p scope) (sym (same_name x y e)) ∙ is_x)
   wait_modes _ _ _ (CallsPrimitive x q es is_x is_q is_d closed may gets) y e prim m is up =
       may (ap gives_up (let same : q ≡ prim = let i : Some q ≡ Some prim = sym is_q ∙ ap primitive_named (same_name x y e) ∙ is in cc in same) ∙ up)
