@@ -1,7 +1,8 @@
 #!/usr/bin/env bash
-# Steps per second of the built program: loops of 10^5, 10^6 and 10^7 steps, calls nested 10^4 deep, and loops beside 10 and
-# 10^5 live blocks. Each row is the quickest of three runs, less the time of an empty program; the last column is its rate
-# over that of the first row of its group, which says what a step pays for the length of a run, or for the store.
+# Steps per second of the built program: loops of 10^5, 10^6 and 10^7 steps, loops over bodies of 10 and 2,000 statements, calls
+# nested 10^4 deep, and loops beside 10 and 10^5 live blocks. Each row is the quickest of three runs, less the time of an empty
+# program; the last column is its rate over that of the first row of its group, which says what a step pays for the length of a
+# run, of its function, or for the store.
 set -eu
 top=$(cd "$(dirname "${BASH_SOURCE[0]}")/.." && pwd)
 "$top/cpc" check "$top/crates/examples/data/seven.c" >/dev/null
@@ -37,6 +38,18 @@ row() {
 for turns in 33333 333333 3333333; do
   printf 'int main(void){ int i; int s; s = 0; for (i = 0; i < %s; i++) s = (s + i) %% 1000; cpc_print(s); return 0; }' "$turns" >"$room/loop.c"
   row "loop" $((3 * turns)) "$room/loop.c"
+done
+
+# a turn of the loop takes its test, the statements of its body and the step of the `for`
+first=
+for long in 10 2000; do
+  turns=$((1000000 / (long + 2)))
+  {
+    printf 'int main(void){ int i; int x; x = 0; for (i = 0; i < %s; i++) {' "$turns"
+    for ((at = 0; at < long; at++)); do printf ' x = 1;'; done
+    printf ' } cpc_print(x); return 0; }'
+  } >"$room/body.c"
+  row "loop, a body of $long" $((turns * (long + 2))) "$room/body.c"
 done
 
 # a call that goes deeper takes its test, itself, the arrival of its value and the return

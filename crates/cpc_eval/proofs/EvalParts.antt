@@ -1,20 +1,18 @@
 -- The values of expressions, by what was found of their parts.
-use Rattle.std.proofs.Common.{◌≡◌, ℕ, ◌^◌, ◌<◌, Bool, true, false, List, length, map, Option, Some, None, Result, Ok, Err, refl, ap, sym, subst, ◌∙◌, ℤ}
-use Rattle.std.proofs.lemmas.List.{length-map}
+use Rattle.std.proofs.Common.{◌≡◌, ◌^◌, ◌<◌, Bool, true, false, length, Option, Some, None, Result, Ok, Err, refl, ap, sym, subst, ◌∙◌, ℤ}
 use Rattle.cpc_base.specs.Bytes.{Text}
 use Rattle.cpc_num.specs.Number as N
 use Rattle.cpc_num.specs.declared.kinds.Fault.{Fault}
 use Rattle.cpc_num.specs.declared.kinds.Kind.{Kind}
 use Rattle.cpc_num.specs.declared.kinds.Kind.TheVariants.{Int}
 use Rattle.cpc_num.specs.declared.kinds.Op.{Op}
-use Rattle.cpc_num.specs.declared.kinds.Op.TheVariants.{Add}
 use Rattle.cpc_tree.specs.declared.program.UnaryOp.{UnaryOp}
 use Rattle.cpc_tree.specs.declared.program.UnaryOp.TheVariants as U
 use Rattle.cpc_tree.specs.Syntax as S
 use Rattle.cpc_tree.specs.Syntax.{Ty}
 use Rattle.cpc_tree.specs.Typing as T
 use Rattle.cpc_store.specs.Store.{Value, Whole}
-use Rattle.cpc_meaning.specs.Answer.{Answer, Gives, Faults, NoAnswer, ◌>>=◌, needed}
+use Rattle.cpc_meaning.specs.Answer.{Answer, Gives, ◌>>=◌, needed}
 use Rattle.cpc_meaning.specs.Eval as E
 use Rattle.cpc_types.specs.Found.{used_of}
 use Rattle.cpc_eval_values.specs.Meets.{Meets}
@@ -23,7 +21,7 @@ use Rattle.cpc_eval.specs.Around.{operate_in, type_in, meant_in}
 use Rattle.cpc_eval.specs.Numbers.{HasNumbers, FitsSize, size_value}
 use Rattle.cpc_eval.specs.Shapes.{Agrees}
 use Rattle.cpc_eval.specs.Values.{unary_value, operator_value, branch_value, place_value, test_value, assigned_at}
-use Rattle.cpc_eval.proofs.Evaluating.{chain_one, name_value, name_place, name_address, index_there, member_there, arrow_there, star_there, read_by, field_by}
+use Rattle.cpc_eval.proofs.Evaluating.{chain_one, name_value, name_place, name_address, index_there, member_there, arrow_there, star_there}
 
 module _ (c : E.Context) (e : S.Expr) where
   abbrev pub Valued : S.Expr → Result Value Fault → Type 0

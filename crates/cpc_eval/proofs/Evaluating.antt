@@ -15,7 +15,7 @@ use Rattle.cpc_meaning.specs.Answer.{Answer, Gives, Faults, NoAnswer, ◌>>=◌}
 use Rattle.cpc_meaning.specs.Eval as E
 use Rattle.cpc_eval_values.specs.Meets.{Meets}
 use Rattle.cpc_eval_values.specs.Counted.{capped}
-use Rattle.cpc_eval.specs.Held.{Held, local_in, capped_held}
+use Rattle.cpc_eval_locals.specs.Held.{Held, local_in, capped_held}
 use Rattle.cpc_eval.specs.Around.{meant_or, meant_in, operate_in}
 use Rattle.cpc_eval.specs.Shapes.{Agrees}
 use Rattle.cpc_eval.specs.Values.{place_value}

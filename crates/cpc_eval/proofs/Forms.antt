@@ -1,5 +1,5 @@
 -- The forms of expressions that the code finds, by their parts as it sees these.
-use Rattle.std.proofs.Common.{◌≡◌, Bool, Result, Ok, Err, ap, sym, ◌∙◌, Box, Global, ℤ, length, map, ◌<◌, ◌^◌, subst, ℕ}
+use Rattle.std.proofs.Common.{◌≡◌, Bool, Result, Ok, Err, ap, sym, ◌∙◌, Box, Global, length, map, ◌<◌, ◌^◌, subst, ℕ}
 use Rattle.std.specs.Result.{IsErrAnd}
 use Rattle.std.proofs.lemmas.Result.{err_from_is_err_and}
 use Rattle.std.proofs.lemmas.List.{length-map}
@@ -15,7 +15,7 @@ use Rattle.cpc_tree.specs.Erase.{Names, type_of, expr_of}
 use Rattle.cpc_tree.specs.Syntax as S
 use Rattle.cpc_meaning.specs.Answer.{Answer}
 use Rattle.cpc_eval_values.specs.Meets.{Meets}
-use Rattle.cpc_eval.specs.Around.{slot_of, context_of}
+use Rattle.cpc_eval.specs.Around.{slot_of}
 use Rattle.cpc_eval.specs.declared.around.Around.{Around}
 
 -- a fault through an early return of a result that is no value of the program

@@ -1,7 +1,4 @@
-pub mod Counting
-pub mod Holding
-pub mod Nodes
-pub mod Scoping
+pub mod Own
 pub mod Types
 pub mod TypedParts
 pub mod Spotting

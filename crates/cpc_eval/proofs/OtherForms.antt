@@ -1,5 +1,5 @@
 -- What is not said of expressions of other forms.
-use Rattle.std.proofs.Common.{◌≡◌, refl, ap, subst, sym, Box, Global, Result}
+use Rattle.std.proofs.Common.{◌≡◌, refl, subst, sym, Box, Global, Result}
 use Rattle.cpc_base.specs.declared.stop.Place.{Place}
 use Rattle.cpc_num.specs.declared.kinds.Fault.{Fault}
 use Rattle.cpc_num.specs.declared.kinds.Op.{Op}

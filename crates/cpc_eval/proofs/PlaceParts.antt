@@ -1,5 +1,5 @@
 -- Where expressions are, and what is there, by what was found of their parts.
-use Rattle.std.proofs.Common.{◌≡◌, ℕ, Option, Some, None, Result, Ok, Err, refl, ap, sym, subst, ◌∙◌}
+use Rattle.std.proofs.Common.{◌≡◌, Option, Some, None, Result, Ok, Err, ap, subst, ◌∙◌}
 use Rattle.cpc_base.specs.Bytes.{Text}
 use Rattle.cpc_num.specs.declared.kinds.Fault.{Fault}
 use Rattle.cpc_num.specs.declared.kinds.Op.TheVariants.{Add}
@@ -8,7 +8,7 @@ use Rattle.cpc_tree.specs.Syntax as S
 use Rattle.cpc_tree.specs.Syntax.{Ty}
 use Rattle.cpc_tree.specs.Typing as T
 use Rattle.cpc_store.specs.Store.{Value}
-use Rattle.cpc_meaning.specs.Answer.{Answer, Gives, Faults, NoAnswer, ◌>>=◌}
+use Rattle.cpc_meaning.specs.Answer.{Answer, ◌>>=◌}
 use Rattle.cpc_meaning.specs.Eval as E
 use Rattle.cpc_types.specs.Found.{used_of}
 use Rattle.cpc_eval_values.specs.Meets.{Meets}
@@ -18,7 +18,7 @@ use Rattle.cpc_eval.specs.Numbers.{HasNumbers}
 use Rattle.cpc_eval.specs.Shapes.{Agrees}
 use Rattle.cpc_eval.specs.Values.{place_value}
 use Rattle.cpc_eval.proofs.Evaluating.{read_by, field_by}
-use Rattle.cpc_eval.proofs.EvalParts.{Valued, Placed, numbers, met, operate_same}
+use Rattle.cpc_eval.proofs.EvalParts.{numbers, met, operate_same}
 
 module _ (c : E.Context) (e : S.Expr) where
   -- ---- what is there

@@ -12,7 +12,7 @@ use Rattle.cpc_meaning.specs.Eval as E
 use Rattle.cpc_native_points.specs.Seen.{path_of}
 use Rattle.cpc_eval_values.specs.Shown.{value_of, store_of}
 use Rattle.cpc_eval_index.specs.Indexed.{items_of}
-use Rattle.cpc_eval.specs.Held.{Held, local_in, capped_held}
+use Rattle.cpc_eval_locals.specs.Held.{Held, local_in, capped_held}
 use Rattle.cpc_eval_variables.specs.Told.{IsTold}
 use Rattle.cpc_eval.specs.declared.around.Around.{Around}
 use Rattle.cpc_eval.specs.declared.around.Slot.{Slot}

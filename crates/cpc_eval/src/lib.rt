@@ -6,7 +6,6 @@
 
 mod around;
 mod assigning;
-mod locals;
 mod operands;
 mod places;
 mod shapes;
@@ -15,7 +14,6 @@ mod values;
 
 pub use around::{Around, Slot};
 pub use assigning::assigned_at;
-pub use locals::{Local, local_at};
 pub use operands::operate_on;
 pub use places::{Spot, spot_named};
 pub use shapes::{Shape, Typed};

@@ -1,3 +1,4 @@
+pub mod Kept
 pub mod Cells
 pub mod First
 pub mod Known

@@ -1,3 +1,4 @@
+pub mod Bodies
 pub mod Indexed
 pub mod Meanings
 pub mod Placed

@@ -1,28 +1,34 @@
 //! An index of a program by name.
-ghost use Rattle.std.specs.Prelude.{◌≡◌, option_map, slice_get};
+ghost use Rattle.std.specs.Prelude.{◌≡◌, map, option_map, slice_get};
 ghost use Rattle.std.proofs.Props.{props};
 ghost use Rattle.cpc_tree.specs.Erase.{Names, type_of, field_of, function_of};
 ghost use Rattle.cpc_check_rules.specs.Apart.{AreApart};
 ghost use Rattle.cpc_tree.specs.Typing as T;
+ghost use Rattle.cpc_eval_locals.specs.Owners.{owner_of, owner_if};
+ghost use Rattle.cpc_eval_index.specs.Bodies.{function_defined};
 ghost use Rattle.cpc_eval_index.specs.Meanings.{meant_if};
 ghost use Rattle.cpc_eval_index.specs.Sized.{capped_size, capped_field};
 ghost use Rattle.cpc_eval_index.specs.Tabled.{AreTables};
 
+use crate::bodies::{locals_at, locals_of};
 use crate::items::{fields_of, function_of};
 use crate::meant::{Meant, meaning};
 use crate::sizes::{field_in, measure};
 use crate::tables::Tables;
 use cpc_base::{Name, NoMemory};
+use cpc_eval_locals::Locals;
 use cpc_tree::program::{CType, Field, Function, Item, Program};
 use std::alloc::Global;
 
-/// What the names of a program stand for. Each call takes a time that does not grow with the number of its items, and no
+/// What the names of a program stand for, and the locals of its functions. Each call takes a time that does not grow with the number of its items, and no
 /// memory.
 #[derive(Drop)]
 pub struct Index<'p> {
     program: &'p Program,
     tables: Tables,
+    locals: Vec<Option<Locals<'p>>>,
     ghost tabled: { AreTables program.now.items.items tables } by { Prim.hlevel props },
+    ghost kept: { ∥ map owner_if locals.items ≡ map function_defined program.now.items.items ∥₁ },
 }
 
 // The item of a number.
@@ -33,7 +39,7 @@ fn item_at(program: &Program, place: usize) -> Option<&Item>
 }
 
 impl<'p> Index<'p> {
-    ghost use Rattle.std.specs.Prelude.{IfOk, map};
+    ghost use Rattle.std.specs.Prelude.{IfOk};
     ghost use Rattle.cpc_tree.specs.Erase.{item_of};
     ghost use Rattle.cpc_eval_index.specs.Indexed.{program_items, items_of};
 
@@ -42,7 +48,12 @@ impl<'p> Index<'p> {
         ensures { IfOk result (λ index. program_items index ≡ program.now.items.items) }
     {
         let tables = Tables::of(alloc, &program.items)?;
-        Ok(Index { program, tables })
+        let locals = locals_of(alloc, &program.items)?;
+        Ok(Index {
+            program,
+            tables,
+            locals,
+        })
     }
 
     /// What a name stands for among the items: the first that declares it. It is no local.
@@ -68,6 +79,16 @@ impl<'p> Index<'p> {
                 None => None,
                 Some(item) => function_of(item),
             },
+        }
+    }
+
+    /// The locals of the first definition of a function of this name.
+    pub fn locals(&self, name: Name) -> Option<&Locals<'p>>
+        ensures { ∥ ((names : Names) → AreApart names → option_map (λ locals. function_of names (owner_of locals.now)) result ≡ T.function_named (items_of names self.now) (names name)) ∥₁ }
+    {
+        match self.tables.defined.at(name) {
+            None => None,
+            Some(place) => locals_at(&self.locals, place),
         }
     }
 

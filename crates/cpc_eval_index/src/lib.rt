@@ -1,6 +1,7 @@
-//! What the names of a program stand for, found without going through its items.
+//! What the names of a program stand for, and the locals of its functions, found without going through its items.
 #![tactic(auto)]
 
+mod bodies;
 mod index;
 mod items;
 mod meant;

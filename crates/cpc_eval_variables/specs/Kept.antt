@@ -20,3 +20,7 @@ kept_of names vs = map (λ (v : V.Variable). (type_of names v.of.now, v.is_regis
 abbrev pub kept_types : List ℕ → ℕ → List Ty → List (Ty × Bool)
 kept_types addressed n [] = []
 kept_types addressed n (t ∷ ts) = (t, is_scalar t && not (holds_number addressed n)) ∷ kept_types addressed (suc n) ts
+
+-- the types alone
+abbrev pub types_kept : List (Ty × Bool) → List Ty
+types_kept ks = map (λ (k : Ty × Bool). k.0) ks

@@ -4,9 +4,9 @@ ghost use Rattle.cpc_tree.specs.Erase.{Names, type_of, function_of};
 ghost use Rattle.cpc_tree.specs.Lists.{holds_number};
 ghost use Rattle.cpc_tree.specs.Typing as T;
 ghost use Rattle.cpc_tree.specs.Registers as R;
-ghost use Rattle.cpc_eval_variables.specs.Kept.{kept_from, kept_types, kept_of};
+ghost use Rattle.cpc_eval_variables.specs.Kept.{kept_from, kept_types, kept_of, types_kept};
 ghost use Rattle.cpc_eval_variables.specs.Told.{IsTold};
-ghost use Rattle.cpc_eval_variables.specs.Typed.{types_of};
+ghost use Rattle.cpc_eval_variables.specs.Typed.{types_in, types_of};
 
 use crate::walk::Walk;
 use cpc_base::NoMemory;
@@ -75,8 +75,9 @@ fn kept<'f>(
 /// The variables of a function in order: its parameters, and then its locals in the order of the text; a register is one
 /// of a scalar type to whose name `&` is never applied. `NoMemory` is want of memory.
 pub fn variables<'f>(alloc: Global, function: &'f Function) -> Result<Vec<Variable<'f>>, NoMemory>
-    ensures { IfOk result (λ kept. (names : Names) → IsTold names function.now.parameters.items
+    ensures kept { IfOk result (λ kept. (names : Names) → IsTold names function.now.parameters.items
         → kept_of names kept.items ≡ kept_from (function_of names function.now) 0 (R.variables (function_of names function.now))) }
+    ensures types { IfOk result (λ kept. (names : Names) → types_kept (kept_of names kept.items) ≡ types_in (R.variables (function_of names function.now))) }
 {
     let walk = Walk::of(alloc, function)?;
     kept(alloc, &walk.types, &walk.addressed)

@@ -1,13 +1,11 @@
 -- Calls by their parts.
-use Rattle.std.proofs.Common.{◌≡◌, ℕ, suc, Bool, true, false, ◌&&◌, List, [], ◌∷◌, map, Option, Some, None, refl, sym, ap, ◌∙◌, if◌then◌else◌, bytes_eq}
-use Rattle.std.specs.Prelude.{not}
+use Rattle.std.proofs.Common.{◌≡◌, ℕ, Bool, true, false, List, Option, Some, None, refl, sym, ap, ◌∙◌, if◌then◌else◌}
 use Rattle.cpc_base.specs.Bytes.{Text}
 use Rattle.cpc_num.specs.declared.kinds.Fault.TheVariants as F
 use Rattle.cpc_tree.specs.declared.program.Mode.{Mode}
 use Rattle.cpc_tree.specs.declared.program.Mode.TheVariants as G
-use Rattle.cpc_tree.specs.Syntax.{Ty, Expr, ENamed, Exprs, Function, StructItem, GlobalItem, PrototypeItem, FunctionItem, Program}
-use Rattle.cpc_tree.specs.Typing as T
-use Rattle.cpc_tree.specs.Typing.{Meant, ALocal, AGlobal, AFunction, NotMeant, named, item_named, function_named, function_type, parameter_types, code_parameters, same_type}
+use Rattle.cpc_tree.specs.Syntax.{Ty, Expr, ENamed, Exprs, Function, Program}
+use Rattle.cpc_tree.specs.Typing.{Meant, ALocal, AGlobal, AFunction, item_named, function_named, function_type, parameter_types, code_parameters, same_type}
 use Rattle.cpc_tree.specs.Primitives.{Primitive, primitive_named}
 use Rattle.cpc_store.specs.Store as S
 use Rattle.cpc_store.specs.Store.{Value}
@@ -15,7 +13,7 @@ use Rattle.cpc_meaning.specs.Answer.{Answer, Gives, Faults, NoAnswer, ◌>>=◌,
 use Rattle.cpc_meaning.specs.Eval as E
 use Rattle.cpc_meaning.specs.Requests.{Host, arguments, all_long}
 use Rattle.cpc_meaning.specs.Act as M
-use Rattle.cpc_eval.specs.Held.{Held, local_in, capped_held}
+use Rattle.cpc_eval_locals.specs.Held.{Held, local_in, capped_held}
 use Rattle.cpc_eval.specs.Around.{meant_or, meant_in}
 use Rattle.cpc_eval.proofs.TypedParts.{named_or}
 use Rattle.cpc_native_acts.specs.Rows.{passed}

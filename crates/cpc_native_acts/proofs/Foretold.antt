@@ -1,5 +1,5 @@
 -- What a step does to the live cells, by the parts that are looked at.
-use Rattle.std.proofs.Common.{◌≡◌, ℕ, true, List, map, Option, Some, None, option_map, refl, sym, ap, subst, ◌∙◌}
+use Rattle.std.proofs.Common.{◌≡◌, ℕ, List, map, Option, Some, None, option_map, refl, sym, ap, subst, ◌∙◌}
 use Rattle.std.specs.Option.{IfSome}
 use Rattle.std.specs.Borrow.{Bor}
 use Rattle.cpc_base.specs.Bytes.{Text}
@@ -18,13 +18,12 @@ use Rattle.cpc_meaning.specs.Eval as E
 use Rattle.cpc_meaning.specs.Act as M
 use Rattle.cpc_meaning.specs.Slots.{free_slots}
 use Rattle.cpc_eval_index.specs.declared.index.Index.{Index}
-use Rattle.cpc_eval_index.specs.Indexed.{items_of}
+use Rattle.cpc_eval_index.specs.Indexed.{items_of, IsOwn}
 use Rattle.cpc_eval_index.specs.Meanings.{meant_of}
 use Rattle.cpc_eval_index.specs.declared.meant.Meant as W
 use Rattle.cpc_eval_index.specs.declared.meant.Meant.TheVariants as V
 use Rattle.cpc_eval.specs.Around.{meant_in}
 use Rattle.cpc_eval.specs.Numbers.{HasNumbers}
-use Rattle.cpc_native_frames.specs.Frames.{IsOwn}
 use Rattle.cpc_native_frames.specs.Living.{CanLeave}
 use Rattle.cpc_native_acts.specs.Calls.{calls_if, calls_moded, IsNamed}
 use Rattle.cpc_native_acts.specs.Foreseen.{Foresees}

@@ -1,5 +1,5 @@
 -- Plans by the parts that are evaluated.
-use Rattle.std.proofs.Common.{◌≡◌, ℕ, true, List, map, Option, Some, Result, Ok, Err, refl, sym, ap, subst, ◌∙◌}
+use Rattle.std.proofs.Common.{◌≡◌, ℕ, List, map, Option, Some, Result, Ok, Err, refl, sym, ap, subst, ◌∙◌}
 use Rattle.std.specs.Borrow.{Bor}
 use Rattle.std.specs.Result.{IsErrAnd}
 use Rattle.cpc_base.specs.Bytes.{Text}

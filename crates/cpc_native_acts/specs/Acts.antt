@@ -20,14 +20,14 @@ use Rattle.cpc_meaning.specs.Trees.{trees, stood_at}
 use Rattle.cpc_native_points.specs.Seen.{point_of}
 use Rattle.cpc_eval_values.specs.Shown.{value_of, values_of, store_of}
 use Rattle.cpc_eval_index.specs.declared.index.Index.{Index}
-use Rattle.cpc_eval_index.specs.Indexed.{items_of}
+use Rattle.cpc_eval_index.specs.Indexed.{items_of, IsOwn}
 use Rattle.cpc_eval_variables.specs.Told.{IsTold}
 use Rattle.cpc_eval.specs.declared.around.Slot.{Slot}
 use Rattle.cpc_eval.specs.Numbers.{FoundNumbers}
 use Rattle.cpc_native_builtins.specs.Builtins.{asked_of}
 use Rattle.cpc_native_builtins.specs.Served.{IsServedCall, is_served_found, is_served_program}
 use Rattle.cpc_native_frames.specs.declared.frame.Frame.{Frame}
-use Rattle.cpc_native_frames.specs.Frames.{frame_of, IsOwn}
+use Rattle.cpc_native_frames.specs.Frames.{frame_of}
 use Rattle.cpc_native_frames.specs.Made.{slots_of}
 use Rattle.cpc_native_acts.specs.Taken.{IsCalledWith}
 use Rattle.cpc_native_acts.specs.declared.act.Act.{Act}

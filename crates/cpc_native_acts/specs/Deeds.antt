@@ -1,5 +1,5 @@
 -- What is to be done, once the expressions are evaluated.
-use Rattle.std.specs.Prelude.{◌≡◌, Bool, true, List, Option, Some, None, Result, Ok, Err}
+use Rattle.std.specs.Prelude.{Bool, true, List, Option, Some, None, Result, Ok, Err}
 use Rattle.std.specs.List.{All}
 use Rattle.std.specs.Result.{result_map_both}
 use Rattle.cpc_base.specs.declared.stop.Stop.{Stop}

@@ -16,7 +16,7 @@ use Rattle.cpc_meaning.specs.Plain.{asking}
 use Rattle.cpc_meaning.specs.Requests.{Primitive, Asked, Builtin, Malloc, Free, RtFrame, RtBox, RtFrameFree, RtUnbox}
 use Rattle.cpc_meaning.specs.Section.{allocated, freed}
 use Rattle.cpc_eval_index.specs.declared.index.Index.{Index}
-use Rattle.cpc_native_frames.specs.Frames.{IsOwn}
+use Rattle.cpc_eval_index.specs.Indexed.{IsOwn}
 use Rattle.cpc_native_acts.specs.declared.changes.Change.{Change}
 use Rattle.cpc_native_acts.specs.declared.changes.Change.TheVariants as C
 use Rattle.cpc_native_acts.specs.declared.changes.Told.{Told}

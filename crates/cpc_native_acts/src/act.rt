@@ -9,11 +9,11 @@ ghost use Rattle.cpc_store.specs.Seen.{seen, IsLawful};
 ghost use Rattle.cpc_meaning.specs.Act as M;
 ghost use Rattle.cpc_eval_values.specs.Shown.{value_of, store_of};
 ghost use Rattle.cpc_eval.specs.Spots.{AreLawful};
-ghost use Rattle.cpc_native_frames.specs.Frames.{IsOwn, IsWellFrame, RiseFrom};
+ghost use Rattle.cpc_native_frames.specs.Frames.{IsWellFrame, RiseFrom};
 ghost use Rattle.cpc_native_frames.specs.Made.{slots_of};
 ghost use Rattle.cpc_native_acts.specs.Deeds.{Plans, did, IsLawfulDeed, IsServedDeed, IsTakenDeed};
 ghost use Rattle.cpc_native_acts.specs.Stops.{MeetsOr};
-ghost use Rattle.cpc_eval_index.specs.Indexed.{items_of};
+ghost use Rattle.cpc_eval_index.specs.Indexed.{items_of, IsOwn};
 ghost use Rattle.cpc_native_acts.specs.Acts.{acted, function_shown, stood_of, context_in, IsTexts, IsServing, IsLawfulAct, IsLawfulIf, EntersOwn, AsksServed, AsksTaken, Keeps};
 
 use crate::below::stopped;

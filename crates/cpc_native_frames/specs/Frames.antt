@@ -1,14 +1,11 @@
 -- The frames of calls, as the definitions have them.
-use Rattle.std.specs.Prelude.{◌≡◌, ℕ, ◌+◌, ◌≤◌, List, [], ◌∷◌, Some}
-use Rattle.cpc_tree.specs.Erase.{Names, function_of}
+use Rattle.std.specs.Prelude.{ℕ, ◌+◌, ◌≤◌, List, [], ◌∷◌}
+use Rattle.cpc_tree.specs.Erase.{Names}
 use Rattle.cpc_tree.specs.Points as T
-use Rattle.cpc_tree.specs.Typing.{function_named}
-use Rattle.cpc_tree.specs.declared.program.Function.{Function}
-use Rattle.cpc_check_rules.specs.Apart.{AreApart}
 use Rattle.cpc_meaning.specs.Plain as P
 use Rattle.cpc_native_points.specs.Seen.{point_of}
 use Rattle.cpc_eval_index.specs.declared.index.Index.{Index}
-use Rattle.cpc_eval_index.specs.Indexed.{items_of}
+use Rattle.cpc_eval_index.specs.Indexed.{IsOwn}
 use Rattle.cpc_eval.specs.declared.around.Slot.{Slot}
 use Rattle.cpc_eval.specs.declared.around.Slot.TheVariants as S
 use Rattle.cpc_eval.specs.Spots.{AreLawful}
@@ -17,10 +14,6 @@ use Rattle.cpc_native_frames.specs.Made.{slots_of}
 
 abbrev pub frame_of : Names → Frame → P.Frame T.Point
 frame_of names f = record { function = names f.function.now.word.name; point = point_of f.point; slots = slots_of names f.slots.items }
-
--- a function is the one that is meant by its name
-abbrev pub IsOwn : Index → Function → Type 0
-IsOwn index f = (names : Names) → AreApart names → function_named (items_of names index) (names f.word.name) ≡ Some (function_of names f)
 
 -- the numbers of the blocks among these slots rise, the first from this one on
 abbrev pub RiseFrom : ℕ → List Slot → Type 0

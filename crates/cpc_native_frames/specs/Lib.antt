@@ -1,3 +1,4 @@
+pub mod Costs
 pub mod Frames
 pub mod Living
 pub mod Made

@@ -9,15 +9,17 @@ ghost use Rattle.cpc_meaning.specs.Answer as A;
 ghost use Rattle.cpc_meaning.specs.Plain as P;
 ghost use Rattle.cpc_meaning.specs.Trees.{trees};
 ghost use Rattle.cpc_eval_values.specs.Shown.{values_of, store_of};
-ghost use Rattle.cpc_eval_index.specs.Indexed.{items_of};
+ghost use Rattle.cpc_eval_index.specs.Indexed.{items_of, IsOwn};
+ghost use Rattle.cpc_tree.specs.Registers as R;
+ghost use Rattle.cpc_eval_variables.specs.Kept.{kept_of, kept_from};
 ghost use Rattle.cpc_eval_variables.specs.Told.{IsTold};
-ghost use Rattle.cpc_native_frames.specs.Frames.{frame_of, IsOwn, IsWellFrame};
+ghost use Rattle.cpc_native_frames.specs.Frames.{frame_of, IsWellFrame};
 
 use crate::making::make_slots;
 use cpc_base::NoMemory;
 use cpc_eval::Slot;
 use cpc_eval_index::Index;
-use cpc_eval_variables::variables;
+use cpc_eval_variables::Variable;
 use cpc_native_points::{Point, begin};
 use cpc_store::{Store, Value};
 use cpc_tree::program::Function;
@@ -32,6 +34,18 @@ pub struct Frame<'p> {
     pub function: &'p Function,
     pub point: Point,
     pub slots: Vec<Slot>,
+}
+
+// The variables of a function of the program.
+fn variables_of<'a, 'p>(index: &'a Index<'p>, function: &Function) -> &'a [Variable<'p>]
+    requires { IsOwn index.now function.now }
+    ensures { (names : Names) → IsTold names function.now.parameters.items
+        → kept_of names result.now ≡ kept_from (function_of names function.now) 0 (R.variables (function_of names function.now)) }
+{
+    match index.locals(function.word.name) {
+        Some(locals) => locals.variables(),
+        None => unreachable!(),
+    }
 }
 
 /// The frame of a call with these arguments, at the beginning of the body, and its blocks in the store. Where the size of
@@ -53,10 +67,10 @@ pub fn enter<'p>(
     ensures well { IfOk result (λ frame. IsWellFrame index.now frame) }
     ensures function { IfOk result (λ frame. frame.function.now ≡ function.now) }
 {
-    let variables = variables(alloc, function)?;
+    let variables = variables_of(index, function);
     let mut point = Point::with_depth(alloc, DEPTH)?;
     begin(&function.body, &mut point)?;
-    let slots = make_slots(alloc, index, &variables, arguments, store)?;
+    let slots = make_slots(alloc, index, variables, arguments, store)?;
     Ok(Frame {
         function,
         point,

@@ -3,11 +3,13 @@ ghost use Rattle.std.specs.Prelude.{◌≡◌, ◌∷◌, [], ℕ, OnOk, IfSome}
 ghost use Rattle.cpc_tree.specs.Erase.{Names, stmt_of};
 ghost use Rattle.cpc_tree.specs.Points as P;
 ghost use Rattle.cpc_check_rules.specs.Apart.{AreApart};
+ghost use Rattle.cpc_native_points.specs.Bodies.{body_of};
 ghost use Rattle.cpc_native_points.specs.Seen.{part_of, path_of, point_of};
 ghost use Rattle.cpc_native_points.specs.Leads.{Leads, Goes, begun};
 ghost use Rattle.cpc_native_points.specs.Finds.{found_of, test_of};
 
-use crate::labels::{enter, push, seek};
+use crate::entering::{enter, push};
+use crate::labels::Labels;
 use crate::moves::{Move, child, nth, step};
 use crate::parts::{Part, Phase, Point};
 use cpc_base::{Name, NoMemory};
@@ -110,18 +112,9 @@ fn replace(
     }
 }
 
-/// Puts the path where the label leads.
-fn jump(body: &Statement, label: Name, path: &mut Vec<Part>) -> Result<(), NoMemory>
-    ensures { OnOk result ((names : Names) → AreApart names → IfSome (P.labelled (names label) (stmt_of names body.now)) (λ q. path_of path.new.items ≡ q)) }
-{
-    path.clear();
-    seek(body, label, path)?;
-    Ok(())
-}
-
 /// Puts the point where a move in the body leads.
-fn go(body: &Statement, point: &mut Point, m: Move<'_>) -> Result<(), NoMemory>
-    ensures { OnOk result ((names : Names) (w : P.Move) → AreApart names → Leads names (path_of point.old.path.items) m.entry w → IfSome (P.arrived (stmt_of names body.now) w) (λ q. point_of point.new ≡ q)) }
+fn go(labels: &Labels<'_>, point: &mut Point, m: Move<'_>) -> Result<(), NoMemory>
+    ensures { OnOk result ((names : Names) (w : P.Move) → AreApart names → Leads names (path_of point.old.path.items) m.entry w → IfSome (P.arrived (stmt_of names (body_of labels.now)) w) (λ q. point_of point.new ≡ q)) }
 {
     match m {
         Move::Into {
@@ -134,7 +127,7 @@ fn go(body: &Statement, point: &mut Point, m: Move<'_>) -> Result<(), NoMemory>
         }
         Move::ToLabel(label) => {
             point.phase = Phase::Here;
-            jump(body, label, &mut point.path)
+            labels.find(label, &mut point.path)
         }
         _ => {
             point.phase = Phase::End;
@@ -143,18 +136,19 @@ fn go(body: &Statement, point: &mut Point, m: Move<'_>) -> Result<(), NoMemory>
     }
 }
 
-/// Puts the point where control goes from it, when a test there holds or not; at the end of the body it is the end. From
-/// an arrival control goes where it goes from the statement. Where there is no way on, nothing is said.
+/// Puts the point where control goes from it in the body with these labels, when a test there holds or not; at the end of
+/// the body it is the end. From an arrival control goes where it goes from the statement. Where there is no way on, nothing
+/// is said.
 ///
 /// `NoMemory` is want of memory, and comes only where the path is longer than room was reserved for.
-pub fn after(body: &Statement, point: &mut Point, holds: bool) -> Result<(), NoMemory>
-    ensures { OnOk result ((names : Names) → AreApart names → IfSome (P.next_point (stmt_of names body.now) (point_of point.old) holds) (λ q. point_of point.new ≡ q)) }
+pub fn after(labels: &Labels<'_>, point: &mut Point, holds: bool) -> Result<(), NoMemory>
+    ensures { OnOk result ((names : Names) → AreApart names → IfSome (P.next_point (stmt_of names (body_of labels.now)) (point_of point.old) holds) (λ q. point_of point.new ≡ q)) }
 {
     match point.phase {
         Phase::End => Ok(()),
         Phase::Here | Phase::Arrival => {
-            let m = step(body, &point.path, holds);
-            go(body, point, m)
+            let m = step(labels.body(), &point.path, holds);
+            go(labels, point, m)
         }
     }
 }

@@ -1,125 +1,150 @@
-//! Where statements begin, and where labels lead: paths that are put behind a path.
-ghost use Rattle.std.specs.Prelude.{◌≡◌, ◌++◌, ◌∷◌, [], false, IfOk, OnOk};
-ghost use Rattle.cpc_tree.specs.Erase.{Names, stmt_of, list_of};
+//! Where the labels of a body lead, by a table that is made once.
+ghost use Rattle.std.specs.Prelude.{◌≡◌, ◌∷◌, None, Some, if◌then◌else◌, IfOk, IfSome, OnOk, bytes_eq};
+ghost use Rattle.cpc_tree.specs.Erase.{Names, stmt_of, list_of, maybe_at};
 ghost use Rattle.cpc_tree.specs.Points as P;
 ghost use Rattle.cpc_check_rules.specs.Apart.{AreApart};
 ghost use Rattle.cpc_native_points.specs.Seen.{part_of, path_of};
-ghost use Rattle.cpc_native_points.specs.Sought.{Sought};
-ghost use Rattle.cpc_native_points.specs.Parts.{entered};
+ghost use Rattle.cpc_native_points.specs.Tabled.{AreLabels, Gathers, Grows};
 
+use crate::entering::enter;
 use crate::parts::Part;
+use crate::table::{Place, Table, climb};
 use cpc_base::{Name, NoMemory};
 use cpc_tree::program::Statement;
+use std::alloc::Global;
 
-/// Puts the part behind the path. `NoMemory` is want of memory.
-pub(crate) fn push(path: &mut Vec<Part>, part: Part) -> Result<(), NoMemory>
-    ensures { OnOk result (path.new.items ≡ path.old.items ++ part ∷ []) }
-{
-    path.push(part)?;
-    Ok(())
+/// Where the labels of a body lead. Finding one takes a time that does not grow with the length of the body.
+#[derive(Drop)]
+pub struct Labels<'p> {
+    body: &'p Statement,
+    table: Table<'p>,
+    ghost tabled: { ∥ AreLabels body.now table ∥₁ },
 }
 
-/// Puts the path to where the statement begins behind the path. `NoMemory` is want of memory.
-#[cycle(entered)]
-pub(crate) fn enter(s: &Statement, path: &mut Vec<Part>) -> Result<(), NoMemory>
-    ensures { OnOk result ((names : Names) → path_of path.new.items ≡ path_of path.old.items ++ P.enter (stmt_of names s.now)) }
+// Adds the labels in a statement of this number.
+#[cycle(gathered)]
+fn gather<'p>(s: &'p Statement, at: Option<usize>, table: &mut Table<'p>) -> Result<(), NoMemory>
+    ensures kept { OnOk result (Grows table.old table.new) }
+    ensures led { OnOk result ((names : Names) → AreApart names → Gathers names table.old table.new at (λ l. P.labelled l (stmt_of names s.now))) }
 {
     match s {
-        Statement::Block { inner, .. } => enter_row(inner, path, None),
-        Statement::If { .. } => push(path, Part::Test),
-        Statement::While { .. } => push(path, Part::Test),
-        Statement::DoWhile { body, .. } => {
-            push(path, Part::Body)?;
-            enter(body, path)
+        Statement::Block { inner, .. } => gather_row(inner, at, table),
+        Statement::If { yes, no, .. } => {
+            gather_part(yes, Part::Yes, at, table)?;
+            gather_arm(no, at, table)
         }
-        Statement::For { first, .. } => enter_row(first, path, Some(Part::Test)),
-        Statement::Label { inner, .. } => {
-            push(path, Part::Body)?;
-            enter(inner, path)
-        }
+        Statement::While { body, .. }
+        | Statement::DoWhile { body, .. }
+        | Statement::For { body, .. } => gather_part(body, Part::Body, at, table),
+        Statement::Label { label, inner } => gather_behind(label.name, inner, at, table),
         _ => Ok(()),
     }
 }
 
-/// The same of the first of a row, or else of a part that stands in for it.
-#[cycle(entered)]
-fn enter_row(
-    row: &[Statement],
-    path: &mut Vec<Part>,
-    otherwise: Option<Part>,
+// Those in a statement that is a part of the one of this number.
+#[cycle(gathered)]
+fn gather_part<'p>(
+    s: &'p Statement,
+    part: Part,
+    at: Option<usize>,
+    table: &mut Table<'p>,
 ) -> Result<(), NoMemory>
-    ensures { OnOk result ((names : Names) → path_of path.new.items ≡ path_of path.old.items ++ entered (list_of names row.now) otherwise) }
+    ensures kept { OnOk result (Grows table.old table.new) }
+    ensures led { OnOk result ((names : Names) → AreApart names → Gathers names table.old table.new at (λ l. P.path_under (part_of part) (P.labelled l (stmt_of names s.now)))) }
 {
-    match row {
-        [s, ..] => {
-            push(path, Part::Nth(0))?;
-            enter(s, path)
-        }
-        [] => match otherwise {
-            Some(part) => push(path, part),
-            None => Ok(()),
-        },
+    let number = table.add(part, at)?;
+    gather(s, Some(number), table)
+}
+
+// Those in an arm that may be absent.
+#[cycle(gathered)]
+fn gather_arm<'p>(
+    arm: &'p Option<Box<Statement>>,
+    at: Option<usize>,
+    table: &mut Table<'p>,
+) -> Result<(), NoMemory>
+    ensures kept { OnOk result (Grows table.old table.new) }
+    ensures led { OnOk result ((names : Names) → AreApart names → Gathers names table.old table.new at (λ l. P.path_under P.TheNo (P.labelled_arm l (maybe_at names arm.now)))) }
+{
+    match arm {
+        Some(s) => gather_part(s, Part::No, at, table),
+        None => Ok(()),
     }
 }
 
-/// Puts the path to a label behind the path, where the statement has the label; whether it does.
-/// `NoMemory` is want of memory.
-#[cycle(sought)]
-pub(crate) fn seek(s: &Statement, label: Name, path: &mut Vec<Part>) -> Result<bool, NoMemory>
-    ensures label { IfOk result (λ found. (names : Names) → AreApart names → Sought found path.old.items path.new.items (P.labelled (names label) (stmt_of names s.now))) }
-    ensures kept { IfOk result (λ found. found ≡ false → path.new.items ≡ path.old.items) }
+// A label, and those in what it is put before.
+#[cycle(gathered)]
+fn gather_behind<'p>(
+    label: Name,
+    inner: &'p Statement,
+    at: Option<usize>,
+    table: &mut Table<'p>,
+) -> Result<(), NoMemory>
+    ensures kept { OnOk result (Grows table.old table.new) }
+    ensures led { OnOk result ((names : Names) → AreApart names → Gathers names table.old table.new at
+        (λ l. if bytes_eq (names label) l then Some (P.TheBody ∷ P.enter (stmt_of names inner.now)) else P.path_under P.TheBody (P.labelled l (stmt_of names inner.now)))) }
 {
-    match s {
-        Statement::Block { inner, .. } => seek_row(inner, label, path),
-        Statement::If { yes, no, .. } => {
-            if seek_in(Part::Yes, yes, label, path)? {
-                return Ok(true);
-            }
-            match no {
-                Some(no) => seek_in(Part::No, no, label, path),
-                None => Ok(false),
-            }
-        }
-        Statement::While { body, .. } => seek_in(Part::Body, body, label, path),
-        Statement::DoWhile { body, .. } => seek_in(Part::Body, body, label, path),
-        Statement::For { body, .. } => seek_in(Part::Body, body, label, path),
-        Statement::Label { label: own, inner } => {
-            if own.name.0 == label.0 {
-                push(path, Part::Body)?;
-                enter(inner, path)?;
-                Ok(true)
-            } else {
-                seek_in(Part::Body, inner, label, path)
-            }
-        }
-        _ => Ok(false),
-    }
+    let node = table.add(Part::Body, at)?;
+    table.put(label, Place { node, inner })?;
+    gather(inner, Some(node), table)
 }
 
-/// The same of a statement that is a part.
-#[cycle(sought)]
-fn seek_in(part: Part, s: &Statement, label: Name, path: &mut Vec<Part>) -> Result<bool, NoMemory>
-    ensures label { IfOk result (λ found. (names : Names) → AreApart names → Sought found path.old.items path.new.items (P.path_under (part_of part) (P.labelled (names label) (stmt_of names s.now)))) }
-    ensures kept { IfOk result (λ found. found ≡ false → path.new.items ≡ path.old.items) }
-{
-    push(path, part)?;
-    if seek(s, label, path)? {
-        return Ok(true);
-    }
-    path.pop();
-    Ok(false)
-}
-
-/// The same of a row of statements.
-#[cycle(sought)]
-fn seek_row(row: &[Statement], label: Name, path: &mut Vec<Part>) -> Result<bool, NoMemory>
-    ensures label { IfOk result (λ found. (names : Names) → AreApart names → Sought found path.old.items path.new.items (P.labelled_in (names label) (list_of names row.now))) }
-    ensures kept { IfOk result (λ found. found ≡ false → path.new.items ≡ path.old.items) }
+// Those in a row of statements.
+#[cycle(gathered)]
+fn gather_row<'p>(
+    row: &'p [Statement],
+    at: Option<usize>,
+    table: &mut Table<'p>,
+) -> Result<(), NoMemory>
+    ensures kept { OnOk result (Grows table.old table.new) }
+    ensures led { OnOk result ((names : Names) → AreApart names → Gathers names table.old table.new at (λ l. P.labelled_in l (list_of names row.now))) }
 {
     for (n, s) in row.iter().enumerate() {
-        if seek_in(Part::Nth(n), s, label, path)? {
-            return Ok(true);
+        gather_part(s, Part::Nth(n), at, table)?;
+    }
+    Ok(())
+}
+
+// The table of a body.
+fn table_of(alloc: Global, body: &Statement) -> Result<Table<'_>, NoMemory>
+    ensures { IfOk result (λ table. AreLabels body.now table) }
+{
+    let mut table = Table::new(alloc);
+    gather(body, None, &mut table)?;
+    Ok(table)
+}
+
+impl<'p> Labels<'p> {
+    ghost use Rattle.cpc_native_points.specs.Bodies.{body_of};
+
+    /// The labels of a body. `NoMemory` is want of memory.
+    pub fn of(alloc: Global, body: &'p Statement) -> Result<Labels<'p>, NoMemory>
+        ensures { IfOk result (λ labels. body_of labels ≡ body.now) }
+    {
+        let table = table_of(alloc, body)?;
+        Ok(Labels { body, table })
+    }
+
+    /// The body.
+    pub(crate) fn body(&self) -> &'p Statement
+        ensures { result.now ≡ body_of self.now }
+    {
+        self.body
+    }
+
+    /// Puts the path where a label leads. Where the body has none of its name, nothing is said.
+    ///
+    /// `NoMemory` is want of memory.
+    pub(crate) fn find(&self, label: Name, path: &mut Vec<Part>) -> Result<(), NoMemory>
+        ensures { OnOk result ((names : Names) → AreApart names → IfSome (P.labelled (names label) (stmt_of names (body_of self.now))) (λ q. path_of path.new.items ≡ q)) }
+    {
+        path.clear();
+        match self.table.place(label) {
+            Some(place) => {
+                climb(&self.table.nodes, Some(place.node), path)?;
+                enter(place.inner, path)
+            }
+            None => Ok(()),
         }
     }
-    Ok(false)
 }

@@ -2,9 +2,12 @@
 #![tactic(auto)]
 
 mod control;
+mod entering;
 mod labels;
 mod moves;
 mod parts;
+mod table;
 
 pub use control::{Found, after, begin, standing};
+pub use labels::Labels;
 pub use parts::{Part, Phase, Point};

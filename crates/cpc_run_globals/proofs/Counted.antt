@@ -179,6 +179,16 @@ absent_step : (o r : Option ℕ) (total : ℕ) → None ≡ option_map capped o 
 absent_step None r total e = refl
 absent_step (Some m) r total e = cc
 
+-- one that is complete is counted, and what is left is behind it
+present_step : (o r : Option ℕ) (total count : ℕ) → Some count ≡ option_map capped o
+    → option_map (λ n. capped (total + n)) (o >>= (λ (m : ℕ). r >>= (λ (n : ℕ). Some (m + n)))) ≡ option_map (λ n. capped (capped (total + count) + n)) r
+present_step None r total count e = cc
+present_step (Some m) None total count e = refl
+present_step (Some m) (Some n) total count e =
+    let f : count ≡ capped m = cc in
+    let g : capped (total + (m + n)) ≡ capped (capped (total + count) + n) = omega (arith, f) in
+    ap Some g
+
 next_item : (items : List I.Item) (i : ℕ) (x : I.Item) → i < length items → x ≡ get_or items i x → drop i items ≡ x ∷ drop (i + 1) items
 next_item items i x h is = drop-cons items i x h ∙ ap (λ y. y ∷ drop (suc i) items) (sym is) ∙ ap (λ j. x ∷ drop j items) (sym (add-one i))
 
@@ -196,3 +206,12 @@ module _ (names : Names) (items indexed : List I.Item) (same : indexed ≡ items
       ap (λ xs. option_map (λ n. capped (total + n)) (all_cells whole (map (item_of names) xs))) (next_item items i x lt is)
       ∙ absent_step (item_cells whole (item_of names x)) (all_cells whole (map (item_of names) (drop (i + 1) items))) total here in
       empty_stored (make_globals whole whole empty_store) (all_cells whole whole) (adds_all whole whole empty_store) (before ∙ left)
+
+  -- where one is complete its cells are counted
+  pub next_stored : (count : ℕ) → option_map capped (all_cells whole whole) ≡ option_map (λ n. capped (total + n)) (all_cells whole (map (item_of names) (drop i items)))
+      → Some count ≡ option_map capped (item_cells (map (item_of names) indexed) (item_of names x))
+      → option_map capped (all_cells whole whole) ≡ option_map (λ n. capped (capped (total + count) + n)) (all_cells whole (map (item_of names) (drop (i + 1) items)))
+  next_stored count before e =
+      let here : Some count ≡ option_map capped (item_cells whole (item_of names x)) = subst (λ (xs : List I.Item). Some count ≡ option_map capped (item_cells (map (item_of names) xs) (item_of names x))) same e in
+      before ∙ ap (λ xs. option_map (λ n. capped (total + n)) (all_cells whole (map (item_of names) xs))) (next_item items i x lt is)
+      ∙ present_step (item_cells whole (item_of names x)) (all_cells whole (map (item_of names) (drop (i + 1) items))) total count here

@@ -1,5 +1,5 @@
 use Rattle.std.proofs.Common.{◌∙◌, true, false, Ok, refl, ap, rules}
-use Rattle.cpc_tree.specs.Erase.{type_of, expr_of}
+use Rattle.cpc_tree.specs.Erase.{expr_of}
 use Rattle.cpc_tree.specs.Syntax.{EUnary}
 use Rattle.cpc_eval_values.specs.Shown.{value_of}
 use Rattle.cpc_eval_values.proofs.Meeting.{meets_as, meets_err, meets_then, meets_fault}

@@ -81,3 +81,6 @@ returns-in-End c = λ names o texts serving.
     tells_so names index k M.AtEnd c.left.result c.by_name-in-End.result (M.leaves k S.Unset) c.by_name-in-End.ensures texts.told.apart refl c.left.ensures.own
     (c.left.ensures.value names k M.AtEnd S.Unset (ap (slots_of names) (sym c.deref-2.ensures.value)) refl) in
     said_at p (names frame.function.now.word.name) f path slots s Q frame.point.phase F.End c.in-End.is (c.requires.own names texts.told.apart) h
+
+pub invariant_of-around : goal.invariant_of-around
+invariant_of-around c = record { own = ∣ c.requires.own ∣₁ }

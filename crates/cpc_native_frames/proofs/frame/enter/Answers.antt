@@ -1,9 +1,7 @@
-use Rattle.std.proofs.Common.{ap, ◌∙◌}
 use Rattle.cpc_tree.specs.Erase.{function_of}
 use Rattle.cpc_native_points.specs.Seen.{point_of}
 use Rattle.cpc_eval_values.specs.Shown.{values_of, store_of}
 use Rattle.cpc_eval_index.specs.Indexed.{items_of}
-use Rattle.cpc_eval_variables.specs.Kept.{kept_of}
 use Rattle.cpc_native_frames.specs.Made.{slots_of}
 use Rattle.cpc_native_frames.proofs.Framing.{entered}
 use Rattle.cpc_native_frames.proofs.frame.enter.Goals as goal
@@ -11,7 +9,6 @@ use Rattle.cpc_native_frames.proofs.frame.enter.Goals as goal
 pub returns-clause-made : goal.returns-clause-made
 returns-clause-made c = λ names told a e.
     let f = function_of names c.args.function.now in
-    let kept = ap (kept_of names) c.deref.ensures.value ∙ c.in_ok-variables.ensures names told in
     entered (items_of names c.args.index.now) f (store_of names c.args.store.now) (store_of names c.make_slots.new.store) (slots_of names c.in_ok-slots.slots.items) (point_of c.begin.new.point)
     (values_of names c.args.arguments.now) a (c.requires.own names told.apart) (c.in_ok-begin.ensures names)
-    (λ q h. c.in_ok-slots.ensures.made names told.apart f kept q h) e
+    (λ q h. c.in_ok-slots.ensures.made names told.apart f (c.variables_of-variables.ensures names told) q h) e

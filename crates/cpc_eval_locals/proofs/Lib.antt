@@ -1,0 +1,11 @@
+pub mod Counted
+pub mod Holding
+pub mod Paths
+pub mod Marking
+pub mod Nodes
+pub mod Noting
+pub mod Passing
+pub mod Scoping
+pub mod Stepping
+pub mod Types
+pub mod Whole

@@ -1,0 +1,154 @@
+//! The statements of a body that declare locals, themselves or in their parts, in the order of the text.
+ghost use Rattle.std.specs.Prelude.{◌≡◌, ◌++◌, ◌+◌, suc, IfOk, OnOk};
+ghost use Rattle.cpc_tree.specs.Erase.{Names, stmt_of, list_of, maybe_at};
+ghost use Rattle.cpc_eval_locals.specs.Marks as M;
+ghost use Rattle.cpc_eval_locals.specs.Seen.{own_seen, marks_seen};
+
+use crate::counting::declared;
+use cpc_base::{Name, NoMemory};
+use cpc_tree::program::{CType, Statement};
+
+/// Which part of the statement around it a statement is.
+#[derive(Clone, Copy)]
+pub(crate) enum Key {
+    /// The n-th statement of a block.
+    Row(usize),
+    /// The n-th of the first part of a `for`, in scope in all that follows there.
+    Head(usize),
+    /// The arm of an `if` that is taken where the test holds.
+    Yes,
+    /// The other arm of an `if`.
+    No,
+    /// The body of a loop, or the statement that a label is put before.
+    Body,
+}
+
+/// A local that is declared.
+#[derive(Clone, Copy)]
+pub(crate) struct Own<'p> {
+    pub(crate) name: Name,
+    pub(crate) of: &'p CType,
+}
+
+/// A statement that declares locals: how deep it stands, which part it is of the statement around it, how many locals it
+/// declares in all, and the one that it is.
+#[derive(Clone, Copy)]
+pub(crate) struct Mark<'p> {
+    pub(crate) depth: usize,
+    pub(crate) key: Key,
+    pub(crate) count: u64,
+    pub(crate) own: Option<Own<'p>>,
+}
+
+/// The local that a statement is.
+pub(crate) fn own_of(s: &Statement) -> Option<Own<'_>>
+    ensures { (names : Names) → own_seen names result ≡ M.own_of (stmt_of names s.now) }
+{
+    match s {
+        Statement::Declare { word, of, .. } => Some(Own {
+            name: word.name,
+            of,
+        }),
+        _ => None,
+    }
+}
+
+// Which part the n-th of a row is.
+fn row_key(heads: bool, n: usize) -> Key
+    ensures { result ≡ M.row_key heads n }
+{
+    if heads { Key::Head(n) } else { Key::Row(n) }
+}
+
+// The number after a depth. `NoMemory` is want of numbers.
+fn deeper(depth: usize) -> Result<usize, NoMemory>
+    ensures { IfOk result (λ inner. inner ≡ suc depth) }
+{
+    match depth.checked_add(1) {
+        Some(inner) => Ok(inner),
+        None => Err(NoMemory),
+    }
+}
+
+// Marks a statement that is this part, and its parts, where it declares some.
+#[cycle(marked)]
+fn note<'p>(
+    s: &'p Statement,
+    key: Key,
+    depth: usize,
+    marks: &mut Vec<Mark<'p>>,
+) -> Result<(), NoMemory>
+    ensures { OnOk result ((names : Names) → marks_seen names marks.new.items ≡ marks_seen names marks.old.items ++ M.marked key depth (stmt_of names s.now) (M.marks (suc depth) (stmt_of names s.now))) }
+{
+    let count = declared(s);
+    if count == 0 {
+        return Ok(());
+    }
+    let inner = deeper(depth)?;
+    let own = own_of(s);
+    marks.push(Mark {
+        depth,
+        key,
+        count,
+        own,
+    })?;
+    mark_parts(s, inner, marks)
+}
+
+/// Marks the parts of a statement, which stand so deep. `NoMemory` is want of memory.
+#[cycle(marked)]
+pub(crate) fn mark_parts<'p>(
+    s: &'p Statement,
+    depth: usize,
+    marks: &mut Vec<Mark<'p>>,
+) -> Result<(), NoMemory>
+    ensures { OnOk result ((names : Names) → marks_seen names marks.new.items ≡ marks_seen names marks.old.items ++ M.marks depth (stmt_of names s.now)) }
+{
+    match s {
+        Statement::Block { inner, .. } => mark_row(inner, false, depth, marks),
+        Statement::If { yes, no, .. } => {
+            note(yes, Key::Yes, depth, marks)?;
+            mark_arm(no, depth, marks)
+        }
+        Statement::While { body, .. } | Statement::DoWhile { body, .. } => {
+            note(body, Key::Body, depth, marks)
+        }
+        Statement::For { first, body, .. } => {
+            mark_row(first, true, depth, marks)?;
+            note(body, Key::Body, depth, marks)
+        }
+        Statement::Label { inner, .. } => note(inner, Key::Body, depth, marks),
+        _ => Ok(()),
+    }
+}
+
+// Marks a row of statements.
+#[cycle(marked)]
+fn mark_row<'p>(
+    row: &'p [Statement],
+    heads: bool,
+    depth: usize,
+    marks: &mut Vec<Mark<'p>>,
+) -> Result<(), NoMemory>
+    ensures { OnOk result ((names : Names) → marks_seen names marks.new.items ≡ marks_seen names marks.old.items ++ M.marks_row heads depth 0 (list_of names row.now)) }
+{
+    for (n, s) in row.iter().enumerate() {
+        note(s, row_key(heads, n), depth, marks)?;
+    }
+    Ok(())
+}
+
+// Marks an arm that may be absent.
+#[cycle(marked)]
+fn mark_arm<'p>(
+    arm: &'p Option<Box<Statement>>,
+    depth: usize,
+    marks: &mut Vec<Mark<'p>>,
+) -> Result<(), NoMemory>
+    ensures { OnOk result ((names : Names) → marks_seen names marks.new.items ≡ marks_seen names marks.old.items ++ M.marks_arm depth (maybe_at names arm.now)) }
+{
+    match arm {
+        Some(s) => note(s, Key::No, depth, marks),
+        None => Ok(()),
+    }
+}

@@ -1,0 +1,72 @@
+-- What a table says of the labels of a body.
+use Rattle.std.specs.Prelude.{◌≡◌, ℕ, ◌<◌, List, [], ◌∷◌, ◌++◌, Option, Some, None, option_map, slice_get, nat_eq}
+use Rattle.std.specs.HashMap as hash
+use Rattle.cpc_base.specs.Bytes.{Text}
+use Rattle.cpc_base.specs.declared.names.Name.{Name}
+use Rattle.cpc_tree.specs.declared.program.Statement.{Statement}
+use Rattle.cpc_tree.specs.Erase.{Names, stmt_of}
+use Rattle.cpc_tree.specs.Points.{Path, enter, labelled, or_else}
+use Rattle.cpc_check_rules.specs.Apart.{AreApart}
+use Rattle.cpc_native_points.specs.declared.parts.Part.{Part}
+use Rattle.cpc_native_points.specs.declared.table.Node.{Node}
+use Rattle.cpc_native_points.specs.declared.table.Place.{Place}
+use Rattle.cpc_native_points.specs.declared.table.Table.{Table}
+use Rattle.cpc_native_points.specs.Seen.{path_of}
+
+-- what the label of a name is put before
+abbrev pub place_at : Table → ℕ → Option Place
+place_at t x = hash.get nat_eq t.places x
+
+-- the first, or else the second
+abbrev pub or_place : Option Place → Option Place → Option Place
+or_place None o = o
+or_place (Some w) o = Some w
+
+-- ---- ways
+
+-- a statement, if it is not the body, comes before the one of a number
+abbrev pub IsBefore : Option ℕ → ℕ → Type 0
+IsBefore None k = Unit {0}
+IsBefore (Some j) k = j < k
+
+-- the parts to take to a statement, from the body on
+pub data IsWay (nodes : List Node) : Option ℕ → List Part → Type 0 where
+  AtBody : IsWay nodes None []
+  AtNode : (k : ℕ) (n : Node) (way : List Part) → slice_get nodes k ≡ Some n → IsBefore n.above k → IsWay nodes n.above way → IsWay nodes (Some k) (way ++ n.part ∷ [])
+
+-- there is a way
+pub record HasWay (nodes : List Node) (at : Option ℕ) : Type 0 where
+  pub way : List Part
+  pub is : IsWay nodes at way
+
+-- each way of a table is one of the other
+abbrev pub Grows : Table → Table → Type 0
+Grows old new = (at : Option ℕ) (way : List Part) → IsWay old.nodes.items at way → IsWay new.nodes.items at way
+
+-- ---- labels
+
+-- a label leads to where the statement begins that it is put before
+pub record IsLed (names : Names) (nodes : List Node) (place : Place) (o : Option Path) : Type 0 where
+  pub way : List Part
+  pub is : IsWay nodes (Some place.node) way
+  pub whole : o ≡ Some (path_of way ++ enter (stmt_of names place.inner.now))
+
+abbrev pub LeadsTo : Names → List Node → Option Place → Option Path → Type 0
+LeadsTo names nodes None o = o ≡ None
+LeadsTo names nodes (Some place) o = IsLed names nodes place o
+
+-- where the table says that the label of a name leads
+abbrev pub Tells : Names → Table → Name → Option Path → Type 0
+Tells names t x o = LeadsTo names t.nodes.items (place_at t x.0) o
+
+-- the path behind a way
+abbrev pub under_way : List Part → Option Path → Option Path
+under_way way o = option_map (λ (p : Path). path_of way ++ p) o
+
+-- the labels of a statement were added behind those that there were
+abbrev pub Gathers : Names → Table → Table → Option ℕ → (Text → Option Path) → Type 0
+Gathers names old new at label = (way : List Part) → IsWay old.nodes.items at way → (x : Name) (o : Option Path) → Tells names old x o → Tells names new x (or_else o (under_way way (label (names x))))
+
+-- a table of the labels of a body
+pub record AreLabels (body : Statement) (t : Table) : Type 0 where
+  pub each : (names : Names) → AreApart names → (x : Name) → Tells names t x (labelled (names x) (stmt_of names body))

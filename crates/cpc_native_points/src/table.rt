@@ -1,0 +1,108 @@
+//! A table of the labels of a body: what each is put before, and the way to that.
+ghost use Rattle.std.specs.Prelude.{◌≡◌, ◌<◌, ◌∷◌, ◌++◌, [], ℕ, List, length, slice_get, None, Some, IfOk, OnOk, cond, nat_eq};
+ghost use Rattle.cpc_native_points.specs.Tabled.{HasWay, IsWay, or_place, place_at};
+
+use crate::entering::push;
+use crate::parts::Part;
+use cpc_base::{Name, NoMemory};
+use cpc_tree::program::Statement;
+use std::alloc::Global;
+use std::collections::HashMap;
+
+/// A statement in a body: which part it is of the statement around it, and the number of that one, if it is not the body.
+#[derive(Clone, Copy)]
+pub(crate) struct Node {
+    pub(crate) part: Part,
+    pub(crate) above: Option<usize>,
+}
+
+/// What a label is put before, and its number.
+#[derive(Clone, Copy)]
+pub(crate) struct Place<'p> {
+    pub(crate) node: usize,
+    pub(crate) inner: &'p Statement,
+}
+
+/// The statements in a body, numbered in the order of the text, and what the labels among them are put before.
+#[derive(Drop)]
+pub(crate) struct Table<'p> {
+    pub(crate) nodes: Vec<Node>,
+    places: HashMap<u64, Place<'p>>,
+}
+
+impl<'p> Table<'p> {
+    /// No statement, and no label.
+    pub(crate) fn new(alloc: Global) -> Self
+        ensures nodes { result.nodes.items ≡ [] }
+        ensures places { (x : ℕ) → place_at result x ≡ None }
+    {
+        Table {
+            nodes: Vec::new(alloc),
+            places: HashMap::new(alloc),
+        }
+    }
+
+    /// One more statement, and its number. `NoMemory` is want of memory.
+    pub(crate) fn add(&mut self, part: Part, above: Option<usize>) -> Result<usize, NoMemory>
+        ensures number { IfOk result (λ number. number ≡ length self.old.nodes.items) }
+        ensures nodes { OnOk result (self.new.nodes.items ≡ self.old.nodes.items ++ record { part = part; above = above } ∷ []) }
+        ensures places { (x : ℕ) → place_at self.new x ≡ place_at self.old x }
+    {
+        let number = self.nodes.len();
+        self.nodes.push(Node { part, above })?;
+        Ok(number)
+    }
+
+    /// What the label of a name is put before.
+    pub(crate) fn place(&self, name: Name) -> Option<Place<'p>>
+        ensures { result ≡ place_at self.now name.0 }
+    {
+        match self.places.get(&name.0) {
+            Some(place) => Some(*place),
+            None => None,
+        }
+    }
+
+    // The label of a name is put before this, whatever it was before.
+    fn set(&mut self, name: Name, place: Place<'p>) -> Result<(), NoMemory>
+        ensures nodes { self.new.nodes.items ≡ self.old.nodes.items }
+        ensures places { OnOk result ((x : ℕ) → place_at self.new x ≡ cond (nat_eq name.0 x) (Some place.entry) (place_at self.old x)) }
+    {
+        self.places.insert(name.0, place)?;
+        Ok(())
+    }
+
+    /// A label is put before this, unless there was one of its name. `NoMemory` is want of memory.
+    pub(crate) fn put(&mut self, name: Name, place: Place<'p>) -> Result<(), NoMemory>
+        ensures nodes { self.new.nodes.items ≡ self.old.nodes.items }
+        ensures places { OnOk result ((x : ℕ) → place_at self.new x ≡ or_place (place_at self.old x) (cond (nat_eq name.0 x) (Some place.entry) None)) }
+    {
+        match self.place(name) {
+            Some(_) => Ok(()),
+            None => self.set(name, place),
+        }
+    }
+}
+
+// The statement of a number.
+fn node_at(nodes: &[Node], number: usize) -> Node
+    requires { number < length nodes.now }
+    ensures { slice_get nodes.now number ≡ Some result }
+{
+    nodes[number]
+}
+
+/// Puts the way to a statement behind the path: the parts to take, from the body on. `NoMemory` is want of memory.
+pub(crate) fn climb(nodes: &[Node], at: Option<usize>, path: &mut Vec<Part>) -> Result<(), NoMemory>
+    requires { ∥ HasWay nodes.now at ∥₁ }
+    ensures { OnOk result ((way : List Part) → IsWay nodes.now at way → path.new.items ≡ path.old.items ++ way) }
+{
+    match at {
+        None => Ok(()),
+        Some(number) => {
+            let node = node_at(nodes, number);
+            climb(nodes, node.above, path)?;
+            push(path, node.part)
+        }
+    }
+}
