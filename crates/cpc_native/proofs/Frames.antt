@@ -20,13 +20,13 @@ use Rattle.cpc_native_points.specs.declared.parts.Phase.TheVariants as F
 use Rattle.cpc_check_rules.specs.Apart.{Spells}
 use Rattle.cpc_eval_variables.specs.Told.{IsTold}
 use Rattle.cpc_eval_index.specs.declared.index.Index.{Index}
-use Rattle.cpc_eval_index.specs.Indexed.{items_of}
+use Rattle.cpc_eval_index.specs.Indexed.{items_of, IsOwn}
 use Rattle.cpc_eval.specs.declared.around.Slot.{Slot}
 use Rattle.cpc_eval.specs.declared.around.Slot.TheVariants as G
 use Rattle.cpc_native_builtins.specs.Served.{is_served_program}
 use Rattle.cpc_eval.specs.Numbers.{ProgramNumbers}
 use Rattle.cpc_native_frames.specs.declared.frame.Frame.{Frame}
-use Rattle.cpc_native_frames.specs.Frames.{frame_of, IsOwn, IsWellFrame}
+use Rattle.cpc_native_frames.specs.Frames.{frame_of, IsWellFrame}
 use Rattle.cpc_native_frames.specs.Made.{slots_of}
 use Rattle.cpc_native_acts.specs.Acts.{StoodNumbers, is_served_stood, IsTexts, IsServing}
 use Rattle.cpc_native.specs.Stacks.{frames_of}

@@ -22,9 +22,9 @@ use Rattle.cpc_eval_values.specs.Meets.{Meets}
 use Rattle.cpc_eval_values.specs.Shown.{value_of, store_of}
 use Rattle.cpc_check_rules.specs.Apart.{AreApart}
 use Rattle.cpc_eval_index.specs.declared.index.Index.{Index}
-use Rattle.cpc_eval_index.specs.Indexed.{items_of}
+use Rattle.cpc_eval_index.specs.Indexed.{items_of, IsOwn}
 use Rattle.cpc_native_frames.specs.declared.frame.Frame.{Frame}
-use Rattle.cpc_native_frames.specs.Frames.{frame_of, IsOwn}
+use Rattle.cpc_native_frames.specs.Frames.{frame_of}
 use Rattle.cpc_native_frames.specs.Made.{slots_of}
 use Rattle.cpc_native_acts.specs.declared.act.Act.{Act}
 use Rattle.cpc_native_acts.specs.declared.act.Act.TheVariants as A

@@ -1,5 +1,5 @@
 -- What holds of a machine between its steps, and what a step changes.
-use Rattle.std.specs.Prelude.{◌≡◌, true, List, [], ◌∷◌, ◌++◌}
+use Rattle.std.specs.Prelude.{◌≡◌, List, [], ◌∷◌, ◌++◌, None}
 use Rattle.std.specs.List.{All}
 use Rattle.cpc_tree.specs.Erase.{Names}
 use Rattle.cpc_store.specs.Seen.{seen, IsLawful}
@@ -36,6 +36,31 @@ pub record IsBack (top : Frame) (old new : Machine) : Type 0 where
   pub calls : new.calls.frames.items ≡ old.calls.frames.items ++ top ∷ []
   pub store : new.store ≡ old.store
   pub arriving : new.arriving ≡ old.arriving
+
+-- the calls stand as they were, with others upon them, and so does what arrives
+pub record StandsUnder (old new : Machine) : Type 0 where
+  pub upon : List Frame
+  pub calls : new.calls.frames.items ≡ old.calls.frames.items ++ upon
+  pub arriving : new.arriving ≡ old.arriving
+
+-- the calls below the innermost one stand as they were, and so does what arrives
+pub record StandsBelow (old new : Machine) : Type 0 where
+  pub below : List Frame
+  pub top : Frame
+  pub upon : List Frame
+  pub was : old.calls.frames.items ≡ below ++ top ∷ []
+  pub calls : new.calls.frames.items ≡ below ++ upon
+  pub arriving : new.arriving ≡ old.arriving
+
+-- the calls are as they were, and so is what arrives
+pub record SameCalls (old new : Machine) : Type 0 where
+  pub calls : new.calls.frames.items ≡ old.calls.frames.items
+  pub arriving : new.arriving ≡ old.arriving
+
+-- nothing runs
+pub record IsIdle (m : Machine) : Type 0 where
+  pub calls : m.calls.frames.items ≡ []
+  pub arriving : m.arriving ≡ None
 
 -- after a request and a fault
 abbrev pub BackAfter : Stepped → Frame → (old new : Machine) → Type 0

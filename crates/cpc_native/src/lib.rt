@@ -2,6 +2,7 @@
 #![tactic(auto)]
 
 mod calls;
+mod going;
 mod machine;
 mod next;
 

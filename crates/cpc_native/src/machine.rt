@@ -14,8 +14,8 @@ ghost use Rattle.cpc_meaning.specs.Trees.{trees};
 ghost use Rattle.cpc_eval_values.specs.Meets.{Meets};
 ghost use Rattle.cpc_native_acts.specs.Stops.{MeetsOr};
 ghost use Rattle.cpc_eval_values.specs.Shown.{value_of, values_of, store_of};
-ghost use Rattle.cpc_eval_index.specs.Indexed.{items_of};
-ghost use Rattle.cpc_native_frames.specs.Frames.{frame_of, IsOwn, IsWellFrame};
+ghost use Rattle.cpc_eval_index.specs.Indexed.{items_of, IsOwn};
+ghost use Rattle.cpc_native_frames.specs.Frames.{frame_of, IsWellFrame};
 ghost use Rattle.cpc_native_acts.specs.Acts.{act_of, IsLawfulAct, IsLawfulIf, EntersOwn, AsksServed as ActServed, AsksTaken as ActTaken};
 ghost use Rattle.cpc_meaning.specs.Act as M;
 ghost use Rattle.cpc_native_frames.specs.Made.{slots_of};
@@ -28,13 +28,13 @@ ghost use Rattle.cpc_meaning.specs.Machine.{State};
 ghost use Rattle.cpc_meaning.specs.Runs.{live_cells};
 
 use crate::calls::Calls;
+use crate::going::go_on;
 use crate::next::counted;
 use cpc_base::{Name, Names, NoMemory, Stop};
 use cpc_eval_index::Index;
 use cpc_native_acts::{Act, foreseen, step};
 use cpc_native_builtins::Call;
 use cpc_native_frames::{Frame, call_cells, enter};
-use cpc_native_points::after;
 use cpc_num::Fault;
 use cpc_store::{Block, Class, Store, Value};
 use cpc_tree::program::Function;
@@ -87,7 +87,7 @@ impl<'p> Machine<'p> {
     ghost use Rattle.cpc_native.specs.Stacks.{frames_of, stack_of, done_of, went, TellsRunning};
     ghost use Rattle.cpc_native.specs.Next.{FreesAlone, IsStateOf, LeavesSo, LeavesAtMost};
     ghost use Rattle.cpc_native.specs.Runs.{Runs};
-    ghost use Rattle.cpc_native.specs.Well.{AreWell, IsWell, BackAfter, AskedBy, TellsFunction, Unchanged, IsSameBut, EndsEmpty, AsksServed, AsksTaken, IsOver, IsLawfulStep};
+    ghost use Rattle.cpc_native.specs.Well.{AreWell, IsWell, BackAfter, AskedBy, TellsFunction, Unchanged, IsSameBut, EndsEmpty, AsksServed, AsksTaken, IsOver, IsLawfulStep, StandsUnder, StandsBelow, SameCalls, IsIdle};
 
     /// A machine with this store in which nothing runs. The texts are those of the names of the program that the index is of.
     pub fn new(alloc: Global, index: Index<'p>, texts: &'p Names, store: Store) -> Self
@@ -121,6 +121,7 @@ impl<'p> Machine<'p> {
             → P.make_frame (trees (items_of names self.old.index)) (function_of names function.now) (values_of names arguments.now) (store_of names self.old.store) ≡ A.Gives a
             → (frames_of names self.new.calls.frames.items ≡ a.0 ∷ frames_of names self.old.calls.frames.items) × (store_of names self.new.store ≡ a.1)) }
         ensures arriving { OnOk result (self.new.arriving ≡ None) }
+        ensures err { OnErr result (SameCalls self.old self.new) }
         ensures well { OnOk result (IsWell self.new) }
         ensures index { self.new.index ≡ self.old.index }
         ensures texts { self.new.texts ≡ self.old.texts }
@@ -137,12 +138,13 @@ impl<'p> Machine<'p> {
         requires frame { IsWellFrame self.old.index frame }
         ensures meets { IfOk result (λ stepped. (names : Texts) → Runs names self.old.texts.now (items_of names self.old.index) → Meets (done_of names self.new stepped)
             (P.perform (trees (items_of names self.old.index)) (store_of names self.old.store) (frame_of names frame.entry) (frames_of names self.old.calls.frames.items) (M.GoesOn holds (store_of names self.old.store) (slots_of names frame.entry.slots.items)))) }
+        ensures err { OnErr result (StandsUnder self.old self.new) }
         ensures well { OnOk result (IsWell self.new) }
         ensures went { IfOk result (λ stepped. stepped ≡ Stepped.Went) }
         ensures index { self.new.index ≡ self.old.index }
         ensures texts { self.new.texts ≡ self.old.texts }
     {
-        after(&frame.function.body, &mut frame.point, holds)?;
+        go_on(&self.index, frame.function, &mut frame.point, holds)?;
         self.calls.put(frame)?;
         self.arriving = None;
         Ok(Stepped::Went)
@@ -162,6 +164,7 @@ impl<'p> Machine<'p> {
         requires lawful { All (λ v. IsLawful (seen v)) arguments.now }
         ensures meets { IfOk result (λ stepped. (names : Texts) → Runs names self.old.texts.now (items_of names self.old.index) → Meets (done_of names self.new stepped)
             (P.perform (trees (items_of names self.old.index)) (store_of names self.old.store) (frame_of names frame.entry) (frames_of names self.old.calls.frames.items) (M.Enters (function_of names function.now) (values_of names arguments.now)))) }
+        ensures err { OnErr result (StandsUnder self.old self.new) }
         ensures well { OnOk result (IsWell self.new) }
         ensures went { IfOk result (λ stepped. stepped ≡ Stepped.Went) }
         ensures index { self.new.index ≡ self.old.index }
@@ -207,6 +210,7 @@ impl<'p> Machine<'p> {
         requires own { EntersOwn self.old.index act }
         ensures meets { IfOk result (λ stepped. (names : Texts) → Runs names self.old.texts.now (items_of names self.old.index) → Meets (done_of names self.new stepped)
             (P.perform (trees (items_of names self.old.index)) (store_of names self.old.store) (frame_of names frame.entry) (frames_of names self.old.calls.frames.items) (act_of names frame.entry.slots.items self.old.store act.entry))) }
+        ensures err { OnErr result (StandsUnder self.old self.new) }
         ensures well { OnOk result (IsWell self.new) }
         ensures lawful { IfOk result (λ stepped. IsLawfulStep stepped) }
         ensures told { IfOk result (λ stepped. TellsFunction stepped frame.entry) }
@@ -237,7 +241,7 @@ impl<'p> Machine<'p> {
     /// Runs a call of the function of this name alone, whatever ran before. Where the program has no such function, nothing
     /// is said.
     ///
-    /// `NoMemory` is want of memory, or of numbers for so many cells; then nothing is said of the machine.
+    /// `NoMemory` is want of memory, or of numbers for so many cells; then nothing runs.
     pub fn call(
         &mut self,
         alloc: Global,
@@ -248,6 +252,7 @@ impl<'p> Machine<'p> {
         ensures runs { OnOk result ((names : Texts) → Runs names self.old.texts.now (items_of names self.old.index) → (g : X.Function) (a : P.Frame T.Point × S.Store)
             → function_named (items_of names self.old.index) (names function) ≡ Some g → P.make_frame (trees (items_of names self.old.index)) g (values_of names arguments.now) (store_of names self.old.store) ≡ A.Gives a
             → (stack_of names self.new ≡ P.stack_of a.0) × (store_of names self.new.store ≡ a.1)) }
+        ensures err { OnErr result (IsIdle self.new) }
         ensures well { OnOk result (IsWell self.new) }
         ensures index { self.new.index ≡ self.old.index }
         ensures texts { self.new.texts ≡ self.old.texts }
@@ -266,11 +271,13 @@ impl<'p> Machine<'p> {
     /// A step of the innermost call, by the definition of native code. A step that asks or faults changes nothing; the
     /// name that it tells is that of the function whose code runs. Where nothing runs, nothing is said.
     ///
-    /// `NoMemory` is want of memory, or of numbers for so many cells; then nothing is said of the machine.
+    /// `NoMemory` is want of memory, or of numbers for so many cells; then the calls below the innermost one stand as they were, and
+    /// so does what arrives. Of the innermost one nothing is said.
     pub fn step(&mut self, alloc: Global) -> Result<Stepped, NoMemory>
         requires { IsWell self.old }
         ensures meets { IfOk result (λ stepped. (names : Texts) → Runs names self.old.texts.now (items_of names self.old.index)
             → Meets (done_of names self.new stepped) (P.plain (trees (items_of names self.old.index)) (store_of names self.old.store) (stack_of names self.old))) }
+        ensures err { OnErr result (StandsBelow self.old self.new) }
         ensures well { OnOk result (IsWell self.new) }
         ensures lawful { IfOk result (λ stepped. IsLawfulStep stepped) }
         ensures told { IfOk result (λ stepped. (names : Texts) → TellsRunning names self.old stepped) }
@@ -368,8 +375,8 @@ impl<'p> Machine<'p> {
             → result ≡ min (S.store_cells (store_of names self.now.store) + L.frames_registers (stack_of names self.now).frames + call_cells (items_of names self.now.index) g) (2 ^ 64 - 1) }
     {
         let live = self.live_cells();
-        match self.index.function(function) {
-            Some(function) => live.saturating_add(call_cells(&self.index, function)),
+        match self.index.locals(function) {
+            Some(locals) => live.saturating_add(call_cells(&self.index, locals)),
             None => live,
         }
     }

@@ -3,6 +3,7 @@ use Rattle.cpc_eval_values.specs.Shown.{store_of}
 use Rattle.cpc_eval_index.specs.Indexed.{items_of}
 use Rattle.cpc_native_frames.specs.Living.{CanLeave}
 use Rattle.cpc_native_frames.specs.Made.{slots_of}
+use Rattle.cpc_native_acts.specs.Foreseen.{EntersOwnly}
 use Rattle.cpc_native.specs.Next.{IsCounted}
 use Rattle.cpc_native.proofs.next.counted.Goals as goal
 
@@ -14,4 +15,7 @@ returns-in-Some c = λ names apart.
 pub returns-in-None : goal.returns-in-None
 returns-in-None c = λ names apart.
     subst (λ change. IsCounted names (items_of names c.args.index.now) (store_of names c.args.store.now) (slots_of names c.args.slots.now) c.args.live change c.args.live) (sym c.in-Leaves.is)
-    (λ t freed. absurd (subst (CanLeave None) freed (c.in-None.ensures.leaves names c.requires)))
+    (λ t freed. absurd (subst (CanLeave None) freed (c.in-None.ensures.leaves names c.requires.rise)))
+
+pub called_cells-requires : goal.called_cells-requires
+called_cells-requires c = subst (EntersOwnly c.args.index.now) c.in-Enters.is c.requires.own

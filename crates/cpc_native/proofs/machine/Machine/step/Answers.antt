@@ -10,9 +10,10 @@ use Rattle.cpc_eval_index.specs.Indexed.{items_of}
 use Rattle.cpc_native_frames.specs.Frames.{IsWellFrame}
 use Rattle.cpc_native.specs.declared.machine.Machine.{Machine}
 use Rattle.cpc_native.specs.Stacks.{stack_of, done_of}
-use Rattle.cpc_native.specs.Well.{IsBack}
+use Rattle.cpc_native.specs.Well.{IsBack, StandsBelow}
 use Rattle.cpc_native.proofs.Frames.{well_upon, texts_in, serving_in}
 use Rattle.cpc_native.proofs.Machines.{act_step, fault_step, same_back, kept_step}
+use Rattle.cpc_native.proofs.Refused.{any_err, below_taken, none_upon, tells_running}
 use Rattle.cpc_native.proofs.machine.Machine.step.Goals as goal
 
 pub returns-in_ok-stepped-in-Ok-clause-meets : goal.returns-in_ok-stepped-in-Ok-clause-meets
@@ -67,3 +68,28 @@ returns-in_ok-put-in-Err-Fault-clause-well c =
       calls = well_upon old.index c.take.new.self.frames.items c.put.new.self.frames.items c.step.new.frame c.in_ok-put-in-Err-Fault.ensures.ok well.0 c.step.ensures.well;
       arriving = c.requires.arriving;
     }
+
+pub returns-in_err-stepped-in-Ok-clause-err : goal.returns-in_err-stepped-in-Ok-clause-err
+returns-in_err-stepped-in-Ok-clause-err c =
+    let old = c.args.self.now in
+    let mid : Machine = record { index = old.index; texts = old.texts; store = c.step.new.store; calls = c.take.new.self; arriving = old.arriving } in
+    let below : StandsBelow old c.perform.new.self = below_taken old mid c.perform.new.self c.in-Some.frame c.in-Some.ensures.rest refl c.in_err-stepped-in-Ok.ensures.err in
+    any_err c.from_residual.result (StandsBelow old c.perform.new.self) below
+
+pub returns-in_err-put-in-Err-Fault-clause-err : goal.returns-in_err-put-in-Err-Fault-clause-err
+returns-in_err-put-in-Err-Fault-clause-err c =
+    let old = c.args.self.now in
+    let mid : Machine = record { index = old.index; texts = old.texts; store = c.step.new.store; calls = c.take.new.self; arriving = old.arriving } in
+    let new : Machine = record { index = old.index; texts = old.texts; store = c.step.new.store; calls = c.put.new.self; arriving = old.arriving } in
+    let below : StandsBelow old new = none_upon old mid new c.in-Some.frame c.in-Some.ensures.rest refl c.in_err-put-in-Err-Fault.ensures.err refl in
+    any_err c.from_residual-in_err-put-in-Err-Fault.result (StandsBelow old new) below
+
+pub returns-in-Err-Memory-clause-err : goal.returns-in-Err-Memory-clause-err
+returns-in-Err-Memory-clause-err c =
+    let old = c.args.self.now in
+    let mid : Machine = record { index = old.index; texts = old.texts; store = c.step.new.store; calls = c.take.new.self; arriving = old.arriving } in
+    none_upon old mid mid c.in-Some.frame c.in-Some.ensures.rest refl refl refl
+
+pub returns-in_ok-stepped-in-Ok-clause-told : goal.returns-in_ok-stepped-in-Ok-clause-told
+returns-in_ok-stepped-in-Ok-clause-told c = λ names.
+    tells_running names c.args.self.now c.take.new.self.frames.items c.in-Some.frame c.step.new.frame c.in-Some.ensures.rest c.step.ensures.function c.in_ok-stepped-in-Ok.stepped c.in_ok-stepped-in-Ok.ensures.told
