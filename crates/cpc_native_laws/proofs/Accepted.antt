@@ -28,7 +28,7 @@ use Rattle.cpc_tree.specs.declared.program.Program as GProgram
 use Rattle.cpc_tree.specs.declared.program.Word.{Word}
 use Rattle.cpc_check.specs.Accepted.{IsRead, IsWithin}
 use Rattle.cpc_eval.specs.Numbers.{ProgramNumbers}
-use Rattle.cpc_native_laws.specs.Laws.{AcceptedHasNumbers, IsSpelling}
+use Rattle.cpc_native_laws.specs.Laws.{AcceptedHasNumbers, IsSpelling, AreSpellings}
 use Rattle.cpc_check_sound_laws.proofs.Unbroken.{split}
 use Rattle.cpc_check.proofs.Parts.{item_again}
 use Rattle.cpc_check.proofs.Spelled.{spelling, spells}
@@ -39,6 +39,7 @@ use Rattle.cpc_native_laws.proofs.Props.{program_prop}
 use Rattle.cpc_native_laws.proofs.Inside.{name_in, items_in}
 use Rattle.cpc_native_laws.proofs.Alike.{two, items_same}
 use Rattle.cpc_native_laws.proofs.There.{items_there}
+use Rattle.cpc_native_laws.proofs.Others.{others, others_spell, are_others}
 
 -- ---- numbers
 
@@ -101,10 +102,8 @@ module _ (p : GProgram.Program) where
       let e : map bare_item (map (located_item other) p.items.items) ≡ map bare_item (map (located_item table) p.items.items) = ap (map bare_item) (within.alike other agrees) in
       items_there (length p.names) other table differs p.items.items (sym (items_again other p.items.items) ∙ e ∙ items_again table p.items.items)
 
-  spelling_same : ∥ IsWithin p ∥₁ → AreDistinct p.names → map (item_of (spelling p.names)) p.items.items ≡ program_of p
-  spelling_same within distinct =
-      items_same (length p.names) (spelling p.names) table (λ n h. (spells p.names distinct).inside n (under n.0 (length p.names) h)) p.items.items
-      (∥∥₁_elim within (Bool-set _ _) all_in)
+  same_by : (names : Names) → Spells p.names names → ∥ IsWithin p ∥₁ → map (item_of names) p.items.items ≡ program_of p
+  same_by names s within = items_same (length p.names) names table (λ n h. s.inside n (under n.0 (length p.names) h)) p.items.items (∥∥₁_elim within (Bool-set _ _) all_in)
 
   -- ---- parameters that have names
 
@@ -160,16 +159,32 @@ module _ (p : GProgram.Program) where
       true_not_false (sym k.0 ∙ ap is_some n)
   called_there (x ∷ ps) h (suc k) q e none = called_there ps (and_both (is_some x.called) (all_named (λ (q : S.Parameter). q.called) ps) h).1 k q e none
 
-  -- texts that tell the names of a program that is checked
+  -- texts that tell names apart, and are those of the table for its names, tell the names of a program that is checked
+  spelled_by : (dialect : Dialect) → ∥ IsRead dialect (located p) ∥₁ → ∥ IsWithin p ∥₁ → (names : Names) → Spells p.names names → IsSpelling names p
+  spelled_by dialect read within names s =
+      let all = all_have dialect read in
+      record {
+        spells = s;
+        same = same_by names s within;
+        unnamed = λ x f e k q i none n. absurd (called_there f.parameters (all_named_by dialect read x f e) k q i none);
+        told = λ k f e. record { apart = s.apart; unnamed = λ j q i none x. absurd (has_name f.parameters.items (all k f e) j q i none) };
+      }
+
+  -- there are such texts
   pub spelled : (dialect : Dialect) → ∥ IsRead dialect (located p) ∥₁ → ∥ IsWithin p ∥₁ → AreDistinct p.names → (names : Names) × IsSpelling names p
-  spelled dialect read within distinct =
-      let s : Spells p.names (spelling p.names) = spells p.names distinct in
-      let all = all_have dialect read in (
-        spelling p.names,
+  spelled dialect read within distinct = (spelling p.names, spelled_by dialect read within (spelling p.names) (spells p.names distinct))
+
+  -- and two of them that differ at each other name
+  pub spelled_twice : (dialect : Dialect) → ∥ IsRead dialect (located p) ∥₁ → ∥ IsWithin p ∥₁ → AreDistinct p.names → (names : Names) × (other : Names) × AreSpellings names other p
+  spelled_twice dialect read within distinct =
+      let names = spelling p.names in
+      let other = others names p.names in
+      let s : Spells p.names names = spells p.names distinct in (
+        names,
+        other,
         record {
-          spells = s;
-          same = spelling_same within distinct;
-          unnamed = λ x f e k q i none n. absurd (called_there f.parameters (all_named_by dialect read x f e) k q i none);
-          told = λ k f e. record { apart = s.apart; unnamed = λ j q i none x. absurd (has_name f.parameters.items (all k f e) j q i none) };
+          first = spelled_by dialect read within names s;
+          second = spelled_by dialect read within other (others_spell names p.names s);
+          others = are_others names p.names s;
         },
       )

@@ -2,6 +2,7 @@ pub mod Accepted
 pub mod Alike
 pub mod Inside
 pub mod Literals
+pub mod Others
 pub mod Props
 pub mod Sizes
 pub mod There

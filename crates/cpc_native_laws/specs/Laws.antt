@@ -1,10 +1,10 @@
 -- What is known of the numbers of programs that are accepted, and of the texts of their names.
-use Rattle.std.specs.Prelude.{◌≡◌, ℕ, false, [], map, slice_get, Some, None, bytes_eq}
+use Rattle.std.specs.Prelude.{◌≡◌, ℕ, ◌≤◌, false, [], length, map, slice_get, Some, None, bytes_eq}
 use Rattle.cpc_base.specs.Bytes.{Text}
 use Rattle.cpc_base.specs.declared.names.Name.{Name}
 use Rattle.cpc_base.specs.declared.stop.Dialect.{Dialect}
 use Rattle.cpc_check_rules.specs.Apart.{Spells}
-use Rattle.cpc_tree.specs.Erase.{Names, item_of, program_of}
+use Rattle.cpc_tree.specs.Erase.{Names, Table, item_of, program_of}
 use Rattle.cpc_tree.specs.Syntax as S
 use Rattle.cpc_tree.specs.Typing.{function_named}
 use Rattle.cpc_tree.specs.Located.{LProgram, bare}
@@ -12,6 +12,7 @@ use Rattle.cpc_tree.specs.declared.program.Function.{Function}
 use Rattle.cpc_tree.specs.declared.program.Item.TheVariants as I
 use Rattle.cpc_tree.specs.declared.program.Program as GProgram
 use Rattle.cpc_check.specs.Accepted.{Accepts}
+use Rattle.cpc_meaning.specs.Start.{before_bars}
 use Rattle.cpc_eval.specs.Numbers.{ProgramNumbers}
 use Rattle.cpc_eval_variables.specs.Told.{IsTold}
 
@@ -25,3 +26,13 @@ pub record IsSpelling (names : Names) (p : GProgram.Program) : Type 0 where
   pub same : map (item_of names) p.items.items ≡ program_of p
   pub told : (k : ℕ) (f : Function) → slice_get p.items.items k ≡ Some (I.Function f) → IsTold names f.parameters.items
   pub unnamed : (x : Text) (f : S.Function) → function_named (program_of p) x ≡ Some f → (k : ℕ) (q : S.Parameter) → slice_get f.parameters k ≡ Some q → q.called ≡ None → (n : Name) → bytes_eq [] (names n) ≡ false
+
+-- Two spellings of names differ at each name that the table does not have, also in the part that a fault tells. So what both tell alike is in the table.
+pub record AreOthers (table : Table) (names other : Names) : Type 0 where
+  pub differ : (n : Name) → length table ≤ n.0 → before_bars (names n) ≡ before_bars (other n) → ⊥
+
+-- Two such spellings of a program.
+pub record AreSpellings (names other : Names) (p : GProgram.Program) : Type 0 where
+  pub first : IsSpelling names p
+  pub second : IsSpelling other p
+  pub others : AreOthers p.names names other

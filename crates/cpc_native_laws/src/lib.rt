@@ -3,4 +3,4 @@
 
 mod laws;
 
-pub use laws::{accepted_has_numbers, checked_has_numbers, is_spelled};
+pub use laws::{accepted_has_numbers, checked_has_numbers, is_spelled, is_spelled_twice};
