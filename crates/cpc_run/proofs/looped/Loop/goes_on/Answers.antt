@@ -6,10 +6,13 @@ use Rattle.cpc_run.specs.Answers.{CameAnswered}
 use Rattle.cpc_run.specs.Code.{AskedIn, EndsIdle, Same, done_of, store_in, stack_in}
 use Rattle.cpc_native.specs.Stacks.{request_of}
 use Rattle.cpc_meaning_pointer_laws.specs.Made.{IsMadeCode}
-use Rattle.cpc_run.specs.States.{where_running, program_in}
+use Rattle.cpc_run.specs.States.{settles, where_running, program_in}
+use Rattle.cpc_meaning.specs.Events.{callbacks}
+use Rattle.cpc_meaning.specs.Machine.{code_step}
 use Rattle.cpc_meaning.specs.Runs.{live_cells}
 use Rattle.cpc_run.specs.Shorts.{IsBeyond}
-use Rattle.cpc_run.proofs.Shorts.{goes_count, by_more}
+use Rattle.cpc_run.specs.declared.short.Short.TheVariants as W
+use Rattle.cpc_run.proofs.Shorts.{goes_count, by_more, err_is, memory_counts}
 use Rattle.cpc_run.proofs.Hosted.{asked_by_mid, code_by, faulted_says, none_said}
 use Rattle.cpc_run.proofs.Steps.{faulted_so}
 use Rattle.cpc_run.proofs.looped.Loop.goes_on.Goals as goal
@@ -124,3 +127,10 @@ returns-in_ok-asked-in-Asked-clause-capped g c = λ names fits sent s within sta
     let running = stands.running ∙ ap (λ b. where_running b (stack_in names l.machine)) c.requires.running in
     goes_count (λ n. n ≤ c.args.cap) names l s running
     (λ t step. c.next_cells.ensures.within names s fits.runs stands.store running (within.made.running (stack_in names l.machine) running) c.args.cap c.requires.cap within.live c.in_default.ensures.none t step)
+
+pub returns-in_err-asked-in-Asked-clause-short : goal.returns-in_err-asked-in-Asked-clause-short
+returns-in_err-asked-in-Asked-clause-short g c =
+    let gone = c.from_residual-in_err-asked-in-Asked in
+    let l = c.args.self.now in
+    err_is _ gone.result W.Memory gone.ensures.1 (λ names fits sent s within stands.
+    memory_counts c.args.cap W.Memory (settles names l s (code_step (callbacks (program_in names l)) s (stack_in names l.machine))) refl)
