@@ -1,8 +1,10 @@
 -- What a request does, and its answer, are one step.
-use Rattle.std.proofs.Common.{◌≡◌, ℕ, true, false, ℤ, pos, ◌++◌, map, Option, Some, None, Result, Ok, Err, refl, sym, ap, subst, ◌∙◌, append_assoc}
+use Rattle.std.proofs.Common.{◌≡◌, ℕ, true, false, ℤ, pos, ◌++◌, ◌+◌, ◌≤◌, length, map, Option, Some, None, Result, Ok, Err, refl, sym, ap, subst, ◌∙◌, append_assoc, arith}
+use Rattle.std.proofs.lemmas.List.{length-replicate}
 use Rattle.std.specs.Prelude.{int_lt, unsigned_abs, is_some}
 use Rattle.cpc_base.specs.Bytes.{Text}
 use Rattle.cpc_base.specs.declared.names.Name.{Name}
+use Rattle.cpc_base.proofs.Lists.{some_is}
 use Rattle.cpc_base.specs.declared.stop.NoMemory.{NoMemory}
 use Rattle.cpc_num.specs.declared.kinds.Fault.{Fault}
 use Rattle.cpc_num.specs.declared.kinds.Kind.{Kind}
@@ -12,12 +14,14 @@ use Rattle.cpc_tree.specs.Trace as T
 use Rattle.cpc_tree.specs.Trace.{Mark}
 use Rattle.cpc_store.specs.declared.values.Class.{Class}
 use Rattle.cpc_store.specs.declared.values.Class.TheVariants.{Static}
-use Rattle.cpc_store.specs.Store.{Store, Value, Unset, Whole, At, alloc, free, next_block, unset_cells}
+use Rattle.cpc_store.proofs.CellLemmas.{store_cells-alloc}
+use Rattle.cpc_store.specs.Store.{Store, Value, Unset, Whole, At, alloc, free, next_block, store_cells, unset_cells}
 use Rattle.cpc_meaning.specs.Answer.{Answer, Gives, Faults, NoAnswer, ◌>>=◌}
 use Rattle.cpc_meaning.specs.Agenda as A
 use Rattle.cpc_meaning.specs.Events.{Callback, callbacks}
 use Rattle.cpc_meaning.specs.Machine.{acts, ends, fault_function, marks, after_done, reply, replies, with_store, with_agenda, settled}
 use Rattle.cpc_meaning.specs.Plain.{Form, Stack, Done, Went, Returned, Asks, answered, running_function}
+use Rattle.cpc_meaning.specs.Runs.{frames_registers, live_cells}
 use Rattle.cpc_meaning.specs.Section.{allocated, freed}
 use Rattle.cpc_meaning.specs.Start.{before_bars}
 use Rattle.cpc_meaning.specs.Trees.{trees}
@@ -120,6 +124,20 @@ module _ (names : Names) (l mid : Loop) (printed : Text) (s : States) (class : C
   went_on new grows (Faults fault) h = absurd (let g = h.going in cc g)
   went_on new grows NoAnswer h = tt
 
+  -- the block is one of the cells that are live then
+  room_in : (a : Answer (Done Point)) → Did {E = NoMemory} names (Ok None) mid printed s (settles names l s (a >>= after_done s)) → (next : States) → settles names l s (with_it a) ≡ Some next
+      → store_cells (store_in names mid.machine) + cells ≤ live_cells next
+  room_in (Gives (Went t j)) h next e =
+      let stored : store_cells t ≡ store_cells (store_in names mid.machine) = ap store_cells h.store in
+      let more : store_cells (alloc class (unset_cells cells) t) ≡ store_cells t + length (unset_cells {C = Text} cells) = store_cells-alloc class (unset_cells cells) t in
+      let many : length (unset_cells {C = Text} cells) ≡ cells = length-replicate cells Unset in
+      let live : store_cells (alloc class (unset_cells cells) t) + frames_registers j.frames ≡ live_cells next = ap live_cells (some_is _ next e) in
+      omega (arith, stored, more, many, live)
+  room_in (Gives (Returned w t)) h next e = absurd (cc e)
+  room_in (Gives (Asks r)) h next e = absurd (cc e)
+  room_in (Faults fault) h next e = absurd (let g = h.going in cc g)
+  room_in NoAnswer h next e = absurd (cc e)
+
   gone : (o : Outcome) (a : Answer (Done Point)) → Did {E = NoMemory} names (Ok (Some o)) mid printed s (settles names l s (a >>= after_done s)) → Did {E = NoMemory} names (Ok (Some o)) mid printed s (settles names l s (with_it a))
   gone o (Gives (Went t j)) h = absurd (not_going names o (sym (ap (λ (u : States). u.outcome) h) ∙ going))
   gone o (Gives (Returned w t)) h = tt
@@ -138,6 +156,12 @@ module _ (names : Names) (l mid : Loop) (printed : Text) (s : States) (class : C
         → Did {E = NoMemory} names (Ok None) new printed s (settles names l s (replies p k (allocated class (Whole kind count) s.store) s))
     made_on new grows (Some o) e h = absurd (cc e)
     made_on new grows None e h = subst (λ a. Did {E = NoMemory} names (Ok None) new printed s (settles names l s a)) (sym replies_is) (went_on new grows (answered p s.store k v) h)
+
+    -- and there is room for it
+    pub room_left : (o : Option Outcome) → is_some o ≡ false → Did {E = NoMemory} names (Ok o) mid printed s (settles names l s (reply p k v s))
+        → (next : States) → settles names l s (replies p k (allocated class (Whole kind count) s.store) s) ≡ Some next → store_cells (store_in names mid.machine) + cells ≤ live_cells next
+    room_left (Some o) e h next goes = absurd (cc e)
+    room_left None e h next goes = room_in (answered p s.store k v) h next (subst (λ a. settles names l s a ≡ Some next) replies_is goes)
 
     -- the pointer could not arrive
     pub made_not : (o : Option Outcome) → is_some o ≡ true → Did {E = NoMemory} names (Ok o) mid printed s (settles names l s (reply p k v s))

@@ -1,5 +1,5 @@
 -- The ends of a run, and its beginning.
-use Rattle.std.proofs.Common.{◌≡◌, ◌≢◌, min, inl, inr, ℕ, ◌+◌, ◌<◌, length, Bool, true, false, List, [], ◌∷◌, ◌++◌, map, Option, Some, None, refl, sym, ap, subst, ◌∙◌, arith}
+use Rattle.std.proofs.Common.{◌≡◌, ◌≢◌, min, inl, inr, ℕ, ◌+◌, ◌<◌, length, Bool, true, false, List, [], ◌∷◌, ◌++◌, map, cond, bytes_eq, Option, Some, None, refl, sym, ap, subst, ◌∙◌, arith}
 use Rattle.std.proofs.Math.Logic.{∥∥₁_elim}
 use Rattle.std.proofs.Math.Nat.{add-zero}
 use Rattle.std.proofs.lemmas.Option.{get_or_from_slice_get, slice_get_within}
@@ -9,10 +9,14 @@ use Rattle.cpc_base.specs.declared.names.Name.{Name}
 use Rattle.cpc_base.specs.declared.stop.Dialect.{Dialect}
 use Rattle.cpc_base.specs.declared.stop.Dialect.TheVariants as D
 use Rattle.cpc_base.proofs.Pieces.{append_known-nil}
-use Rattle.cpc_tree.specs.Erase.{Names, Table, in_table, item_of, program_of}
+use Rattle.cpc_tree.specs.Erase.{Names, Table, function_of, in_table, item_of, program_of}
 use Rattle.cpc_tree.specs.Locate.{located}
 use Rattle.cpc_tree.specs.Syntax.{Program}
 use Rattle.cpc_tree.specs.Trace as T
+use Rattle.cpc_tree.specs.Typing.{function_named}
+use Rattle.cpc_tree.specs.declared.program.Function.{Function as GFunction}
+use Rattle.cpc_tree.specs.declared.program.Item as GItem
+use Rattle.cpc_tree.specs.declared.program.Item.TheVariants as J
 use Rattle.cpc_tree.specs.declared.program.Program as GProgram
 use Rattle.cpc_tree.proofs.Places.{bare_program}
 use Rattle.cpc_check_rules.specs.Apart.{Spells}
@@ -62,6 +66,17 @@ text_is names table name text spells e = spells.inside name (slice_get_within ta
 -- the name of `main` has its text
 pub main_is : (names : Names) (table : Table) (name : Name) → Spells table names → slice_get table name.0 ≡ Some main_name → names name ≡ main_name
 main_is names table name spells e = text_is names table name main_name spells e
+
+-- an item that declares no function
+pub no_function : (names : Names) (item : GItem.Item) (x : Text) → ((f : GFunction) → item ≡ J.Function f → ⊥) → (rest : Program) → function_named (item_of names item ∷ rest) x ≡ function_named rest x
+no_function names (J.Struct tag fields) x h rest = refl
+no_function names (J.Global w t start) x h rest = refl
+no_function names (J.Prototype q mode w r ps) x h rest = refl
+no_function names (J.Function f) x h rest = absurd (h f refl)
+
+-- and one that declares another
+pub other_function : (names : Names) (f : GFunction) (x : Text) → bytes_eq (names f.word.name) x ≡ false → (rest : Program) → function_named (item_of names (J.Function f) ∷ rest) x ≡ function_named rest x
+other_function names f x e rest = ap (λ b. cond b (Some (function_of names f)) (function_named rest x)) e
 
 -- ---- the beginning
 

@@ -16,8 +16,11 @@ pub mod Hosting
 pub mod Numbers
 pub mod Hosted
 pub mod Given
+pub mod Going
+pub mod Twice
 pub mod Pieces
 pub mod Ends
+pub mod Missing
 pub mod Bars
 pub mod Shorts
 pub mod Lawful

@@ -65,7 +65,7 @@ module _ (names : Names) (q : Program) (h : History) (cap : ℕ) (trace : Bool) 
   here_going = r.going n (omega arith)
 
   -- what a step came to, said of the next state of the run
-  made_next : (m : Result Made NoMemory) (new : Loop) (old text : Text) → MadeSo names cap m new old text (run_of q h n) (try_step (callbacks (program_in names l)) (run_of q h n))
+  pub made_next : (m : Result Made NoMemory) (new : Loop) (old text : Text) → MadeSo names cap m new old text (run_of q h n) (try_step (callbacks (program_in names l)) (run_of q h n))
       → MadeSo names cap m new old text (run_of q h n) (Some (run_of q h (suc n)))
   made_next m new old text x =
       subst (MadeSo names cap m new old text (run_of q h n)) (next_is q h n stuck here_going)

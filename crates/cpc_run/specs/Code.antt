@@ -21,7 +21,7 @@ use Rattle.cpc_native.specs.declared.machine.Stepped.TheVariants as X
 use Rattle.cpc_native.specs.Runs.{Runs as RunsOf}
 use Rattle.cpc_native.specs.Stacks.{stack_of, request_of}
 use Rattle.cpc_native.specs.Well.{IsWell as IsWellMachine}
-use Rattle.cpc_native_laws.specs.Laws.{IsSpelling}
+use Rattle.cpc_native_laws.specs.Laws.{IsSpelling, AreOthers}
 use Rattle.cpc_run.specs.declared.code.Code.{Code}
 
 -- the program whose code runs
@@ -53,6 +53,14 @@ pub record Given (names : Names) (p : GProgram.Program) : Type 0 where
   pub spelled : IsSpelling names p
   pub served : is_served_program (program_of p) ≡ true
   pub numbers : ProgramNumbers (program_of p)
+
+-- the same of two spellings, which differ at each name that the table does not have
+pub record GivenTwice (p : GProgram.Program) : Type 0 where
+  pub names : Names
+  pub other : Names
+  pub first : Given names p
+  pub second : Given other p
+  pub others : AreOthers p.names names other
 
 -- what a step of the code comes to, with the machine after it
 abbrev pub done_of : Names → Code → Stepped → Result (P.Done Point) Fault

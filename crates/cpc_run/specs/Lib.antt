@@ -1,5 +1,6 @@
 pub mod Answers
 pub mod Code
+pub mod Going
 pub mod Hosts
 pub mod Outcomes
 pub mod Made

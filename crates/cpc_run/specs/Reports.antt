@@ -8,11 +8,13 @@ use Rattle.cpc_tree.specs.Erase.{Names, Table, in_table, item_of}
 use Rattle.cpc_tree.specs.declared.program.Program as GProgram
 use Rattle.cpc_tree.specs.Syntax.{Program}
 use Rattle.cpc_tree.specs.Trace as T
+use Rattle.cpc_check_rules.specs.Apart.{Spells}
 use Rattle.cpc_meaning.specs.Events.{CallMain, callbacks, event}
 use Rattle.cpc_meaning.specs.History.{History}
 use Rattle.cpc_meaning.specs.Machine.{ends, IsStuck}
 use Rattle.cpc_meaning.specs.Runs.{live_cells, Full}
 use Rattle.cpc_meaning.specs.Start.{opening}
+use Rattle.cpc_native_laws.specs.Laws.{AreOthers}
 use Rattle.cpc_history_marks.specs.declared.marks.Told.{Told}
 use Rattle.cpc_history_marks.specs.Views.{told_of}
 use Rattle.cpc_run.specs.declared.looped.Loop.{Loop}
@@ -25,7 +27,7 @@ use Rattle.cpc_run.specs.declared.outcome.RunReport.{RunReport}
 use Rattle.cpc_run.specs.declared.made.Made.{Made}
 use Rattle.cpc_run.specs.declared.made.Made.TheVariants as M
 use Rattle.cpc_run.specs.Made.{IsMadeRun}
-use Rattle.cpc_run.specs.Hosts.{answers_of, HostsMeet, with_answers}
+use Rattle.cpc_run.specs.Hosts.{answers_of, HasHosts, HostsMeet, with_answers}
 use Rattle.cpc_run.specs.Outcomes.{outcome_of}
 use Rattle.cpc_run.specs.Shown.{shown, all_shown, last_of}
 use Rattle.cpc_run.specs.States.{States, Stands, Breaks, Fits, IsSteady, program_in}
@@ -174,6 +176,19 @@ pub record Begins (names : Names) (q : Program) (h : History) (l : Loop) (cells 
   pub cells_are : cells ≡ live_cells (run_of q h 0)
   pub polls : l.polls ≡ length h.polls
   pub made : IsMadeRun (run_of q h 0)
+
+-- the same by two spellings, which differ at each name that the table does not have; the functions of the host that its code asks for are there
+pub record BeginsTwice (table : Table) (there : List (Text × ℕ)) (l : Loop) (cells : ℕ) : Type 0 where
+  pub names : Names
+  pub other : Names
+  pub others : AreOthers table names other
+  pub program : Program
+  pub history : History
+  pub spells : Spells table names
+  pub spells_other : Spells table other
+  pub hosts : HasHosts there program
+  pub begins : (answers : List ℤ) → Begins names program (with_answers history answers) l cells
+  pub begins_other : (answers : List ℤ) → Begins other program (with_answers history answers) l cells
 
 -- the loop stands as the first state of the program
 pub record Opened (names : Names) (p : GProgram.Program) (h : History) (l : Loop) : Type 0 where

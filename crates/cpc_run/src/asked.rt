@@ -15,6 +15,7 @@ ghost use Rattle.cpc_meaning.specs.Trees.{trees};
 ghost use Rattle.cpc_eval_values.specs.Shown.{value_of, values_of};
 ghost use Rattle.cpc_meaning_pointer_laws.specs.Made.{IsMadeCode};
 ghost use Rattle.cpc_run.specs.Code.{stack_in};
+ghost use Rattle.cpc_run.specs.Going.{CallHasBlock, CallsBack, CallsThere, HasBlock, HasCallback, KnowsNames, KnowsSection};
 ghost use Rattle.cpc_native.specs.Stacks.{request_of};
 ghost use Rattle.cpc_run.specs.States.{States, Came, Fits, IsSteady, GoesSteady, Keeps, Did, Acted, settles, program_in};
 ghost use Rattle.cpc_run.specs.Answers.{CameAnswered};
@@ -211,6 +212,9 @@ impl<'p> Loop<'p> {
         requires running { self.old.running ≡ true }
         requires served { is_served (primitive_of builtin) ≡ true }
         requires takes { IsAskedWith (primitive_of builtin) request.now.args.items }
+        requires callback { HasCallback (primitive_of builtin) request.now.args.items }
+        requires known { KnowsSection table.now request.now.args.items }
+        requires room { HasBlock self.old request.now.function (primitive_of builtin) request.now.args.items }
         requires lawful { All (λ v. IsLawful (seen v)) request.now.args.items }
         ensures keeps { Keeps self.old self.new }
         ensures steady { GoesSteady result self.new }
@@ -257,6 +261,10 @@ impl<'p> Loop<'p> {
         requires running { self.old.running ≡ true }
         requires served { IsServedCall request.now.call }
         requires takes { IsCalledWith request.now.call request.now.args.items }
+        requires callback { CallsBack request.now.call request.now.args.items }
+        requires known { KnowsNames table.now request.now.call request.now.args.items }
+        requires there { CallsThere (⟦<HostTable<R> as Kept>⟧.names hosts.now) table.now request.now.call request.now.args.items }
+        requires room { CallHasBlock self.old request.now.function request.now.call request.now.args.items }
         requires lawful { All (λ v. IsLawful (seen v)) request.now.args.items }
         requires rule { ⟦<HostTable<R> as Kept>⟧.keeps hosts.now }
         ensures keeps { Keeps self.old self.new }

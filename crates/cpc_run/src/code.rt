@@ -134,13 +134,6 @@ impl<'p> Code<'p> {
         self.machine.store().made(class)
     }
 
-    /// The cells of live blocks.
-    pub(crate) fn store_cells(&self) -> u64
-        ensures { (names : Spelling) → result ≡ S.store_cells (store_in names self.now) }
-    {
-        self.machine.store().live_cells()
-    }
-
     /// The store, to be read.
     pub(crate) fn store(&self) -> &Store
         ensures { (names : Spelling) → store_of names result.now ≡ store_in names self.now }

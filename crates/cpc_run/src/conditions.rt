@@ -48,12 +48,8 @@ impl<'p> Loop<'p> {
         ensures did { (names : Names) → Fits names self.old → (printed : Text) (s : States) → Acted names self.old function printed s s
             → Did names result self.new printed s (settles names self.old s (primitive (callbacks (program_in names self.old)) R.Now [] (stack_in names self.old.machine) s)) }
     {
-        let time = Value::Int(Kind::Long, self.turns.agenda.now() as i128);
-        // The clock is at most 2^53; no clause of the agenda says so.
-        if !time.is_lawful() {
-            return Err(NoMemory);
-        }
-        self.reply(alloc, function, time)
+        let time = self.turns.agenda.now() as i128;
+        self.reply(alloc, function, Value::Int(Kind::Long, time))
     }
 
     /// A new condition.

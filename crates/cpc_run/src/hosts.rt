@@ -1,5 +1,5 @@
 //! Functions of the host: the first that a table has not, and calls of them.
-ghost use Rattle.std.specs.Prelude.{◌≡◌, ◌++◌, List, ℤ, IfOk, true, option_map};
+ghost use Rattle.std.specs.Prelude.{◌≡◌, ◌++◌, ◌<◌, List, ℤ, length, IfOk, true, option_map};
 ghost use Rattle.std.specs.List.{All};
 ghost use Rattle.cpc_base.specs.Bytes.{Text};
 ghost use Rattle.cpc_check_rules.specs.Apart.{Spells};
@@ -9,6 +9,7 @@ ghost use Rattle.cpc_meaning.specs.Machine as M;
 ghost use Rattle.cpc_meaning.specs.Trees.{trees};
 ghost use Rattle.cpc_eval_values.specs.Shown.{values_of};
 ghost use Rattle.cpc_native_acts.specs.Taken.{IsLong};
+ghost use Rattle.cpc_hosts.specs.Tables.{is_there};
 ghost use Rattle.cpc_store.specs.Seen.{seen, IsLawful};
 ghost use Rattle.cpc_run.specs.Code.{stack_in};
 ghost use Rattle.cpc_run.specs.Taken.{IsNumber};
@@ -99,6 +100,8 @@ impl<'p> Loop<'p> {
         requires steady { IsSteady self.old }
         requires running { self.old.running ≡ true }
         requires takes { All IsLong request.now.args.items }
+        requires known { name.0 < length table.now }
+        requires there { is_there (in_table table.now name) (length request.now.args.items) (⟦<HostTable<R> as Kept>⟧.names hosts.now) ≡ true }
         requires lawful { All (λ v. IsLawful (seen v)) request.now.args.items }
         requires rule { ⟦<HostTable<R> as Kept>⟧.keeps hosts.now }
         ensures keeps { Keeps self.old self.new }
@@ -108,14 +111,11 @@ impl<'p> Loop<'p> {
             → CameAnswered names R.answers said rest r self.new (sent ++ pending.new.items) s (settles names self.old s (M.host_call (trees (program_in names self.old)) (names name) (values_of names request.now.args.items) (stack_in names self.old.machine) s)))) }
     {
         let numbers = longs(alloc, request.args.as_slice())?;
-        // Each name of the code is in the table; no clause of the code says so.
         let Some(text) = table.text(name) else {
-            return Err(NoMemory);
+            unreachable!();
         };
-        // A program that breaks no rule calls a function of the host with as many numbers as it declares, and no run begins where
-        // one is missing: so there is an answer. No clause of the code says that of the call; without an answer nothing is said.
         let Some(answer) = hosts.call(text, numbers.as_slice()) else {
-            return Err(NoMemory);
+            unreachable!();
         };
         put_host(self.trace, alloc, text, numbers, answer, pending)?;
         self.reply(

@@ -12,6 +12,7 @@ ghost use Rattle.cpc_eval_values.specs.Shown.{value_of, values_of};
 ghost use Rattle.cpc_run_jobs.specs.Holding.{IsAssigned};
 ghost use Rattle.cpc_run.specs.Answers.{CameAnswered};
 ghost use Rattle.cpc_run.specs.Code.{stack_in};
+ghost use Rattle.cpc_run.specs.Going.{Goes};
 ghost use Rattle.cpc_run.specs.Shorts.{Counts, IsBeyond};
 ghost use Rattle.cpc_run.specs.declared.step.Step.TheVariants.{On};
 ghost use Rattle.cpc_run.specs.States.{States, Stands, Within, Fits, IsSteady, GoesSteady, TurnsSteady, CountsPolls, Keeps, Did, CameTo, DidTurn, Acted, settles, program_in, callback_of, lists_in};
@@ -166,7 +167,7 @@ impl<'p> Loop<'p> {
     ) -> Result<Option<Outcome>, Short>
         requires steady { IsSteady self.old }
         requires running { self.old.running ≡ true }
-        requires fits { (names : Spelling) × Fits names self.old }
+        requires goes { Goes table.now (⟦<HostTable<R> as Kept>⟧.names hosts.now) cap self.old }
         requires rule { ⟦<HostTable<R> as Kept>⟧.keeps hosts.now }
         requires cap { cap < 2 ^ 62 }
         ensures keeps { Keeps self.old self.new }

@@ -8,6 +8,7 @@ ghost use Rattle.cpc_meaning.specs.Machine.{try_step};
 ghost use Rattle.cpc_meaning.specs.Runs.{live_cells};
 ghost use Rattle.cpc_run_jobs.specs.Holding.{IsAssigned};
 ghost use Rattle.cpc_run.specs.Answers.{MadeAnswered};
+ghost use Rattle.cpc_run.specs.Going.{Goes};
 ghost use Rattle.cpc_run.specs.States.{States, Stands, Within, Fits, IsSteady, Keeps, program_in};
 ghost use Rattle.cpc_run.specs.Reports.{MadeSo, MadePolls, MadeSteady};
 
@@ -73,7 +74,7 @@ impl<'p> Loop<'p> {
         cap: u64,
     ) -> Result<Made, NoMemory>
         requires steady { IsSteady self.old }
-        requires fits { (names : Spelling) × Fits names self.old }
+        requires goes { Goes table.now (⟦<HostTable<R> as Kept>⟧.names hosts.now) cap self.old }
         requires assigned { IsAssigned S.program S.bound self.old.jobs }
         requires rule { ⟦<HostTable<R> as Kept>⟧.keeps hosts.now }
         requires cap { cap < 2 ^ 62 }
@@ -102,7 +103,7 @@ impl<'p> Loop<'p> {
     ) -> Result<Made, NoMemory>
         requires steady { IsSteady self.old }
         requires running { self.old.running ≡ true }
-        requires fits { (names : Spelling) × Fits names self.old }
+        requires goes { Goes table.now (⟦<HostTable<R> as Kept>⟧.names hosts.now) cap self.old }
         requires rule { ⟦<HostTable<R> as Kept>⟧.keeps hosts.now }
         requires cap { cap < 2 ^ 62 }
         ensures keeps { Keeps self.old self.new }

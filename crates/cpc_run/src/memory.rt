@@ -1,11 +1,11 @@
 //! Blocks that the running code asks for, and frees.
-ghost use Rattle.std.specs.Prelude.{◌≡◌, ◌++◌, None, Some, OnOk, true, [], ◌∷◌, length};
+ghost use Rattle.std.specs.Prelude.{◌≡◌, ◌++◌, ◌+◌, ◌<◌, ◌^◌, None, Some, OnOk, true, [], ◌∷◌, length};
 ghost use Rattle.std.specs.List.{All};
 ghost use Rattle.cpc_base.specs.Bytes.{Text};
 ghost use Rattle.cpc_tree.specs.Erase.{Names};
 ghost use Rattle.cpc_tree.specs.Primitives as R;
 ghost use Rattle.cpc_store.specs.Seen.{seen, IsLawful};
-ghost use Rattle.cpc_store.specs.Store.{alloc as made_block, unset_cells};
+ghost use Rattle.cpc_store.specs.Store.{alloc as made_block, store_cells, unset_cells};
 ghost use Rattle.cpc_store.specs.declared.values.Class.TheVariants.{Static};
 ghost use Rattle.cpc_meaning.specs.Machine.{replies, with_store};
 ghost use Rattle.cpc_meaning.specs.Section.{allocated, freed};
@@ -13,7 +13,8 @@ ghost use Rattle.cpc_meaning.specs.Trees.{trees};
 ghost use Rattle.cpc_eval_values.specs.Shown.{value_of, values_of};
 ghost use Rattle.cpc_meaning_pointer_laws.specs.Made.{IsMadeCode};
 ghost use Rattle.cpc_native_acts.specs.Taken.{IsTaken};
-ghost use Rattle.cpc_run.specs.Code.{stack_in};
+ghost use Rattle.cpc_run.specs.Code.{store_in, stack_in};
+ghost use Rattle.cpc_run.specs.Going.{HasRoom, HasRoomFor};
 ghost use Rattle.cpc_run.specs.Taken.{IsNumber};
 ghost use Rattle.cpc_run.specs.States.{States, Stands, Fits, IsSteady, GoesSteady, Keeps, Did, Acted, settles, program_in};
 
@@ -25,10 +26,8 @@ use cpc_num::Fault;
 use cpc_store::{Block, Class, Value};
 use std::alloc::Global;
 
-// The most blocks of a class, and the most cells of all blocks, which no cap allows.
+// Below this a class has numbers left for its blocks.
 const MOST_BLOCKS: u64 = 1 << 62;
-
-const MOST_CELLS: u64 = 1 << 62;
 
 impl<'p> Loop<'p> {
     /// A block of so many cells.
@@ -41,6 +40,7 @@ impl<'p> Loop<'p> {
         requires steady { IsSteady self.old }
         requires running { self.old.running ≡ true }
         requires takes { IsTaken (R.long ∷ []) request.now.args.items }
+        requires room { HasRoomFor self.old request.now.function class request.now.args.items }
         requires lawful { All (λ v. IsLawful (seen v)) request.now.args.items }
         requires class { ¬ (class ≡ Static) }
         ensures keeps { Keeps self.old self.new }
@@ -66,6 +66,7 @@ impl<'p> Loop<'p> {
         requires steady { IsSteady self.old }
         requires running { self.old.running ≡ true }
         requires count { IsNumber (seen count) }
+        requires room { HasRoom self.old function class count }
         requires class { ¬ (class ≡ Static) }
         ensures keeps { Keeps self.old self.new }
         ensures steady { GoesSteady result self.new }
@@ -88,17 +89,17 @@ impl<'p> Loop<'p> {
         Ok(None)
     }
 
-    // Makes the next block of a class.
+    // Makes the next block of a class. `NoMemory` is want of memory, or of numbers for so many blocks.
     fn makes(&mut self, alloc: Global, class: Class, cells: u64) -> Result<(), NoMemory>
         requires steady { IsSteady self.old }
         requires running { self.old.running ≡ true }
+        requires room { (names : Names) × (store_cells (store_in names self.old.machine) + cells < 2 ^ 63) }
         ensures keeps { Keeps self.old self.new }
         ensures steady { IsSteady self.new }
         ensures running { self.new.running ≡ self.old.running }
         ensures made { OnOk result ((names : Names) (printed : Text) (s : States) → Stands names self.old printed s → Stands names self.new printed (with_store s (made_block class (unset_cells cells) s.store))) }
     {
-        let room = MOST_CELLS.saturating_sub(self.machine.store_cells());
-        if cells >= room || self.machine.made(class) >= MOST_BLOCKS {
+        if self.machine.made(class) >= MOST_BLOCKS {
             return Err(NoMemory);
         }
         self.machine.alloc(alloc, class, cells)?;

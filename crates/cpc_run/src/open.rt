@@ -1,6 +1,8 @@
 //! The first state of a run.
-ghost use Rattle.std.specs.Prelude.{◌≡◌, [], Some, IsTrue, IfOk, IfSome, map, true, slice_get};
-ghost use Rattle.cpc_tree.specs.Erase.{Names as Spelling};
+ghost use Rattle.std.specs.Prelude.{◌≡◌, [], ◌∷◌, None, Some, IsTrue, IfOk, IfSome, IfNone, bytes_eq, map, true, slice_get};
+ghost use Rattle.cpc_tree.specs.Erase.{Names as Spelling, in_table, item_of, program_of};
+ghost use Rattle.cpc_tree.specs.Syntax.{Function, Program as Bare};
+ghost use Rattle.cpc_tree.specs.Typing.{function_named};
 ghost use Rattle.cpc_meaning.specs.History.{polls_fit};
 ghost use Rattle.cpc_history_marks.specs.Views.{told_of};
 ghost use Rattle.cpc_meaning.specs.Start.{main_name};
@@ -23,7 +25,8 @@ use std::alloc::Global;
 
 // Whether a name is that of `main`.
 fn is_main(names: &Names, name: Name) -> bool
-    ensures { IsTrue result → slice_get names.now name.0 ≡ Some main_name }
+    ensures there { IsTrue result → slice_get names.now name.0 ≡ Some main_name }
+    ensures same { result ≡ bytes_eq (in_table names.now name) main_name }
 {
     match names.text(name) {
         Some(text) => text == b"main".as_slice(),
@@ -33,15 +36,30 @@ fn is_main(names: &Names, name: Name) -> bool
 
 // The name of `main`, where a function has it.
 fn main_of(program: &Program) -> Option<Name>
-    ensures { IfSome result (λ name. slice_get program.now.names name.0 ≡ Some main_name) }
+    ensures some { IfSome result (λ name. slice_get program.now.names name.0 ≡ Some main_name) }
+    ensures none { IfNone result (function_named (program_of program.now) main_name ≡ None) }
 {
-    for item in &program.items {
-        if let Declared::Function(function) = item {
-            let name = function.word.name;
-            if is_main(&program.names, name) {
-                return Some(name);
-            }
+    let mut rest = program.items.as_slice();
+    while let Some((item, tail)) = rest.split_first() {
+        if let Some(name) = main_in(&program.names, item) {
+            return Some(name);
         }
+        rest = tail;
+    }
+    None
+}
+
+// The name of a function that an item declares, where it is that of `main`.
+fn main_in(names: &Names, item: &Declared) -> Option<Name>
+    ensures some { IfSome result (λ name. slice_get names.now name.0 ≡ Some main_name) }
+    ensures none { IfNone result ((rest : Bare) → function_named (item_of (in_table names.now) item.now ∷ rest) main_name ≡ function_named rest main_name) }
+{
+    let Declared::Function(function) = item else {
+        return None;
+    };
+    let name = function.word.name;
+    if is_main(names, name) {
+        return Some(name);
     }
     None
 }
@@ -49,7 +67,7 @@ fn main_of(program: &Program) -> Option<Name>
 impl<'p> Loop<'p> {
     /// A run of a program in its first state, over a history of these polls, where a section may make so many steps: nothing
     /// runs, and the call of `main` is ready.
-    /// `NoMemory` is want of memory; nothing is said of a program without `main`.
+    /// `NoMemory` is want of memory.
     pub(crate) fn open(
         alloc: Global,
         program: &'p Program,
@@ -58,13 +76,14 @@ impl<'p> Loop<'p> {
         trace: bool,
     ) -> Result<Loop<'p>, NoMemory>
         requires polls { polls_fit (map told_of polls.now) ≡ true }
+        requires main { (f : Function) × (function_named (program_of program.now) main_name ≡ Some f) }
         ensures steady { IfOk result (λ l. IsSteady l) }
         ensures trace { IfOk result (λ l. l.trace ≡ trace) }
         ensures assigned { IfOk result (λ l. IsAssigned (Some program.now) section_steps l.jobs) }
         ensures opened { IfOk result (λ l. (names : Spelling) → Given names program.now → Opened names program.now (history_of polls.now section_steps) l) }
     {
         let Some(main) = main_of(program) else {
-            return Err(NoMemory);
+            unreachable!();
         };
         let store = globals(alloc, program)?;
         let machine = Code::new(alloc, program, store)?;

@@ -11,10 +11,10 @@ ghost use Rattle.cpc_history_marks.specs.Views.{told_of};
 ghost use Rattle.cpc_meaning.specs.Runs.{live_cells};
 ghost use Rattle.cpc_tree.specs.Syntax.{Program as Bare};
 ghost use Rattle.cpc_run_jobs.specs.Holding.{IsAssigned};
-ghost use Rattle.cpc_run.specs.Hosts.{missing_of, with_answers};
-ghost use Rattle.cpc_run.specs.States.{IsSteady, Fits};
-ghost use Rattle.cpc_run.specs.Reports.{Wrote, IsPrefix, Tells, Ran, IsMissing, Drained, EndsSo, Begins, NeverStuck, history_of, run_of};
-ghost use Rattle.cpc_run.specs.Code.{Given};
+ghost use Rattle.cpc_run.specs.Hosts.{HasHosts, missing_of, with_answers};
+ghost use Rattle.cpc_run.specs.States.{IsSteady};
+ghost use Rattle.cpc_run.specs.Reports.{Wrote, IsPrefix, Tells, Ran, IsMissing, Drained, EndsSo, IsInTable, Begins, BeginsTwice, NeverStuck, history_of, run_of};
+ghost use Rattle.cpc_run.specs.Code.{Given, GivenTwice};
 ghost use Rattle.cpc_run.specs.declared.outcome.Ended.TheVariants.{WriteFault as IsWriteFault};
 ghost use Rattle.cpc_run.specs.declared.outcome.Limits.{Limits as Bounds};
 
@@ -25,11 +25,11 @@ use crate::outcome::{Ended, Limits, Outcome, RunReport};
 use crate::shown::put_last;
 use cpc_base::{Failed, Names, NoMemory, Sink, write_all};
 use cpc_check::Checked;
-use cpc_check_served_laws::accepted_are_served;
+use cpc_check_served_laws::{accepted_are_served, accepted_ask_declared};
 use cpc_check_sound_laws::accepted_callbacks_never_stuck;
 use cpc_history_marks::Told;
 use cpc_hosts::{HostRule, HostTable, Kept};
-use cpc_native_laws::{checked_has_numbers, is_spelled};
+use cpc_native_laws::{checked_has_numbers, is_spelled_twice};
 use cpc_run_globals::global_cells;
 use cpc_run_sections::Sections;
 use cpc_tree::program::Program;
@@ -85,6 +85,7 @@ fn told<O: Sink>(
     pending: &mut Vec<u8>,
     due: RunReport,
 ) -> RunReport
+    requires { IsInTable table.now due.ended }
     ensures same { result ≡ record due { ended = result.ended } }
     ensures told { (told : Option Text) (sent : Text) → O.taken out.old ≡ append_known told sent → Wrote told (O.taken out.new) (λ o. EndsSo table.now trace due.ended result.ended o (sent ++ pending.old.items)) }
     ensures cause { result.ended ≡ IsWriteFault → ¬ (due.ended ≡ IsWriteFault) → Rose (O.faults out.old) (O.faults out.new) }
@@ -121,7 +122,7 @@ fn run_on<O: Sink, R: HostRule, S: Sections>(
     out: &mut O,
 ) -> RunReport
     requires steady { IsSteady run.old }
-    requires fits { (names : Spelling) × Fits names run.old }
+    requires begins { BeginsTwice table.now (⟦<HostTable<R> as Kept>⟧.names hosts.now) run.old first }
     requires assigned { IsAssigned S.program S.bound run.old.jobs }
     requires rule { ⟦<HostTable<R> as Kept>⟧.keeps hosts.now }
     requires cap { limits.cells < 2 ^ 62 }
@@ -188,10 +189,11 @@ fn run_from<O: Sink, R: HostRule, S: Sections>(
     trace: bool,
     out: &mut O,
 ) -> RunReport
-    requires given { (names : Spelling) × Given names program.now }
+    requires given { GivenTwice program.now }
     requires program { S.program ≡ Some program.now }
     requires bound { S.bound ≡ limits.section_steps }
     requires never_stuck { (h : History) → NeverStuck (program_of program.now) h }
+    requires hosts { HasHosts (⟦<HostTable<R> as Kept>⟧.names hosts.now) (program_of program.now) }
     requires rule { ⟦<HostTable<R> as Kept>⟧.keeps hosts.now }
     requires cap { limits.cells < 2 ^ 62 }
     requires first { first ≡ live_cells (run_of (program_of program.now) (history_of polls.now limits.section_steps) 0) }
@@ -246,10 +248,11 @@ fn run_program<O: Sink, R: HostRule, S: Sections>(
     trace: bool,
     out: &mut O,
 ) -> RunReport
-    requires given { (names : Spelling) × Given names program.now }
+    requires given { GivenTwice program.now }
     requires program { S.program ≡ Some program.now }
     requires bound { S.bound ≡ limits.section_steps }
     requires never_stuck { (h : History) → NeverStuck (program_of program.now) h }
+    requires hosts { HasHosts (⟦<HostTable<R> as Kept>⟧.names hosts.now) (program_of program.now) }
     requires rule { ⟦<HostTable<R> as Kept>⟧.keeps hosts.now }
     requires cap { limits.cells < 2 ^ 62 }
     requires polls { polls_fit (map told_of polls.now) ≡ true }
@@ -311,10 +314,11 @@ pub fn run_event<O: Sink, R: HostRule, S: Sections>(
     if let Some(name) = missing_host(&program.program, hosts) {
         return report(Ended::NoHost(name), 0, 0, 0);
     }
-    is_spelled(program);
+    is_spelled_twice(program);
     checked_has_numbers(program);
     accepted_callbacks_never_stuck();
     accepted_are_served();
+    accepted_ask_declared();
     run_program(
         alloc,
         &program.program,

@@ -1,5 +1,5 @@
 //! Detached sections: those that the running code submits, and those that a poll tells.
-ghost use Rattle.std.specs.Prelude.{◌≡◌, ◌++◌, ◌∷◌, [], IfOk, None, true, false};
+ghost use Rattle.std.specs.Prelude.{◌≡◌, ◌++◌, ◌∷◌, ◌<◌, [], length, IfOk, None, true, false};
 ghost use Rattle.std.specs.List.{All};
 ghost use Rattle.cpc_base.specs.Bytes.{Text};
 ghost use Rattle.cpc_check_rules.specs.Apart.{Spells};
@@ -17,7 +17,9 @@ ghost use Rattle.cpc_eval_values.specs.Shown.{value_of, values_of};
 ghost use Rattle.cpc_native_acts.specs.Taken.{IsAskedWith};
 ghost use Rattle.cpc_run_jobs.specs.Holding.{IsAssigned};
 ghost use Rattle.cpc_run.specs.Code.{stack_in};
+ghost use Rattle.cpc_run.specs.Going.{HasCallback, IsKnownCode, KnowsSection};
 ghost use Rattle.cpc_run.specs.Sections.{submitted};
+ghost use Rattle.cpc_run.specs.Taken.{IsCode};
 ghost use Rattle.cpc_run.specs.States.{States, Stands, Fits, IsSteady, GoesSteady, TurnsSteady, CountsPolls, Keeps, Did, DidTurn, Acted, settles, program_in, callback_of, lists_in, polls_in};
 
 use crate::items::{Callback, Item};
@@ -60,6 +62,8 @@ impl<'p> Loop<'p> {
         requires steady { IsSteady self.old }
         requires running { self.old.running ≡ true }
         requires takes { IsAskedWith R.RtDetach request.now.args.items }
+        requires callback { HasCallback R.RtDetach request.now.args.items }
+        requires known { KnowsSection table.now request.now.args.items }
         requires lawful { All (λ v. IsLawful (seen v)) request.now.args.items }
         ensures keeps { Keeps self.old self.new }
         ensures steady { GoesSteady result self.new }
@@ -80,8 +84,7 @@ impl<'p> Loop<'p> {
                     pending,
                 )
             }
-            // A call without arguments: no rule allows it, and no clause of the code says so.
-            _ => Err(NoMemory),
+            _ => unreachable!(),
         }
     }
 
@@ -100,6 +103,8 @@ impl<'p> Loop<'p> {
         requires steady { IsSteady self.old }
         requires running { self.old.running ≡ true }
         requires takes { IsAskedWith R.RtDetach (callback.0 ∷ callback.1 ∷ called ∷ arguments.now) }
+        requires callback { IsCode (seen callback.0) }
+        requires known { IsKnownCode table.now called }
         requires pointer { IsLawful (seen callback.1) }
         requires lawful { All (λ v. IsLawful (seen v)) arguments.now }
         ensures keeps { Keeps self.old self.new }
@@ -107,9 +112,8 @@ impl<'p> Loop<'p> {
         ensures did { (names : Spelling) → Fits names self.old → Spells table.now names → (sent : Text) (s : States) → Acted names self.old function (sent ++ pending.old.items) s s
             → Did names result self.new (sent ++ pending.new.items) s (settles names self.old s (event_primitive (trees (program_in names self.old)) R.RtDetach (value_of names callback.0 ∷ value_of names callback.1 ∷ value_of names called ∷ values_of names arguments.now) (stack_in names self.old.machine) s)) }
     {
-        // A null pointer for a callback: no rule allows it, and no clause of the code says so.
         let Value::Code(back) = callback.0 else {
-            return Err(NoMemory);
+            unreachable!();
         };
         let Value::Code(called) = called else {
             unreachable!();
@@ -134,6 +138,7 @@ impl<'p> Loop<'p> {
     ) -> Result<Option<Outcome>, NoMemory>
         requires steady { IsSteady self.old }
         requires running { self.old.running ≡ true }
+        requires known { called.0 < length table.now }
         requires lawful { All (λ v. IsLawful (seen v)) arguments.now }
         ensures keeps { Keeps self.old self.new }
         ensures steady { GoesSteady result self.new }
@@ -141,7 +146,7 @@ impl<'p> Loop<'p> {
             → Did names result self.new (sent ++ pending.new.items) s (settles names self.old s (submitted (trees (program_in names self.old)) (names called) (values_of names arguments.now) (callback_of names item) (stack_in names self.old.machine) s)) }
     {
         let Some(text) = table.text(called) else {
-            return Err(NoMemory);
+            unreachable!();
         };
         if !self.turns.agenda.has_numbers() {
             return Err(NoMemory);

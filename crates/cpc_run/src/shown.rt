@@ -1,10 +1,11 @@
 //! What goes out for marks and for an end: the bytes of outputs, or the lines of a trace.
-ghost use Rattle.std.specs.Prelude.{◌≡◌, ◌++◌, ◌<◌, length, ◌∷◌, [], IsTrue, IfOk, OnOk, map, true, List};
+ghost use Rattle.std.specs.Prelude.{◌≡◌, ◌++◌, ◌<◌, length, ◌∷◌, [], IfOk, OnOk, map, true, List};
 ghost use Rattle.cpc_tree.specs.Erase.{in_table};
 ghost use Rattle.cpc_tree.specs.Texts as X;
 ghost use Rattle.cpc_tree.specs.Trace as T;
 ghost use Rattle.cpc_history_marks.specs.Views.{mark_of, told_of};
 ghost use Rattle.cpc_run.specs.Outcomes.{outcome_of};
+ghost use Rattle.cpc_run.specs.declared.outcome.Ended.TheVariants.{Over as IsOver};
 ghost use Rattle.cpc_run.specs.declared.outcome.Outcome.TheVariants.{Failed as IsFailed};
 ghost use Rattle.cpc_run.specs.Reports.{IsInTable};
 ghost use Rattle.cpc_run.specs.Shown.{shown_of, last_of};
@@ -132,10 +133,11 @@ fn fault_text(
     fault: Fault,
     function: Name,
 ) -> Result<Vec<u8>, NoMemory>
+    requires { function.0 < length table.now }
     ensures { IfOk result (λ line. line.items ≡ X.last_text (X.Over (outcome_of (in_table table.now) (IsFailed fault function)))) }
 {
     let Some(text) = table.text(function) else {
-        return Err(NoMemory);
+        unreachable!();
     };
     let mut name = Vec::new(alloc);
     name.extend_from_slice(before_bars(text))?;
@@ -144,6 +146,7 @@ fn fault_text(
 
 // The last line of a run that is over, without its line feed.
 fn over_text(alloc: Global, table: &Names, outcome: Outcome) -> Result<Vec<u8>, NoMemory>
+    requires { IsInTable table.now (IsOver outcome) }
     ensures { IfOk result (λ line. line.items ≡ X.last_text (X.Over (outcome_of (in_table table.now) outcome))) }
 {
     match outcome {
@@ -171,6 +174,7 @@ fn put_stop(
     ended: Ended,
     pending: &mut Vec<u8>,
 ) -> Result<(), NoMemory>
+    requires { IsInTable table.now ended }
     ensures { OnOk result (pending.new.items ≡ pending.old.items ++ last_of (in_table table.now) true ended) }
 {
     match ended {
@@ -184,18 +188,7 @@ fn put_stop(
     }
 }
 
-// Whether the name that an end tells is in the table.
-fn is_told(table: &Names, ended: Ended) -> bool
-    ensures { IsTrue result → IsInTable table.now ended }
-{
-    match ended {
-        Ended::Over(Outcome::Failed(_, function)) => table.text(function).is_some(),
-        _ => true,
-    }
-}
-
-/// Puts the last line of a run that was left so, where a trace is wanted. `NoMemory` is want of memory; nothing is said of an
-/// end that tells a name which is not in the table: the code of a program has no such name.
+/// Puts the last line of a run that was left so, where a trace is wanted. `NoMemory` is want of memory.
 pub(crate) fn put_last(
     trace: bool,
     alloc: Global,
@@ -203,12 +196,9 @@ pub(crate) fn put_last(
     ended: Ended,
     pending: &mut Vec<u8>,
 ) -> Result<(), NoMemory>
-    ensures known { OnOk result (IsInTable table.now ended) }
-    ensures last { OnOk result (pending.new.items ≡ pending.old.items ++ last_of (in_table table.now) trace ended) }
+    requires { IsInTable table.now ended }
+    ensures { OnOk result (pending.new.items ≡ pending.old.items ++ last_of (in_table table.now) trace ended) }
 {
-    if !is_told(table, ended) {
-        return Err(NoMemory);
-    }
     if !trace {
         return Ok(());
     }

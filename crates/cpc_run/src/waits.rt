@@ -15,7 +15,8 @@ ghost use Rattle.cpc_meaning.specs.Trees.{trees};
 ghost use Rattle.cpc_eval_values.specs.Shown.{value_of, values_of};
 ghost use Rattle.cpc_native_acts.specs.Taken.{IsAskedWith};
 ghost use Rattle.cpc_run.specs.Code.{stack_in};
-ghost use Rattle.cpc_run.specs.Taken.{IsNumber};
+ghost use Rattle.cpc_run.specs.Going.{HasCallback};
+ghost use Rattle.cpc_run.specs.Taken.{IsCode, IsNumber};
 ghost use Rattle.cpc_run.specs.States.{States, Fits, IsSteady, GoesSteady, Keeps, Did, Acted, settles, program_in};
 
 use crate::items::{Callback, Item};
@@ -79,6 +80,7 @@ impl<'p> Loop<'p> {
         requires steady { IsSteady self.old }
         requires running { self.old.running ≡ true }
         requires takes { IsAskedWith R.RtReady request.now.args.items }
+        requires callback { HasCallback R.RtReady request.now.args.items }
         requires lawful { All (λ v. IsLawful (seen v)) request.now.args.items }
         ensures keeps { Keeps self.old self.new }
         ensures steady { GoesSteady result self.new }
@@ -103,15 +105,15 @@ impl<'p> Loop<'p> {
     ) -> Result<Option<Outcome>, NoMemory>
         requires steady { IsSteady self.old }
         requires running { self.old.running ≡ true }
+        requires callback { IsCode (seen callback) }
         requires pointer { IsLawful (seen pointer) }
         ensures keeps { Keeps self.old self.new }
         ensures steady { GoesSteady result self.new }
         ensures did { (names : Names) → Fits names self.old → (printed : Text) (s : States) → Acted names self.old function printed s s
             → Did names result self.new printed s (settles names self.old s (event_primitive (trees (program_in names self.old)) R.RtReady (value_of names callback ∷ value_of names pointer ∷ []) (stack_in names self.old.machine) s)) }
     {
-        // A null pointer for a callback: no rule allows it, and no clause of the code says so.
         let Value::Code(called) = callback else {
-            return Err(NoMemory);
+            unreachable!();
         };
         match self
             .turns
@@ -133,6 +135,7 @@ impl<'p> Loop<'p> {
         requires steady { IsSteady self.old }
         requires running { self.old.running ≡ true }
         requires takes { IsAskedWith R.RtWait request.now.args.items }
+        requires callback { HasCallback R.RtWait request.now.args.items }
         requires lawful { All (λ v. IsLawful (seen v)) request.now.args.items }
         ensures keeps { Keeps self.old self.new }
         ensures steady { GoesSteady result self.new }
@@ -161,6 +164,7 @@ impl<'p> Loop<'p> {
         requires steady { IsSteady self.old }
         requires running { self.old.running ≡ true }
         requires takes { IsAskedWith R.RtWait (cond ∷ callback ∷ pointer ∷ []) }
+        requires callback { IsCode (seen callback) }
         requires pointer { IsLawful (seen pointer) }
         ensures keeps { Keeps self.old self.new }
         ensures steady { GoesSteady result self.new }
@@ -170,9 +174,8 @@ impl<'p> Loop<'p> {
         let Value::Cond(number) = cond else {
             unreachable!();
         };
-        // A null pointer for a callback: no rule allows it, and no clause of the code says so.
         let Value::Code(called) = callback else {
-            return Err(NoMemory);
+            unreachable!();
         };
         if !self.turns.agenda.has_numbers() {
             return Err(NoMemory);
@@ -198,6 +201,7 @@ impl<'p> Loop<'p> {
         requires steady { IsSteady self.old }
         requires running { self.old.running ≡ true }
         requires takes { IsAskedWith R.RtSleep request.now.args.items }
+        requires callback { HasCallback R.RtSleep request.now.args.items }
         requires lawful { All (λ v. IsLawful (seen v)) request.now.args.items }
         ensures keeps { Keeps self.old self.new }
         ensures steady { GoesSteady result self.new }
@@ -226,6 +230,7 @@ impl<'p> Loop<'p> {
         requires steady { IsSteady self.old }
         requires running { self.old.running ≡ true }
         requires length { IsNumber (seen length) }
+        requires callback { IsCode (seen callback) }
         requires pointer { IsLawful (seen pointer) }
         ensures keeps { Keeps self.old self.new }
         ensures steady { GoesSteady result self.new }
@@ -233,9 +238,8 @@ impl<'p> Loop<'p> {
             → Did names result self.new (sent ++ pending.new.items) s (settles names self.old s (event_primitive (trees (program_in names self.old)) R.RtSleep (value_of names length ∷ value_of names callback ∷ value_of names pointer ∷ []) (stack_in names self.old.machine) s)) }
     {
         let micros = long(length);
-        // A null pointer for a callback: no rule allows it, and no clause of the code says so.
         let Value::Code(called) = callback else {
-            return Err(NoMemory);
+            unreachable!();
         };
         if !self.turns.agenda.has_numbers() {
             return Err(NoMemory);
@@ -261,6 +265,7 @@ impl<'p> Loop<'p> {
         requires steady { IsSteady self.old }
         requires running { self.old.running ≡ true }
         requires takes { IsAskedWith R.RtIo request.now.args.items }
+        requires callback { HasCallback R.RtIo request.now.args.items }
         requires lawful { All (λ v. IsLawful (seen v)) request.now.args.items }
         ensures keeps { Keeps self.old self.new }
         ensures steady { GoesSteady result self.new }
@@ -297,6 +302,7 @@ impl<'p> Loop<'p> {
         requires running { self.old.running ≡ true }
         requires descriptor { IsNumber (seen place.0) }
         requires way { IsNumber (seen place.1) }
+        requires callback { IsCode (seen callback) }
         requires pointer { IsLawful (seen pointer) }
         ensures keeps { Keeps self.old self.new }
         ensures steady { GoesSteady result self.new }
@@ -305,9 +311,8 @@ impl<'p> Loop<'p> {
     {
         let descriptor = long(place.0);
         let number = long(place.1);
-        // A null pointer for a callback: no rule allows it, and no clause of the code says so.
         let Value::Code(called) = callback else {
-            return Err(NoMemory);
+            unreachable!();
         };
         if !self.turns.agenda.has_numbers() {
             return Err(NoMemory);

@@ -1,6 +1,8 @@
-use Rattle.std.proofs.Common.{[], sym, ap, ◌∙◌}
+use Rattle.std.proofs.Common.{[], sym, ap, subst, ◌∙◌}
 use Rattle.cpc_base.proofs.Pieces.{append_known-nil}
 use Rattle.cpc_tree.specs.Erase.{program_of}
+use Rattle.cpc_run.specs.declared.outcome.RunReport.{RunReport}
+use Rattle.cpc_run.specs.Reports.{IsInTable}
 use Rattle.cpc_run.proofs.Ends.{full_first}
 use Rattle.cpc_run.proofs.run.left_at_first.Goals as goal
 
@@ -13,3 +15,6 @@ returns-clause-told g c = λ h limits e lt.
 
 pub returns-clause-steps : goal.returns-clause-steps
 returns-clause-steps g c = ap (λ r. r.steps) c.told.ensures.same ∙ ap (λ r. r.steps) c.report-due.ensures
+
+pub told-requires : goal.told-requires
+told-requires g c = subst (λ (d : RunReport). IsInTable c.args.program.now.names d.ended) (sym c.report-due.ensures) tt

@@ -2,6 +2,7 @@ use Rattle.std.proofs.Common.{refl, sym, ap, ◌∙◌}
 use Rattle.std.specs.Prelude.{option_map}
 use Rattle.cpc_tree.specs.Erase.{in_table}
 use Rattle.cpc_run.proofs.Ends.{checked_never_stuck, checked_served}
+use Rattle.cpc_run.proofs.Missing.{checked_has_hosts}
 use Rattle.cpc_run.proofs.run.run_event.Goals as goal
 
 pub run_program-requires-clause-never_stuck : goal.run_program-requires-clause-never_stuck
@@ -21,5 +22,18 @@ returns-clause-missing g c = λ x e. absurd (let i = sym (ap (λ o. option_map (
 pub run_program-requires-clause-given : goal.run_program-requires-clause-given
 run_program-requires-clause-given g c =
     let p = c.args.program.now in
-    let spelled = c.is_spelled.ensures in
-    (spelled.0, record { spelled = spelled.1; served = checked_served c.accepted_are_served.ensures.law p.program p.dialect c.requires.dialect p.read p.unbroken; numbers = c.checked_has_numbers.ensures })
+    let (names, other, both) = c.is_spelled_twice.ensures in
+    let served = checked_served c.accepted_are_served.ensures.law p.program p.dialect c.requires.dialect p.read p.unbroken in
+    record {
+      names = names;
+      other = other;
+      first = record { spelled = both.first; served = served; numbers = c.checked_has_numbers.ensures };
+      second = record { spelled = both.second; served = served; numbers = c.checked_has_numbers.ensures };
+      others = both.others;
+    }
+
+pub run_program-requires-clause-hosts : goal.run_program-requires-clause-hosts
+run_program-requires-clause-hosts g c =
+    let p = c.args.program.now in
+    let none = sym c.missing_host.ensures ∙ ap (λ o. option_map (in_table p.program.names) o) c.in_default.is in
+    checked_has_hosts _ c.accepted_ask_declared.ensures.law p.program p.dialect p.read p.unbroken none

@@ -7,9 +7,11 @@ use Rattle.cpc_tree.specs.Erase.{in_table}
 use Rattle.cpc_run.specs.Answers.{HasSaid, MadeAnswered}
 use Rattle.cpc_run.specs.Hosts.{with_answers}
 use Rattle.cpc_run.specs.States.{program_in}
-use Rattle.cpc_run.specs.Reports.{MadeSo, MadePolls, MadeSteady, Reached, IsLeft, Tells, run_of}
+use Rattle.cpc_run.specs.declared.outcome.RunReport.{RunReport}
+use Rattle.cpc_run.specs.Reports.{IsInTable, MadeSo, MadePolls, MadeSteady, Reached, IsLeft, Tells, run_of}
 use Rattle.cpc_run.proofs.Given.{has_next, has_same, none_given, ran_with, reached_first}
 use Rattle.cpc_run.proofs.Runs.{AtEnd, within_cap, ends_told, left_in, left_over, left_broke, left_full, reached_more, at_end, tells_cut, tells_memory}
+use Rattle.cpc_run.proofs.Twice.{goes_twice, over_known, broke_known}
 use Rattle.cpc_run.proofs.run.run_on.Goals as goal
 
 pub returns-in-Ok-Over-clause-told : goal.returns-in-Ok-Over-clause-told
@@ -20,7 +22,8 @@ returns-in-Ok-Over-clause-told g c = λ names q hist spells begins.
     let table = c.args.table.now in
     let trace = c.args.run.now.trace in
     let limits = c.args.limits in
-    let (sent, taken, given, far) = c.steps.invariant.so_far names q hist spells begins in
+    let (given, told) = c.steps.invariant.so_far in
+    let (sent, taken, far) = told names q hist spells begins in
     let (said, make) = c.in-Ok-Over.ensures.made in
     let answers = given ++ said in
     let h = with_answers hist answers in
@@ -47,7 +50,8 @@ returns-in-Ok-Broke-clause-told g c = λ names q hist spells begins.
     let table = c.args.table.now in
     let trace = c.args.run.now.trace in
     let limits = c.args.limits in
-    let (sent, taken, given, far) = c.steps.invariant.so_far names q hist spells begins in
+    let (given, told) = c.steps.invariant.so_far in
+    let (sent, taken, far) = told names q hist spells begins in
     let (said, make) = c.in-Ok-Broke.ensures.made in
     let answers = given ++ said in
     let h = with_answers hist answers in
@@ -74,7 +78,8 @@ returns-in-Ok-Full-clause-told g c = λ names q hist spells begins.
     let table = c.args.table.now in
     let trace = c.args.run.now.trace in
     let limits = c.args.limits in
-    let (sent, taken, given, far) = c.steps.invariant.so_far names q hist spells begins in
+    let (given, told) = c.steps.invariant.so_far in
+    let (sent, taken, far) = told names q hist spells begins in
     let (said, make) = c.in-Ok-Full.ensures.made in
     let answers = given ++ said in
     let h = with_answers hist answers in
@@ -100,7 +105,8 @@ returns-in-Err-clause-told g c = λ names q hist spells begins.
     let n = c.steps.steps in
     let trace = c.args.run.now.trace in
     let limits = c.args.limits in
-    let (sent, taken, given, far) = c.steps.invariant.so_far names q hist spells begins in
+    let (given, told) = c.steps.invariant.so_far in
+    let (sent, taken, far) = told names q hist spells begins in
     let answers = given ++ [] in
     let h = with_answers hist answers in
     let (reached, has) = far [] in
@@ -117,7 +123,8 @@ returns-in-Err-drain-clause-told g c = λ names q hist spells begins.
     let n = c.steps.steps in
     let trace = c.args.run.now.trace in
     let limits = c.args.limits in
-    let (sent, taken, given, far) = c.steps.invariant.so_far names q hist spells begins in
+    let (given, told) = c.steps.invariant.so_far in
+    let (sent, taken, far) = told names q hist spells begins in
     let (said, make) = c.in-Ok-On.ensures.made in
     let answers = given ++ said in
     let h = with_answers hist answers in
@@ -140,56 +147,59 @@ returns-in-Err-drain-clause-told g c = λ names q hist spells begins.
 pub steps-init : goal.steps-init
 steps-init g c = record {
   steady = c.requires.steady;
-  fits = c.requires.fits;
   assigned = c.requires.assigned;
   within = omega arith;
   later = omega arith;
   counted = c.taken-polls.ensures;
-  so_far = λ names q hist spells begins. (
+  so_far = (
     [],
-    sym (append_known-nil (g.O.Sink.taken c.args.out.now)),
-    [],
-    λ rest. (reached_first names q (with_answers hist rest) c.args.limits.cells c.args.run.now c.args.first c.new-pending.result.items (begins rest) c.requires.within c.new-pending.ensures.items, none_given g.R.HostRule.answers q hist rest),
+    λ names q hist spells begins. (
+      [],
+      sym (append_known-nil (g.O.Sink.taken c.args.out.now)),
+      λ rest. (reached_first names q (with_answers hist rest) c.args.limits.cells c.args.run.now c.args.first c.new-pending.result.items (begins rest) c.requires.within c.new-pending.ensures.items, none_given g.R.HostRule.answers q hist rest),
+    ),
   );
 }
 
 pub steps-preserved : goal.steps-preserved
 steps-preserved g c = record {
-  fits = (c.steps.invariant.fits.0, c.in-Ok-On.ensures.keeps.runs c.steps.invariant.fits.0 c.steps.invariant.fits.1);
   assigned = c.in-Ok-On.ensures.keeps.assigned g.S.Sections.program g.S.Sections.bound c.steps.invariant.assigned;
   steady = subst (λ m. MadeSteady (Ok m) c.make.new.self) c.in-Ok-On.field-0-is c.in-Ok-On.ensures.steady;
   within = omega (arith, c.steps-test.true);
   later = omega (arith, c.steps.invariant.later, c.drain.ensures.later);
   counted = c.taken-polls-in-steps.ensures;
-  so_far = λ names q hist spells begins.
-      let allows = g.R.HostRule.answers in
-      let l = c.steps.run in
-      let n = c.steps.steps in
-      let trace = c.args.run.now.trace in
-      let limits = c.args.limits in
-      let (sent, taken, given, far) = c.steps.invariant.so_far names q hist spells begins in
-      let (said, make) = c.in-Ok-On.ensures.made in
-      let old = sent ++ c.steps.pending.items in
-      let new = sent ++ c.make.new.pending.items in
-      let left = c.in-Ok.ensures.all (g.O.Sink.taken c.args.out.now) sent taken in (
-        left.0,
-        left.1,
-        given ++ said,
-        λ rest.
-            let answers = given ++ (said ++ rest) in
-            let h = with_answers hist answers in
-            let stuck = (begins answers).never_stuck in
-            let (reached, has) = far (said ++ rest) in
-            let s = run_of q h n in
-            let o = try_step (callbacks (program_in names l)) s in
-            let both = subst (λ m. MadeSo names limits.cells (Ok m) c.make.new.self old new s o × MadeAnswered allows said rest m s o) c.in-Ok-On.field-0-is
-            (make names reached.fits spells sent s (within_cap names q h limits.cells trace l old n c.steps.cells reached) reached.stands rest has.left) in
-            let said_so = has_next allows given said rest names q h l n stuck (reached.going n (omega arith)) reached.program both.1 has in
-            let next = reached_more names q h limits.cells trace l old n c.steps.cells stuck reached c.make.new.self new c.in-Ok-On.left c.in-Ok-On.ensures.keeps both.0 in
-            subst (λ zs. Reached names q (with_answers hist zs) limits.cells trace c.make.new.self (left.0 ++ c.drain.new.pending.items) (n + 1) c.in-Ok-On.left × HasSaid allows (given ++ said) rest (run_of q (with_answers hist zs) (n + 1)))
-            (sym (append_assoc given said rest))
-            (subst (λ p. Reached names q h limits.cells trace c.make.new.self p (n + 1) c.in-Ok-On.left) (sym left.2) next, said_so),
-      );
+  so_far = (
+    c.steps.invariant.so_far.0 ++ c.in-Ok-On.ensures.made.0,
+    λ names q hist spells begins.
+        let allows = g.R.HostRule.answers in
+        let l = c.steps.run in
+        let n = c.steps.steps in
+        let trace = c.args.run.now.trace in
+        let limits = c.args.limits in
+        let (given, told) = c.steps.invariant.so_far in
+        let (sent, taken, far) = told names q hist spells begins in
+        let (said, make) = c.in-Ok-On.ensures.made in
+        let old = sent ++ c.steps.pending.items in
+        let new = sent ++ c.make.new.pending.items in
+        let left = c.in-Ok.ensures.all (g.O.Sink.taken c.args.out.now) sent taken in (
+          left.0,
+          left.1,
+          λ rest.
+              let answers = given ++ (said ++ rest) in
+              let h = with_answers hist answers in
+              let stuck = (begins answers).never_stuck in
+              let (reached, has) = far (said ++ rest) in
+              let s = run_of q h n in
+              let o = try_step (callbacks (program_in names l)) s in
+              let both = subst (λ m. MadeSo names limits.cells (Ok m) c.make.new.self old new s o × MadeAnswered allows said rest m s o) c.in-Ok-On.field-0-is
+              (make names reached.fits spells sent s (within_cap names q h limits.cells trace l old n c.steps.cells reached) reached.stands rest has.left) in
+              let said_so = has_next allows given said rest names q h l n stuck (reached.going n (omega arith)) reached.program both.1 has in
+              let next = reached_more names q h limits.cells trace l old n c.steps.cells stuck reached c.make.new.self new c.in-Ok-On.left c.in-Ok-On.ensures.keeps both.0 in
+              subst (λ zs. Reached names q (with_answers hist zs) limits.cells trace c.make.new.self (left.0 ++ c.drain.new.pending.items) (n + 1) c.in-Ok-On.left × HasSaid allows (given ++ said) rest (run_of q (with_answers hist zs) (n + 1)))
+              (sym (append_assoc given said rest))
+              (subst (λ p. Reached names q h limits.cells trace c.make.new.self p (n + 1) c.in-Ok-On.left) (sym left.2) next, said_so),
+        ),
+  );
 }
 
 pub returns-clause-told : goal.returns-clause-told
@@ -200,7 +210,8 @@ returns-clause-told g c = λ names q hist spells begins.
     let table = c.args.table.now in
     let trace = c.args.run.now.trace in
     let limits = c.args.limits in
-    let (sent, taken, given, far) = c.steps.invariant.so_far names q hist spells begins in
+    let (given, told) = c.steps.invariant.so_far in
+    let (sent, taken, far) = told names q hist spells begins in
     let answers = given ++ [] in
     let h = with_answers hist answers in
     let (reached, has) = far [] in
@@ -219,3 +230,71 @@ overflow_add-polls g c =
     let counted = c.steps.invariant.counted in
     let numbered = c.steps.invariant.steady.numbered in
     omega (arith, some, counted, numbered)
+
+pub make-requires-clause-goes : goal.make-requires-clause-goes
+make-requires-clause-goes g c =
+    let b = c.requires.begins in
+    let l = c.steps.run in
+    let (given, told) = c.steps.invariant.so_far in
+    let (sent, taken, far) = told b.names b.program b.history b.spells b.begins in
+    let (sent_other, taken_other, far_other) = told b.other b.program b.history b.spells_other b.begins_other in
+    let answers = given ++ [] in
+    let pending = c.steps.pending.items in
+    goes_twice c.args.table.now b.names b.other b.others b.program (with_answers b.history answers) c.args.limits.cells c.args.run.now.trace l (sent ++ pending) (sent_other ++ pending) c.steps.steps c.steps.cells
+    (b.begins answers).never_stuck (far []).0 (far_other []).0 b.spells b.hosts
+
+pub told-requires : goal.told-requires
+told-requires g c =
+    let b = c.requires.begins in
+    let l = c.steps.run in
+    let n = c.steps.steps in
+    let trace = c.args.run.now.trace in
+    let cap = c.args.limits.cells in
+    let (given, told) = c.steps.invariant.so_far in
+    let (sent, taken, far) = told b.names b.program b.history b.spells b.begins in
+    let (sent_other, taken_other, far_other) = told b.other b.program b.history b.spells_other b.begins_other in
+    let (said, make) = c.in-Ok-Over.ensures.made in
+    let h = with_answers b.history (given ++ said) in
+    let (reached, has) = far said in
+    let (reached_other, has_other) = far_other said in
+    let pending = c.steps.pending.items in
+    let more = c.make.new.pending.items in
+    let s = run_of b.program h n in
+    let first = make b.names reached.fits b.spells sent s (within_cap b.names b.program h cap trace l (sent ++ pending) n c.steps.cells reached) reached.stands [] (has.left ∙ sym (append-nil said)) in
+    let second = make b.other reached_other.fits b.spells_other sent_other s (within_cap b.other b.program h cap trace l (sent_other ++ pending) n c.steps.cells reached_other) reached_other.stands [] (has_other.left ∙ sym (append-nil said)) in
+    subst (λ (d : RunReport). IsInTable c.args.table.now d.ended) (sym c.report-due.ensures)
+    (over_known c.args.table.now b.names b.other b.others b.program h cap trace l (sent ++ pending) (sent_other ++ pending) n c.steps.cells (b.begins (given ++ said)).never_stuck reached reached_other
+    c.make.new.self (sent ++ more) (sent_other ++ more) c.in-Ok-Over.outcome
+    (subst (λ m. MadeSo b.names cap (Ok m) c.make.new.self (sent ++ pending) (sent ++ more) s (try_step (callbacks (program_in b.names l)) s)) c.in-Ok-Over.field-0-is first.0)
+    (subst (λ m. MadeSo b.other cap (Ok m) c.make.new.self (sent_other ++ pending) (sent_other ++ more) s (try_step (callbacks (program_in b.other l)) s)) c.in-Ok-Over.field-0-is second.0))
+
+pub told-requires-in-Ok-Broke : goal.told-requires-in-Ok-Broke
+told-requires-in-Ok-Broke g c =
+    let b = c.requires.begins in
+    let l = c.steps.run in
+    let n = c.steps.steps in
+    let trace = c.args.run.now.trace in
+    let cap = c.args.limits.cells in
+    let (given, told) = c.steps.invariant.so_far in
+    let (sent, taken, far) = told b.names b.program b.history b.spells b.begins in
+    let (sent_other, taken_other, far_other) = told b.other b.program b.history b.spells_other b.begins_other in
+    let (said, make) = c.in-Ok-Broke.ensures.made in
+    let h = with_answers b.history (given ++ said) in
+    let (reached, has) = far said in
+    let (reached_other, has_other) = far_other said in
+    let pending = c.steps.pending.items in
+    let more = c.make.new.pending.items in
+    let s = run_of b.program h n in
+    let first = make b.names reached.fits b.spells sent s (within_cap b.names b.program h cap trace l (sent ++ pending) n c.steps.cells reached) reached.stands [] (has.left ∙ sym (append-nil said)) in
+    let second = make b.other reached_other.fits b.spells_other sent_other s (within_cap b.other b.program h cap trace l (sent_other ++ pending) n c.steps.cells reached_other) reached_other.stands [] (has_other.left ∙ sym (append-nil said)) in
+    subst (λ (d : RunReport). IsInTable c.args.table.now d.ended) (sym c.report-due-in-Ok-Broke.ensures)
+    (broke_known c.args.table.now b.names b.other b.others b.program h cap trace l (sent ++ pending) (sent_other ++ pending) n c.steps.cells (b.begins (given ++ said)).never_stuck reached reached_other
+    c.make.new.self (sent ++ more) (sent_other ++ more) c.in-Ok-Broke.fault c.in-Ok-Broke.function
+    (subst (λ m. MadeSo b.names cap (Ok m) c.make.new.self (sent ++ pending) (sent ++ more) s (try_step (callbacks (program_in b.names l)) s)) c.in-Ok-Broke.field-0-is first.0)
+    (subst (λ m. MadeSo b.other cap (Ok m) c.make.new.self (sent_other ++ pending) (sent_other ++ more) s (try_step (callbacks (program_in b.other l)) s)) c.in-Ok-Broke.field-0-is second.0))
+
+pub told-requires-in-Ok-Full : goal.told-requires-in-Ok-Full
+told-requires-in-Ok-Full g c = subst (λ (d : RunReport). IsInTable c.args.table.now d.ended) (sym c.report-due-in-Ok-Full.ensures) tt
+
+pub told-requires-2 : goal.told-requires-2
+told-requires-2 g c = subst (λ (d : RunReport). IsInTable c.args.table.now d.ended) (sym c.report-due-2.ensures) tt

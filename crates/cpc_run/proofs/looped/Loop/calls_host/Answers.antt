@@ -12,7 +12,10 @@ use Rattle.cpc_eval_values.specs.Shown.{values_of}
 use Rattle.cpc_run.specs.Code.{stack_in}
 use Rattle.cpc_run.specs.Shown.{shown_of}
 use Rattle.cpc_run.specs.States.{Came, Did, settles, program_in}
+use Rattle.cpc_tree.specs.Erase.{in_table}
+use Rattle.cpc_run.proofs.Missing.{not_missing}
 use Rattle.cpc_run.proofs.Hosted.{call_says, ok_is, said_for}
+use Rattle.cpc_base.proofs.Lists.{found_within, none_not_some}
 use Rattle.cpc_run.proofs.looped.Loop.calls_host.Goals as goal
 
 pub returns-clause-did : goal.returns-clause-did
@@ -37,3 +40,14 @@ returns-clause-did g c = ok_is _ c.reply.result (λ r e.
           (subst (λ x. Did names x new (sent ++ after) s (settles names l s (reply (trees (program_in names l)) (stack_in names l.machine) (Whole Long (to_z w128 (of_z w128 (to_z w64 (of_z w64 z))))) t))) e (c.reply.ensures.did names (record { runs = fits.runs; main = fits.main; serves = fits.serves; items = fits.items }) (sent ++ after) s t a)))
           rest left,
     ))
+
+pub unreachable-requires : goal.unreachable-requires
+unreachable-requires g c = let there = found_within c.args.table.now c.args.name.0 c.requires.known in none_not_some there.0 (c.in_default.ensures.text ∙ there.1)
+
+pub unreachable-requires-in_default-call : goal.unreachable-requires-in_default-call
+unreachable-requires-in_default-call g c =
+    let table = c.args.table.now in
+    let vs = c.args.request.now.args.items in
+    let zs = c.in_ok-numbers.numbers.items in
+    let numbers = subst (λ xs. ints_of (values_of (in_table table) xs) ≡ Gives zs) c.as_slice.ensures.value (c.in_ok-numbers.ensures (in_table table)) in
+    not_missing _ table c.args.name c.in-Some.text.now vs zs _ (sym c.in-Some.ensures.text) numbers c.as_slice-2.ensures.value c.requires.there (sym c.in_default-call.ensures.there)

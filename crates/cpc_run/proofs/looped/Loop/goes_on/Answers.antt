@@ -5,6 +5,7 @@ use Rattle.cpc_eval_values.specs.Shown.{value_of}
 use Rattle.cpc_run.specs.Answers.{CameAnswered}
 use Rattle.cpc_run.specs.Code.{AskedIn, EndsIdle, Same, done_of, store_in, stack_in}
 use Rattle.cpc_native.specs.Stacks.{request_of}
+use Rattle.cpc_native.specs.Well.{AsksServed}
 use Rattle.cpc_meaning_pointer_laws.specs.Made.{IsMadeCode}
 use Rattle.cpc_run.specs.States.{settles, where_running, program_in}
 use Rattle.cpc_meaning.specs.Events.{callbacks}
@@ -15,6 +16,7 @@ use Rattle.cpc_run.specs.declared.short.Short.TheVariants as W
 use Rattle.cpc_run.proofs.Shorts.{goes_count, by_more, err_is, memory_counts}
 use Rattle.cpc_run.proofs.Hosted.{asked_by_mid, code_by, faulted_says, none_said}
 use Rattle.cpc_run.proofs.Steps.{faulted_so}
+use Rattle.cpc_run.proofs.Going.{asks_back, asks_known, asks_room, asks_there}
 use Rattle.cpc_run.proofs.looped.Loop.goes_on.Goals as goal
 
 pub returns-in-Returned-clause-steady : goal.returns-in-Returned-clause-steady
@@ -127,6 +129,48 @@ returns-in_ok-asked-in-Asked-clause-capped g c = λ names fits sent s within sta
     let running = stands.running ∙ ap (λ b. where_running b (stack_in names l.machine)) c.requires.running in
     goes_count (λ n. n ≤ c.args.cap) names l s running
     (λ t step. c.next_cells.ensures.within names s fits.runs stands.store running (within.made.running (stack_in names l.machine) running) c.args.cap c.requires.cap within.live c.in_default.ensures.none t step)
+
+pub asked-requires-clause-served : goal.asked-requires-clause-served
+asked-requires-clause-served g c =
+    let at = c.requires.goes in
+    subst (λ x. AsksServed x) c.in-Asked.is (c.in_ok-step.ensures.served at.names at.fits.runs)
+
+pub asked-requires-clause-callback : goal.asked-requires-clause-callback
+asked-requires-clause-callback g c =
+    let l = c.args.self.now in
+    let m = c.step.new.self in
+    asks_back c.args.table.now c.args.cap l c.requires.goes c.requires.running m c.in-Asked.request c.in_ok-step.ensures.items c.in_ok-step.ensures.runs
+    (λ names. subst (λ x. AskedIn names l.machine m x) c.in-Asked.is (c.in_ok-step.ensures.asked names))
+    (λ names runs. subst (λ x. Same (done_of names m x) (plain (trees (program_in names l)) (store_in names l.machine) (stack_in names l.machine))) c.in-Asked.is (c.in_ok-step.ensures.did names runs))
+
+pub asked-requires-clause-known : goal.asked-requires-clause-known
+asked-requires-clause-known g c =
+    let l = c.args.self.now in
+    let m = c.step.new.self in
+    asks_known c.args.table.now c.args.cap l c.requires.goes c.requires.running m c.in-Asked.request c.in_ok-step.ensures.items c.in_ok-step.ensures.runs
+    (λ names. subst (λ x. AskedIn names l.machine m x) c.in-Asked.is (c.in_ok-step.ensures.asked names))
+    (λ names runs. subst (λ x. Same (done_of names m x) (plain (trees (program_in names l)) (store_in names l.machine) (stack_in names l.machine))) c.in-Asked.is (c.in_ok-step.ensures.did names runs))
+
+pub asked-requires-clause-there : goal.asked-requires-clause-there
+asked-requires-clause-there g c =
+    let l = c.args.self.now in
+    let m = c.step.new.self in
+    asks_there c.args.table.now c.args.cap l c.requires.goes c.requires.running m c.in-Asked.request c.in_ok-step.ensures.items c.in_ok-step.ensures.runs
+    (λ names. subst (λ x. AskedIn names l.machine m x) c.in-Asked.is (c.in_ok-step.ensures.asked names))
+    (λ names runs. subst (λ x. Same (done_of names m x) (plain (trees (program_in names l)) (store_in names l.machine) (stack_in names l.machine))) c.in-Asked.is (c.in_ok-step.ensures.did names runs))
+
+pub asked-requires-clause-room : goal.asked-requires-clause-room
+asked-requires-clause-room g c =
+    let l = c.args.self.now in
+    let m = c.step.new.self in
+    let at = c.requires.goes in
+    let running = at.stands.running ∙ ap (λ b. where_running b (stack_in at.names l.machine)) c.requires.running in
+    let made = at.within.made.running (stack_in at.names l.machine) running in
+    let small = c.next_cells.ensures.within at.names at.state at.fits.runs at.stands.store running made c.args.cap c.requires.cap at.within.live c.in_default.ensures.none at.next at.goes in
+    asks_room c.args.table.now c.args.cap l at c.requires.running m c.in-Asked.request c.in_ok-step.ensures.items c.in_ok-step.ensures.runs
+    (λ names. subst (λ x. AskedIn names l.machine m x) c.in-Asked.is (c.in_ok-step.ensures.asked names))
+    (λ names runs. subst (λ x. Same (done_of names m x) (plain (trees (program_in names l)) (store_in names l.machine) (stack_in names l.machine))) c.in-Asked.is (c.in_ok-step.ensures.did names runs))
+    (omega (arith, small, c.requires.cap))
 
 pub returns-in_err-asked-in-Asked-clause-short : goal.returns-in_err-asked-in-Asked-clause-short
 returns-in_err-asked-in-Asked-clause-short g c =

@@ -6,13 +6,14 @@ use Rattle.cpc_meaning.specs.Agenda as A
 use Rattle.cpc_run.proofs.Coded.{runs_given}
 use Rattle.cpc_run.proofs.Ends.{main_is, main_ready}
 use Rattle.cpc_run.proofs.Marks.{nothing_shown}
+use Rattle.cpc_base.proofs.Lists.{none_not_some}
 use Rattle.cpc_run.proofs.looped.Loop.open.Goals as goal
 
 pub returns-in-Ok-clause-opened : goal.returns-in-Ok-clause-opened
 returns-in-Ok-clause-opened c = λ names given.
     let program = c.args.program.now in
     record {
-      fits = record { runs = c.in_ok-machine.ensures.runs names given; main = main_is names program.names c.in-Some.main given.spelled.spells c.in-Some.ensures; serves = c.in_ok-jobs.ensures.serves names (runs_given names program program.names _ refl refl given); items = c.in_ok-jobs.ensures.items names ∙ sym (c.in_ok-machine.ensures.items names) };
+      fits = record { runs = c.in_ok-machine.ensures.runs names given; main = main_is names program.names c.in-Some.main given.spelled.spells c.in-Some.ensures.some; serves = c.in_ok-jobs.ensures.serves names (runs_given names program program.names _ refl refl given); items = c.in_ok-jobs.ensures.items names ∙ sym (c.in_ok-machine.ensures.items names) };
       items = c.in_ok-machine.ensures.items names;
       stands = record {
         store = sym (c.in_ok-store.ensures names given.spelled.spells.apart) ∙ sym (c.in_ok-machine.ensures.store names);
@@ -26,3 +27,6 @@ returns-in-Ok-clause-opened c = λ names given.
 
 pub returns-in-Ok-clause-steady : goal.returns-in-Ok-clause-steady
 returns-in-Ok-clause-steady c = record { well = c.in_ok-machine.ensures.well; idle = λ e. c.in_ok-machine.ensures.idle; fits = c.requires.polls; counted = omega arith; numbered = omega arith }
+
+pub unreachable-requires : goal.unreachable-requires
+unreachable-requires c = let (main, there) = c.requires.main in none_not_some main (sym c.in_default.ensures.none ∙ there)

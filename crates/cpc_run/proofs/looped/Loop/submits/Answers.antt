@@ -16,6 +16,7 @@ use Rattle.cpc_run.proofs.Asks.{marked}
 use Rattle.cpc_run.proofs.Ends.{text_is}
 use Rattle.cpc_run.proofs.Kept.{kept_then, relisted_keeps}
 use Rattle.cpc_run.proofs.Submits.{submit_refused, submit_broke, submit_done}
+use Rattle.cpc_base.proofs.Lists.{found_within, none_not_some}
 use Rattle.cpc_run.proofs.looped.Loop.submits.Goals as goal
 
 pub returns-in-Err-default-Fault-clause-did : goal.returns-in-Err-default-Fault-clause-did
@@ -71,3 +72,6 @@ returns-in_ok-put_section-in-Ok-submit-clause-did g c = λ names fits spells sen
     (λ t a. c.reply.ensures.did names fits_mid after s t a)
     (λ cells a. marked names mid c.args.function sent c.args.pending.now.items c.put_section.new.pending.items s _ (Submitted s.agenda.sections_made (names c.args.called))
     (c.in_ok-put_section-in-Ok-submit.ensures ∙ ap (λ m. c.args.pending.now.items ++ shown_of l.trace m) (ap (λ n. Submitted n c.in-Some.text.now) number ∙ ap (Submitted s.agenda.sections_made) (sym text))) a)
+
+pub unreachable-requires : goal.unreachable-requires
+unreachable-requires g c = let there = found_within c.args.table.now c.args.called.0 c.requires.known in none_not_some there.0 (c.in_default.ensures.text ∙ there.1)
