@@ -4,10 +4,6 @@
 #[cfg(test)]
 mod agenda;
 #[cfg(test)]
-mod conds;
-#[cfg(test)]
-mod descr;
-#[cfg(test)]
 mod history;
 #[cfg(test)]
 mod hosts;
@@ -15,5 +11,3 @@ mod hosts;
 mod sinks;
 #[cfg(test)]
 mod store;
-#[cfg(test)]
-mod timers;
