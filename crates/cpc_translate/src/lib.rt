@@ -5,8 +5,10 @@ mod events;
 mod fault;
 mod passes;
 mod reading;
+mod texts;
 mod translating;
 
 pub use fault::TextFault;
 pub use reading::read;
+pub use texts::{accept, laid_out};
 pub use translating::{Translated, translate};

@@ -38,8 +38,12 @@ fn unread(stop: Stop<ParseFault>) -> Stop<TextFault>
     }
 }
 
-// A text as a program, whatever rules it breaks.
-fn parsed(alloc: Global, text: &[u8], dialect: Dialect) -> Result<Program, Stop<TextFault>>
+/// A text as a program, whatever rules it breaks.
+pub(crate) fn parsed(
+    alloc: Global,
+    text: &[u8],
+    dialect: Dialect,
+) -> Result<Program, Stop<TextFault>>
     ensures program { IfOk result (λ p. Parses dialect text.now (located p)) }
     ensures within { IfOk result (λ p. IsWithin p) }
     ensures refused { (fault : TextFault) → result ≡ Err (Fault fault) → IsTextFault dialect text.now fault }

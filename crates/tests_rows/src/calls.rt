@@ -1,13 +1,10 @@
 //! The calls: the command over objects in memory, and the stages of reading that it has no words for.
 use crate::idle::IdleSink;
-use cpc_base::{Calls, Dialect, MemFile, MemShelf, MemSink, Names, Stop};
+use cpc_base::{Calls, Dialect, MemFile, MemShelf, MemSink, Stop};
 use cpc_cli::cpc_main;
 use cpc_hosts::{HostTable, Kept, StdHosts};
-use cpc_lexer::{end_of_text, tokens};
-use cpc_parser::parse;
 use cpc_pool::NoGate;
-use cpc_printer::print;
-use cpc_translate::{TextFault, read};
+use cpc_translate::{TextFault, accept, laid_out};
 use std::alloc::{AllocError, Global};
 use std::sync::{Arc, Wait};
 use std::thread::Threads;
@@ -206,28 +203,10 @@ fn stopped(alloc: Global, stop: Stop<TextFault>) -> Result<Left, AllocError> {
     }
 }
 
-// The print of a text, whatever rules it breaks.
-fn printed(alloc: Global, text: &[u8]) -> Result<Vec<u8>, Stop<TextFault>> {
-    let mut names = Names::new(alloc);
-    let list = match tokens(alloc, text, Dialect::Cpc, &mut names) {
-        Ok(list) => list,
-        Err(Stop::Memory) => return Err(Stop::Memory),
-        Err(Stop::Fault(fault)) => return Err(Stop::Fault(TextFault::Lex(fault))),
-    };
-    match parse(alloc, &list, end_of_text(text), Dialect::Cpc, names) {
-        Ok(program) => match print(alloc, &program) {
-            Ok(bytes) => Ok(bytes),
-            Err(_) => Err(Stop::Memory),
-        },
-        Err(Stop::Memory) => Err(Stop::Memory),
-        Err(Stop::Fault(fault)) => Err(Stop::Fault(TextFault::Parse(fault))),
-    }
-}
-
 // A text is printed, and what is printed is printed as itself.
 fn print_twice(alloc: Global, text: &[u8]) -> Result<Left, AllocError> {
-    match printed(alloc, text) {
-        Ok(once) => match printed(alloc, &once) {
+    match laid_out(alloc, text, Dialect::Cpc) {
+        Ok(once) => match laid_out(alloc, &once, Dialect::Cpc) {
             Ok(twice) if twice == once => Ok(ended(0, once, Vec::new(alloc))),
             _ => Ok(ended(1, once, Vec::new(alloc))),
         },
@@ -237,8 +216,8 @@ fn print_twice(alloc: Global, text: &[u8]) -> Result<Left, AllocError> {
 
 // A text is read as an event program.
 fn read_event(alloc: Global, text: &[u8]) -> Result<Left, AllocError> {
-    match read(alloc, text, Dialect::Event) {
-        Ok(_) => Ok(ended(0, Vec::new(alloc), Vec::new(alloc))),
+    match accept(alloc, text, Dialect::Event) {
+        Ok(()) => Ok(ended(0, Vec::new(alloc), Vec::new(alloc))),
         Err(stop) => stopped(alloc, stop),
     }
 }
