@@ -1,20 +1,18 @@
 -- Where the last struct of a tag stands, and what it holds.
-use Rattle.std.proofs.Common.{◌≡◌, ℕ, zero, suc, ◌+◌, ◌<◌, ◌≤◌, ◌==◌, Bool, true, false, cond, ◌⊎◌, inl, inr, List, [], ◌∷◌, ◌++◌, length, get_or, take, map, reverse, Option, Some, None, refl, sym, ap, subst, ◌∙◌, add-one, arith}
-use Rattle.std.specs.Prelude.{bytes_eq, slice_get}
+use Rattle.std.proofs.Common.{◌≡◌, ℕ, zero, suc, ◌+◌, ◌<◌, ◌≤◌, ◌==◌, Bool, true, false, cond, ◌⊎◌, inl, inr, List, [], ◌∷◌, ◌++◌, length, get_or, take, map, reverse, Some, None, refl, sym, ap, subst, ◌∙◌, add-one, arith}
+use Rattle.std.specs.Prelude.{slice_get}
 use Rattle.std.proofs.lemmas.Bool.{cases_lt}
 use Rattle.std.proofs.lemmas.List.{map-append, reverse-append, length-append}
 use Rattle.std.proofs.Math.Seq.{take-suc}
 use Rattle.std.proofs.lemmas.Option.{slice_get-get_or, get_or_from_slice_get}
 use Rattle.cpc_base.specs.declared.names.Name.{Name}
 use Rattle.cpc_check_rules.specs.Apart.{AreApart}
-use Rattle.cpc_store.specs.declared.values.Scalar.{Scalar}
 use Rattle.cpc_tree.specs.Erase.{Names, field_of, item_of}
-use Rattle.cpc_tree.specs.Syntax as S
 use Rattle.cpc_tree.specs.Syntax.{TyStruct}
 use Rattle.cpc_tree.specs.Typing.{fields_cells, struct_cells}
 use Rattle.cpc_tree.specs.declared.program.Item.{Item}
 use Rattle.cpc_tree.specs.declared.program.Item.TheVariants as I
-use Rattle.cpc_run_globals.specs.Rows.{held, type_layout, fields_layout}
+use Rattle.cpc_run_globals.specs.Rows.{held, type_layout}
 use Rattle.cpc_run_globals.specs.Places.{is_struct, declared, items_before, row_at, item_row, last_at, end_at, ArePlaces}
 use Rattle.cpc_run_globals.specs.declared.places.Places.{Places}
 

@@ -1,17 +1,15 @@
 //! How many cells the globals have, counted without making them.
-ghost use Rattle.std.specs.Prelude.{◌≡◌, ◌-◌, ◌^◌, min, map, option_map, IfOk};
+ghost use Rattle.std.specs.Prelude.{◌≡◌, ◌-◌, ◌^◌, min, map, option_map};
 ghost use Rattle.cpc_store.specs.Store as S;
 ghost use Rattle.cpc_tree.specs.Erase.{Names, item_of};
 ghost use Rattle.cpc_meaning.specs.Start as M;
 ghost use Rattle.cpc_check_rules.specs.Apart.{AreApart};
-ghost use Rattle.cpc_eval_index.specs.Indexed.{items_of};
+ghost use Rattle.cpc_eval_index.specs.Indexed.{program_items, items_of};
 ghost use Rattle.cpc_eval_index.specs.Sized.{capped};
 ghost use Rattle.cpc_run_globals.specs.Counts.{item_cells};
 
-use cpc_base::NoMemory;
 use cpc_eval_index::Index;
 use cpc_tree::program::{Item, Program};
-use std::alloc::Global;
 
 // The cells of the global that an item declares, capped, or 0 where it declares none; nothing where the type of the global
 // is incomplete.
@@ -25,20 +23,19 @@ fn item_cells(index: &Index<'_>, item: &Item) -> Option<u64>
 }
 
 /// How many cells the store of a program has at the start: those of all its globals, or none where the type of one is
-/// incomplete. `u64::MAX` stands for every greater number. No cell is made.
-///
-/// `NoMemory` is want of memory for an index of the program's items.
-pub fn global_cells(alloc: Global, program: &Program) -> Result<u64, NoMemory>
-    ensures { let items = program.now.items.items in IfOk result (λ n. (names : Names) → AreApart names
-        → n ≡ min (S.store_cells (M.globals (M.make_globals (map (item_of names) items) (map (item_of names) items) S.empty_store))) (2 ^ 64 - 1)) }
+/// incomplete. `u64::MAX` stands for every greater number. The index is of the same program. No cell is made, and no
+/// memory is taken.
+pub fn global_cells(program: &Program, index: &Index<'_>) -> u64
+    requires { program_items index.now ≡ program.now.items.items }
+    ensures { let items = program.now.items.items in (names : Names) → AreApart names
+        → result ≡ min (S.store_cells (M.globals (M.make_globals (map (item_of names) items) (map (item_of names) items) S.empty_store))) (2 ^ 64 - 1) }
 {
-    let index = Index::of(alloc, program)?;
     let mut total: u64 = 0;
     for item in &program.items {
-        match item_cells(&index, item) {
+        match item_cells(index, item) {
             Some(count) => total = total.saturating_add(count),
-            None => return Ok(0),
+            None => return 0,
         }
     }
-    Ok(total)
+    total
 }

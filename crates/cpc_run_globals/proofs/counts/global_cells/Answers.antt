@@ -11,7 +11,7 @@ returns-in-None c = λ names apart.
     let i = c.loop-item.item-index in
     let lt : i < length items = omega (arith, ap length c.deref-item-items.ensures.value) in
     let is : c.item-item.result ≡ get_or items i c.item-item.result = cc (c.item-item.is, c.deref-item-items.ensures.value) in
-    none_stored names items c.in_ok-index.index.program.now.items.items c.in_ok-index.ensures i c.item-item.result c.loop-item.total lt is (c.loop-item.invariant.rest names apart) (c.in-None.ensures names apart)
+    none_stored names items c.args.index.now.program.now.items.items c.requires i c.item-item.result c.loop-item.total lt is (c.loop-item.invariant.rest names apart) (c.in-None.ensures names apart)
 
 pub returns : goal.returns
 returns c = λ names apart.
@@ -28,7 +28,7 @@ loop-item-preserved c = record {
       let lt : i < length items = omega (arith, ap length c.deref-item-items.ensures.value) in
       let is : c.item-item.result ≡ get_or items i c.item-item.result = cc (c.item-item.is, c.deref-item-items.ensures.value) in
       let whole = map (item_of names) items in
-      let here : Some c.in-Some.count ≡ option_map capped (item_cells (map (item_of names) c.in_ok-index.index.program.now.items.items) (item_of names c.item-item.result)) = sym c.in-Some.is ∙ c.item_cells.ensures names apart in
+      let here : Some c.in-Some.count ≡ option_map capped (item_cells (map (item_of names) c.args.index.now.program.now.items.items) (item_of names c.item-item.result)) = sym c.in-Some.is ∙ c.item_cells.ensures names apart in
       subst (λ t. option_map capped (all_cells whole whole) ≡ option_map (λ n. capped (t + n)) (all_cells whole (map (item_of names) (drop (i + 1) items)))) (sym c.saturating_add-total.ensures)
-      (next_stored names items c.in_ok-index.index.program.now.items.items c.in_ok-index.ensures i c.item-item.result c.loop-item.total lt is c.in-Some.count (c.loop-item.invariant.rest names apart) here);
+      (next_stored names items c.args.index.now.program.now.items.items c.requires i c.item-item.result c.loop-item.total lt is c.in-Some.count (c.loop-item.invariant.rest names apart) here);
 }

@@ -1,4 +1,4 @@
-use Rattle.std.proofs.Common.{◌≡◌, ◌≤◌, length, ◌++◌, sym, ap, ◌∙◌, arith}
+use Rattle.std.proofs.Common.{length, ap, ◌∙◌, arith}
 use Rattle.std.proofs.lemmas.List.{length-append}
 use Rattle.cpc_run_globals.proofs.Held.{nothing_more, once_more}
 use Rattle.cpc_run_globals.proofs.layouts.repeat.Goals as goal

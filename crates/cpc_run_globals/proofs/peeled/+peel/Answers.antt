@@ -1,6 +1,5 @@
-use Rattle.std.proofs.Common.{sym, ap, ◌∙◌}
 use Rattle.cpc_tree.specs.Erase.{type_of}
-use Rattle.cpc_run_globals.specs.Rows.{type_layout, element_layout}
+use Rattle.cpc_run_globals.specs.Rows.{element_layout}
 use Rattle.cpc_run_globals.proofs.Held.{peeled_array}
 use Rattle.cpc_run_globals.proofs.peeled.+peel.Goals as goal
 

@@ -1,4 +1,4 @@
-use Rattle.std.proofs.Common.{Some, sym, ap, subst, ◌≤◌, ◌<◌, arith, ◌∙◌}
+use Rattle.std.proofs.Common.{Some, sym, ap, subst, ◌≤◌, arith, ◌∙◌}
 use Rattle.std.proofs.lemmas.Option.{slice_get-get_or}
 use Rattle.cpc_run_globals.specs.Places.{row_at, items_before}
 use Rattle.cpc_run_globals.proofs.Standing.{only_row, end_below}
