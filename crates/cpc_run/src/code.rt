@@ -35,21 +35,22 @@ pub(crate) struct Code<'p> {
 }
 
 impl<'p> Code<'p> {
-    /// Nothing runs.
+    /// Nothing runs. The index is of the program.
     pub(crate) fn new(
         alloc: Global,
         program: &'p Program,
+        index: Index<'p>,
         store: Store,
-    ) -> Result<Code<'p>, NoMemory>
-        ensures store { IfOk result (λ m. (names : Spelling) → store_in names m ≡ store_of names store) }
-        ensures items { IfOk result (λ m. (names : Spelling) → items_in names m ≡ map (item_of names) program.now.items.items) }
-        ensures runs { IfOk result (λ m. (names : Spelling) → Given names program.now → Runs names m) }
-        ensures idle { IfOk result (λ m. IsIdle m) }
-        ensures well { IfOk result (λ m. IsWell m) }
+    ) -> Code<'p>
+        requires index { program_items index ≡ program.now.items.items }
+        ensures store { (names : Spelling) → store_in names result ≡ store_of names store }
+        ensures items { (names : Spelling) → items_in names result ≡ map (item_of names) program.now.items.items }
+        ensures runs { (names : Spelling) → Given names program.now → Runs names result }
+        ensures idle { IsIdle result }
+        ensures well { IsWell result }
     {
-        let index = Index::of(alloc, program)?;
         let machine = Machine::new(alloc, index, &program.names, store);
-        Ok(Code { machine })
+        Code { machine }
     }
 
     /// A function is called, at the bottom of the stack.

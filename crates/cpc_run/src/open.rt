@@ -6,6 +6,7 @@ ghost use Rattle.cpc_tree.specs.Typing.{function_named};
 ghost use Rattle.cpc_meaning.specs.History.{polls_fit};
 ghost use Rattle.cpc_history_marks.specs.Views.{told_of};
 ghost use Rattle.cpc_meaning.specs.Start.{main_name};
+ghost use Rattle.cpc_eval_index.specs.Indexed.{program_items};
 ghost use Rattle.cpc_run_jobs.specs.Holding.{IsAssigned};
 ghost use Rattle.cpc_run.specs.Code.{Given};
 ghost use Rattle.cpc_run.specs.States.{IsSteady};
@@ -17,6 +18,7 @@ use crate::looped::Loop;
 use cpc_agenda::Agenda;
 use cpc_agenda_turns::Turns;
 use cpc_base::{Name, Names, NoMemory};
+use cpc_eval_index::Index;
 use cpc_history_marks::Told;
 use cpc_run_globals::globals;
 use cpc_run_jobs::Jobs;
@@ -66,15 +68,17 @@ fn main_in(names: &Names, item: &Declared) -> Option<Name>
 
 impl<'p> Loop<'p> {
     /// A run of a program in its first state, over a history of these polls, where a section may make so many steps: nothing
-    /// runs, and the call of `main` is ready.
+    /// runs, and the call of `main` is ready. The index is of the program.
     /// `NoMemory` is want of memory.
     pub(crate) fn open(
         alloc: Global,
         program: &'p Program,
+        index: Index<'p>,
         polls: &'p [Told],
         section_steps: u64,
         trace: bool,
     ) -> Result<Loop<'p>, NoMemory>
+        requires index { program_items index ≡ program.now.items.items }
         requires polls { polls_fit (map told_of polls.now) ≡ true }
         requires main { (f : Function) × (function_named (program_of program.now) main_name ≡ Some f) }
         ensures steady { IfOk result (λ l. IsSteady l) }
@@ -86,7 +90,7 @@ impl<'p> Loop<'p> {
             unreachable!();
         };
         let store = globals(alloc, program)?;
-        let machine = Code::new(alloc, program, store)?;
+        let machine = Code::new(alloc, program, index, store);
         let jobs = Jobs::new(alloc, program, section_steps)?;
         let mut agenda = Agenda::new(alloc);
         match agenda.ready(Item::Main) {

@@ -6,6 +6,7 @@ ghost use Rattle.cpc_base.specs.Outside.{Rose};
 ghost use Rattle.cpc_base.specs.declared.stop.Dialect.TheVariants.{Event};
 ghost use Rattle.cpc_tree.specs.Erase.{Names as Spelling, in_table, program_of};
 ghost use Rattle.cpc_check_rules.specs.Apart.{Spells};
+ghost use Rattle.cpc_eval_index.specs.Indexed.{program_items};
 ghost use Rattle.cpc_meaning.specs.History.{History, polls_fit};
 ghost use Rattle.cpc_history_marks.specs.Views.{told_of};
 ghost use Rattle.cpc_meaning.specs.Runs.{live_cells};
@@ -27,6 +28,7 @@ use cpc_base::{Failed, Names, NoMemory, Sink, write_all};
 use cpc_check::Checked;
 use cpc_check_served_laws::{accepted_are_served, accepted_ask_declared};
 use cpc_check_sound_laws::accepted_callbacks_never_stuck;
+use cpc_eval_index::Index;
 use cpc_history_marks::Told;
 use cpc_hosts::{HostRule, HostTable, Kept};
 use cpc_native_laws::{checked_has_numbers, is_spelled_twice};
@@ -166,11 +168,12 @@ fn run_on<O: Sink, R: HostRule, S: Sections>(
     told(alloc, table, trace, out, &mut pending, due)
 }
 
-// The live cells of the first state, counted before a cell is made. `NoMemory` is want of memory, or of numbers for so many.
-fn first_cells(alloc: Global, program: &Program) -> Result<u64, NoMemory>
+// The live cells of the first state, counted before a cell is made. `NoMemory` is want of numbers for so many.
+fn first_cells(program: &Program, index: &Index<'_>) -> Result<u64, NoMemory>
+    requires { program_items index.now ≡ program.now.items.items }
     ensures { IfOk result (λ n. (names : Spelling) → Given names program.now → (h : History) → n ≡ live_cells (run_of (program_of program.now) h 0)) }
 {
-    let first = global_cells(alloc, program)?;
+    let first = global_cells(program, index);
     if first == u64::MAX {
         return Err(NoMemory);
     }
@@ -178,18 +181,21 @@ fn first_cells(alloc: Global, program: &Program) -> Result<u64, NoMemory>
 }
 
 // Runs a program that is never stuck from its first state, which has so many live cells, by whatever texts tell its names.
-fn run_from<O: Sink, R: HostRule, S: Sections>(
+// What these stand for is found in the index.
+fn run_from<'p, O: Sink, R: HostRule, S: Sections>(
     alloc: Global,
-    program: &Program,
+    program: &'p Program,
+    index: Index<'p>,
     limits: Limits,
     first: u64,
-    polls: &[Told],
+    polls: &'p [Told],
     hosts: &HostTable<R>,
     sections: &mut S,
     trace: bool,
     out: &mut O,
 ) -> RunReport
     requires given { GivenTwice program.now }
+    requires index { program_items index ≡ program.now.items.items }
     requires program { S.program ≡ Some program.now }
     requires bound { S.bound ≡ limits.section_steps }
     requires never_stuck { (h : History) → NeverStuck (program_of program.now) h }
@@ -203,7 +209,7 @@ fn run_from<O: Sink, R: HostRule, S: Sections>(
     ensures cause { result.ended ≡ IsWriteFault → Rose (O.faults out.old) (O.faults out.new) }
     ensures later { O.faults out.old ≤ O.faults out.new }
 {
-    let mut run = match Loop::open(alloc, program, polls, limits.section_steps, trace) {
+    let mut run = match Loop::open(alloc, program, index, polls, limits.section_steps, trace) {
         Ok(run) => run,
         Err(NoMemory) => return STARVED,
     };
@@ -237,7 +243,7 @@ fn left_at_first<O: Sink>(
     told(alloc, &program.names, trace, out, &mut pending, due)
 }
 
-// Runs a program that is never stuck, by whatever texts tell its names.
+// Runs a program that is never stuck, by whatever texts tell its names. What these stand for is found once.
 fn run_program<O: Sink, R: HostRule, S: Sections>(
     alloc: Global,
     program: &Program,
@@ -260,7 +266,11 @@ fn run_program<O: Sink, R: HostRule, S: Sections>(
     ensures cause { result.ended ≡ IsWriteFault → Rose (O.faults out.old) (O.faults out.new) }
     ensures later { O.faults out.old ≤ O.faults out.new }
 {
-    let first = match first_cells(alloc, program) {
+    let index = match Index::of(alloc, program) {
+        Ok(index) => index,
+        Err(NoMemory) => return STARVED,
+    };
+    let first = match first_cells(program, &index) {
         Ok(first) => first,
         Err(NoMemory) => return STARVED,
     };
@@ -268,7 +278,7 @@ fn run_program<O: Sink, R: HostRule, S: Sections>(
         return left_at_first(alloc, program, first, trace, out);
     }
     run_from(
-        alloc, program, limits, first, polls, hosts, sections, trace, out,
+        alloc, program, index, limits, first, polls, hosts, sections, trace, out,
     )
 }
 

@@ -12,11 +12,11 @@ returns-clause-store c = λ names. ap (store_of names) c.new-machine.ensures.sto
 
 pub returns-clause-items : goal.returns-clause-items
 unfolding items_in
-returns-clause-items c = λ names. ap (items_of names) c.new-machine.ensures.index ∙ ap (map (item_of names)) c.in_ok-index.ensures
+returns-clause-items c = λ names. ap (items_of names) c.new-machine.ensures.index ∙ ap (map (item_of names)) c.requires.index
 
 pub returns-clause-runs : goal.returns-clause-runs
 unfolding Runs
-returns-clause-runs c = λ names given. runs_given names c.args.program.now _ _ (ap (λ t. t.now) c.new-machine.ensures.texts) (ap (items_of names) c.new-machine.ensures.index ∙ ap (map (item_of names)) c.in_ok-index.ensures) given
+returns-clause-runs c = λ names given. runs_given names c.args.program.now _ _ (ap (λ t. t.now) c.new-machine.ensures.texts) (ap (items_of names) c.new-machine.ensures.index ∙ ap (map (item_of names)) c.requires.index) given
 
 pub returns-clause-idle : goal.returns-clause-idle
 unfolding IsIdle

@@ -13,10 +13,10 @@ pub returns-in-Ok-clause-opened : goal.returns-in-Ok-clause-opened
 returns-in-Ok-clause-opened c = λ names given.
     let program = c.args.program.now in
     record {
-      fits = record { runs = c.in_ok-machine.ensures.runs names given; main = main_is names program.names c.in-Some.main given.spelled.spells c.in-Some.ensures.some; serves = c.in_ok-jobs.ensures.serves names (runs_given names program program.names _ refl refl given); items = c.in_ok-jobs.ensures.items names ∙ sym (c.in_ok-machine.ensures.items names) };
-      items = c.in_ok-machine.ensures.items names;
+      fits = record { runs = c.new-machine.ensures.runs names given; main = main_is names program.names c.in-Some.main given.spelled.spells c.in-Some.ensures.some; serves = c.in_ok-jobs.ensures.serves names (runs_given names program program.names _ refl refl given); items = c.in_ok-jobs.ensures.items names ∙ sym (c.new-machine.ensures.items names) };
+      items = c.new-machine.ensures.items names;
       stands = record {
-        store = sym (c.in_ok-store.ensures names given.spelled.spells.apart) ∙ sym (c.in_ok-machine.ensures.store names);
+        store = sym (c.in_ok-store.ensures names given.spelled.spells.apart) ∙ sym (c.new-machine.ensures.store names);
         running = refl;
         lists = main_ready names (record { agenda = c.ready.new.self; polls = c.args.polls }) c.in_ok-jobs.jobs c.args.polls.now c.args.section_steps refl c.in_ok-jobs.ensures.bound (c.in_ok-jobs.ensures.holds names) (c.in-Ok.ensures.ready names ∙ ap (A.ready_one I.Main) (c.new-agenda.ensures.lists names));
         printed_so = nothing_shown c.args.trace;
@@ -26,7 +26,7 @@ returns-in-Ok-clause-opened c = λ names given.
     }
 
 pub returns-in-Ok-clause-steady : goal.returns-in-Ok-clause-steady
-returns-in-Ok-clause-steady c = record { well = c.in_ok-machine.ensures.well; idle = λ e. c.in_ok-machine.ensures.idle; fits = c.requires.polls; counted = omega arith; numbered = omega arith }
+returns-in-Ok-clause-steady c = record { well = c.new-machine.ensures.well; idle = λ e. c.new-machine.ensures.idle; fits = c.requires.polls; counted = omega arith; numbered = omega arith }
 
 pub unreachable-requires : goal.unreachable-requires
 unreachable-requires c = let (main, there) = c.requires.main in none_not_some main (sym c.in_default.ensures.none ∙ there)

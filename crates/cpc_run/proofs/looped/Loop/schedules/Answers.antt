@@ -1,7 +1,8 @@
 use Rattle.std.proofs.Common.{◌++◌, ◌≤◌, refl, subst}
+use Rattle.cpc_run.specs.States.{CameTo}
 use Rattle.cpc_run.specs.Shorts.{Counts, IsBeyond}
 use Rattle.cpc_run.proofs.Shorts.{err_is, turn_counts}
-use Rattle.cpc_run.proofs.Turns.{turn_step}
+use Rattle.cpc_run.proofs.Turns.{turn_step, stands_as_before}
 use Rattle.cpc_run.proofs.Steps.{taken, taken_counts}
 use Rattle.cpc_run.proofs.looped.Loop.schedules.Goals as goal
 
@@ -27,3 +28,11 @@ pub returns-in_ok-turn-in-None-clause-capped : goal.returns-in_ok-turn-in-None-c
 returns-in_ok-turn-in-None-clause-capped g c = λ names fits sent s within stands.
     let l = c.args.self.now in
     subst (Counts (λ n. n ≤ c.args.cap)) (turn_step names l sent s stands c.requires.idle (c.in-None.ensures.none names).0) (turn_counts names l s c.args.cap within)
+
+pub returns-in_ok-turn-in-None-clause-did : goal.returns-in_ok-turn-in-None-clause-did
+returns-in_ok-turn-in-None-clause-did g c = λ names fits sent s within stands.
+    let l = c.args.self.now in
+    let printed = sent ++ c.args.pending.now.items in
+    let none = c.in-None.ensures.none names in
+    subst (CameTo names c.in_ok-turn-in-None.field-0 c.turn.new.self (sent ++ c.turn.new.pending.items) s) (turn_step names l printed s stands c.requires.idle none.0)
+    (c.in_ok-turn-in-None.ensures.did names (record { runs = fits.runs; main = fits.main; serves = fits.serves; items = fits.items }) sent s (stands_as_before names l _ printed s refl refl refl refl refl none.1 stands))
