@@ -10,7 +10,8 @@ use Rattle.cpc_tree.specs.declared.program.Function as GFunction
 use Rattle.cpc_tree.specs.declared.program.Parameter.{Parameter}
 use Rattle.cpc_tree.specs.declared.program.Word.{Word}
 use Rattle.cpc_check_rules.specs.Apart.{AreApart}
-use Rattle.cpc_native_points.proofs.Ways.{numbers, numbers_apart}
+use Rattle.cpc_native_points.specs.Depth.{numbers}
+use Rattle.cpc_native_points.proofs.Ways.{numbers_apart}
 use Rattle.cpc_eval_index.specs.declared.index.Index.{Index}
 use Rattle.cpc_eval_index.specs.Indexed.{items_of, IsOwn}
 use Rattle.cpc_eval_variables.specs.Told.{IsTold}

@@ -1,8 +1,7 @@
 -- Frames put upon each other, what stands where they are, and their registers.
 use Rattle.std.proofs.Common.{◌≡◌, ◌+◌, true, false, bytes_eq, List, [], ◌∷◌, ◌++◌, map, reverse, option_map, cond, Some, refl, sym, ◌∙◌, ap, subst, arith}
-use Rattle.std.specs.List.{sum_by}
 use Rattle.std.proofs.lemmas.List.{map-append, reverse-append}
-use Rattle.std.proofs.lemmas.List.Sums.{sum_by-append, sum_by-cons}
+use Rattle.std.proofs.lemmas.List.Sums.{sum_by-cons}
 use Rattle.std.proofs.lemmas.List.Elements.{All-append, All-cons, All-nil}
 use Rattle.std.proofs.lemmas.Option.{slice_get-map}
 use Rattle.cpc_base.specs.declared.names.Name.{Name}
@@ -74,13 +73,6 @@ registers_counted names (f ∷ fs) =
     let k = slots_counted names f.slots.items in
     let n : frames_count (f ∷ fs) ≡ frame_count f + frames_count fs = sum_by-cons frame_count f fs in
     omega (arith, e, i, k, n)
-
--- one more frame
-pub counted_more : (frames : List Frame) (top : Frame) → frames_count (frames ++ top ∷ []) ≡ frames_count frames + frame_count top
-counted_more frames top =
-    let e = sum_by-append frame_count frames (top ∷ []) in
-    let k : sum_by frame_count (top ∷ []) ≡ frame_count top + 0 = sum_by-cons frame_count top [] in
-    omega (arith, e, k)
 
 -- ---- where a frame stands in a program that runs
 

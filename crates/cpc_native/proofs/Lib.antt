@@ -6,3 +6,5 @@ pub mod Machines
 pub mod Leaving
 pub mod Foretold
 pub mod Nexts
+pub mod Counting
+pub mod Putting

@@ -1,5 +1,5 @@
 -- A step of a machine, by what its innermost frame does.
-use Rattle.std.proofs.Common.{◌≡◌, List, [], ◌∷◌, ◌++◌, Option, Some, None, option_map, sym, ◌∙◌, ap, subst}
+use Rattle.std.proofs.Common.{◌≡◌, true, List, [], ◌∷◌, ◌++◌, Option, Some, None, option_map, sym, ◌∙◌, ap, subst}
 use Rattle.std.specs.Prelude.{Result, Ok, Err}
 use Rattle.cpc_base.specs.declared.names.Name.{Name}
 use Rattle.cpc_base.specs.declared.stop.Stop.{Stop}
@@ -29,12 +29,12 @@ use Rattle.cpc_native_frames.specs.Made.{slots_of}
 use Rattle.cpc_native_acts.specs.declared.act.Act.{Act}
 use Rattle.cpc_native_acts.specs.declared.act.Act.TheVariants as A
 use Rattle.cpc_native_acts.specs.Stops.{MeetsOr}
-use Rattle.cpc_native_acts.specs.Acts.{act_of, stood_of, context_in, Keeps}
+use Rattle.cpc_native_acts.specs.Acts.{act_of, stood_of, context_in, enters_act, Keeps}
 use Rattle.cpc_native.specs.declared.machine.Machine.{Machine}
 use Rattle.cpc_native.specs.declared.machine.Stepped.{Stepped}
 use Rattle.cpc_native.specs.declared.machine.Stepped.TheVariants as N
 use Rattle.cpc_native.specs.Stacks.{frames_of, stack_at, stack_of, request_of, done_of, fault_of}
-use Rattle.cpc_native.specs.Well.{IsBack, BackAfter, IsSame, Unchanged, AskedBy}
+use Rattle.cpc_native.specs.Well.{IsBack, StandsAgain, BackAfter, IsSame, Unchanged, AskedBy}
 use Rattle.cpc_native.proofs.Frames.{frames_upon}
 use Rattle.cpc_native.proofs.Stepping.{then_meets, fault_meets, step_of_own, performed_alike, answered_arrives, only_goes, answered_goes}
 
@@ -126,21 +126,33 @@ module _ (names : Names) (index : Index) (apart : AreApart names) (frame : Frame
 
 -- ---- what a step leaves
 
--- a frame that was put back unchanged leaves all as it was
+-- a frame that was put back unchanged leaves the calls as they were
+pub same_stack : (old mid new : Machine) (frame after : Frame) → old.calls.frames.items ≡ mid.calls.frames.items ++ frame ∷ [] → mid.arriving ≡ old.arriving
+    → after.slots.items ≡ frame.slots.items → after.function ≡ frame.function → after.point ≡ frame.point → StandsAgain after mid new → (names : Names) → stack_of names new ≡ stack_of names old
+same_stack old mid new frame after e a k f at b = λ names.
+    let i : frame_of names after ≡ frame_of names frame =
+    ap (λ g. record { function = names g.now.word.name; point = point_of after.point; slots = slots_of names after.slots.items }) f
+    ∙ ap (λ q. record { function = names frame.function.now.word.name; point = point_of q; slots = slots_of names after.slots.items }) at
+    ∙ ap (λ ss. record { function = names frame.function.now.word.name; point = point_of frame.point; slots = slots_of names ss }) k in
+    let j : frames_of names new.calls.frames.items ≡ frames_of names old.calls.frames.items =
+    ap (frames_of names) b.calls ∙ frames_upon names mid.calls.frames.items after ∙ ap (λ y. y ∷ frames_of names mid.calls.frames.items) i
+    ∙ sym (frames_upon names mid.calls.frames.items frame) ∙ sym (ap (frames_of names) e) in
+    stacks_alike (frames_of names new.calls.frames.items) (frames_of names old.calls.frames.items) (option_map (value_of names) new.arriving) (option_map (value_of names) old.arriving) j (ap (option_map (value_of names)) (b.arriving ∙ a))
+
+-- and all, where the store is the same
 pub same_back : (old mid new : Machine) (frame after : Frame) → old.calls.frames.items ≡ mid.calls.frames.items ++ frame ∷ [] → mid.arriving ≡ old.arriving
     → after.slots.items ≡ frame.slots.items → mid.store ≡ old.store → after.function ≡ frame.function → after.point ≡ frame.point → IsBack after mid new → IsSame old new
 same_back old mid new frame after e a k l f at b = record {
-  stack = λ names.
-      let i : frame_of names after ≡ frame_of names frame =
-      ap (λ g. record { function = names g.now.word.name; point = point_of after.point; slots = slots_of names after.slots.items }) f
-      ∙ ap (λ q. record { function = names frame.function.now.word.name; point = point_of q; slots = slots_of names after.slots.items }) at
-      ∙ ap (λ ss. record { function = names frame.function.now.word.name; point = point_of frame.point; slots = slots_of names ss }) k in
-      let j : frames_of names new.calls.frames.items ≡ frames_of names old.calls.frames.items =
-      ap (frames_of names) b.calls ∙ frames_upon names mid.calls.frames.items after ∙ ap (λ y. y ∷ frames_of names mid.calls.frames.items) i
-      ∙ sym (frames_upon names mid.calls.frames.items frame) ∙ sym (ap (frames_of names) e) in
-      stacks_alike (frames_of names new.calls.frames.items) (frames_of names old.calls.frames.items) (option_map (value_of names) new.arriving) (option_map (value_of names) old.arriving) j (ap (option_map (value_of names)) (b.arriving ∙ a));
+  stack = same_stack old mid new frame after e a k f at (record { calls = b.calls; arriving = b.arriving });
   store = b.store ∙ l;
 }
+
+-- an act that enters a function leaves the slots as they were
+pub enters_kept : {X : Type 0} (act : Act) (old new : X) → enters_act act ≡ true → Keeps act old new → new ≡ old
+enters_kept (A.GoesOn h) old new e k = absurd cc
+enters_kept (A.Enters f vs) old new e k = k
+enters_kept (A.Leaves v) old new e k = absurd cc
+enters_kept (A.Asks b vs) old new e k = absurd cc
 
 -- a request and a fault leave all as it was
 pub kept_step : (old mid new : Machine) (frame after : Frame) (act : Act) (stepped : Stepped) → old.calls.frames.items ≡ mid.calls.frames.items ++ frame ∷ [] → mid.arriving ≡ old.arriving

@@ -1,18 +1,18 @@
 -- What a step leaves where memory was refused, and the function that it tells else.
-use Rattle.std.proofs.Common.{◌≡◌, List, [], ◌∷◌, ◌++◌, Result, Ok, Err, ap, sym, ◌∙◌}
+use Rattle.std.proofs.Common.{◌≡◌, true, List, [], ◌∷◌, ◌++◌, Result, Ok, Err, ap, sym, ◌∙◌}
 use Rattle.std.specs.Prelude.{OnErr}
 use Rattle.std.specs.Borrow.{Bor}
-use Rattle.cpc_base.proofs.Lists.{appended_empty}
 use Rattle.cpc_tree.specs.Erase.{Names}
 use Rattle.cpc_tree.specs.Points as T
 use Rattle.cpc_tree.specs.declared.program.Function.{Function}
 use Rattle.cpc_meaning.specs.Plain as P
 use Rattle.cpc_native_frames.specs.declared.frame.Frame.{Frame}
+use Rattle.cpc_native_acts.specs.Acts.{is_call_stood, stood_of}
 use Rattle.cpc_native.specs.declared.machine.Machine.{Machine}
 use Rattle.cpc_native.specs.declared.machine.Stepped.{Stepped}
 use Rattle.cpc_native.specs.declared.machine.Stepped.TheVariants as S
 use Rattle.cpc_native.specs.Stacks.{frames_of, stack_of, TellsRunning}
-use Rattle.cpc_native.specs.Well.{StandsUnder, StandsBelow, TellsFunction}
+use Rattle.cpc_native.specs.Well.{StandsAgain, StandsBelow, StandsAtCall, TellsFunction}
 use Rattle.cpc_native.proofs.Frames.{frames_upon}
 
 -- what holds in any case holds of an error
@@ -21,20 +21,31 @@ any_err (Ok x) P p = tt
 any_err (Err e) P p = p
 
 module _ (old mid new : Machine) (top : Frame) (was : old.calls.frames.items ≡ mid.calls.frames.items ++ top ∷ []) (arriving : mid.arriving ≡ old.arriving) where
-  -- the innermost frame was taken, and what was done then stands upon the others
-  pub below_taken : StandsUnder mid new → StandsBelow old new
-  below_taken under = record {
+  -- the innermost frame was taken, and put back
+  pub below_again : (after : Frame) → StandsAgain after mid new → StandsBelow old new
+  below_again after again = record {
     below = mid.calls.frames.items;
     top = top;
-    upon = under.upon;
+    upon = after ∷ [];
     was = was;
-    calls = under.calls;
-    arriving = under.arriving ∙ arriving;
+    calls = again.calls;
+    arriving = again.arriving ∙ arriving;
   }
 
-  -- it was taken, and nothing stands in its place
-  pub none_upon : new.calls.frames.items ≡ mid.calls.frames.items → new.arriving ≡ mid.arriving → StandsBelow old new
-  none_upon calls same = below_taken (record { upon = []; calls = calls ∙ appended_empty mid.calls.frames.items; arriving = same })
+-- ---- at a call
+
+last_same : (xs ys : List Frame) (x y : Frame) → xs ++ x ∷ [] ≡ ys ++ y ∷ [] → x ≡ y
+last_same [] [] x y e = cc
+last_same [] (b ∷ []) x y e = absurd cc
+last_same [] (b ∷ c ∷ ys) x y e = absurd cc
+last_same (a ∷ []) [] x y e = absurd cc
+last_same (a ∷ b ∷ xs) [] x y e = absurd cc
+last_same (a ∷ xs) (b ∷ ys) x y e = last_same xs ys x y cc
+
+pub stands_at_call : (old : Machine) (below : List Frame) (top : Frame) → old.calls.frames.items ≡ below ++ top ∷ [] → ((names : Names) → is_call_stood (stood_of names top) ≡ true) → StandsAtCall old
+stands_at_call old below top was h = λ names front other e.
+    let same : top ≡ other = last_same below front top other (sym was ∙ e) in
+    ap (λ (f : Frame). is_call_stood (stood_of names f)) (sym same) ∙ h names
 
 -- the function of the innermost frame is the one whose code runs
 module _ (names : Names) (old : Machine) (below : List Frame) (top after : Frame) (was : old.calls.frames.items ≡ below ++ top ∷ []) (same : after.function ≡ top.function) where

@@ -1,5 +1,5 @@
--- How many registers slots and frames have.
-use Rattle.std.specs.Prelude.{ℕ, Bool, true, false, List}
+-- How many registers and slots frames have.
+use Rattle.std.specs.Prelude.{ℕ, Bool, true, false, List, length}
 use Rattle.std.specs.List.{sum_by, count_by}
 use Rattle.cpc_eval.specs.declared.around.Slot.{Slot}
 use Rattle.cpc_eval.specs.declared.around.Slot.TheVariants as G
@@ -20,3 +20,11 @@ frame_count f = registers_in f.slots.items
 -- the registers of frames
 abbrev pub frames_count : List Frame → ℕ
 frames_count frames = sum_by frame_count frames
+
+-- the slots of a frame
+abbrev pub frame_slots : Frame → ℕ
+frame_slots f = length f.slots.items
+
+-- the slots of frames
+abbrev pub slots_count : List Frame → ℕ
+slots_count frames = sum_by frame_slots frames

@@ -1,4 +1,5 @@
 pub mod Counts
+pub mod Room
 pub mod Stacks
 pub mod Runs
 pub mod Well

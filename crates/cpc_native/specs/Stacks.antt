@@ -1,7 +1,6 @@
 -- The stack of a machine and what its steps come to, as the definitions have them.
 use Rattle.std.specs.Prelude.{◌≡◌, List, map, reverse, Option, Some, None, option_map, Result, Ok, Err}
 use Rattle.std.specs.Result.{result_map_both}
-use Rattle.cpc_base.specs.declared.stop.Stop.{Stop}
 use Rattle.cpc_num.specs.declared.kinds.Fault.{Fault}
 use Rattle.cpc_tree.specs.Erase.{Names}
 use Rattle.cpc_tree.specs.Points as T
@@ -44,8 +43,8 @@ fault_of (S.Faulted fault x) = Some fault
 fault_of _ = None
 
 -- the machine goes on, or why it does not
-abbrev pub went : {A : Type 0} → Names → Machine → Result A (Stop Fault) → Result (P.Done T.Point) (Stop Fault)
-went names m r = result_map_both (λ _. P.Went (store_of names m.store) (stack_of names m)) (λ stop. stop) r
+abbrev pub went : {A E : Type 0} → Names → Machine → Result A E → Result (P.Done T.Point) E
+went names m r = result_map_both (λ _. P.Went (store_of names m.store) (stack_of names m)) (λ e. e) r
 
 -- the function that a request or a fault tells is the one whose code ran
 abbrev pub TellsRunning : Names → Machine → Stepped → Type 0

@@ -1,5 +1,5 @@
 -- What holds of a machine between its steps, and what a step changes.
-use Rattle.std.specs.Prelude.{◌≡◌, List, [], ◌∷◌, ◌++◌, None}
+use Rattle.std.specs.Prelude.{◌≡◌, true, List, [], ◌∷◌, ◌++◌, None}
 use Rattle.std.specs.List.{All}
 use Rattle.cpc_tree.specs.Erase.{Names}
 use Rattle.cpc_store.specs.Seen.{seen, IsLawful}
@@ -7,7 +7,7 @@ use Rattle.cpc_eval_index.specs.declared.index.Index.{Index}
 use Rattle.cpc_native_builtins.specs.Served.{IsServedCall}
 use Rattle.cpc_native_frames.specs.declared.frame.Frame.{Frame}
 use Rattle.cpc_native_frames.specs.Frames.{IsWellFrame}
-use Rattle.cpc_native_acts.specs.Acts.{IsLawfulIf}
+use Rattle.cpc_native_acts.specs.Acts.{IsLawfulIf, is_call_stood, stood_of}
 use Rattle.cpc_native_acts.specs.Taken.{IsCalledWith}
 use Rattle.cpc_native_acts.specs.declared.act.Act.{Act}
 use Rattle.cpc_native_acts.specs.declared.act.Act.TheVariants as A
@@ -37,10 +37,9 @@ pub record IsBack (top : Frame) (old new : Machine) : Type 0 where
   pub store : new.store ≡ old.store
   pub arriving : new.arriving ≡ old.arriving
 
--- the calls stand as they were, with others upon them, and so does what arrives
-pub record StandsUnder (old new : Machine) : Type 0 where
-  pub upon : List Frame
-  pub calls : new.calls.frames.items ≡ old.calls.frames.items ++ upon
+-- the frame was put back upon the others, and what arrives is as it was
+pub record StandsAgain (top : Frame) (old new : Machine) : Type 0 where
+  pub calls : new.calls.frames.items ≡ old.calls.frames.items ++ top ∷ []
   pub arriving : new.arriving ≡ old.arriving
 
 -- the calls below the innermost one stand as they were, and so does what arrives
@@ -56,6 +55,10 @@ pub record StandsBelow (old new : Machine) : Type 0 where
 pub record SameCalls (old new : Machine) : Type 0 where
   pub calls : new.calls.frames.items ≡ old.calls.frames.items
   pub arriving : new.arriving ≡ old.arriving
+
+-- where the innermost call is, a call stands whose arguments are to be evaluated
+abbrev pub StandsAtCall : Machine → Type 0
+StandsAtCall m = (names : Names) (below : List Frame) (top : Frame) → m.calls.frames.items ≡ below ++ top ∷ [] → is_call_stood (stood_of names top) ≡ true
 
 -- nothing runs
 pub record IsIdle (m : Machine) : Type 0 where

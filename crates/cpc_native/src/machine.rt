@@ -1,5 +1,5 @@
 //! The machine: calls upon each other, and what the innermost one does next.
-ghost use Rattle.std.specs.Prelude.{◌≡◌, ℕ, ◌+◌, ◌-◌, ◌<◌, ◌≤◌, ◌^◌, min, [], ◌∷◌, Option, Some, None, Ok, IfOk, OnOk, OnErr};
+ghost use Rattle.std.specs.Prelude.{◌≡◌, ℕ, ◌+◌, ◌-◌, ◌<◌, ◌≤◌, ◌^◌, min, true, [], ◌∷◌, Option, Some, None, Ok, IfOk, OnOk, OnErr};
 ghost use Rattle.std.specs.List.{All};
 ghost use Rattle.cpc_tree.specs.Erase.{Names as Texts, function_of};
 ghost use Rattle.cpc_tree.specs.Points as T;
@@ -12,11 +12,11 @@ ghost use Rattle.cpc_meaning.specs.Plain as P;
 ghost use Rattle.cpc_meaning.specs.Runs as L;
 ghost use Rattle.cpc_meaning.specs.Trees.{trees};
 ghost use Rattle.cpc_eval_values.specs.Meets.{Meets};
-ghost use Rattle.cpc_native_acts.specs.Stops.{MeetsOr};
 ghost use Rattle.cpc_eval_values.specs.Shown.{value_of, values_of, store_of};
 ghost use Rattle.cpc_eval_index.specs.Indexed.{items_of, IsOwn};
+ghost use Rattle.cpc_native_points.specs.Seen.{path_of};
 ghost use Rattle.cpc_native_frames.specs.Frames.{frame_of, IsWellFrame};
-ghost use Rattle.cpc_native_acts.specs.Acts.{act_of, IsLawfulAct, IsLawfulIf, EntersOwn, AsksServed as ActServed, AsksTaken as ActTaken};
+ghost use Rattle.cpc_native_acts.specs.Acts.{act_of, IsLawfulAct, IsLawfulIf, EntersOwn, enters_act, AsksServed as ActServed, AsksTaken as ActTaken};
 ghost use Rattle.cpc_meaning.specs.Act as M;
 ghost use Rattle.cpc_native_frames.specs.Made.{slots_of};
 ghost use Rattle.cpc_native.specs.Stacks.{fault_of};
@@ -34,7 +34,7 @@ use cpc_base::{Name, Names, NoMemory, Stop};
 use cpc_eval_index::Index;
 use cpc_native_acts::{Act, foreseen, step};
 use cpc_native_builtins::Call;
-use cpc_native_frames::{Frame, call_cells, enter};
+use cpc_native_frames::{Frame, call_cells, enter, leave};
 use cpc_num::Fault;
 use cpc_store::{Block, Class, Store, Value};
 use cpc_tree::program::Function;
@@ -86,8 +86,9 @@ fn fault_of(stepped: &Stepped) -> Option<Fault>
 impl<'p> Machine<'p> {
     ghost use Rattle.cpc_native.specs.Stacks.{frames_of, stack_of, done_of, went, TellsRunning};
     ghost use Rattle.cpc_native.specs.Next.{FreesAlone, IsStateOf, LeavesSo, LeavesAtMost};
+    ghost use Rattle.cpc_native.specs.Room.{HasPlace};
     ghost use Rattle.cpc_native.specs.Runs.{Runs};
-    ghost use Rattle.cpc_native.specs.Well.{AreWell, IsWell, BackAfter, AskedBy, TellsFunction, Unchanged, IsSameBut, EndsEmpty, AsksServed, AsksTaken, IsOver, IsLawfulStep, StandsUnder, StandsBelow, SameCalls, IsIdle};
+    ghost use Rattle.cpc_native.specs.Well.{AreWell, IsWell, BackAfter, AskedBy, TellsFunction, Unchanged, IsSameBut, EndsEmpty, AsksServed, AsksTaken, IsOver, IsLawfulStep, StandsAgain, StandsBelow, SameCalls, IsIdle, StandsAtCall};
 
     /// A machine with this store in which nothing runs. The texts are those of the names of the program that the index is of.
     pub fn new(alloc: Global, index: Index<'p>, texts: &'p Names, store: Store) -> Self
@@ -133,47 +134,88 @@ impl<'p> Machine<'p> {
     }
 
     // Control goes on in the frame, as a test there holds or not.
-    fn go_on(&mut self, mut frame: Frame<'p>, holds: bool) -> Result<Stepped, NoMemory>
+    fn go_on(&mut self, mut frame: Frame<'p>, holds: bool) -> Stepped
         requires calls { AreWell self.old.index self.old.calls.frames.items }
         requires frame { IsWellFrame self.old.index frame }
-        ensures meets { IfOk result (λ stepped. (names : Texts) → Runs names self.old.texts.now (items_of names self.old.index) → Meets (done_of names self.new stepped)
-            (P.perform (trees (items_of names self.old.index)) (store_of names self.old.store) (frame_of names frame.entry) (frames_of names self.old.calls.frames.items) (M.GoesOn holds (store_of names self.old.store) (slots_of names frame.entry.slots.items)))) }
-        ensures err { OnErr result (StandsUnder self.old self.new) }
-        ensures well { OnOk result (IsWell self.new) }
-        ensures went { IfOk result (λ stepped. stepped ≡ Stepped.Went) }
+        requires place { HasPlace self.old.calls frame }
+        ensures meets { (names : Texts) → Runs names self.old.texts.now (items_of names self.old.index) → Meets (done_of names self.new result)
+            (P.perform (trees (items_of names self.old.index)) (store_of names self.old.store) (frame_of names frame.entry) (frames_of names self.old.calls.frames.items) (M.GoesOn holds (store_of names self.old.store) (slots_of names frame.entry.slots.items))) }
+        ensures well { IsWell self.new }
+        ensures went { result ≡ Stepped.Went }
         ensures index { self.new.index ≡ self.old.index }
         ensures texts { self.new.texts ≡ self.old.texts }
     {
-        go_on(&self.index, frame.function, &mut frame.point, holds)?;
-        self.calls.put(frame)?;
+        go_on(&self.index, frame.function, &mut frame.point, holds);
+        self.calls.put_back(frame);
         self.arriving = None;
-        Ok(Stepped::Went)
+        Stepped::Went
+    }
+
+    // The frame waits for the one of the function that it calls, which stands upon it.
+    fn put_upon(&mut self, mut frame: Frame<'p>, callee: Frame<'p>) -> Result<(), NoMemory>
+        requires calls { AreWell self.old.index self.old.calls.frames.items }
+        requires frame { IsWellFrame self.old.index frame }
+        requires callee { IsWellFrame self.old.index callee }
+        requires place { HasPlace self.old.calls frame }
+        requires arriving { IsLawfulIf self.old.arriving }
+        ensures frames { OnOk result ((names : Texts) → frames_of names self.new.calls.frames.items
+            ≡ frame_of names callee.entry ∷ P.moved_to (frame_of names frame.entry) (T.Arrival (path_of frame.entry.point.path.items)) ∷ frames_of names self.old.calls.frames.items) }
+        ensures store { OnOk result (self.new.store ≡ self.old.store) }
+        ensures arriving { OnOk result (self.new.arriving ≡ None) }
+        ensures well { IsWell self.new }
+        ensures err { OnErr result (StandsAgain frame.entry self.old self.new) }
+        ensures index { self.new.index ≡ self.old.index }
+        ensures texts { self.new.texts ≡ self.old.texts }
+    {
+        match self.calls.reserve(&frame, &callee) {
+            Ok(()) => {
+                frame.point.arrive();
+                self.calls.put_back(frame);
+                self.calls.put_back(callee);
+                self.arriving = None;
+                Ok(())
+            }
+            Err(error) => {
+                self.calls.put_back(frame);
+                // Its blocks are live, so this does not fault.
+                let _ = leave(&callee.slots, &mut self.store);
+                Err(error)
+            }
+        }
     }
 
     // The frame waits, and a function is entered.
     fn enter(
         &mut self,
         alloc: Global,
-        mut frame: Frame<'p>,
+        frame: Frame<'p>,
         function: &'p Function,
         arguments: &[Value],
     ) -> Result<Stepped, NoMemory>
         requires calls { AreWell self.old.index self.old.calls.frames.items }
         requires frame { IsWellFrame self.old.index frame }
+        requires place { HasPlace self.old.calls frame }
+        requires arriving { IsLawfulIf self.old.arriving }
         requires own { IsOwn self.old.index function.now }
         requires lawful { All (λ v. IsLawful (seen v)) arguments.now }
         ensures meets { IfOk result (λ stepped. (names : Texts) → Runs names self.old.texts.now (items_of names self.old.index) → Meets (done_of names self.new stepped)
             (P.perform (trees (items_of names self.old.index)) (store_of names self.old.store) (frame_of names frame.entry) (frames_of names self.old.calls.frames.items) (M.Enters (function_of names function.now) (values_of names arguments.now)))) }
-        ensures err { OnErr result (StandsUnder self.old self.new) }
-        ensures well { OnOk result (IsWell self.new) }
+        ensures err { OnErr result (StandsAgain frame.entry self.old self.new) }
+        ensures well { IsWell self.new }
         ensures went { IfOk result (λ stepped. stepped ≡ Stepped.Went) }
         ensures index { self.new.index ≡ self.old.index }
         ensures texts { self.new.texts ≡ self.old.texts }
     {
-        frame.point.arrive();
-        self.calls.put(frame)?;
-        self.push(alloc, function, arguments)?;
-        Ok(Stepped::Went)
+        match enter(alloc, &self.index, function, arguments, &mut self.store) {
+            Ok(callee) => {
+                self.put_upon(frame, callee)?;
+                Ok(Stepped::Went)
+            }
+            Err(error) => {
+                self.calls.put_back(frame);
+                Err(error)
+            }
+        }
     }
 
     // A frame was left with a value, which arrives below it.
@@ -205,13 +247,14 @@ impl<'p> Machine<'p> {
     ) -> Result<Stepped, NoMemory>
         requires calls { AreWell self.old.index self.old.calls.frames.items }
         requires frame { IsWellFrame self.old.index frame }
+        requires place { HasPlace self.old.calls frame }
         requires arriving { IsLawfulIf self.old.arriving }
         requires lawful { IsLawfulAct act }
         requires own { EntersOwn self.old.index act }
         ensures meets { IfOk result (λ stepped. (names : Texts) → Runs names self.old.texts.now (items_of names self.old.index) → Meets (done_of names self.new stepped)
             (P.perform (trees (items_of names self.old.index)) (store_of names self.old.store) (frame_of names frame.entry) (frames_of names self.old.calls.frames.items) (act_of names frame.entry.slots.items self.old.store act.entry))) }
-        ensures err { OnErr result (StandsUnder self.old self.new) }
-        ensures well { OnOk result (IsWell self.new) }
+        ensures err { OnErr result (StandsAgain frame.entry self.old self.new × (enters_act act.entry ≡ true)) }
+        ensures well { IsWell self.new }
         ensures lawful { IfOk result (λ stepped. IsLawfulStep stepped) }
         ensures told { IfOk result (λ stepped. TellsFunction stepped frame.entry) }
         ensures back { IfOk result (λ stepped. BackAfter stepped frame.entry self.old self.new) }
@@ -223,12 +266,12 @@ impl<'p> Machine<'p> {
         ensures texts { self.new.texts ≡ self.old.texts }
     {
         match act {
-            Act::GoesOn(holds) => self.go_on(frame, holds),
+            Act::GoesOn(holds) => Ok(self.go_on(frame, holds)),
             Act::Enters(function, arguments) => self.enter(alloc, frame, function, &arguments),
             Act::Leaves(value) => Ok(self.leave(value)),
             Act::Asks(call, args) => {
                 let function = frame.function.word.name;
-                self.calls.put(frame)?;
+                self.calls.put_back(frame);
                 Ok(Stepped::Asked(Request {
                     call,
                     args,
@@ -271,14 +314,16 @@ impl<'p> Machine<'p> {
     /// A step of the innermost call, by the definition of native code. A step that asks or faults changes nothing; the
     /// name that it tells is that of the function whose code runs. Where nothing runs, nothing is said.
     ///
-    /// `NoMemory` is want of memory, or of numbers for so many cells; then the calls below the innermost one stand as they were, and
-    /// so does what arrives. Of the innermost one nothing is said.
+    /// `NoMemory` is want of memory, or of numbers for so many cells, and comes only where a call stands. Then the calls stand as
+    /// they were, and so does what arrives; of the store nothing is said.
     pub fn step(&mut self, alloc: Global) -> Result<Stepped, NoMemory>
         requires { IsWell self.old }
         ensures meets { IfOk result (λ stepped. (names : Texts) → Runs names self.old.texts.now (items_of names self.old.index)
             → Meets (done_of names self.new stepped) (P.plain (trees (items_of names self.old.index)) (store_of names self.old.store) (stack_of names self.old))) }
         ensures err { OnErr result (StandsBelow self.old self.new) }
-        ensures well { OnOk result (IsWell self.new) }
+        ensures stack { OnErr result ((names : Texts) → stack_of names self.new ≡ stack_of names self.old) }
+        ensures refused { OnErr result (StandsAtCall self.old) }
+        ensures well { IsWell self.new }
         ensures lawful { IfOk result (λ stepped. IsLawfulStep stepped) }
         ensures told { IfOk result (λ stepped. (names : Texts) → TellsRunning names self.old stepped) }
         ensures kept { IfOk result (λ stepped. Unchanged stepped self.old self.new) }
@@ -303,26 +348,28 @@ impl<'p> Machine<'p> {
                 let stepped = self.perform(alloc, frame, act)?;
                 Ok(stepped)
             }
-            Err(Stop::Memory) => Err(NoMemory),
+            Err(Stop::Memory) => {
+                self.calls.put_back(frame);
+                Err(NoMemory)
+            }
             Err(Stop::Fault(fault)) => {
                 let function = frame.function.word.name;
-                self.calls.put(frame)?;
+                self.calls.put_back(frame);
                 Ok(Stepped::Faulted(fault, function))
             }
         }
     }
 
     /// The answer to what the innermost call asks, in the step that asked: the value arrives there, and control goes on.
-    /// Where it asks nothing, nothing is said.
+    /// Where it asks nothing, nothing is said. It takes no memory.
     ///
-    /// - `Memory`: want of memory; then nothing is said of the machine.
-    /// - `Fault`: of the place for the value.
-    pub fn answer(&mut self, alloc: Global, value: Value) -> Result<(), Stop<Fault>>
+    /// A fault is that of the place for the value.
+    pub fn answer(&mut self, alloc: Global, value: Value) -> Result<(), Fault>
         requires well { IsWell self.old }
         requires value { IsLawful (seen value) }
         ensures meets { (names : Texts) → Runs names self.old.texts.now (items_of names self.old.index)
-            → MeetsOr (went names self.new result) (P.answered (trees (items_of names self.old.index)) (store_of names self.old.store) (stack_of names self.old) (value_of names value)) }
-        ensures well { OnOk result (IsWell self.new) }
+            → Meets (went names self.new result) (P.answered (trees (items_of names self.old.index)) (store_of names self.old.store) (stack_of names self.old) (value_of names value)) }
+        ensures well { IsWell self.new }
         ensures index { self.new.index ≡ self.old.index }
         ensures texts { self.new.texts ≡ self.old.texts }
     {
@@ -330,12 +377,15 @@ impl<'p> Machine<'p> {
             return Ok(());
         };
         frame.point.arrive();
-        self.calls.put(frame)?;
+        self.calls.put_back(frame);
         self.arriving = Some(value);
-        let stepped = self.step(alloc)?;
-        match fault_of(&stepped) {
-            Some(fault) => Err(Stop::Fault(fault)),
-            None => Ok(()),
+        match self.step(alloc) {
+            Ok(stepped) => match fault_of(&stepped) {
+                Some(fault) => Err(fault),
+                None => Ok(()),
+            },
+            // No call stands where a value arrives.
+            Err(_) => unreachable!(),
         }
     }
 

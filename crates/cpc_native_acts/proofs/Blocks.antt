@@ -6,7 +6,7 @@ use Rattle.cpc_base.specs.declared.names.Name.{Name}
 use Rattle.cpc_num.specs.declared.kinds.Fault.TheVariants as F
 use Rattle.cpc_num.specs.declared.kinds.Kind.{Kind}
 use Rattle.cpc_tree.specs.Erase.{Names}
-use Rattle.cpc_tree.specs.Syntax.{Expr, Exprs}
+use Rattle.cpc_tree.specs.Points.{Found}
 use Rattle.cpc_store.specs.declared.values.Class.{Class}
 use Rattle.cpc_store.specs.declared.values.Class.TheVariants as K
 use Rattle.cpc_store.specs.Store.{Value, Unset, Whole, At, Store, StoreOf, alloc, blocks, with_blocks, cells_of, size, next_block, store_cells, same_class}
@@ -18,27 +18,23 @@ use Rattle.cpc_meaning.specs.Act as M
 use Rattle.cpc_meaning.specs.Section.{allocated, freed}
 use Rattle.cpc_eval_values.specs.Shown.{store_of}
 use Rattle.cpc_native_acts.specs.Stops.{IsGiven}
-use Rattle.cpc_native_acts.specs.Foreseen.{MakesSo, FreesSo, ArrivesSo, IsMaking, calling}
+use Rattle.cpc_native_acts.specs.Foreseen.{MakesSo, FreesSo, ArrivesSo, IsMaking}
 use Rattle.cpc_native_acts.specs.declared.changes.Change.{Change}
 use Rattle.cpc_native_acts.specs.declared.changes.Change.TheVariants as C
 
 -- ---- blocks that are made
 
--- a value that is delivered, and control goes on
-abbrev goes : Answer (List E.Slot × Store) → Answer M.Act
-goes a = a >>= (λ p. Gives (M.GoesOn true p.1 p.0))
-
-arrives_so : (change : Change) (before after : ℕ) (a : Answer (List E.Slot × Store)) → IsGiven true a → IsMaking change before after → ArrivesSo change before after (goes a)
-arrives_so change before after (Gives p) h m = m
+arrives_so : (change : Change) (before after : ℕ) (a : Answer M.Act) → IsGiven true a → IsMaking change before after → ArrivesSo change before after a
+arrives_so change before after (Gives act) h m = m
 arrives_so change before after (Faults e) h m = let no : ⊥ = cc in absurd no
 arrives_so change before after NoAnswer h m = tt
 
-arrives_not : (before after : ℕ) (a : Answer (List E.Slot × Store)) → IsGiven false a → ArrivesSo C.Stays before after (goes a)
-arrives_not before after (Gives p) h = let no : ⊥ = cc in absurd no
+arrives_not : (before after : ℕ) (a : Answer M.Act) → IsGiven false a → ArrivesSo C.Stays before after a
+arrives_not before after (Gives act) h = let no : ⊥ = cc in absurd no
 arrives_not before after (Faults e) h = refl
 arrives_not before after NoAnswer h = tt
 
-module _ (c : E.Context) (target : Option Expr) (f : Expr) (es : Exprs) (class : Class) (z : ℤ) where
+module _ (c : E.Context) (there : Found) (class : Class) (z : ℤ) where
   -- the block of so many cells, and the pointer to it
   abbrev block : Store × Value
   block = (alloc class (replicate (unsigned_abs z) Unset) c.store, At class (next_block class c.store) 0)
@@ -46,24 +42,24 @@ module _ (c : E.Context) (target : Option Expr) (f : Expr) (es : Exprs) (class :
   abbrev made : Bool → Answer (Store × Value)
   made b = if b then Faults F.Length else Gives block
 
-  pub makes_so : (kind : Kind) (cells : ℕ) → Some cells ≡ (if int_lt z (pos 0) then None else Some (min (unsigned_abs z) (2 ^ 64 - 1))) → IsGiven true (M.deliver c target (At class (next_block class c.store) 0))
-      → MakesSo c (calling target f es) (C.Makes cells) (allocated class (Whole kind z) c.store)
+  pub makes_so : (kind : Kind) (cells : ℕ) → Some cells ≡ (if int_lt z (pos 0) then None else Some (min (unsigned_abs z) (2 ^ 64 - 1))) → IsGiven true (M.arrives c there (Some (At class (next_block class c.store) 0)))
+      → MakesSo c (M.AtStatement there) (C.Makes cells) (allocated class (Whole kind z) c.store)
   makes_so kind cells e h = go (int_lt z (pos 0)) e
     where
-      go : (b : Bool) → Some cells ≡ (if b then None else Some (min (unsigned_abs z) (2 ^ 64 - 1))) → MakesSo c (calling target f es) (C.Makes cells) (made b)
+      go : (b : Bool) → Some cells ≡ (if b then None else Some (min (unsigned_abs z) (2 ^ 64 - 1))) → MakesSo c (M.AtStatement there) (C.Makes cells) (made b)
       go true e = absurd cc
       go false e =
           let n : cells ≡ min (unsigned_abs z) (2 ^ 64 - 1) = cc in
           let after : store_cells block.0 ≡ store_cells c.store + unsigned_abs z =
           store_cells-alloc class (replicate (unsigned_abs z) Unset) c.store ∙ ap (λ k. store_cells c.store + k) (length-replicate (unsigned_abs z) _) in
-          arrives_so (C.Makes cells) (store_cells c.store) (store_cells block.0) (M.deliver c target block.1) h (unsigned_abs z, after, n)
+          arrives_so (C.Makes cells) (store_cells c.store) (store_cells block.0) (M.arrives c there (Some block.1)) h (unsigned_abs z, after, n)
 
-  pub makes_not : (kind : Kind) → IsGiven false (M.deliver c target (At class (next_block class c.store) 0)) → MakesSo c (calling target f es) C.Stays (allocated class (Whole kind z) c.store)
+  pub makes_not : (kind : Kind) → IsGiven false (M.arrives c there (Some (At class (next_block class c.store) 0))) → MakesSo c (M.AtStatement there) C.Stays (allocated class (Whole kind z) c.store)
   makes_not kind h = go (int_lt z (pos 0))
     where
-      go : (b : Bool) → MakesSo c (calling target f es) C.Stays (made b)
+      go : (b : Bool) → MakesSo c (M.AtStatement there) C.Stays (made b)
       go true = refl
-      go false = arrives_not (store_cells c.store) (store_cells block.0) (M.deliver c target block.1) h
+      go false = arrives_not (store_cells c.store) (store_cells block.0) (M.arrives c there (Some block.1)) h
 
 -- the pointer to the next block, in a store that is seen
 pub next_pointer : (names : Names) (s : StoreOf Name) (class : Class) (n : ℕ) → n ≡ next_block class s → ◌≡◌ {A = Value} (At class n 0) (At class (next_block class (store_of names s)) 0)

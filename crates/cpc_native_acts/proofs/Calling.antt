@@ -17,7 +17,7 @@ use Rattle.cpc_eval_locals.specs.Held.{Held, local_in, capped_held}
 use Rattle.cpc_eval.specs.Around.{meant_or, meant_in}
 use Rattle.cpc_eval.proofs.TypedParts.{named_or}
 use Rattle.cpc_native_acts.specs.Rows.{passed}
-use Rattle.cpc_native_acts.specs.Calls.{is_of_type, code_called, value_called, calls_if, calls_known, calls_moded}
+use Rattle.cpc_native_acts.specs.Calls.{is_of_type, code_called, called_with, entering, calls_if, calls_known, calls_moded}
 
 -- ---- one part after another
 
@@ -50,17 +50,12 @@ callee_named p t (S.Whole k z) = refl
 callee_named p t (S.At c n k) = refl
 callee_named p t (S.Cond n) = refl
 
--- the function of a name, entered
-abbrev pub entering : E.Context → Text × List Value → Answer M.Act
-entering c q = needed (function_named c.program q.0) >>= (λ f. Gives (M.Enters f q.1))
-
 -- the function of a value, and the arguments
 abbrev naming : E.Context → Value → Ty → List Value → Answer (Text × List Value)
 naming c v t ws = code_called c.program t v >>= (λ x. Gives (x, ws))
 
-pub value_calls : (c : E.Context) (f : Expr) (es : Exprs) → M.calls_value c f es ≡ (value_called c f es >>= entering c)
-value_calls c f es =
-    then_same (E.value c f) _ _ (λ v. then_same (needed (E.used_type c f)) _ _ (λ t. tail v t) ∙ chain (needed (E.used_type c f)) _ (entering c)) ∙ chain (E.value c f) _ (entering c)
+pub value_calls : (c : E.Context) (f : Expr) (es : Exprs) → M.calls_value c f es ≡ (E.value c f >>= (λ v. needed (E.used_type c f) >>= (λ t. called_with c t v es >>= entering c)))
+value_calls c f es = then_same (E.value c f) _ _ (λ v. then_same (needed (E.used_type c f)) _ _ (λ t. tail v t))
   where
     ending : (v : Value) (t : Ty) (ws : List Value) → (M.callee c.program t v >>= (λ g. Gives (M.Enters g ws))) ≡ (naming c v t ws >>= entering c)
     ending v t ws =

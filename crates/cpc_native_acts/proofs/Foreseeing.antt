@@ -1,5 +1,5 @@
 -- What follows a part that is looked at, and is not kept.
-use Rattle.std.proofs.Common.{◌≡◌, ℕ, zero, suc, ◌+◌, ◌<◌, ◌≤◌, Bool, true, false, List, [], ◌∷◌, length, get_or, drop, Option, Some, None, Result, Ok, Err, refl, sym, ap, subst, ◌∙◌, add-one}
+use Rattle.std.proofs.Common.{◌≡◌, ℕ, zero, suc, ◌+◌, ◌<◌, ◌≤◌, Bool, true, false, List, [], ◌∷◌, length, get_or, drop, Result, Ok, Err, refl, sym, ap, subst, add-one}
 use Rattle.std.specs.Prelude.{is_ok}
 use Rattle.std.specs.Result.{result_map_both}
 use Rattle.std.proofs.lemmas.List.{drop_all}
@@ -7,15 +7,12 @@ use Rattle.cpc_num.specs.declared.kinds.Fault.{Fault}
 use Rattle.cpc_tree.specs.Erase.{Names, expr_of, exprs_of}
 use Rattle.cpc_tree.specs.declared.program.Expr as G
 use Rattle.cpc_tree.specs.Syntax.{Ty, Expr, Exprs, NoExpr, AndExpr}
-use Rattle.cpc_tree.specs.Typing as T
-use Rattle.cpc_types.specs.Found.{used_of}
 use Rattle.cpc_store.specs.Store.{Value}
-use Rattle.cpc_meaning.specs.Answer.{Answer, Gives, Faults, NoAnswer, ◌>>=◌, needed}
+use Rattle.cpc_meaning.specs.Answer.{Answer, Gives, Faults, NoAnswer, ◌>>=◌}
 use Rattle.cpc_meaning.specs.Eval as E
 use Rattle.cpc_meaning.specs.Requests.{arguments}
 use Rattle.cpc_eval_values.specs.Meets.{Meets}
 use Rattle.cpc_eval.specs.Numbers.{HasNumbers, AllNumbers}
-use Rattle.cpc_eval.specs.Shapes.{Agrees}
 use Rattle.cpc_native_acts.specs.Stops.{IsGiven}
 use Rattle.cpc_native_acts.specs.Rows.{passed_nth, passed}
 use Rattle.cpc_native_acts.proofs.Evaluated.{first_left}
@@ -31,13 +28,6 @@ module _ {B : Type 0} (P : Answer B → Type 0) (none : P NoAnswer) where
   after_given (Gives x) f h g = g x
   after_given (Faults e) f h g = let no : ⊥ = cc in absurd no
   after_given NoAnswer f h g = none
-
-  -- a type that was found
-  pub after_used : (d o : Option T.Typed) (s : Option Ty) (f : Ty → Answer B) → Agrees d o → s ≡ used_of d → P (needed s >>= f) → P (needed (E.and_then o T.used) >>= f)
-  after_used d None s f a e h = none
-  after_used d (Some x) s f a e h =
-      let Q : Option Ty → Type 0 = λ q. P (needed q >>= f) in
-      subst Q (e ∙ ap used_of a) h
 
   -- and for each fault
   module _ (fault : (e : Fault) → P (Faults e)) where
@@ -64,9 +54,6 @@ is_given view b (Ok x) NoAnswer e h = tt
 is_given view b (Err d) (Gives y) e h = let no : ⊥ = cc in absurd no
 is_given view b (Err d) (Faults f) e h = e
 is_given view b (Err d) NoAnswer e h = tt
-
-pub given_by : {A : Type 0} (b : Bool) (a q : Answer A) → a ≡ q → IsGiven b a → IsGiven b q
-given_by {A = A} b a q e h = let P : Answer A → Type 0 = IsGiven b in subst P e h
 
 -- ---- arguments one by one
 

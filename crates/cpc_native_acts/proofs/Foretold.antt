@@ -1,16 +1,13 @@
 -- What a step does to the live cells, by the parts that are looked at.
-use Rattle.std.proofs.Common.{◌≡◌, ℕ, List, map, Option, Some, None, option_map, refl, sym, ap, subst, ◌∙◌}
+use Rattle.std.proofs.Common.{◌≡◌, ℕ, List, Option, Some, None, option_map, refl, sym, ap, subst, ◌∙◌}
 use Rattle.std.specs.Option.{IfSome}
 use Rattle.std.specs.Borrow.{Bor}
 use Rattle.cpc_base.specs.Bytes.{Text}
 use Rattle.cpc_base.specs.declared.names.Name.{Name}
-use Rattle.cpc_tree.specs.Erase.{Names, function_of, type_of, parameter_of}
+use Rattle.cpc_tree.specs.Erase.{Names, function_of}
 use Rattle.cpc_tree.specs.declared.program.Function as G
-use Rattle.cpc_tree.specs.declared.program.CType.{CType}
-use Rattle.cpc_tree.specs.declared.program.Mode.{Mode}
-use Rattle.cpc_tree.specs.declared.program.Parameter.{Parameter}
-use Rattle.cpc_tree.specs.Syntax.{Expr, ENamed, Exprs, Function, Program}
-use Rattle.cpc_tree.specs.Typing.{function_named, parameter_type}
+use Rattle.cpc_tree.specs.Syntax.{Function}
+use Rattle.cpc_tree.specs.Typing.{function_named}
 use Rattle.cpc_check_rules.specs.Apart.{AreApart}
 use Rattle.cpc_store.specs.Store.{Value, Store}
 use Rattle.cpc_meaning.specs.Answer.{Answer, Gives, Faults, NoAnswer, ◌>>=◌, needed}
@@ -19,17 +16,11 @@ use Rattle.cpc_meaning.specs.Act as M
 use Rattle.cpc_meaning.specs.Slots.{free_slots}
 use Rattle.cpc_eval_index.specs.declared.index.Index.{Index}
 use Rattle.cpc_eval_index.specs.Indexed.{items_of, IsOwn}
-use Rattle.cpc_eval_index.specs.Meanings.{meant_of}
-use Rattle.cpc_eval_index.specs.declared.meant.Meant as W
-use Rattle.cpc_eval_index.specs.declared.meant.Meant.TheVariants as V
-use Rattle.cpc_eval.specs.Around.{meant_in}
-use Rattle.cpc_eval.specs.Numbers.{HasNumbers}
 use Rattle.cpc_native_frames.specs.Living.{CanLeave}
-use Rattle.cpc_native_acts.specs.Calls.{calls_if, calls_moded, IsNamed}
+use Rattle.cpc_native_acts.specs.Calls.{IsNamed, entering}
 use Rattle.cpc_native_acts.specs.Foreseen.{Foresees}
 use Rattle.cpc_native_acts.specs.declared.changes.Change.{Change}
 use Rattle.cpc_native_acts.specs.declared.changes.Change.TheVariants as C
-use Rattle.cpc_native_acts.proofs.Calling.{entering, local_calls, global_calls, functions_call}
 use Rattle.cpc_native_acts.proofs.Performing.{found_own}
 
 -- a function that is found by a name is its own
@@ -66,47 +57,21 @@ module _ (names : Names) (c : E.Context) (stood : M.Stood) where
 
   -- ---- calls
 
-  found_enters : (o : Option Function) (g : Bor G.Function) (ws : List Value) → Some (function_of names g.now) ≡ o → Foresees names c stood (C.Enters g) (needed o >>= (λ f. Gives (M.Enters f ws)))
+  pub found_enters : (o : Option Function) (g : Bor G.Function) (ws : List Value) → Some (function_of names g.now) ≡ o → Foresees names c stood (C.Enters g) (needed o >>= (λ f. Gives (M.Enters f ws)))
   found_enters None g ws e = absurd cc
   found_enters (Some f) g ws e = cc
 
-  pub named_enters : (x : Text) (a : Answer (Text × List Value)) (g : Bor G.Function) → IsNamed (Some x) a → Some (function_of names g.now) ≡ function_named c.program x → Foresees names c stood (C.Enters g) (a >>= entering c)
-  named_enters x (Gives q) g h e = let is : x ≡ q.0 = cc in found_enters (function_named c.program q.0) g q.1 (e ∙ ap (function_named c.program) is)
-  named_enters x (Faults d) g h e = absurd cc
-  named_enters x NoAnswer g h e = tt
+  -- the name that is called, after the arguments
+  pub named_then : (change : Change) (x : Text) (a : Answer (Text × List Value)) → IsNamed (Some x) a → ((ws : List Value) → Foresees names c stood change (entering c (x, ws))) → Foresees names c stood change (a >>= entering c)
+  named_then change x (Gives q) h g = let is : x ≡ q.0 = cc in let Q : Text → Type 0 = λ y. Foresees names c stood change (entering c (y, q.1)) in subst Q is (g q.1)
+  named_then change x (Faults d) h g = absurd cc
+  named_then change x NoAnswer h g = tt
 
-  not_found : (o : Option Function) (ws : List Value) → None ≡ o → Foresees names c stood C.Stays (needed o >>= (λ f. Gives (M.Enters f ws)))
+  pub not_found : (o : Option Function) (ws : List Value) → None ≡ o → Foresees names c stood C.Stays (needed o >>= (λ f. Gives (M.Enters f ws)))
   not_found None ws e = tt
   not_found (Some f) ws e = absurd cc
-
-  pub named_not : (x : Text) (a : Answer (Text × List Value)) → IsNamed (Some x) a → None ≡ function_named c.program x → Foresees names c stood C.Stays (a >>= entering c)
-  named_not x (Gives q) h e = let is : x ≡ q.0 = cc in not_found (function_named c.program q.0) q.1 (e ∙ ap (function_named c.program) is)
-  named_not x (Faults d) h e = refl
-  named_not x NoAnswer h e = tt
 
   pub unnamed : (a : Answer (Text × List Value)) → IsNamed None a → Foresees names c stood C.Stays (a >>= entering c)
   unnamed (Gives q) h = absurd cc
   unnamed (Faults d) h = refl
   unnamed NoAnswer h = tt
-
--- a call of the value of a name
-module _ (P : Answer M.Act → Type 0) (k : E.Context) where
-  pub value_of_name : (p : Program) (f : Expr) (x : Text) (es : Exprs) → f ≡ ENamed x → (HasNumbers p f → P (M.calls_value k f es)) → P (M.calls_value k (ENamed x) es)
-  value_of_name p f x es e h =
-      let Q : Expr → Type 0 = λ g. P (M.calls_value k g es) in
-      let N : Expr → Type 0 = HasNumbers p in
-      subst Q e (h (subst N (sym e) tt))
-
-  pub unknown_calls : (x : Text) (es : Exprs) → None ≡ function_named k.program x → P (M.calls_value k (ENamed x) es) → P (calls_if k x es (function_named k.program x))
-  unknown_calls x es e h = let Q : Option Function → Type 0 = λ o. P (calls_if k x es o) in subst Q e h
-
-  module _ (x : Text) (es : Exprs) (names : Names) (m : W.Meant) where
-    pub local_called : (n : ℕ) (t : Bor CType) → m ≡ V.Local n t → meant_of names m ≡ meant_in k x → P (M.calls_value k (ENamed x) es) → P (M.calls_expr k (ENamed x) es)
-    local_called n t i e h = subst P (local_calls k x es n (type_of names t.now) (ap (meant_of names) (sym i) ∙ e)) h
-
-    pub global_called : (n : ℕ) (t : Bor CType) → m ≡ V.Global n t → meant_of names m ≡ meant_in k x → P (M.calls_value k (ENamed x) es) → P (M.calls_expr k (ENamed x) es)
-    global_called n t i e h = subst P (global_calls k x es n (type_of names t.now) (ap (meant_of names) (sym i) ∙ e)) h
-
-    pub function_called : (mode : Mode) (t : Bor CType) (ps : Bor (List Parameter)) → m ≡ V.Function mode t ps → meant_of names m ≡ meant_in k x → P (calls_moded k x es mode) → P (M.calls_expr k (ENamed x) es)
-    function_called mode t ps i e h =
-        subst P (functions_call k x es mode (type_of names t.now) (map parameter_type (map (parameter_of names) ps.now)) (ap (meant_of names) (sym i) ∙ e)) h

@@ -1,10 +1,12 @@
 pub mod Stopping
 pub mod Rowing
 pub mod Writing
+pub mod Called
 pub mod Calling
 pub mod Doing
 pub mod Performing
 pub mod Alike
+pub mod Laying
 pub mod Planning
 pub mod Signing
 pub mod Evaluated

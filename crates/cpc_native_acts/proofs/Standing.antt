@@ -6,8 +6,6 @@ use Rattle.cpc_tree.specs.Erase.{Names, type_of, stmt_of, expr_of, exprs_of, fun
 use Rattle.cpc_tree.specs.declared.program.Expr as G
 use Rattle.cpc_tree.specs.declared.program.Statement.{Statement}
 use Rattle.cpc_tree.specs.declared.program.Statement.TheVariants as T
-use Rattle.cpc_tree.specs.declared.program.Expr.TheVariants as X
-use Rattle.cpc_tree.specs.declared.program.Word.{Word}
 use Rattle.std.specs.Borrow.{Bor}
 use Rattle.cpc_native_points.specs.Finds.{found_of}
 use Rattle.cpc_native_points.specs.declared.control.Found.{Found}
@@ -90,24 +88,6 @@ module _ (names : Names) (c : E.Context) (stood : M.Stood) where
   found_stays result F.Empty h = refl
   found_stays result (F.Test o) h = test_stays (option_map (λ (t : Bor G.Expr). expr_of names t.now) o)
   found_stays result F.Nothing h = tt
-
--- a call of what is no name
-pub calls_other : (names : Names) (c : E.Context) (es : Y.Exprs) (e : G.Expr) → ((w : Word) → e ≡ X.Name w → ⊥) → M.calls_value c (expr_of names e) es ≡ M.calls_expr c (expr_of names e) es
-calls_other names c es (X.Name w) h = absurd (h w refl)
-calls_other names c es (X.Integer p kind v) h = refl
-calls_other names c es (X.Character p v) h = refl
-calls_other names c es (X.Text p bytes) h = refl
-calls_other names c es (X.Unary' p op q e) h = refl
-calls_other names c es (X.Binary' p op q a r b) h = refl
-calls_other names c es (X.And' p q a r b) h = refl
-calls_other names c es (X.Or' p q a r b) h = refl
-calls_other names c es (X.Choose' p q t r a s b) h = refl
-calls_other names c es (X.Cast' p t q e) h = refl
-calls_other names c es (X.SizeOf p t) h = refl
-calls_other names c es (X.Index' p q a r i) h = refl
-calls_other names c es (X.Member' p q e field) h = refl
-calls_other names c es (X.Arrow' p q e field) h = refl
-calls_other names c es (X.CallIn' p q f shape row) h = refl
 
 -- ---- where a frame stands
 

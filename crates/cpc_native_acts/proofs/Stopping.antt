@@ -1,5 +1,5 @@
 -- What code that may want memory gives meets an answer: through early returns, and of one part after another.
-use Rattle.std.proofs.Common.{◌≡◌, Result, Ok, Err, subst}
+use Rattle.std.proofs.Common.{◌≡◌, Bool, true, false, Result, Ok, Err, subst, refl}
 use Rattle.std.specs.Result.{IsErrAnd, result_map_both}
 use Rattle.std.proofs.lemmas.Result.{err_from_is_err_and}
 use Rattle.cpc_base.specs.declared.stop.Stop.{Stop}
@@ -11,7 +11,7 @@ use Rattle.cpc_meaning.specs.Eval as E
 use Rattle.cpc_meaning.specs.Act as M
 use Rattle.cpc_eval_values.specs.Meets.{Meets}
 use Rattle.cpc_eval_values.proofs.Meeting.{meets_fault, meets_then}
-use Rattle.cpc_native_acts.specs.Stops.{MeetsOr, seen_as}
+use Rattle.cpc_native_acts.specs.Stops.{MeetsOr, wants_memory, seen_as}
 use Rattle.cpc_native_acts.specs.Deeds.{Stands, Plans, did}
 use Rattle.cpc_native_acts.specs.declared.deeds.Deed.{Deed}
 
@@ -50,16 +50,26 @@ pub or_stopped : {X Y : Type 0} (view : X → Y) (q : Result X Fault) (r : Resul
 or_stopped view (Ok x) r a e h = rw e h
 or_stopped view (Err fault) r a e h = rw e h
 
-pub or_same : {X : Type 0} (q : Result X Fault) (r : Result X (Stop Fault)) (a : Answer X) → r ≡ result_map_both (λ x. x) Faulted q → Meets q a → MeetsOr r a
-or_same (Ok x) r a e h = rw e h
-or_same (Err fault) r a e h = rw e h
-
 -- another view
 pub or_as : {A : Type 0} (r q : Result A (Stop Fault)) (a : Answer A) → r ≡ q → MeetsOr q a → MeetsOr r a
 or_as r q a e h = rw e h
 
 pub or_by : {A : Type 0} (r : Result A (Stop Fault)) (a b : Answer A) → a ≡ b → MeetsOr r a → MeetsOr r b
 or_by {A = A} r a b e h = let P : Answer A → Type 0 = MeetsOr r in subst P e h
+
+pub meets_by : {A : Type 0} (r : Result A Fault) (a b : Answer A) → a ≡ b → Meets r a → Meets r b
+meets_by {A = A} r a b e h = let P : Answer A → Type 0 = Meets r in subst P e h
+
+-- ---- want of memory
+
+-- a fault is none
+pub wants_stopped : {A : Type 0} (q : Result A Fault) (r : Result A (Stop Fault)) → r ≡ result_map_both (λ x. x) Faulted q → wants_memory r ≡ false
+wants_stopped (Ok x) r e = rw e refl
+wants_stopped (Err fault) r e = rw e refl
+
+-- what never comes
+pub never_called : (b : Bool) (P : Type 0) → b ≡ false → b ≡ true → P
+never_called b P e h = let no : ⊥ = cc in absurd no
 
 -- ---- answers that stand for answers
 
@@ -100,12 +110,6 @@ module _ (names : Names) (c : E.Context) where
 
   pub plans_by : (x : Result Deed (Stop Fault)) (a b : Answer M.Act) → a ≡ b → Plans names c x a → Plans names c x b
   plans_by x a b e h = let P : Answer M.Act → Type 0 = Plans names c x in subst P e h
-
-  -- what is planned after a part
-  pub plans_after : {A : Type 0} (x : A) (a : Answer A) (f : A → Answer M.Act) (r : Result Deed (Stop Fault)) → Meets (Ok x) a → Plans names c r (f x) → Plans names c r (a >>= f)
-  plans_after x a f (Ok d) h g = stands_then x a f (did names c d) h g
-  plans_after x a f (Err Memory) h g = tt
-  plans_after x a f (Err (Faulted fault)) h g = meets_then x a f (Err fault) h g
 
   -- a deed that does just this
   pub plans_same : (d : Deed) (a : Answer M.Act) → did names c d ≡ a → Plans names c (Ok d) a

@@ -1,12 +1,14 @@
 -- What a step of a frame does, as the definitions have it, and where it is said.
-use Rattle.std.specs.Prelude.{◌≡◌, Bool, true, List, Option, Some, None, Result}
+use Rattle.std.specs.Prelude.{◌≡◌, Bool, true, false, List, Option, Some, None, Result, Ok, Err}
 use Rattle.std.specs.List.{All}
 use Rattle.std.specs.Result.{result_map_both}
 use Rattle.cpc_base.specs.declared.names.Name.{Name}
 use Rattle.cpc_base.specs.declared.stop.Stop.{Stop}
+use Rattle.cpc_base.specs.declared.stop.Stop.TheVariants.{Memory, Fault as Faulted}
 use Rattle.cpc_num.specs.declared.kinds.Fault.{Fault}
 use Rattle.cpc_tree.specs.Erase.{Names, Table, function_of}
-use Rattle.cpc_tree.specs.Syntax.{Function, Program}
+use Rattle.cpc_tree.specs.Syntax.{Function, Program, Stmt, Call}
+use Rattle.cpc_tree.specs.Points as T
 use Rattle.cpc_tree.specs.declared.program.Function as G
 use Rattle.std.specs.Borrow.{Bor}
 use Rattle.cpc_check_rules.specs.Apart.{Spells}
@@ -69,6 +71,19 @@ abbrev pub is_served_stood : M.Stood → Bool
 is_served_stood (M.AtStatement f) = is_served_found f
 is_served_stood _ = true
 
+-- a call stands there, whose arguments are to be evaluated
+abbrev pub is_call : Stmt → Bool
+is_call (Call e f es) = true
+is_call _ = false
+
+abbrev pub is_call_found : T.Found → Bool
+is_call_found (T.Simple s) = is_call s
+is_call_found _ = false
+
+abbrev pub is_call_stood : M.Stood → Bool
+is_call_stood (M.AtStatement f) = is_call_found f
+is_call_stood _ = false
+
 -- texts of the program's table by which the names of a frame are told, where what stands there has numbers
 pub record IsTexts (names : Names) (index : Index) (table : Table) (frame : Frame) : Type 0 where
   pub told : IsTold names frame.function.now.parameters.items
@@ -93,6 +108,16 @@ IsLawfulAct (A.Asks b vs) = All (λ v. IsLawful (seen v)) vs.items
 abbrev pub IsLawfulIf : Option V.Value → Type 0
 IsLawfulIf None = Unit {0}
 IsLawfulIf (Some v) = IsLawful (seen v)
+
+-- it enters a function, or there is want of memory for the arguments
+abbrev pub enters_act : Act → Bool
+enters_act (A.Enters f vs) = true
+enters_act _ = false
+
+abbrev pub called : Result Act (Stop Fault) → Bool
+called (Ok act) = enters_act act
+called (Err Memory) = true
+called (Err (Faulted fault)) = false
 
 -- the function that it enters is one of the program
 abbrev pub EntersOwn : Index → Act → Type 0

@@ -7,7 +7,7 @@ use Rattle.cpc_num.specs.declared.kinds.Fault.{Fault}
 use Rattle.cpc_num.specs.declared.kinds.Fault.TheVariants as F
 use Rattle.std.specs.Global.{Vec}
 use Rattle.cpc_tree.specs.Erase.{Names}
-use Rattle.cpc_tree.specs.Syntax.{Ty, Expr, ENamed, Exprs, Function, Program}
+use Rattle.cpc_tree.specs.Syntax.{Ty, ENamed, Exprs, Function, Program}
 use Rattle.cpc_tree.specs.Typing.{NotMeant, function_named, same_type, function_type, parameter_types, code_parameters}
 use Rattle.cpc_tree.specs.Primitives.{primitive_named}
 use Rattle.cpc_meaning.specs.Act as M
@@ -46,14 +46,15 @@ called_with c t v es = do
   x ← code_called c.program t v
   Gives (x, ws)
 
--- a call of a value: the name of the function, and the arguments
-abbrev pub value_called : E.Context → Expr → Exprs → Answer (Text × List Value)
-value_called c f es = do
-  v ← E.value c f
-  t ← needed (E.used_type c f)
-  ws ← passed c (code_parameters t) es
-  x ← code_called c.program t v
-  Gives (x, ws)
+-- the function of a name, entered
+abbrev pub entering : E.Context → Text × List Value → Answer M.Act
+entering c q = do
+  f ← needed (function_named c.program q.0)
+  Gives (M.Enters f q.1)
+
+-- a call of this value of a type
+abbrev pub calls_code : E.Context → Ty → Value → Exprs → Answer M.Act
+calls_code c t v es = called_with c t v es >>= entering c
 
 abbrev pub call_shown : Names → Result (Name × Vec V.Value) (Stop Fault) → Result (Text × List Value) (Stop Fault)
 call_shown names r = seen_as (λ (q : Name × Vec V.Value). (names q.0, values_of names q.1.items)) r

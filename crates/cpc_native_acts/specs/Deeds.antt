@@ -1,5 +1,5 @@
 -- What is to be done, once the expressions are evaluated.
-use Rattle.std.specs.Prelude.{Bool, true, List, Option, Some, None, Result, Ok, Err}
+use Rattle.std.specs.Prelude.{Bool, true, false, List, Option, Some, None, Result, Ok, Err}
 use Rattle.std.specs.List.{All}
 use Rattle.std.specs.Result.{result_map_both}
 use Rattle.cpc_base.specs.declared.stop.Stop.{Stop}
@@ -20,7 +20,6 @@ use Rattle.cpc_eval.specs.declared.places.Spot.{Spot}
 use Rattle.cpc_eval.specs.Spots.{spot_of}
 use Rattle.cpc_native_builtins.specs.Builtins.{asked_of}
 use Rattle.cpc_native_builtins.specs.Served.{IsServedCall}
-use Rattle.cpc_native_acts.specs.Stops.{seen_as}
 use Rattle.cpc_native_acts.specs.Taken.{IsCalledWith}
 use Rattle.cpc_native_acts.specs.declared.deeds.Deed.{Deed}
 use Rattle.cpc_native_acts.specs.declared.deeds.Deed.TheVariants as D
@@ -40,6 +39,16 @@ did names c (D.Enters x vs) = do
   Gives (M.Enters f (values_of names vs.items))
 did names c (D.Leaves v) = M.leaves c (value_of names v)
 did names c (D.Asks call vs) = M.asks (asked_of names call) (values_of names vs.items)
+
+-- a function is entered, or there is want of memory for its arguments
+abbrev pub enters_deed : Deed → Bool
+enters_deed (D.Enters x vs) = true
+enters_deed _ = false
+
+abbrev pub takes_call : Result Deed (Stop Fault) → Bool
+takes_call (Ok d) = enters_deed d
+takes_call (Err Memory) = true
+takes_call (Err (Faulted fault)) = false
 
 -- what meets one answer meets another
 abbrev pub Stands : {A : Type 0} → (by for : Answer A) → Type 0
@@ -80,9 +89,6 @@ aimed c e v = do
 -- a place and a value, or a fault
 abbrev pub aim_seen : Names → Result (Spot × V.Value) Fault → Result (E.Spot × S.Value) Fault
 aim_seen names r = result_map_both (λ (q : Spot × V.Value). (spot_of q.0, value_of names q.1)) (λ fault. fault) r
-
-abbrev pub aim_shown : Names → Result (Spot × V.Value) (Stop Fault) → Result (E.Spot × S.Value) (Stop Fault)
-aim_shown names r = seen_as (λ (q : Spot × V.Value). (spot_of q.0, value_of names q.1)) r
 
 -- the value of a return, or the unset one
 abbrev pub returned : E.Context → (result : Ty) → Option Expr → Answer S.Value

@@ -1,11 +1,10 @@
 -- What a step does to the live cells, as it is told before the step is made.
 use Rattle.std.specs.Prelude.{◌≡◌, ℕ, ◌+◌, ◌-◌, ◌^◌, min, List, [], ◌∷◌, Option, Some, None}
 use Rattle.cpc_tree.specs.Erase.{Names, function_of}
-use Rattle.cpc_tree.specs.Points.{Simple}
 use Rattle.cpc_tree.specs.Typing.{function_named}
 use Rattle.cpc_tree.specs.declared.program.Function as G
 use Rattle.std.specs.Borrow.{Bor}
-use Rattle.cpc_tree.specs.Syntax.{Function, Expr, Exprs, Call}
+use Rattle.cpc_tree.specs.Syntax.{Function}
 use Rattle.cpc_store.specs.declared.values.Class.{Class}
 use Rattle.cpc_store.specs.declared.values.Class.TheVariants.{Auto, Heap, Frame as FrameClass}
 use Rattle.cpc_store.specs.Store.{Value, Store, store_cells}
@@ -87,10 +86,6 @@ Foresees names c stood change NoAnswer = Unit {0}
 abbrev pub EntersOwnly : Index → Change → Type 0
 EntersOwnly index (C.Enters g) = IsOwn index g.now
 EntersOwnly index change = Unit {0}
-
--- a call stands there
-abbrev pub calling : Option Expr → Expr → Exprs → M.Stood
-calling x f es = M.AtStatement (Simple (Call x f es))
 
 -- the class of the blocks that a primitive makes, if it makes any
 abbrev pub maker : Primitive → Option Class

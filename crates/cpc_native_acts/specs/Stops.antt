@@ -9,17 +9,20 @@ use Rattle.cpc_tree.specs.Erase.{Names}
 use Rattle.cpc_store.specs.Store.{Value}
 use Rattle.cpc_store.specs.declared.values.Value as V
 use Rattle.cpc_meaning.specs.Answer.{Answer, Gives, Faults, NoAnswer}
-use Rattle.cpc_meaning.specs.Eval as E
 use Rattle.cpc_eval_values.specs.Meets.{Meets}
 use Rattle.cpc_eval_values.specs.Shown.{value_of, values_of}
-use Rattle.cpc_eval.specs.declared.places.Spot.{Spot}
-use Rattle.cpc_eval.specs.Spots.{spot_of}
 
 -- the same value, or the same fault; of want of memory, and where no rule fits, nothing is said
 abbrev pub MeetsOr : {A : Type 0} → Result A (Stop Fault) → Answer A → Type 0
 MeetsOr (Ok x) a = Meets (Ok x) a
 MeetsOr (Err Memory) a = Unit {0}
 MeetsOr (Err (Faulted fault)) a = Meets (Err fault) a
+
+-- there is want of memory
+abbrev pub wants_memory : {A : Type 0} → Result A (Stop Fault) → Bool
+wants_memory (Ok x) = false
+wants_memory (Err Memory) = true
+wants_memory (Err (Faulted fault)) = false
 
 -- a value is given, or a fault comes; where no rule fits, nothing is said
 abbrev pub IsGiven : {A : Type 0} → Bool → Answer A → Type 0
@@ -33,9 +36,6 @@ seen_as view r = result_map_both view (λ stop. stop) r
 
 abbrev pub value_shown : Names → Result V.Value (Stop Fault) → Result Value (Stop Fault)
 value_shown names r = seen_as (value_of names) r
-
-abbrev pub spot_shown : Result Spot (Stop Fault) → Result E.Spot (Stop Fault)
-spot_shown r = seen_as spot_of r
 
 abbrev pub row_shown : Names → Result (Vec V.Value) (Stop Fault) → Result (List Value) (Stop Fault)
 row_shown names r = seen_as (λ (vs : Vec V.Value). values_of names vs.items) r

@@ -1,5 +1,5 @@
 //! A step of a frame.
-ghost use Rattle.std.specs.Prelude.{◌≡◌, option_map, IfOk, OnErr};
+ghost use Rattle.std.specs.Prelude.{◌≡◌, true, false, length, option_map, IfOk, OnErr};
 ghost use Rattle.cpc_tree.specs.Erase.{Names as Texts, type_of};
 ghost use Rattle.cpc_check_rules.specs.Apart.{AreApart, Spells};
 ghost use Rattle.cpc_tree.specs.Typing.{function_named};
@@ -11,10 +11,10 @@ ghost use Rattle.cpc_eval_values.specs.Shown.{value_of, store_of};
 ghost use Rattle.cpc_eval.specs.Spots.{AreLawful};
 ghost use Rattle.cpc_native_frames.specs.Frames.{IsWellFrame, RiseFrom};
 ghost use Rattle.cpc_native_frames.specs.Made.{slots_of};
-ghost use Rattle.cpc_native_acts.specs.Deeds.{Plans, did, IsLawfulDeed, IsServedDeed, IsTakenDeed};
-ghost use Rattle.cpc_native_acts.specs.Stops.{MeetsOr};
+ghost use Rattle.cpc_native_acts.specs.Deeds.{Plans, did, enters_deed, takes_call, IsLawfulDeed, IsServedDeed, IsTakenDeed};
+ghost use Rattle.cpc_native_acts.specs.Stops.{MeetsOr, wants_memory};
 ghost use Rattle.cpc_eval_index.specs.Indexed.{items_of, IsOwn};
-ghost use Rattle.cpc_native_acts.specs.Acts.{acted, function_shown, stood_of, context_in, IsTexts, IsServing, IsLawfulAct, IsLawfulIf, EntersOwn, AsksServed, AsksTaken, Keeps};
+ghost use Rattle.cpc_native_acts.specs.Acts.{acted, called, enters_act, function_shown, is_call_stood, stood_of, context_in, IsTexts, IsServing, IsLawfulAct, IsLawfulIf, EntersOwn, AsksServed, AsksTaken, Keeps};
 
 use crate::below::stopped;
 use crate::deeds::{Deed, arrives, found};
@@ -44,6 +44,7 @@ pub enum Act<'p> {
 }
 
 // What is to be done where a frame stands, where this value is arriving.
+#[tactic(auto, using(crate::proofs::Stopping::never_called))]
 fn planned(
     alloc: Global,
     index: &Index<'_>,
@@ -59,6 +60,7 @@ fn planned(
     ensures lawful { IfOk result (λ d. IsLawfulDeed d) }
     ensures served { IfOk result (λ d. (names : Texts) → Spells texts.now names → IsServing names index.now frame.now → IsServedDeed d) }
     ensures takes { IfOk result (λ d. IsTakenDeed d) }
+    ensures call { (names : Texts) → takes_call result ≡ true → is_call_stood (stood_of names frame.now) ≡ true }
 {
     let around = Around {
         index,
@@ -75,7 +77,7 @@ fn planned(
         Phase::Arrival => match arriving {
             Some(value) => {
                 let there = standing(&frame.function.body, &frame.point.path);
-                arrives(there, value, &around)
+                arrives(alloc, there, value, &around)
             }
             None => Err(Stop::Fault(Fault::Kind)),
         },
@@ -84,9 +86,11 @@ fn planned(
 }
 
 // The function of a name.
+#[tactic(auto, using(crate::proofs::Stopping::wants_stopped))]
 fn entered<'p>(index: &Index<'p>, name: Name) -> Result<&'p Function, Stop<Fault>>
     ensures value { (names : Texts) → AreApart names → MeetsOr (function_shown names result) (needed (function_named (items_of names index.now) (names name))) }
     ensures own { IfOk result (λ function. IsOwn index.now function.now) }
+    ensures memory { wants_memory result ≡ false }
 {
     match index.function(name) {
         Some(function) => Ok(function),
@@ -95,6 +99,7 @@ fn entered<'p>(index: &Index<'p>, name: Name) -> Result<&'p Function, Stop<Fault
 }
 
 // Does what is to be done.
+#[tactic(auto, using(crate::proofs::Stopping::wants_stopped))]
 fn perform<'p>(
     index: &Index<'p>,
     deed: Deed,
@@ -117,6 +122,8 @@ fn perform<'p>(
     ensures own { IfOk result (λ act. EntersOwn index.now act) }
     ensures asked { IfOk result (λ act. IsServedDeed deed → AsksServed act) }
     ensures takes { IfOk result (λ act. AsksTaken act) }
+    ensures memory { wants_memory result ≡ false }
+    ensures enters { IfOk result (λ act. enters_act act ≡ enters_deed deed) }
 {
     match deed {
         Deed::Passes(holds) => Ok(Act::GoesOn(holds)),
@@ -138,12 +145,14 @@ fn perform<'p>(
 
 /// A step of a frame, where this value is arriving. Control stays; it goes on by `cpc_native_points`.
 ///
-/// - `Memory`: want of memory. Only what takes arguments needs some.
+/// - `Memory`: want of memory. Only a call, which takes arguments, needs some.
 /// - `Fault`: the first fault of the expressions, from left to right, or of what is done with their values: `Code` of a
 ///   call of a code that is not that of a function of the wanted type, `Freed` and `Bounds` of an assignment, `BadFree`
 ///   where a block of the call that is left is freed already.
 ///
-/// An error leaves the slots and the store as they were.
+/// An error leaves the slots and the store as they were. There are as many slots afterwards as there were. A function is
+/// entered at a call alone.
+#[tactic(auto, using(crate::proofs::Stopping::never_called))]
 pub fn step<'p>(
     alloc: Global,
     index: &Index<'p>,
@@ -159,6 +168,7 @@ pub fn step<'p>(
     ensures function { frame.new.function ≡ frame.old.function }
     ensures point { frame.new.point ≡ frame.old.point }
     ensures well { IsWellFrame index.now frame.new }
+    ensures count { length frame.new.slots.items ≡ length frame.old.slots.items }
     ensures slots { OnErr result (frame.new.slots.items ≡ frame.old.slots.items) }
     ensures store { OnErr result (store.new ≡ store.old) }
     ensures slots_kept { IfOk result (λ act. Keeps act frame.old.slots.items frame.new.slots.items) }
@@ -167,6 +177,7 @@ pub fn step<'p>(
     ensures own { IfOk result (λ act. EntersOwn index.now act) }
     ensures asked { IfOk result (λ act. (names : Texts) → Spells texts.now names → IsServing names index.now frame.old → AsksServed act) }
     ensures takes { IfOk result (λ act. AsksTaken act) }
+    ensures call { (names : Texts) → called result ≡ true → is_call_stood (stood_of names frame.old) ≡ true }
 {
     let deed = planned(alloc, index, texts, frame, store, arriving)?;
     perform(index, deed, &mut frame.slots, store)

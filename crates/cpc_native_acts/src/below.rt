@@ -1,5 +1,5 @@
-//! Values and places of expressions, and faults among the stops of a call that takes memory.
-ghost use Rattle.std.specs.Prelude.{◌≡◌, IfOk};
+//! Values of expressions, and faults among the stops of a call that takes memory.
+ghost use Rattle.std.specs.Prelude.{◌≡◌, false, IfOk};
 ghost use Rattle.std.specs.Result.{result_map_both};
 ghost use Rattle.cpc_tree.specs.Erase.{Names, expr_of};
 ghost use Rattle.cpc_store.specs.Seen.{seen, IsLawful};
@@ -7,11 +7,11 @@ ghost use Rattle.cpc_meaning.specs.Eval as E;
 ghost use Rattle.cpc_eval_index.specs.Indexed.{items_of};
 ghost use Rattle.cpc_eval.specs.Around.{context_of, IsToldIn};
 ghost use Rattle.cpc_eval.specs.Numbers.{HasNumbers};
-ghost use Rattle.cpc_eval.specs.Spots.{AreLawful, IsLawfulSpot};
-ghost use Rattle.cpc_native_acts.specs.Stops.{MeetsOr, value_shown, spot_shown};
+ghost use Rattle.cpc_eval.specs.Spots.{AreLawful};
+ghost use Rattle.cpc_native_acts.specs.Stops.{MeetsOr, wants_memory, value_shown};
 
 use cpc_base::Stop;
-use cpc_eval::{Around, Spot};
+use cpc_eval::Around;
 use cpc_num::Fault;
 use cpc_store::Value;
 use cpc_tree::program::Expr;
@@ -27,21 +27,13 @@ pub(crate) fn stopped<T>(given: Result<T, Fault>) -> Result<T, Stop<Fault>>
 }
 
 /// The value of an expression; its faults are those of `cpc_eval`.
+#[tactic(auto, using(crate::proofs::Stopping::wants_stopped))]
 pub(crate) fn value<'a>(e: &'a Expr, around: &Around<'a>) -> Result<Value, Stop<Fault>>
     requires { AreLawful around.now.slots.now }
     ensures value { (names : Names) → IsToldIn names around.now → HasNumbers (items_of names around.now.index.now) (expr_of names e.now)
         → MeetsOr (value_shown names result) (E.value (context_of names around.now) (expr_of names e.now)) }
     ensures lawful { IfOk result (λ v. IsLawful (seen v)) }
+    ensures memory { wants_memory result ≡ false }
 {
     stopped(cpc_eval::value(e, around))
-}
-
-/// Where a place is; its faults are those of `cpc_eval`.
-pub(crate) fn place<'a>(e: &'a Expr, around: &Around<'a>) -> Result<Spot, Stop<Fault>>
-    requires { AreLawful around.now.slots.now }
-    ensures value { (names : Names) → IsToldIn names around.now → HasNumbers (items_of names around.now.index.now) (expr_of names e.now)
-        → MeetsOr (spot_shown result) (E.place (context_of names around.now) (expr_of names e.now)) }
-    ensures lawful { IfOk result (λ spot. IsLawfulSpot spot) }
-{
-    stopped(cpc_eval::place(e, around))
 }

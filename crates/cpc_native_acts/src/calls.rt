@@ -2,7 +2,7 @@
 ghost use Rattle.std.specs.Prelude.{◌≡◌, ◌==◌, IfOk, Some, length, slice_get, option_map};
 ghost use Rattle.std.specs.List.{All};
 ghost use Rattle.std.specs.Result.{result_map_both};
-ghost use Rattle.cpc_tree.specs.Erase.{Names as Texts, type_of, expr_of, exprs_of, function_of, parameter_of};
+ghost use Rattle.cpc_tree.specs.Erase.{Names as Texts, type_of, exprs_of, function_of, parameter_of};
 ghost use Rattle.cpc_tree.specs.Syntax.{Ty};
 ghost use Rattle.cpc_tree.specs.Typing as T;
 ghost use Rattle.cpc_tree.specs.Primitives.{primitive_named};
@@ -13,18 +13,18 @@ ghost use Rattle.cpc_eval_values.specs.Meets.{Meets};
 ghost use Rattle.cpc_eval_values.specs.Shown.{value_of};
 ghost use Rattle.cpc_eval_index.specs.Indexed.{items_of};
 ghost use Rattle.cpc_eval.specs.Around.{context_of, IsToldIn};
-ghost use Rattle.cpc_eval.specs.Numbers.{HasNumbers, AllNumbers};
+ghost use Rattle.cpc_eval.specs.Numbers.{AllNumbers};
 ghost use Rattle.cpc_eval.specs.Shapes.{shape_of};
 ghost use Rattle.cpc_eval.specs.Spots.{AreLawful};
 ghost use Rattle.cpc_native_builtins.specs.Builtins.{primitive_of};
 ghost use Rattle.cpc_native_acts.specs.Stops.{MeetsOr};
 ghost use Rattle.cpc_native_acts.specs.Rows.{row_types, parameter_list, signature_in};
-ghost use Rattle.cpc_native_acts.specs.Calls.{is_same, is_of_type, code_called, value_called, call_shown};
+ghost use Rattle.cpc_native_acts.specs.Calls.{is_same, is_of_type, code_called, called_with, call_shown};
 
-use crate::below::{stopped, value};
+use crate::below::stopped;
 use crate::rows::{Row, passed, type_at};
 use cpc_base::{Name, Names, Stop};
-use cpc_eval::{Around, Shape, typed, used_if};
+use cpc_eval::{Around, Shape};
 use cpc_eval_index::Index;
 use cpc_native_builtins::{Builtin, builtin_named};
 use cpc_num::Fault;
@@ -146,31 +146,27 @@ pub(crate) fn callee(value: Value, shape: Shape, index: &Index) -> Result<Name, 
     }
 }
 
-/// The function that a value calls, and its arguments. The value is looked at after the arguments.
+/// The function that a value of a type calls, and its arguments. The value is looked at after the arguments.
 ///
 /// - `Unset`, `Null`: the value is unset or null.
 /// - `Code`: there is no function of its name, or one of another type.
-/// - The faults of `cpc_eval`, of the value and then of the arguments.
+/// - The faults of `cpc_eval`, of the arguments.
+/// - `Memory`: want of memory for the arguments.
 pub(crate) fn value_called<'a>(
     alloc: Global,
-    function: &'a Expr,
+    called: Value,
+    shape: Shape<'a>,
     arguments: &'a [Expr],
     around: &Around<'a>,
 ) -> Result<(Name, Vec<Value>), Stop<Fault>>
     requires { AreLawful around.now.slots.now }
-    ensures value { (names : Texts) → IsToldIn names around.now → HasNumbers (items_of names around.now.index.now) (expr_of names function.now) → AllNumbers (items_of names around.now.index.now) (exprs_of names arguments.now)
-        → MeetsOr (call_shown names result) (value_called (context_of names around.now) (expr_of names function.now) (exprs_of names arguments.now)) }
+    ensures value { (names : Texts) → IsToldIn names around.now → AllNumbers (items_of names around.now.index.now) (exprs_of names arguments.now)
+        → MeetsOr (call_shown names result) (called_with (context_of names around.now) (shape_of names shape.entry) (value_of names called) (exprs_of names arguments.now)) }
     ensures lawful { IfOk result (λ q. All (λ v. IsLawful (seen v)) q.1.items) }
 {
-    let called = value(function, around)?;
-    match used_if(typed(function, around)) {
-        Some(shape) => {
-            let row = passed(alloc, parameters_of(shape), arguments, around)?;
-            let name = stopped(callee(called, shape, around.index))?;
-            Ok((name, row))
-        }
-        None => Err(Stop::Fault(Fault::Kind)),
-    }
+    let row = passed(alloc, parameters_of(shape), arguments, around)?;
+    let name = stopped(callee(called, shape, around.index))?;
+    Ok((name, row))
 }
 
 /// The primitive of a name, by its text in the program's table.

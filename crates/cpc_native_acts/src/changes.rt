@@ -1,37 +1,39 @@
 //! What a step of a frame does to the live cells, told before it is made. Nothing is changed and no memory is taken.
-ghost use Rattle.std.specs.Prelude.{◌≡◌, true, Option, IfSome, option_map};
-ghost use Rattle.cpc_tree.specs.Erase.{Names as Texts, type_of, stmt_of, expr_of, exprs_of, function_of};
+ghost use Rattle.std.specs.Prelude.{◌≡◌, true, List, Option, Some, IfSome, option_map};
+ghost use Rattle.cpc_tree.specs.Erase.{Names as Texts, type_of, stmt_of, exprs_of, function_of};
 ghost use Rattle.cpc_tree.specs.Points as P;
-ghost use Rattle.cpc_tree.specs.Syntax as Y;
 ghost use Rattle.cpc_tree.specs.Typing as T;
 ghost use Rattle.cpc_check_rules.specs.Apart.{AreApart, Spells};
 ghost use Rattle.cpc_store.specs.Store as S;
 ghost use Rattle.cpc_meaning.specs.Act as M;
 ghost use Rattle.cpc_meaning.specs.Eval as E;
-ghost use Rattle.cpc_eval_values.specs.Shown.{store_of};
+ghost use Rattle.cpc_eval_values.specs.Shown.{value_of, store_of};
 ghost use Rattle.cpc_eval_index.specs.Indexed.{items_of, IsOwn};
 ghost use Rattle.cpc_native_points.specs.Finds.{found_of};
 ghost use Rattle.cpc_eval.specs.Around.{context_of, IsToldIn};
-ghost use Rattle.cpc_eval.specs.Numbers.{HasNumbers, MaybeNumbers, AllNumbers, StmtNumbers, FoundNumbers};
+ghost use Rattle.cpc_eval.specs.Numbers.{AllNumbers, StmtNumbers, FoundNumbers};
+ghost use Rattle.cpc_eval.specs.Shapes.{shape_of};
 ghost use Rattle.cpc_eval.specs.Spots.{AreLawful};
-ghost use Rattle.cpc_native_builtins.specs.Served.{calls_served, is_served_stmt, is_served_found, is_served_program};
+ghost use Rattle.cpc_native_builtins.specs.Served.{is_served_stmt, is_served_found, is_served_program};
 ghost use Rattle.cpc_native_frames.specs.Frames.{IsWellFrame, RiseFrom};
 ghost use Rattle.cpc_native_acts.specs.Acts.{stood_of, context_in, IsTexts, IsServing};
-ghost use Rattle.cpc_native_acts.specs.Calls.{calls_known, calls_moded, calls_unmeant};
+ghost use Rattle.cpc_native_acts.specs.Calls.{calls_code, entering};
+ghost use Rattle.cpc_native_acts.specs.Plans.{planned, asks_for, IsSound};
 ghost use Rattle.cpc_native_frames.specs.Made.{slots_of};
-ghost use Rattle.cpc_native_acts.specs.Foreseen.{Foresees, EntersOwnly, Tells, told_of, calling};
+ghost use Rattle.cpc_native_acts.specs.Foreseen.{Foresees, EntersOwnly, Tells, told_of};
 
-use crate::calls::builtin_at;
-use crate::looked::{is_passed, is_returned, value_entered};
+use crate::looked::{code_entered, is_passed};
+use crate::plan::{self, Plan};
 use crate::requested::requested;
 use crate::rows::Row;
 use cpc_base::{Name, Names};
-use cpc_eval::Around;
-use cpc_eval_index::{Index, Meant};
+use cpc_eval::{Around, Shape};
+use cpc_eval_index::Index;
+use cpc_native_builtins::Call;
 use cpc_native_frames::{Frame, slots_cells};
 use cpc_native_points::{Found, Phase, standing};
-use cpc_store::Store;
-use cpc_tree::program::{CType, Expr, Function, Mode, Statement};
+use cpc_store::{Store, Value};
+use cpc_tree::program::{CType, Expr, Function, Statement};
 
 /// What a step of a frame does to the live cells.
 #[derive(Clone, Copy, Debug)]
@@ -56,129 +58,52 @@ fn function_at<'p>(index: &Index<'p>, name: Name) -> Option<&'p Function>
     index.function(name)
 }
 
-// A call of a value.
-fn value_called<'a>(function: &'a Expr, arguments: &'a [Expr], around: &Around<'a>) -> Change<'a>
-    requires slots { AreLawful around.now.slots.now }
-    ensures value { (names : Texts) (stood : M.Stood) → IsToldIn names around.now → HasNumbers (items_of names around.now.index.now) (expr_of names function.now) → AllNumbers (items_of names around.now.index.now) (exprs_of names arguments.now)
-        → Foresees names (context_of names around.now) stood result (M.calls_value (context_of names around.now) (expr_of names function.now) (exprs_of names arguments.now)) }
+// The function of a name is entered.
+fn entered<'a>(name: Name, around: &Around<'a>) -> Change<'a>
+    ensures value { (names : Texts) (stood : M.Stood) (arguments : List S.Value) → IsToldIn names around.now
+        → Foresees names (context_of names around.now) stood result (entering (context_of names around.now) (names name, arguments)) }
     ensures own { EntersOwnly around.now.index.now result }
 {
-    match value_entered(function, arguments, around) {
-        Some(name) => match function_at(around.index, name) {
-            Some(entered) => Change::Enters(entered),
-            None => Change::Stays,
-        },
+    match function_at(around.index, name) {
+        Some(function) => Change::Enters(function),
         None => Change::Stays,
     }
 }
 
-// A call of a function of the program.
-fn function_called<'a>(
-    name: Name,
-    function: &'a Expr,
+// The function that a value of this type is the code of is called.
+fn calls<'a>(
+    called: Value,
+    shape: Shape<'a>,
     arguments: &'a [Expr],
     around: &Around<'a>,
 ) -> Change<'a>
-    requires slots { AreLawful around.now.slots.now }
-    ensures value { (names : Texts) (stood : M.Stood) → IsToldIn names around.now → expr_of names function.now ≡ Y.ENamed (names name) → AllNumbers (items_of names around.now.index.now) (exprs_of names arguments.now)
-        → Foresees names (context_of names around.now) stood result (calls_known (context_of names around.now) (names name) (exprs_of names arguments.now)) }
+    requires { AreLawful around.now.slots.now }
+    ensures value { (names : Texts) (stood : M.Stood) → IsToldIn names around.now → AllNumbers (items_of names around.now.index.now) (exprs_of names arguments.now)
+        → Foresees names (context_of names around.now) stood result (calls_code (context_of names around.now) (shape_of names shape.entry) (value_of names called) (exprs_of names arguments.now)) }
     ensures own { EntersOwnly around.now.index.now result }
 {
-    match function_at(around.index, name) {
-        Some(known) => {
-            if is_passed(Row::Parameters(&known.parameters), arguments, around) {
-                Change::Enters(known)
-            } else {
-                Change::Stays
-            }
-        }
-        None => value_called(function, arguments, around),
+    match code_entered(called, shape, arguments, around) {
+        Some(name) => entered(name, around),
+        None => Change::Stays,
     }
 }
 
-// A call of a name that stands for a function in this mode. One of the host changes nothing.
-fn item_called<'a>(
-    mode: Mode,
+// The function of a name is called.
+fn enters<'a>(
     name: Name,
-    function: &'a Expr,
+    function: &'a Function,
     arguments: &'a [Expr],
     around: &Around<'a>,
 ) -> Change<'a>
-    requires slots { AreLawful around.now.slots.now }
-    ensures value { (names : Texts) (stood : M.Stood) → IsToldIn names around.now → expr_of names function.now ≡ Y.ENamed (names name) → AllNumbers (items_of names around.now.index.now) (exprs_of names arguments.now)
-        → Foresees names (context_of names around.now) stood result (calls_moded (context_of names around.now) (names name) (exprs_of names arguments.now) mode) }
+    requires { AreLawful around.now.slots.now }
+    ensures value { (names : Texts) (stood : M.Stood) → IsToldIn names around.now → Some (function_of names function.now) ≡ T.function_named (items_of names around.now.index.now) (names name) → AllNumbers (items_of names around.now.index.now) (exprs_of names arguments.now)
+        → Foresees names (context_of names around.now) stood result (M.calls (context_of names around.now) (function_of names function.now) (exprs_of names arguments.now)) }
     ensures own { EntersOwnly around.now.index.now result }
 {
-    match mode {
-        Mode::Extern => Change::Stays,
-        _ => function_called(name, function, arguments, around),
-    }
-}
-
-// A call of a name that stands for nothing else: of a primitive.
-fn primitive_called<'a>(
-    name: Name,
-    target: &'a Option<Expr>,
-    function: &'a Expr,
-    arguments: &'a [Expr],
-    around: &Around<'a>,
-    texts: &Names,
-) -> Change<'a>
-    requires slots { AreLawful around.now.slots.now }
-    ensures value { (names : Texts) → IsToldIn names around.now → Spells texts.now names → expr_of names function.now ≡ Y.ENamed (names name) → calls_served (Y.ENamed (names name)) ≡ true
-        → MaybeNumbers (items_of names around.now.index.now) (option_map (expr_of names) target.now) → AllNumbers (items_of names around.now.index.now) (exprs_of names arguments.now)
-        → Foresees names (context_of names around.now) (calling (option_map (expr_of names) target.now) (expr_of names function.now) (exprs_of names arguments.now)) result
-        (calls_unmeant (context_of names around.now) (names name) (exprs_of names arguments.now)) }
-    ensures own { EntersOwnly around.now.index.now result }
-{
-    match builtin_at(texts, name) {
-        Some(builtin) => requested(builtin, target, arguments, around),
-        None => value_called(function, arguments, around),
-    }
-}
-
-// A call of a name.
-fn name_called<'a>(
-    name: Name,
-    target: &'a Option<Expr>,
-    function: &'a Expr,
-    arguments: &'a [Expr],
-    around: &Around<'a>,
-    texts: &Names,
-) -> Change<'a>
-    requires slots { AreLawful around.now.slots.now }
-    ensures value { (names : Texts) → IsToldIn names around.now → Spells texts.now names → is_served_program (items_of names around.now.index.now) ≡ true → expr_of names function.now ≡ Y.ENamed (names name) → calls_served (Y.ENamed (names name)) ≡ true
-        → MaybeNumbers (items_of names around.now.index.now) (option_map (expr_of names) target.now) → AllNumbers (items_of names around.now.index.now) (exprs_of names arguments.now)
-        → Foresees names (context_of names around.now) (calling (option_map (expr_of names) target.now) (expr_of names function.now) (exprs_of names arguments.now)) result
-        (M.calls_expr (context_of names around.now) (Y.ENamed (names name)) (exprs_of names arguments.now)) }
-    ensures own { EntersOwnly around.now.index.now result }
-{
-    match around.meant(name) {
-        Some(Meant::Local { .. }) => value_called(function, arguments, around),
-        Some(Meant::Global { .. }) => value_called(function, arguments, around),
-        Some(Meant::Function { mode, .. }) => item_called(mode, name, function, arguments, around),
-        None => primitive_called(name, target, function, arguments, around, texts),
-    }
-}
-
-// A call.
-fn called<'a>(
-    target: &'a Option<Expr>,
-    function: &'a Expr,
-    arguments: &'a [Expr],
-    around: &Around<'a>,
-    texts: &Names,
-) -> Change<'a>
-    requires slots { AreLawful around.now.slots.now }
-    ensures value { (names : Texts) → IsToldIn names around.now → Spells texts.now names → is_served_program (items_of names around.now.index.now) ≡ true → calls_served (expr_of names function.now) ≡ true
-        → MaybeNumbers (items_of names around.now.index.now) (option_map (expr_of names) target.now) → HasNumbers (items_of names around.now.index.now) (expr_of names function.now) → AllNumbers (items_of names around.now.index.now) (exprs_of names arguments.now)
-        → Foresees names (context_of names around.now) (calling (option_map (expr_of names) target.now) (expr_of names function.now) (exprs_of names arguments.now)) result
-        (M.calls_expr (context_of names around.now) (expr_of names function.now) (exprs_of names arguments.now)) }
-    ensures own { EntersOwnly around.now.index.now result }
-{
-    match function {
-        Expr::Name(word) => { name_called(word.name, target, function, arguments, around, texts) }
-        _ => value_called(function, arguments, around),
+    if is_passed(Row::Parameters(&function.parameters), arguments, around) {
+        entered(name, around)
+    } else {
+        Change::Stays
     }
 }
 
@@ -194,22 +119,52 @@ fn left<'a>(around: &Around<'a>) -> Change<'a>
     }
 }
 
-// A return.
-fn returned<'a>(of: &CType, given: &'a Option<Expr>, around: &Around<'a>) -> Change<'a>
-    requires slots { AreLawful around.now.slots.now }
-    requires rise { RiseFrom 0 around.now.slots.now }
-    ensures value { (names : Texts) (stood : M.Stood) → IsToldIn names around.now → MaybeNumbers (items_of names around.now.index.now) (option_map (expr_of names) given.now)
-        → Foresees names (context_of names around.now) stood result (M.returns (context_of names around.now) (type_of names of.now) (option_map (expr_of names) given.now)) }
+// The machine is asked, by what stands there. A function of the host changes nothing.
+fn asks<'a>(call: Call, there: Found<'a>, arguments: &'a [Expr], around: &Around<'a>) -> Change<'a>
+    requires { AreLawful around.now.slots.now }
+    ensures value { (names : Texts) → IsToldIn names around.now → FoundNumbers (items_of names around.now.index.now) (found_of names there.entry) → AllNumbers (items_of names around.now.index.now) (exprs_of names arguments.now)
+        → Foresees names (context_of names around.now) (M.AtStatement (found_of names there.entry)) result (asks_for names (context_of names around.now) call (exprs_of names arguments.now)) }
     ensures own { EntersOwnly around.now.index.now result }
 {
-    if is_returned(of, given, around) {
-        left(around)
-    } else {
-        Change::Stays
+    match call {
+        Call::Builtin(builtin) => requested(builtin, there, arguments, around),
+        Call::Host(_) => Change::Stays,
     }
 }
 
-// A simple statement.
+// What a plan for what stands there comes to.
+fn comes_to<'a>(plan: Plan<'a>, there: Found<'a>, around: &Around<'a>) -> Change<'a>
+    requires slots { AreLawful around.now.slots.now }
+    requires rise { RiseFrom 0 around.now.slots.now }
+    ensures value { (names : Texts) → IsToldIn names around.now → FoundNumbers (items_of names around.now.index.now) (found_of names there.entry) → IsSound names (context_of names around.now) plan.entry
+        → Foresees names (context_of names around.now) (M.AtStatement (found_of names there.entry)) result (planned names (context_of names around.now) plan.entry) }
+    ensures own { EntersOwnly around.now.index.now result }
+{
+    match plan {
+        Plan::Passes(_) => Change::Stays,
+        Plan::Writes(_, _) => Change::Stays,
+        Plan::Calls(called, shape, arguments) => calls(called, shape, arguments, around),
+        Plan::Enters(name, function, arguments) => enters(name, function, arguments, around),
+        Plan::Leaves(_) => left(around),
+        Plan::Asks(call, arguments) => asks(call, there, arguments, around),
+    }
+}
+
+// What stands at a point, in a function with this result, by the plan of a step.
+fn by_plan<'a>(of: &CType, there: Found<'a>, around: &Around<'a>, texts: &Names) -> Change<'a>
+    requires slots { AreLawful around.now.slots.now }
+    requires rise { RiseFrom 0 around.now.slots.now }
+    ensures value { (names : Texts) → IsToldIn names around.now → Spells texts.now names → is_served_program (items_of names around.now.index.now) ≡ true → is_served_found (found_of names there.entry) ≡ true → FoundNumbers (items_of names around.now.index.now) (found_of names there.entry)
+        → Foresees names (context_of names around.now) (M.AtStatement (found_of names there.entry)) result (M.found_act (context_of names around.now) (type_of names of.now) (found_of names there.entry)) }
+    ensures own { EntersOwnly around.now.index.now result }
+{
+    match plan::found(of, there, around, texts) {
+        Ok(plan) => comes_to(plan, there, around),
+        Err(_) => Change::Stays,
+    }
+}
+
+// A simple statement. One that neither calls nor returns leaves as many cells, whatever its expressions are, which are not looked at.
 fn simple<'a>(
     of: &CType,
     statement: &'a Statement,
@@ -223,13 +178,8 @@ fn simple<'a>(
     ensures own { EntersOwnly around.now.index.now result }
 {
     match statement {
-        Statement::Call {
-            target,
-            function,
-            arguments,
-            ..
-        } => called(target, function, arguments, around, texts),
-        Statement::Return { value, .. } => returned(of, value, around),
+        Statement::Call { .. } => by_plan(of, Found::Simple(statement), around, texts),
+        Statement::Return { .. } => by_plan(of, Found::Simple(statement), around, texts),
         _ => Change::Stays,
     }
 }

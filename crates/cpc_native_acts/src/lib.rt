@@ -10,6 +10,7 @@ mod detached;
 mod fits;
 mod looked;
 mod places;
+mod plan;
 mod requested;
 mod rows;
 

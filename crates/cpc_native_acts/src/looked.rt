@@ -1,29 +1,31 @@
 //! What is looked at before a step is made: whether expressions have values, and whether a value would arrive. Nothing is
 //! kept or changed, and no memory is taken.
-ghost use Rattle.std.specs.Prelude.{◌≡◌, option_map};
-ghost use Rattle.cpc_tree.specs.Erase.{Names as Texts, type_of, expr_of, exprs_of};
+ghost use Rattle.std.specs.Prelude.{◌≡◌, true, Some, option_map};
+ghost use Rattle.cpc_tree.specs.Erase.{Names as Texts, expr_of, exprs_of};
 ghost use Rattle.cpc_store.specs.Store as S;
 ghost use Rattle.cpc_store.specs.Seen.{seen, IsLawful};
 ghost use Rattle.cpc_meaning.specs.Act as M;
 ghost use Rattle.cpc_meaning.specs.Eval as E;
 ghost use Rattle.cpc_eval_values.specs.Shown.{value_of, store_of};
 ghost use Rattle.cpc_eval_index.specs.Indexed.{items_of};
+ghost use Rattle.cpc_native_points.specs.Finds.{found_of};
 ghost use Rattle.cpc_eval.specs.Around.{context_of, IsToldIn};
-ghost use Rattle.cpc_eval.specs.Numbers.{HasNumbers, MaybeNumbers, AllNumbers};
+ghost use Rattle.cpc_eval.specs.Numbers.{HasNumbers, AllNumbers, FoundNumbers};
 ghost use Rattle.cpc_eval.specs.Shapes.{shape_of};
 ghost use Rattle.cpc_eval.specs.Spots.{spot_of, AreLawful};
 ghost use Rattle.cpc_native_acts.specs.Stops.{IsGiven};
 ghost use Rattle.cpc_native_acts.specs.Rows.{row_types, passed_nth, passed};
-ghost use Rattle.cpc_native_acts.specs.Calls.{value_called, called_with, IsNamed};
-ghost use Rattle.cpc_native_acts.specs.Deeds.{returned};
+ghost use Rattle.cpc_native_acts.specs.Calls.{called_with, IsNamed};
+ghost use Rattle.cpc_native_acts.specs.Plans.{planned, is_plain};
 
 use crate::calls::{callee, parameters_of};
+use crate::plan::{Plan, arrives};
 use crate::rows::{Row, argument_at};
 use cpc_base::Name;
-use cpc_eval::{Around, Shape, Spot, assigned_at, place, typed, used_if, value};
-use cpc_eval_values::assigned;
+use cpc_eval::{Around, Shape, Spot, value};
+use cpc_native_points::Found;
 use cpc_store::{Store, Value};
-use cpc_tree::program::{CType, Expr};
+use cpc_tree::program::Expr;
 
 // Whether an argument has a value for the parameter of a number.
 fn is_passed_at<'a>(types: Row, i: usize, argument: &'a Expr, around: &Around<'a>) -> bool
@@ -51,8 +53,8 @@ pub(crate) fn is_passed<'a>(types: Row, arguments: &'a [Expr], around: &Around<'
     true
 }
 
-// The name of the function that a code of a type calls, where its arguments have values.
-fn code_entered<'a>(
+/// The name of the function that a code of a type calls, where its arguments have values.
+pub(crate) fn code_entered<'a>(
     called: Value,
     shape: Shape,
     arguments: &'a [Expr],
@@ -69,40 +71,6 @@ fn code_entered<'a>(
     }
 }
 
-/// The name of the function that a value calls, if the call comes to it.
-pub(crate) fn value_entered<'a>(
-    function: &'a Expr,
-    arguments: &'a [Expr],
-    around: &Around<'a>,
-) -> Option<Name>
-    requires { AreLawful around.now.slots.now }
-    ensures { (names : Texts) → IsToldIn names around.now → HasNumbers (items_of names around.now.index.now) (expr_of names function.now) → AllNumbers (items_of names around.now.index.now) (exprs_of names arguments.now)
-        → IsNamed (option_map names result) (value_called (context_of names around.now) (expr_of names function.now) (exprs_of names arguments.now)) }
-{
-    match value(function, around) {
-        Ok(called) => match used_if(typed(function, around)) {
-            Some(shape) => code_entered(called, shape, arguments, around),
-            None => None,
-        },
-        Err(_) => None,
-    }
-}
-
-/// Whether a return has a value for the type of the result.
-pub(crate) fn is_returned<'a>(of: &CType, given: &'a Option<Expr>, around: &Around<'a>) -> bool
-    requires { AreLawful around.now.slots.now }
-    ensures { (names : Texts) → IsToldIn names around.now → MaybeNumbers (items_of names around.now.index.now) (option_map (expr_of names) given.now)
-        → IsGiven result (returned (context_of names around.now) (type_of names of.now) (option_map (expr_of names) given.now)) }
-{
-    match given {
-        Some(given) => match value(given, around) {
-            Ok(value) => assigned(of, value).is_ok(),
-            Err(_) => false,
-        },
-        None => true,
-    }
-}
-
 // Whether a value can be written to a place.
 fn is_written(spot: Spot, store: &Store) -> bool
     ensures { (names : Texts) (c : E.Context) (v : S.Value) → c.store ≡ store_of names store.now → IsGiven result (M.write c (spot_of spot) v) }
@@ -116,31 +84,27 @@ fn is_written(spot: Spot, store: &Store) -> bool
     }
 }
 
-// Whether a value can be assigned to a place.
-fn is_assigned<'a>(target: &'a Expr, given: Value, around: &Around<'a>) -> bool
-    requires slots { AreLawful around.now.slots.now }
-    requires given { IsLawful (seen given) }
-    ensures { (names : Texts) → IsToldIn names around.now → HasNumbers (items_of names around.now.index.now) (expr_of names target.now)
-        → IsGiven result (M.assign (context_of names around.now) (expr_of names target.now) (value_of names given)) }
+// Whether what control goes on after can be done.
+fn is_done(plan: Plan<'_>, store: &Store) -> bool
+    requires { is_plain plan ≡ true }
+    ensures { (names : Texts) (c : E.Context) → c.store ≡ store_of names store.now → IsGiven result (planned names c plan.entry) }
 {
-    match place(target, around) {
-        Ok(spot) => match assigned_at(target, around, given) {
-            Ok(_) => is_written(spot, around.store),
-            Err(_) => false,
-        },
-        Err(_) => false,
+    match plan {
+        Plan::Passes(_) => true,
+        Plan::Writes(spot, _) => is_written(spot, store),
+        _ => unreachable!(),
     }
 }
 
-/// Whether a value can be assigned to the place of a call, if it has one.
-pub(crate) fn is_delivered<'a>(target: &'a Option<Expr>, given: Value, around: &Around<'a>) -> bool
+/// Whether a value can arrive at what stands there.
+pub(crate) fn is_delivered<'a>(there: Found<'a>, given: Value, around: &Around<'a>) -> bool
     requires slots { AreLawful around.now.slots.now }
     requires given { IsLawful (seen given) }
-    ensures { (names : Texts) → IsToldIn names around.now → MaybeNumbers (items_of names around.now.index.now) (option_map (expr_of names) target.now)
-        → IsGiven result (M.deliver (context_of names around.now) (option_map (expr_of names) target.now) (value_of names given)) }
+    ensures { (names : Texts) → IsToldIn names around.now → FoundNumbers (items_of names around.now.index.now) (found_of names there.entry)
+        → IsGiven result (M.arrives (context_of names around.now) (found_of names there.entry) (Some (value_of names given))) }
 {
-    match target {
-        Some(target) => is_assigned(target, given, around),
-        None => true,
+    match arrives(there, given, around) {
+        Ok(plan) => is_done(plan, around.store),
+        Err(_) => false,
     }
 }

@@ -7,19 +7,19 @@ ghost use Rattle.cpc_store.specs.Seen.{seen, IsLawful};
 ghost use Rattle.cpc_meaning.specs.Act as M;
 ghost use Rattle.cpc_meaning.specs.Eval as E;
 ghost use Rattle.cpc_eval_values.specs.Meets.{Meets};
-ghost use Rattle.cpc_eval_values.specs.Shown.{value_of, store_of};
+ghost use Rattle.cpc_eval_values.specs.Shown.{value_of, store_of, shown};
 ghost use Rattle.cpc_eval_index.specs.Indexed.{items_of};
 ghost use Rattle.cpc_eval.specs.Around.{context_of, IsToldIn};
 ghost use Rattle.cpc_eval.specs.Numbers.{HasNumbers, MaybeNumbers};
 ghost use Rattle.cpc_eval.specs.Spots.{spot_of, AreLawful};
 ghost use Rattle.cpc_native_frames.specs.Frames.{RiseFrom};
 ghost use Rattle.cpc_native_frames.specs.Made.{slots_of};
-ghost use Rattle.cpc_native_acts.specs.Stops.{MeetsOr, value_shown};
-ghost use Rattle.cpc_native_acts.specs.Deeds.{aimed, aim_seen, aim_shown, returned, test_held};
+ghost use Rattle.cpc_native_acts.specs.Deeds.{aimed, aim_seen, returned, test_held};
 
-use crate::below::{place, stopped, value};
-use cpc_base::{Name, Stop};
-use cpc_eval::{Around, Slot, Spot, assigned_at, name_type, operate_on, place_of, spot_named};
+use cpc_base::Name;
+use cpc_eval::{
+    Around, Slot, Spot, assigned_at, name_type, operate_on, place, place_of, spot_named, value,
+};
 use cpc_eval_values::{assigned, holds};
 use cpc_num::{Fault, Op};
 use cpc_store::{Store, Value};
@@ -33,10 +33,10 @@ pub(crate) fn right_value<'a>(
     target: &'a Expr,
     right: &'a Expr,
     around: &Around<'a>,
-) -> Result<Value, Stop<Fault>>
+) -> Result<Value, Fault>
     requires { AreLawful around.now.slots.now }
     ensures value { (names : Names) → IsToldIn names around.now → HasNumbers (items_of names around.now.index.now) (expr_of names target.now) → HasNumbers (items_of names around.now.index.now) (expr_of names right.now)
-        → MeetsOr (value_shown names result) (E.value (context_of names around.now) (M.right_side op (expr_of names target.now) (expr_of names right.now))) }
+        → Meets (shown names result) (E.value (context_of names around.now) (M.right_side op (expr_of names target.now) (expr_of names right.now))) }
     ensures lawful { IfOk result (λ v. IsLawful (seen v)) }
 {
     match op {
@@ -44,7 +44,7 @@ pub(crate) fn right_value<'a>(
         Some(op) => {
             let first = value(target, around)?;
             let second = value(right, around)?;
-            stopped(operate_on(op, target, right, (first, second), around))
+            operate_on(op, target, right, (first, second), around)
         }
     }
 }
@@ -56,15 +56,15 @@ pub(crate) fn aimed<'a>(
     target: &'a Expr,
     given: Value,
     around: &Around<'a>,
-) -> Result<(Spot, Value), Stop<Fault>>
+) -> Result<(Spot, Value), Fault>
     requires slots { AreLawful around.now.slots.now }
     requires given { IsLawful (seen given) }
     ensures value { (names : Names) → IsToldIn names around.now → HasNumbers (items_of names around.now.index.now) (expr_of names target.now)
-        → MeetsOr (aim_shown names result) (aimed (context_of names around.now) (expr_of names target.now) (value_of names given)) }
+        → Meets (aim_seen names result) (aimed (context_of names around.now) (expr_of names target.now) (value_of names given)) }
     ensures lawful { IfOk result (λ q. IsLawful (seen q.1)) }
 {
     let spot = place(target, around)?;
-    let written = stopped(assigned_at(target, around, given))?;
+    let written = assigned_at(target, around, given)?;
     Ok((spot, written))
 }
 
@@ -98,16 +98,16 @@ pub(crate) fn returned<'a>(
     of: &CType,
     given: &'a Option<Expr>,
     around: &Around<'a>,
-) -> Result<Value, Stop<Fault>>
+) -> Result<Value, Fault>
     requires { AreLawful around.now.slots.now }
     ensures value { (names : Names) → IsToldIn names around.now → MaybeNumbers (items_of names around.now.index.now) (option_map (expr_of names) given.now)
-        → MeetsOr (value_shown names result) (returned (context_of names around.now) (type_of names of.now) (option_map (expr_of names) given.now)) }
+        → Meets (shown names result) (returned (context_of names around.now) (type_of names of.now) (option_map (expr_of names) given.now)) }
     ensures lawful { IfOk result (λ v. IsLawful (seen v)) }
 {
     match given {
         Some(given) => {
             let value = value(given, around)?;
-            stopped(assigned(of, value))
+            assigned(of, value)
         }
         None => Ok(Value::Unset),
     }
@@ -116,18 +116,15 @@ pub(crate) fn returned<'a>(
 /// Whether a test holds; an absent one does.
 ///
 /// `Unset`: its value is unset. The other faults are those of `cpc_eval`.
-pub(crate) fn test_held<'a>(
-    test: Option<&'a Expr>,
-    around: &Around<'a>,
-) -> Result<bool, Stop<Fault>>
+pub(crate) fn test_held<'a>(test: Option<&'a Expr>, around: &Around<'a>) -> Result<bool, Fault>
     requires { AreLawful around.now.slots.now }
-    ensures { (names : Names) → IsToldIn names around.now → MaybeNumbers (items_of names around.now.index.now) (option_map (λ e. expr_of names e.now) test.entry)
-        → MeetsOr result (test_held (context_of names around.now) (option_map (λ e. expr_of names e.now) test.entry)) }
+    ensures value { (names : Names) → IsToldIn names around.now → MaybeNumbers (items_of names around.now.index.now) (option_map (λ e. expr_of names e.now) test.entry)
+        → Meets result (test_held (context_of names around.now) (option_map (λ e. expr_of names e.now) test.entry)) }
 {
     match test {
         Some(test) => {
             let value = value(test, around)?;
-            stopped(holds(value))
+            holds(value)
         }
         None => Ok(true),
     }

@@ -1,8 +1,7 @@
 //! What a primitive does to the live cells, told before it is called. Nothing is changed and no memory is taken.
 ghost use Rattle.std.specs.Prelude.{◌≡◌, ◌-◌, ◌^◌, [], ◌∷◌, min, pos, unsigned_abs, int_lt, Some, None, if◌then◌else◌, IfSome, option_map};
-ghost use Rattle.cpc_tree.specs.Erase.{Names as Texts, expr_of, exprs_of};
+ghost use Rattle.cpc_tree.specs.Erase.{Names as Texts, exprs_of};
 ghost use Rattle.cpc_tree.specs.Primitives as P;
-ghost use Rattle.cpc_tree.specs.Syntax as Y;
 ghost use Rattle.cpc_store.specs.Store as S;
 ghost use Rattle.cpc_store.specs.Seen.{seen, IsLawful};
 ghost use Rattle.cpc_meaning.specs.Act as M;
@@ -11,18 +10,20 @@ ghost use Rattle.cpc_meaning.specs.Section.{allocated, freed};
 ghost use Rattle.cpc_eval_values.specs.Shown.{value_of, store_of};
 ghost use Rattle.cpc_eval_values.specs.Takes.{taken_of};
 ghost use Rattle.cpc_eval_index.specs.Indexed.{items_of};
+ghost use Rattle.cpc_native_points.specs.Finds.{found_of};
 ghost use Rattle.cpc_eval.specs.Around.{context_of, IsToldIn};
-ghost use Rattle.cpc_eval.specs.Numbers.{MaybeNumbers, AllNumbers};
+ghost use Rattle.cpc_eval.specs.Numbers.{AllNumbers, FoundNumbers};
 ghost use Rattle.cpc_eval.specs.Spots.{AreLawful};
 ghost use Rattle.cpc_native_builtins.specs.Builtins.{primitive_of};
 ghost use Rattle.cpc_native_acts.specs.Rows as W;
-ghost use Rattle.cpc_native_acts.specs.Foreseen.{Foresees, EntersOwnly, MakesSo, FreesSo, maker, freer, IsAlone, calling};
+ghost use Rattle.cpc_native_acts.specs.Foreseen.{Foresees, EntersOwnly, MakesSo, FreesSo, maker, freer, IsAlone};
 
 use crate::changes::Change;
 use crate::looked::is_delivered;
 use cpc_eval::{Around, value};
 use cpc_eval_values::{Taken, taken_as};
 use cpc_native_builtins::Builtin;
+use cpc_native_points::Found;
 use cpc_num::Kind;
 use cpc_store::{Block, Class, Scalar, Value};
 use cpc_tree::program::Expr;
@@ -57,15 +58,10 @@ fn cells_of(length: i128) -> Option<u64>
 }
 
 // A block of a class of so many cells is made, where the pointer to it arrives.
-fn made<'a>(
-    class: Class,
-    length: Value,
-    target: &'a Option<Expr>,
-    around: &Around<'a>,
-) -> Change<'a>
+fn made<'a>(class: Class, length: Value, there: Found<'a>, around: &Around<'a>) -> Change<'a>
     requires { AreLawful around.now.slots.now }
-    ensures value { (names : Texts) (f : Y.Expr) (es : Y.Exprs) → IsToldIn names around.now → MaybeNumbers (items_of names around.now.index.now) (option_map (expr_of names) target.now)
-        → MakesSo (context_of names around.now) (calling (option_map (expr_of names) target.now) f es) result (allocated class (value_of names length) (store_of names around.now.store.now)) }
+    ensures value { (names : Texts) → IsToldIn names around.now → FoundNumbers (items_of names around.now.index.now) (found_of names there.entry)
+        → MakesSo (context_of names around.now) (M.AtStatement (found_of names there.entry)) result (allocated class (value_of names length) (store_of names around.now.store.now)) }
     ensures own { EntersOwnly around.now.index.now result }
 {
     let Value::Int(_, length) = length else {
@@ -77,7 +73,7 @@ fn made<'a>(
     };
     match cells_of(length) {
         Some(cells) => {
-            if is_delivered(target, Value::At(block, 0), around) {
+            if is_delivered(there, Value::At(block, 0), around) {
                 Change::Makes(cells)
             } else {
                 Change::Stays
@@ -117,17 +113,17 @@ fn dropped<'a>(class: Class, pointer: Value, around: &Around<'a>) -> Change<'a>
 // A block of a class is asked for.
 fn makes<'a>(
     class: Class,
-    target: &'a Option<Expr>,
+    there: Found<'a>,
     arguments: &'a [Expr],
     around: &Around<'a>,
 ) -> Change<'a>
     requires { AreLawful around.now.slots.now }
-    ensures value { (names : Texts) (f : Y.Expr) (b : P.Primitive) → Some class ≡ maker b → IsToldIn names around.now → MaybeNumbers (items_of names around.now.index.now) (option_map (expr_of names) target.now) → AllNumbers (items_of names around.now.index.now) (exprs_of names arguments.now)
-        → Foresees names (context_of names around.now) (calling (option_map (expr_of names) target.now) f (exprs_of names arguments.now)) result (M.asks_with (context_of names around.now) b (exprs_of names arguments.now) None) }
+    ensures value { (names : Texts) (b : P.Primitive) → Some class ≡ maker b → IsToldIn names around.now → FoundNumbers (items_of names around.now.index.now) (found_of names there.entry) → AllNumbers (items_of names around.now.index.now) (exprs_of names arguments.now)
+        → Foresees names (context_of names around.now) (M.AtStatement (found_of names there.entry)) result (M.asks_with (context_of names around.now) b (exprs_of names arguments.now) None) }
     ensures own { EntersOwnly around.now.index.now result }
 {
     match alone(Taken::SetOf(Scalar::Int(Kind::Long)), arguments, around) {
-        Some(length) => made(class, length, target, around),
+        Some(length) => made(class, length, there, around),
         None => Change::Stays,
     }
 }
@@ -169,21 +165,21 @@ fn class_freed(builtin: Builtin) -> Option<Class>
     }
 }
 
-/// A primitive is asked for, by a call with this place and these arguments.
+/// A primitive is asked for with these arguments, by the call that stands there.
 pub(crate) fn requested<'a>(
     builtin: Builtin,
-    target: &'a Option<Expr>,
+    there: Found<'a>,
     arguments: &'a [Expr],
     around: &Around<'a>,
 ) -> Change<'a>
     requires { AreLawful around.now.slots.now }
-    ensures value { (names : Texts) (f : Y.Expr) → IsToldIn names around.now → MaybeNumbers (items_of names around.now.index.now) (option_map (expr_of names) target.now) → AllNumbers (items_of names around.now.index.now) (exprs_of names arguments.now)
-        → Foresees names (context_of names around.now) (calling (option_map (expr_of names) target.now) f (exprs_of names arguments.now)) result
+    ensures value { (names : Texts) → IsToldIn names around.now → FoundNumbers (items_of names around.now.index.now) (found_of names there.entry) → AllNumbers (items_of names around.now.index.now) (exprs_of names arguments.now)
+        → Foresees names (context_of names around.now) (M.AtStatement (found_of names there.entry)) result
         (M.asks_with (context_of names around.now) (primitive_of builtin) (exprs_of names arguments.now) (M.puts_text (primitive_of builtin) (exprs_of names arguments.now))) }
     ensures own { EntersOwnly around.now.index.now result }
 {
     match class_made(builtin) {
-        Some(class) => makes(class, target, arguments, around),
+        Some(class) => makes(class, there, arguments, around),
         None => match class_freed(builtin) {
             Some(class) => frees(class, arguments, around),
             None => Change::Stays,

@@ -13,6 +13,7 @@ ghost use Rattle.cpc_eval_index.specs.Indexed.{items_of, IsOwn};
 ghost use Rattle.cpc_tree.specs.Registers as R;
 ghost use Rattle.cpc_eval_variables.specs.Kept.{kept_of, kept_from};
 ghost use Rattle.cpc_eval_variables.specs.Told.{IsTold};
+ghost use Rattle.cpc_native_points.specs.Depth.{capped, deep};
 ghost use Rattle.cpc_native_frames.specs.Frames.{frame_of, IsWellFrame};
 
 use crate::making::make_slots;
@@ -25,10 +26,7 @@ use cpc_store::{Store, Value};
 use cpc_tree::program::Function;
 use std::alloc::Global;
 
-// How many parts of a path there is room for before a frame takes more memory.
-const DEPTH: usize = 8;
-
-/// A call of a function: where it stands in the body, and its variables.
+/// A call of a function: where it stands in the body, and its variables. Its point has room for every path of the body.
 #[derive(Drop)]
 pub struct Frame<'p> {
     pub function: &'p Function,
@@ -48,8 +46,19 @@ fn variables_of<'a, 'p>(index: &'a Index<'p>, function: &Function) -> &'a [Varia
     }
 }
 
-/// The frame of a call with these arguments, at the beginning of the body, and its blocks in the store. Where the size of
-/// a type is not known nothing is said.
+// How deep the body of a function of the program is. `usize::MAX` stands for every greater number.
+fn depth_of(index: &Index<'_>, function: &Function) -> usize
+    requires { IsOwn index.now function.now }
+    ensures { result ≡ capped (deep function.now.body) }
+{
+    match index.locals(function.word.name) {
+        Some(locals) => locals.labels().depth(),
+        None => unreachable!(),
+    }
+}
+
+/// The frame of a call with these arguments, at the beginning of the body, and its blocks in the store. Its point has room
+/// for every path of the body. Where the size of a type is not known nothing is said.
 ///
 /// `NoMemory` is want of memory, or of numbers for so many cells; the blocks that were made are dropped.
 pub fn enter<'p>(
@@ -68,8 +77,9 @@ pub fn enter<'p>(
     ensures function { IfOk result (λ frame. frame.function.now ≡ function.now) }
 {
     let variables = variables_of(index, function);
-    let mut point = Point::with_depth(alloc, DEPTH)?;
-    begin(&function.body, &mut point)?;
+    let depth = depth_of(index, function);
+    let mut point = Point::with_depth(alloc, depth)?;
+    begin(&function.body, &mut point);
     let slots = make_slots(alloc, index, variables, arguments, store)?;
     Ok(Frame {
         function,

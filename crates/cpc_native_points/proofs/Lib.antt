@@ -1,4 +1,6 @@
+pub mod Deepness
 pub mod Finding
+pub mod Fitting
 pub mod Gathering
 pub mod Moving
 pub mod Nodes
@@ -6,3 +8,4 @@ pub mod Pointing
 pub mod Replacing
 pub mod Rows
 pub mod Ways
+pub mod Within

@@ -1,13 +1,12 @@
 -- Ways to the statements of a table stay where more statements come.
-use Rattle.std.proofs.Common.{◌≡◌, ℕ, zero, suc, ◌+◌, ◌<◌, List, [], ◌∷◌, ◌++◌, length, slice_get, Option, Some, None, refl, sym, subst, ap, ◌∙◌, append_assoc, arith}
+use Rattle.std.proofs.Common.{◌≡◌, ℕ, zero, suc, ◌+◌, ◌-◌, ◌<◌, ◌≤◌, List, [], ◌∷◌, ◌++◌, length, length-append, slice_get, Option, Some, None, refl, sym, subst, ap, ◌∙◌, append_assoc, arith}
 use Rattle.std.proofs.Props.{props}
 use Rattle.std.proofs.Math.Logic.{∥∥₁_elim, ∥∥₁_map}
-use Rattle.cpc_base.specs.declared.names.Name.{Name}
 use Rattle.cpc_base.proofs.Lists.{item_within, item_in_front}
-use Rattle.cpc_tree.specs.Erase.{Names}
 use Rattle.cpc_check_rules.specs.Apart.{AreApart}
 use Rattle.cpc_native_points.specs.declared.parts.Part.{Part}
 use Rattle.cpc_native_points.specs.declared.table.Node.{Node}
+use Rattle.cpc_native_points.specs.Depth.{numbers}
 use Rattle.cpc_native_points.specs.Tabled.{IsBefore, IsWay, AtBody, AtNode, HasWay}
 
 -- the last of a list
@@ -78,32 +77,48 @@ climbed ns k way n old mid new u e pushed below =
 
 -- ---- what is only told to be there
 
+pub at_most_prop : (m n : ℕ) → IsProp (m ≤ n)
+at_most_prop m n = hlevel props
+
 less_prop : (m n : ℕ) → IsProp (m < n)
 less_prop m n = hlevel props
 
-up_from : (ns : List Node) (at : Option ℕ) (k : ℕ) → at ≡ Some k → (h : HasWay ns at) → Up ns k h.way
-up_from ns at k e h = let P : Option ℕ → Type 0 = λ o. IsWay ns o h.way in way_up ns k h.way (subst P e h.is)
+up_from : (ns : List Node) (at : Option ℕ) (k room : ℕ) → at ≡ Some k → (h : HasWay ns at room) → Up ns k h.way
+up_from ns at k room e h = let P : Option ℕ → Type 0 = λ o. IsWay ns o h.way in way_up ns k h.way (subst P e h.is)
 
-pub within : (ns : List Node) (at : Option ℕ) (k : ℕ) → at ≡ Some k → ∥ HasWay ns at ∥₁ → k < length ns
-within ns at k e h = ∥∥₁_elim h (less_prop k (length ns)) (λ w. within_up ns k w.way (up_from ns at k e w))
+pub within : (ns : List Node) (at : Option ℕ) (k room : ℕ) → at ≡ Some k → ∥ HasWay ns at room ∥₁ → k < length ns
+within ns at k room e h = ∥∥₁_elim h (less_prop k (length ns)) (λ w. within_up ns k w.way (up_from ns at k room e w))
 
-pub above_has : (ns : List Node) (at : Option ℕ) (k : ℕ) (n : Node) → at ≡ Some k → slice_get ns k ≡ Some n → ∥ HasWay ns at ∥₁ → ∥ HasWay ns n.above ∥₁
-above_has ns at k n e f h = ∥∥₁_map h (λ w.
-    let u = up_from ns at k e w in
-    let P : Node → Type 0 = λ m. HasWay ns m.above in
-    subst P (sym (same_node ns k w.way n u f)) (record { way = u.front; is = u.is }))
+longer : (ns : List Node) (k : ℕ) (way : List Part) (u : Up ns k way) → length way ≡ suc (length u.front)
+longer ns k way u = let e : length way ≡ length u.front + 1 = ap length u.whole ∙ length-append u.front (u.node.part ∷ []) in omega (arith, e)
 
-pub above_less : (ns : List Node) (at : Option ℕ) (k : ℕ) (n : Node) → at ≡ Some k → slice_get ns k ≡ Some n → ∥ HasWay ns at ∥₁ → above_all n.above < above_all at
-above_less ns at k n e f h = ∥∥₁_elim h (less_prop (above_all n.above) (above_all at)) (λ w.
-    let u = up_from ns at k e w in
+pub above_has : (ns : List Node) (at : Option ℕ) (k room : ℕ) (n : Node) → at ≡ Some k → slice_get ns k ≡ Some n → ∥ HasWay ns at room ∥₁ → ∥ HasWay ns n.above room ∥₁
+above_has ns at k room n e f h = ∥∥₁_map h (λ w.
+    let u = up_from ns at k room e w in
+    let P : Node → Type 0 = λ m. HasWay ns m.above room in
+    let long = longer ns k w.way u in
+    let fits = w.fits in
+    subst P (sym (same_node ns k w.way n u f)) (record { way = u.front; is = u.is; fits = omega (arith, long, fits) }))
+
+pub above_less : (ns : List Node) (at : Option ℕ) (k room : ℕ) (n : Node) → at ≡ Some k → slice_get ns k ≡ Some n → ∥ HasWay ns at room ∥₁ → above_all n.above < above_all at
+above_less ns at k room n e f h = ∥∥₁_elim h (less_prop (above_all n.above) (above_all at)) (λ w.
+    let u = up_from ns at k room e w in
     let P : Node → Type 0 = λ m. above_all m.above < above_all at in
     let Q : Option ℕ → Type 0 = λ o. above_all u.node.above < above_all o in
     subst P (sym (same_node ns k w.way n u f)) (subst Q (sym e) (nearer u.node.above k u.before)))
 
--- ---- texts by which names are told
+-- behind the way to the statement above, there is room for one part more
+pub above_room : (ns : List Node) (at : Option ℕ) (k capacity : ℕ) (n : Node) (old mid : List Part) → at ≡ Some k → slice_get ns k ≡ Some n → ∥ HasWay ns at (capacity - length old) ∥₁
+    → ((front : List Part) → IsWay ns n.above front → mid ≡ old ++ front) → length mid < capacity
+above_room ns at k capacity n old mid e f h below = ∥∥₁_elim h (less_prop (length mid) capacity) (λ w.
+    let u = up_from ns at k (capacity - length old) e w in
+    let P : Node → Type 0 = λ m. IsWay ns m.above u.front in
+    let all : length mid ≡ length old + length u.front = ap length (below u.front (subst P (sym (same_node ns k w.way n u f)) u.is)) ∙ length-append old u.front in
+    let long = longer ns k w.way u in
+    let fits = w.fits in
+    omega (arith, all, long, fits))
 
-abbrev pub numbers : Names
-numbers x = x.0 ∷ []
+-- ---- texts by which names are told
 
 pub numbers_apart : AreApart numbers
 numbers_apart = record { told = λ a b. grind arith }

@@ -1,5 +1,5 @@
 -- The moves of the code as the moves of a body.
-use Rattle.std.specs.Prelude.{◌≡◌, ℕ, [], ◌∷◌, ◌++◌, length, Option, Some, None}
+use Rattle.std.specs.Prelude.{◌≡◌, ◌≤◌, ◌+◌, ◌-◌, suc, ℕ, [], ◌∷◌, ◌++◌, length, Option, Some, None}
 use Rattle.std.specs.Borrow.{Bor}
 use Rattle.cpc_tree.specs.declared.program.Statement.{Statement}
 use Rattle.cpc_tree.specs.Erase.{Names, stmt_of}
@@ -7,6 +7,7 @@ use Rattle.cpc_tree.specs.Points as P
 use Rattle.cpc_tree.specs.Points.{Path, enter}
 use Rattle.cpc_native_points.specs.declared.moves.Move.{Move}
 use Rattle.cpc_native_points.specs.declared.moves.Move.TheVariants as M
+use Rattle.cpc_native_points.specs.Depth.{numbers}
 use Rattle.cpc_native_points.specs.Seen.{part_of}
 
 -- a move to these parts, which stand in place of so many at the end of the path
@@ -30,3 +31,8 @@ Leads names path (M.ToLabel l) m = m ≡ P.ToLabel (names l)
 Leads names path M.Broken m = m ≡ P.Broken
 Leads names path M.Continued m = m ≡ P.Continued
 Leads names path M.Nowhere m = m ≡ P.NoMove
+
+-- a path of this length has room for the parts that the move puts at its end, where there is room for so many
+abbrev pub HasRoom : (room : ℕ) → (len : ℕ) → Move → Type 0
+HasRoom room len (M.Into dropped part target) = (len - dropped) + suc (length (begun numbers target)) ≤ room
+HasRoom room len m = Unit {0}

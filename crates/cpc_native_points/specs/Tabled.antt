@@ -1,5 +1,5 @@
 -- What a table says of the labels of a body.
-use Rattle.std.specs.Prelude.{◌≡◌, ℕ, ◌<◌, List, [], ◌∷◌, ◌++◌, Option, Some, None, option_map, slice_get, nat_eq}
+use Rattle.std.specs.Prelude.{◌≡◌, ℕ, ◌<◌, ◌≤◌, length, List, [], ◌∷◌, ◌++◌, Option, Some, None, option_map, slice_get, nat_eq}
 use Rattle.std.specs.HashMap as hash
 use Rattle.cpc_base.specs.Bytes.{Text}
 use Rattle.cpc_base.specs.declared.names.Name.{Name}
@@ -34,10 +34,11 @@ pub data IsWay (nodes : List Node) : Option ℕ → List Part → Type 0 where
   AtBody : IsWay nodes None []
   AtNode : (k : ℕ) (n : Node) (way : List Part) → slice_get nodes k ≡ Some n → IsBefore n.above k → IsWay nodes n.above way → IsWay nodes (Some k) (way ++ n.part ∷ [])
 
--- there is a way
-pub record HasWay (nodes : List Node) (at : Option ℕ) : Type 0 where
+-- there is a way, which has no more parts than there is room for
+pub record HasWay (nodes : List Node) (at : Option ℕ) (room : ℕ) : Type 0 where
   pub way : List Part
   pub is : IsWay nodes at way
+  pub fits : length way ≤ room
 
 -- each way of a table is one of the other
 abbrev pub Grows : Table → Table → Type 0

@@ -1,11 +1,13 @@
 //! Where the labels of a body lead, by a table that is made once.
-ghost use Rattle.std.specs.Prelude.{◌≡◌, ◌∷◌, None, Some, if◌then◌else◌, IfOk, IfSome, OnOk, bytes_eq};
+ghost use Rattle.std.specs.Prelude.{◌≡◌, ◌≤◌, ◌∷◌, None, Some, if◌then◌else◌, IfOk, IfSome, OnOk, bytes_eq, vec_capacity};
 ghost use Rattle.cpc_tree.specs.Erase.{Names, stmt_of, list_of, maybe_at};
 ghost use Rattle.cpc_tree.specs.Points as P;
 ghost use Rattle.cpc_check_rules.specs.Apart.{AreApart};
+ghost use Rattle.cpc_native_points.specs.Depth as D;
 ghost use Rattle.cpc_native_points.specs.Seen.{part_of, path_of};
 ghost use Rattle.cpc_native_points.specs.Tabled.{AreLabels, Gathers, Grows};
 
+use crate::depths::depth_of;
 use crate::entering::enter;
 use crate::parts::Part;
 use crate::table::{Place, Table, climb};
@@ -13,12 +15,15 @@ use cpc_base::{Name, NoMemory};
 use cpc_tree::program::Statement;
 use std::alloc::Global;
 
-/// Where the labels of a body lead. Finding one takes a time that does not grow with the length of the body.
+/// Where the labels of a body lead, and how deep it is. Finding a label takes a time that does not grow with the length of
+/// the body.
 #[derive(Drop)]
 pub struct Labels<'p> {
     body: &'p Statement,
     table: Table<'p>,
+    depth: usize,
     ghost tabled: { ∥ AreLabels body.now table ∥₁ },
+    ghost measured: { ∥ ((names : Names) → depth ≡ D.capped (D.depth (stmt_of names body.now))) ∥₁ },
 }
 
 // Adds the labels in a statement of this number.
@@ -122,7 +127,8 @@ impl<'p> Labels<'p> {
         ensures { IfOk result (λ labels. body_of labels ≡ body.now) }
     {
         let table = table_of(alloc, body)?;
-        Ok(Labels { body, table })
+        let depth = depth_of(body);
+        Ok(Labels { body, table, depth })
     }
 
     /// The body.
@@ -132,19 +138,28 @@ impl<'p> Labels<'p> {
         self.body
     }
 
-    /// Puts the path where a label leads. Where the body has none of its name, nothing is said.
-    ///
-    /// `NoMemory` is want of memory.
-    pub(crate) fn find(&self, label: Name, path: &mut Vec<Part>) -> Result<(), NoMemory>
-        ensures { OnOk result ((names : Names) → AreApart names → IfSome (P.labelled (names label) (stmt_of names (body_of self.now))) (λ q. path_of path.new.items ≡ q)) }
+    /// How deep the body is: the most parts that the path of a point of it has. `usize::MAX` stands for every greater
+    /// number. It takes no memory.
+    pub fn depth(&self) -> usize
+        ensures { (names : Names) → result ≡ D.capped (D.depth (stmt_of names (body_of self.now))) }
+    {
+        self.depth
+    }
+
+    /// Puts the path where a label leads. It has room for every path of the body. Where the body has no label of this name,
+    /// nothing is said.
+    pub(crate) fn find(&self, label: Name, path: &mut Vec<Part>)
+        requires room { D.deep (body_of self.now) ≤ vec_capacity path.old }
+        ensures path { (names : Names) → AreApart names → IfSome (P.labelled (names label) (stmt_of names (body_of self.now))) (λ q. path_of path.new.items ≡ q) }
+        ensures capacity { vec_capacity path.new ≡ vec_capacity path.old }
     {
         path.clear();
         match self.table.place(label) {
             Some(place) => {
-                climb(&self.table.nodes, Some(place.node), path)?;
+                climb(&self.table.nodes, Some(place.node), path);
                 enter(place.inner, path)
             }
-            None => Ok(()),
+            None => {}
         }
     }
 }

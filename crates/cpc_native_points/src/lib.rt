@@ -2,6 +2,7 @@
 #![tactic(auto)]
 
 mod control;
+mod depths;
 mod entering;
 mod labels;
 mod moves;

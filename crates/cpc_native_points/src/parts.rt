@@ -1,6 +1,7 @@
 //! Positions in the body of a function: the parts of statements, from the outermost one in.
-ghost use Rattle.std.specs.Prelude.{◌≡◌, [], IfOk};
+ghost use Rattle.std.specs.Prelude.{◌≡◌, ◌≤◌, ℕ, [], IfOk, vec_capacity};
 ghost use Rattle.cpc_tree.specs.Points as P;
+ghost use Rattle.cpc_native_points.specs.Depth.{capped};
 ghost use Rattle.cpc_native_points.specs.Seen.{path_of, point_of};
 
 use cpc_base::NoMemory;
@@ -42,10 +43,16 @@ pub struct Point {
 }
 
 impl Point {
-    /// The end of a body, with room for a path of so many parts. `NoMemory` is want of memory.
+    /// The end of a body, with room for a path of so many parts. `usize::MAX` stands for every greater number, and there
+    /// is never room for so many. `NoMemory` is want of memory.
     pub fn with_depth(alloc: Global, depth: usize) -> Result<Point, NoMemory>
-        ensures { IfOk result (λ p. point_of p ≡ P.End) }
+        ensures end { IfOk result (λ p. point_of p ≡ P.End) }
+        ensures empty { IfOk result (λ p. p.path.items ≡ []) }
+        ensures room { IfOk result (λ p. (n : ℕ) → depth ≡ capped n → n ≤ vec_capacity p.path) }
     {
+        if depth == usize::MAX {
+            return Err(NoMemory);
+        }
         Ok(Point {
             phase: Phase::End,
             path: Vec::with_capacity(alloc, depth)?,
@@ -54,7 +61,8 @@ impl Point {
 
     /// From a call to the arrival of its value.
     pub fn arrive(&mut self)
-        ensures { point_of self.new ≡ P.Arrival (path_of self.old.path.items) }
+        ensures point { point_of self.new ≡ P.Arrival (path_of self.old.path.items) }
+        ensures room { vec_capacity self.new.path ≡ vec_capacity self.old.path }
     {
         self.phase = Phase::Arrival;
     }

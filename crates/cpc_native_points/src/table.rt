@@ -1,8 +1,7 @@
 //! A table of the labels of a body: what each is put before, and the way to that.
-ghost use Rattle.std.specs.Prelude.{◌≡◌, ◌<◌, ◌∷◌, ◌++◌, [], ℕ, List, length, slice_get, None, Some, IfOk, OnOk, cond, nat_eq};
+ghost use Rattle.std.specs.Prelude.{◌≡◌, ◌<◌, ◌-◌, ◌∷◌, ◌++◌, [], ℕ, List, length, slice_get, None, Some, IfOk, OnOk, cond, nat_eq, vec_len, vec_capacity};
 ghost use Rattle.cpc_native_points.specs.Tabled.{HasWay, IsWay, or_place, place_at};
 
-use crate::entering::push;
 use crate::parts::Part;
 use cpc_base::{Name, NoMemory};
 use cpc_tree::program::Statement;
@@ -92,17 +91,18 @@ fn node_at(nodes: &[Node], number: usize) -> Node
     nodes[number]
 }
 
-/// Puts the way to a statement behind the path: the parts to take, from the body on. `NoMemory` is want of memory.
-pub(crate) fn climb(nodes: &[Node], at: Option<usize>, path: &mut Vec<Part>) -> Result<(), NoMemory>
-    requires { ∥ HasWay nodes.now at ∥₁ }
-    ensures { OnOk result ((way : List Part) → IsWay nodes.now at way → path.new.items ≡ path.old.items ++ way) }
+/// Puts the way to a statement behind the path, which has room for it: the parts to take, from the body on.
+pub(crate) fn climb(nodes: &[Node], at: Option<usize>, path: &mut Vec<Part>)
+    requires { ∥ HasWay nodes.now at (vec_capacity path.old - vec_len path.old) ∥₁ }
+    ensures items { (way : List Part) → IsWay nodes.now at way → path.new.items ≡ path.old.items ++ way }
+    ensures capacity { vec_capacity path.new ≡ vec_capacity path.old }
 {
     match at {
-        None => Ok(()),
+        None => {}
         Some(number) => {
             let node = node_at(nodes, number);
-            climb(nodes, node.above, path)?;
-            push(path, node.part)
+            climb(nodes, node.above, path);
+            path.push_reserved(node.part);
         }
     }
 }

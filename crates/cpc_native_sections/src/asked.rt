@@ -15,7 +15,7 @@ ghost use Rattle.cpc_sections.specs.Jobs.{IsLawfulEnd};
 ghost use Rattle.cpc_tree.specs.Primitives as P;
 ghost use Rattle.cpc_native_sections.specs.Led.{LeadsTo, StaysWell, IsRunning, asking_of, answer_of};
 
-use cpc_base::{Name, NoMemory, Stop};
+use cpc_base::{Name, NoMemory};
 use cpc_native::{Machine, Request};
 use cpc_native_builtins::{Builtin, Call};
 use cpc_num::Fault;
@@ -26,25 +26,24 @@ use std::alloc::Global;
 // The most blocks, and the most cells of all blocks, of which a section has fewer.
 const MOST: u64 = 1 << 62;
 
-// The code of a function is answered, and goes on; or a fault ends the section.
+// The code of a function is answered, and goes on; or a fault ends the section. It takes no memory.
 fn replies(
     alloc: Global,
     machine: &mut Machine<'_>,
     function: Name,
     value: Value,
-) -> Result<Option<SectionEnd>, NoMemory>
+) -> Option<SectionEnd>
     requires well { IsWell machine.old }
     requires value { IsLawful (seen value) }
-    ensures led { IfOk result (λ end. (names : Names) → IsRunning names machine.old → (f : Text) (no_copy : Bool) → LeadsTo names machine.new end (answer_of names machine.old f no_copy (names function) (value_of names value))) }
-    ensures lawful { IfOk result (λ end. IfSome end IsLawfulEnd) }
-    ensures well { IfOk result (λ end. StaysWell end machine.new) }
+    ensures led { (names : Names) → IsRunning names machine.old → (f : Text) (no_copy : Bool) → LeadsTo names machine.new result (answer_of names machine.old f no_copy (names function) (value_of names value)) }
+    ensures lawful { IfSome result IsLawfulEnd }
+    ensures well { StaysWell result machine.new }
     ensures index { machine.new.index ≡ machine.old.index }
     ensures texts { machine.new.texts ≡ machine.old.texts }
 {
     match machine.answer(alloc, value) {
-        Ok(()) => Ok(None),
-        Err(Stop::Memory) => Err(NoMemory),
-        Err(Stop::Fault(fault)) => Ok(Some(SectionEnd::Faulted(fault, function))),
+        Ok(()) => None,
+        Err(fault) => Some(SectionEnd::Faulted(fault, function)),
     }
 }
 
@@ -89,28 +88,28 @@ fn allocates(
         return Err(NoMemory);
     }
     let block = makes(alloc, machine, count as u64)?;
-    replies(alloc, machine, function, Value::At(block, 0))
+    Ok(replies(alloc, machine, function, Value::At(block, 0)))
 }
 
-// The block that a value points to is freed.
+// The block that a value points to is freed. It takes no memory.
 fn frees(
     alloc: Global,
     machine: &mut Machine<'_>,
     function: Name,
     what: Value,
-) -> Result<Option<SectionEnd>, NoMemory>
+) -> Option<SectionEnd>
     requires well { IsWell machine.old }
     requires what { IsLawful (seen what) }
-    ensures led { IfOk result (λ end. (names : Names) → IsRunning names machine.old → (f : Text) (no_copy : Bool)
-        → LeadsTo names machine.new end (asking_of names machine.old f no_copy (names function) (record { asked = R.Builtin R.Free; arguments = value_of names what ∷ [] }))) }
-    ensures lawful { IfOk result (λ end. IfSome end IsLawfulEnd) }
-    ensures well { IfOk result (λ end. StaysWell end machine.new) }
+    ensures led { (names : Names) → IsRunning names machine.old → (f : Text) (no_copy : Bool)
+        → LeadsTo names machine.new result (asking_of names machine.old f no_copy (names function) (record { asked = R.Builtin R.Free; arguments = value_of names what ∷ [] })) }
+    ensures lawful { IfSome result IsLawfulEnd }
+    ensures well { StaysWell result machine.new }
     ensures index { machine.new.index ≡ machine.old.index }
     ensures texts { machine.new.texts ≡ machine.old.texts }
 {
     match machine.free(Class::Heap, what) {
         Ok(()) => replies(alloc, machine, function, Value::Unset),
-        Err(fault) => Ok(Some(SectionEnd::Faulted(fault, function))),
+        Err(fault) => Some(SectionEnd::Faulted(fault, function)),
     }
 }
 
@@ -146,7 +145,7 @@ pub(crate) fn asked(
     };
     match builtin {
         Builtin::Malloc => allocates(alloc, machine, function, sole(&request.args)),
-        Builtin::Free => frees(alloc, machine, function, sole(&request.args)),
+        Builtin::Free => Ok(frees(alloc, machine, function, sole(&request.args))),
         _ => Ok(Some(SectionEnd::Faulted(Fault::Code, function))),
     }
 }

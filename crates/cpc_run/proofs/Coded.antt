@@ -13,8 +13,6 @@ use Rattle.cpc_native_frames.specs.Frames.{frame_of}
 use Rattle.cpc_native.specs.Runs.{Runs as RunsOf}
 use Rattle.cpc_run.specs.declared.code.Code.{Code}
 use Rattle.cpc_base.specs.declared.stop.NoMemory.{NoMemory}
-use Rattle.cpc_base.specs.declared.stop.Stop.{Stop}
-use Rattle.cpc_base.specs.declared.stop.Stop.TheVariants as W
 use Rattle.cpc_tree.specs.Points.{Point}
 use Rattle.cpc_meaning.specs.Answer.{Answer}
 use Rattle.cpc_meaning.specs.Plain as P
@@ -22,7 +20,6 @@ use Rattle.cpc_eval_values.specs.Meets.{Meets}
 use Rattle.cpc_eval_values.specs.Shown.{store_of}
 use Rattle.cpc_native.specs.declared.machine.Stepped.{Stepped}
 use Rattle.cpc_native.specs.declared.machine.Stepped.TheVariants as X
-use Rattle.cpc_native_acts.specs.Stops.{MeetsOr}
 use Rattle.cpc_native.specs.Stacks.{went, done_of as native_done, TellsRunning, stack_at, stack_of}
 use Rattle.cpc_native.specs.Well.{Unchanged, EndsEmpty, IsSameBut}
 use Rattle.cpc_native.specs.declared.machine.Machine.{Machine}
@@ -86,11 +83,10 @@ step_is names new (Ok (X.Asked r)) a h = h
 step_is names new (Ok (X.Faulted fault f)) a h = h
 step_is names new (Err e) a h = h
 
-pub answer_is : {A : Type 0} (names : Names) (new : Code) (r : Result A (Stop Fault)) (a : Answer (P.Done Point)) → MeetsOr (went names new.machine r) a → AnswerIs names new r a
+pub answer_is : {A : Type 0} (names : Names) (new : Code) (r : Result A Fault) (a : Answer (P.Done Point)) → Meets (went names new.machine r) a → AnswerIs names new r a
 unfolding stack_in store_in
 answer_is names new (Ok x) a h = h
-answer_is names new (Err W.Memory) a h = tt
-answer_is names new (Err (W.Fault fault)) a h = h
+answer_is names new (Err fault) a h = h
 
 -- what holds for names one by one
 pub ok_names : {A E : Type 0} (Q : Names → Type 0) (R : Names → A → Type 0) (r : Result A E) → IfOk r (λ x. (names : Names) → Q names → R names x) → (names : Names) → Q names → IfOk r (R names)

@@ -1,8 +1,6 @@
 -- The machine of code, as the definitions have it.
 use Rattle.std.specs.Prelude.{◌≡◌, Result, Ok, Err, [], true}
 use Rattle.cpc_base.specs.declared.stop.NoMemory.{NoMemory}
-use Rattle.cpc_base.specs.declared.stop.Stop.{Stop}
-use Rattle.cpc_base.specs.declared.stop.Stop.TheVariants as W
 use Rattle.cpc_num.specs.declared.kinds.Fault.{Fault}
 use Rattle.cpc_tree.specs.Erase.{Names, program_of}
 use Rattle.cpc_tree.specs.Syntax.{Program}
@@ -79,10 +77,9 @@ StepIs names m (Ok x) a = Same (done_of names m x) a
 StepIs names m (Err e) a = Unit {0}
 
 -- an answered request goes on, or fails, as the definition says
-abbrev pub AnswerIs : {A : Type 0} → Names → Code → Result A (Stop Fault) → Answer (P.Done Point) → Type 0
+abbrev pub AnswerIs : {A : Type 0} → Names → Code → Result A Fault → Answer (P.Done Point) → Type 0
 AnswerIs names m (Ok u) a = Same (Ok (P.Went (store_in names m) (stack_in names m))) a
-AnswerIs names m (Err (W.Fault fault)) a = Same (Err fault) a
-AnswerIs names m (Err W.Memory) a = Unit {0}
+AnswerIs names m (Err fault) a = Same (Err fault) a
 
 -- a request leaves stack and store as they were; its name, and that of a fault, is the running function's
 abbrev pub AskedIn : Names → Code → Code → Stepped → Type 0

@@ -20,7 +20,7 @@ ghost use Rattle.cpc_native.specs.Well.{IsLawfulStep, AsksServed, AsksTaken};
 ghost use Rattle.cpc_eval_index.specs.Indexed.{program_items};
 ghost use Rattle.cpc_run.specs.Code.{items_in, store_in, stack_in, IsIdle, IsWell, Runs, StepIs, AnswerIs, AskedIn, EndsIdle, Given};
 
-use cpc_base::{Name, Names, NoMemory, Stop};
+use cpc_base::{Name, Names, NoMemory};
 use cpc_eval_index::Index;
 use cpc_native::{Machine, Stepped};
 use cpc_num::Fault;
@@ -77,7 +77,7 @@ impl<'p> Code<'p> {
         requires well { IsWell self.old }
         ensures items { (names : Spelling) → items_in names self.new ≡ items_in names self.old }
         ensures runs { (names : Spelling) → Runs names self.old → Runs names self.new }
-        ensures well { OnOk result (IsWell self.new) }
+        ensures well { IsWell self.new }
         ensures lawful { IfOk result (λ stepped. IsLawfulStep stepped) }
         ensures idle { IfOk result (λ stepped. EndsIdle stepped self.new) }
         ensures asked { IfOk result (λ stepped. (names : Spelling) → AskedIn names self.old self.new stepped) }
@@ -88,13 +88,15 @@ impl<'p> Code<'p> {
         self.machine.step(alloc)
     }
 
-    /// The value of a request arrives, in the step that asked.
-    pub(crate) fn answer(&mut self, alloc: Global, value: Value) -> Result<(), Stop<Fault>>
+    /// The value of a request arrives, in the step that asked. It takes no memory.
+    ///
+    /// A fault is that of the place for the value.
+    pub(crate) fn answer(&mut self, alloc: Global, value: Value) -> Result<(), Fault>
         requires well { IsWell self.old }
         requires lawful { IsLawful (seen value) }
         ensures items { (names : Spelling) → items_in names self.new ≡ items_in names self.old }
         ensures runs { (names : Spelling) → Runs names self.old → Runs names self.new }
-        ensures well { OnOk result (IsWell self.new) }
+        ensures well { IsWell self.new }
         ensures answered { (names : Spelling) → Runs names self.old → AnswerIs names self.new result (P.answered (trees (items_in names self.old)) (store_in names self.old) (stack_in names self.old) (value_of names value)) }
     {
         self.machine.answer(alloc, value)

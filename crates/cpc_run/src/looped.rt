@@ -23,7 +23,7 @@ use crate::outcome::Outcome;
 use crate::short::{Short, above};
 use crate::step::Step;
 use cpc_agenda_turns::{Turned, Turns};
-use cpc_base::{Name, Names, NoMemory, Stop};
+use cpc_base::{Name, Names, NoMemory};
 use cpc_hosts::{HostRule, HostTable, Kept};
 use cpc_native::Stepped;
 use cpc_run_jobs::Jobs;
@@ -51,7 +51,8 @@ pub(crate) struct Loop<'p> {
 }
 
 impl<'p> Loop<'p> {
-    /// The value of a request arrives where the code asked, in a function; or that fails.
+    /// The value of a request arrives where the code asked, in a function; or that fails. It takes no memory: the result
+    /// has the form that it has for every request.
     pub(crate) fn reply(
         &mut self,
         alloc: Global,
@@ -69,8 +70,7 @@ impl<'p> Loop<'p> {
     {
         match self.machine.answer(alloc, value) {
             Ok(()) => Ok(None),
-            Err(Stop::Fault(fault)) => Ok(Some(Outcome::Failed(fault, function))),
-            Err(Stop::Memory) => Err(NoMemory),
+            Err(fault) => Ok(Some(Outcome::Failed(fault, function))),
         }
     }
 

@@ -1,4 +1,4 @@
-use Rattle.std.proofs.Common.{Ok, Err, sym, refl}
+use Rattle.std.proofs.Common.{Ok, sym, refl}
 use Rattle.cpc_tree.specs.Erase.{expr_of}
 use Rattle.cpc_store.specs.declared.values.Value as V
 use Rattle.cpc_meaning.specs.Answer.{Gives, ◌>>=◌}
@@ -8,7 +8,8 @@ use Rattle.cpc_eval.specs.Around.{context_of}
 use Rattle.cpc_eval.specs.Values.{assigned_at}
 use Rattle.cpc_eval.specs.declared.places.Spot.{Spot}
 use Rattle.cpc_eval.specs.Spots.{spot_of}
-use Rattle.cpc_native_acts.proofs.Stopping.{or_by, or_then, or_through, or_stopped}
+use Rattle.cpc_eval_values.proofs.Meeting.{meets_then, meets_through}
+use Rattle.cpc_native_acts.proofs.Stopping.{meets_by}
 use Rattle.cpc_native_acts.proofs.Doing.{aimed_by}
 use Rattle.cpc_native_acts.proofs.places.aimed.Goals as goal
 
@@ -18,10 +19,10 @@ returns-in_err-written-clause-value c = λ names told n.
     let e = expr_of names c.args.target.now in
     let v = value_of names c.args.given in
     let r = c.from_residual-in_err-written.result in
-    or_by _ _ _ (sym (aimed_by around e v))
-    (or_then (spot_of c.in_ok-spot.spot) (E.place around e) _ _ (c.in_ok-spot.ensures.value names told n)
-    (or_through (λ (q : Spot × V.Value). (spot_of q.0, value_of names q.1)) r _ (assigned_at around e v) _ c.from_residual-in_err-written.ensures.1
-    (or_stopped (value_of names) c.assigned_at.result (Err c.in_err-written.field-0.0) _ c.in_err-written.ensures (c.assigned_at.ensures.value names told))))
+    meets_by _ _ _ (sym (aimed_by around e v))
+    (meets_then (spot_of c.in_ok-spot.spot) (E.place around e) _ _ (c.in_ok-spot.ensures.value names told n)
+    (meets_through (λ (q : Spot × V.Value). (spot_of q.0, value_of names q.1)) r _ (assigned_at around e v) _ c.from_residual-in_err-written.ensures.1
+    (c.in_err-written.ensures.value names told)))
 
 pub returns-clause-value : goal.returns-clause-value
 returns-clause-value c = λ names told n.
@@ -30,6 +31,6 @@ returns-clause-value c = λ names told n.
     let v = value_of names c.args.given in
     let spot = spot_of c.in_ok-spot.spot in
     let w = value_of names c.in_ok-written.written in
-    or_by (Ok (spot, w)) _ _ (sym (aimed_by around e v))
-    (or_then spot (E.place around e) (λ s. assigned_at around e v >>= (λ x. Gives (s, x))) (Ok (spot, w)) (c.in_ok-spot.ensures.value names told n)
-    (or_then w (assigned_at around e v) (λ x. Gives (spot, x)) (Ok (spot, w)) (or_stopped (value_of names) c.assigned_at.result (Ok c.in_ok-written.written) _ c.in_ok-written.ensures (c.assigned_at.ensures.value names told)) refl))
+    meets_by (Ok (spot, w)) _ _ (sym (aimed_by around e v))
+    (meets_then spot (E.place around e) (λ s. assigned_at around e v >>= (λ x. Gives (s, x))) (Ok (spot, w)) (c.in_ok-spot.ensures.value names told n)
+    (meets_then w (assigned_at around e v) (λ x. Gives (spot, x)) (Ok (spot, w)) (c.in_ok-written.ensures.value names told) refl))

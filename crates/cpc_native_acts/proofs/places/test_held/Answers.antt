@@ -9,14 +9,16 @@ use Rattle.cpc_eval_index.specs.Indexed.{items_of}
 use Rattle.cpc_eval.specs.Around.{context_of}
 use Rattle.cpc_eval.specs.Numbers.{MaybeNumbers}
 use Rattle.cpc_native_acts.specs.Deeds.{test_held}
-use Rattle.cpc_native_acts.proofs.Stopping.{or_by, or_then, or_same}
+use Rattle.cpc_eval_values.proofs.Meeting.{meets_then}
+use Rattle.cpc_native_acts.proofs.Stopping.{meets_by}
 use Rattle.cpc_native_acts.proofs.places.test_held.Goals as goal
 
 pub returns-in_ok-value-in-Some : goal.returns-in_ok-value-in-Some
-returns-in_ok-value-in-Some c = λ names told n.
-    let around = context_of names c.args.around.now in
-    let view : Option (Bor Expr) → Option Y.Expr = λ o. option_map (λ (e : Bor Expr). expr_of names e.now) o in
-    let N : Option (Bor Expr) → Type 0 = λ o. MaybeNumbers (items_of names c.args.around.now.index.now) (view o) in
-    or_by _ _ _ (ap (λ o. test_held around (view o)) (sym c.in-Some.is))
-    (or_then (value_of names c.in_ok-value-in-Some.value) (E.value around (expr_of names c.in-Some.test.now)) E.holds _ (c.in_ok-value-in-Some.ensures.value names told (subst N c.in-Some.is n))
-    (or_same c.holds.result c.stopped.result _ c.stopped.ensures (c.holds.ensures names)))
+returns-in_ok-value-in-Some c = record {
+  value = λ names told n.
+      let around = context_of names c.args.around.now in
+      let view : Option (Bor Expr) → Option Y.Expr = λ o. option_map (λ (e : Bor Expr). expr_of names e.now) o in
+      let N : Option (Bor Expr) → Type 0 = λ o. MaybeNumbers (items_of names c.args.around.now.index.now) (view o) in
+      meets_by _ _ _ (ap (λ o. test_held around (view o)) (sym c.in-Some.is))
+      (meets_then (value_of names c.in_ok-value-in-Some.value) (E.value around (expr_of names c.in-Some.test.now)) E.holds _ (c.in_ok-value-in-Some.ensures.value names told (subst N c.in-Some.is n)) (c.holds.ensures names));
+}

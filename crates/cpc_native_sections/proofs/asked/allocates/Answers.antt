@@ -1,7 +1,6 @@
 use Rattle.std.proofs.Common.{◌≡◌, [], ◌∷◌, false, pos, sym, ap, subst, ◌∙◌, arith}
 use Rattle.std.specs.Prelude.{int_lt, unsigned_abs}
 use Rattle.std.proofs.lemmas.Int.{ints, to_z-of_z}
-use Rattle.std.proofs.lemmas.Result.{IfOk-weaker}
 use mir.Val.{to_z, of_z}
 use mir.Syntax.{w128}
 use Rattle.cpc_meaning.specs.Requests as R
@@ -19,9 +18,7 @@ returns-clause-led c =
     let z = c.in-Int.count in
     let again : to_z w128 (of_z w128 z) ≡ z = grind (arith, ints, to_z-of_z) in
     let not_below : int_lt z (pos 0) ≡ false = ap (λ x. int_lt x (pos 0)) (sym again) ∙ c.if-count-lt0.false in
-    IfOk-weaker c.replies.result _ _
-    (λ o led names runs f no_copy.
-    subst (λ v. LeadsTo names c.replies.new.machine o (asking_of names old f no_copy (names c.args.function) (record { asked = R.Builtin R.Malloc; arguments = value_of names v ∷ [] }))) (sym c.in-Int.is)
-    (led_made names old mid c.replies.new.machine f no_copy c.args.function o same c.in-Int.field-0 z _ c.in_ok-block.block not_below (ap unsigned_abs (sym again)) c.in_ok-block.ensures.store c.in_ok-block.ensures.block
-    (led names (still_running names old mid same.index same.texts runs) f no_copy)))
-    c.replies.ensures.led
+    λ names runs f no_copy.
+    subst (λ v. LeadsTo names c.replies.new.machine c.replies.result (asking_of names old f no_copy (names c.args.function) (record { asked = R.Builtin R.Malloc; arguments = value_of names v ∷ [] }))) (sym c.in-Int.is)
+    (led_made names old mid c.replies.new.machine f no_copy c.args.function c.replies.result same c.in-Int.field-0 z _ c.in_ok-block.block not_below (ap unsigned_abs (sym again)) c.in_ok-block.ensures.store c.in_ok-block.ensures.block
+    (c.replies.ensures.led names (still_running names old mid same.index same.texts runs) f no_copy))

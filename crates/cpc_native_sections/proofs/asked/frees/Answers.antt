@@ -1,16 +1,13 @@
-use Rattle.std.proofs.lemmas.Result.{IfOk-weaker}
 use Rattle.cpc_native_sections.proofs.Asking.{led_freed, led_not_freed}
 use Rattle.cpc_native_sections.proofs.Running.{still_running}
 use Rattle.cpc_native_sections.proofs.asked.frees.Goals as goal
 
 pub returns-in-Ok-clause-led : goal.returns-in-Ok-clause-led
-returns-in-Ok-clause-led c =
+returns-in-Ok-clause-led c = λ names runs f no_copy.
     let old = c.args.machine.now in
     let mid = c.free.new.self in
     let same = c.free.ensures.same in
-    IfOk-weaker c.replies.result _ _
-    (λ o led names runs f no_copy. led_freed names old mid c.replies.new.machine f no_copy c.args.function o same c.args.what c.in-Ok.ensures.value (led names (still_running names old mid same.index same.texts runs) f no_copy))
-    c.replies.ensures.led
+    led_freed names old mid c.replies.new.machine f no_copy c.args.function c.replies.result same c.args.what c.in-Ok.ensures.value (c.replies.ensures.led names (still_running names old mid same.index same.texts runs) f no_copy)
 
 pub returns-in-Err-clause-led : goal.returns-in-Err-clause-led
 returns-in-Err-clause-led c = λ names runs f no_copy.

@@ -1,40 +1,69 @@
-use Rattle.std.proofs.Common.{◌≡◌, ◌++◌, ◌∙◌, List, Option, Some, sym, ap, subst}
+use Rattle.std.proofs.Common.{◌≡◌, ◌-◌, ◌++◌, ◌∙◌, List, Option, Some, length, sym, ap, subst, arith}
 use Rattle.std.proofs.Math.Logic.{∥∥₁_elim, ∥∥₁_prop}
-use Rattle.std.proofs.lemmas.Result.{on_ok_weaker}
 use Rattle.cpc_tree.specs.Erase.{stmt_of}
 use Rattle.cpc_tree.specs.Points.{enter, labelled}
 use Rattle.cpc_native_points.specs.Bodies.{body_of}
+use Rattle.cpc_native_points.specs.Depth.{deep, numbers}
+use Rattle.cpc_native_points.specs.declared.parts.Part.{Part}
 use Rattle.cpc_native_points.specs.declared.table.Node.{Node}
 use Rattle.cpc_native_points.specs.declared.table.Place.{Place}
 use Rattle.cpc_native_points.specs.Seen.{path_of}
 use Rattle.cpc_native_points.specs.Tabled.{HasWay, IsLed, IsWay, LeadsTo}
+use Rattle.cpc_native_points.proofs.Fitting.{led_within}
 use Rattle.cpc_native_points.proofs.Gathering.{led_to, led_nowhere}
 use Rattle.cpc_native_points.proofs.Pointing.{path_prop}
-use Rattle.cpc_native_points.proofs.Ways.{numbers, numbers_apart}
+use Rattle.cpc_native_points.proofs.Ways.{numbers_apart, at_most_prop}
+use Rattle.cpc_native_points.proofs.Within.{labelled_fits}
 use Rattle.cpc_native_points.proofs.labels.Labels.find.Goals as goal
 
 pub climb-requires : goal.climb-requires
 climb-requires c = ∥∥₁_elim c.args.self.now.tabled ∥∥₁_prop (λ labels.
     let nodes = c.args.self.now.table.nodes.items in
-    let P : Option Place → Type 0 = λ place. LeadsTo numbers nodes place (labelled (numbers c.args.label) (stmt_of numbers (body_of c.args.self.now))) in
-    let H : List Node → Type 0 = λ ns. HasWay ns (Some c.in-Some.place.node) in
-    let led : IsLed numbers nodes c.in-Some.place (labelled (numbers c.args.label) (stmt_of numbers (body_of c.args.self.now))) = subst P (sym c.in-Some.ensures) (labels.each numbers numbers_apart c.args.label) in
-    ∣ subst H (sym c.deref.ensures.value) (record { way = led.way; is = led.is }) ∣₁)
+    let body = stmt_of numbers (body_of c.args.self.now) in
+    let x = numbers c.args.label in
+    let path = c.clear.new.self in
+    let P : Option Place → Type 0 = λ place. LeadsTo numbers nodes place (labelled x body) in
+    let H : List Node → Type 0 = λ ns. HasWay ns (Some c.in-Some.place.node) (path.cap - path.len) in
+    let led : IsLed numbers nodes c.in-Some.place (labelled x body) = subst P (sym c.in-Some.ensures) (labels.each numbers numbers_apart c.args.label) in
+    let all = led_within numbers nodes c.in-Some.place (labelled x body) (deep (body_of c.args.self.now)) (labelled_fits x body) led in
+    let r = c.requires.room in
+    let l = c.clear.ensures.len in
+    let k = c.clear.ensures.capacity in
+    ∣ subst H (sym c.deref.ensures.value) (record { way = led.way; is = led.is; fits = omega (arith, all, r, l, k) }) ∣₁)
 
-pub returns-in_ok-climb-in-Some : goal.returns-in_ok-climb-in-Some
-returns-in_ok-climb-in-Some c = on_ok_weaker c.enter.result (λ h names apart. ∥∥₁_elim c.args.self.now.tabled (path_prop _ _) (λ labels.
+pub enter-requires : goal.enter-requires
+enter-requires c = record {
+  room = ∥∥₁_elim c.args.self.now.tabled (at_most_prop _ _) (λ labels.
+      let nodes = c.args.self.now.table.nodes.items in
+      let body = stmt_of numbers (body_of c.args.self.now) in
+      let x = numbers c.args.label in
+      let path = c.climb.new.path in
+      let P : Option Place → Type 0 = λ place. LeadsTo numbers nodes place (labelled x body) in
+      let led : IsLed numbers nodes c.in-Some.place (labelled x body) = subst P (sym c.in-Some.ensures) (labels.each numbers numbers_apart c.args.label) in
+      let all = led_within numbers nodes c.in-Some.place (labelled x body) (deep (body_of c.args.self.now)) (labelled_fits x body) led in
+      let way = c.climb.ensures.items led.way (subst (λ ns. IsWay ns (Some c.in-Some.place.node) led.way) (sym c.deref.ensures.value) led.is) in
+      let put : path.items ≡ led.way = way ∙ ap (λ (xs : List Part). xs ++ led.way) c.clear.ensures.items in
+      let long : path.len ≡ length led.way = path.ok.0 ∙ ap length put in
+      let r = c.requires.room in
+      let k = c.clear.ensures.capacity in
+      let m = c.climb.ensures.capacity in
+      omega (arith, all, long, r, k, m));
+}
+
+pub returns-in-Some-clause-path : goal.returns-in-Some-clause-path
+returns-in-Some-clause-path c = λ names apart. ∥∥₁_elim c.args.self.now.tabled (path_prop _ _) (λ labels.
     let nodes = c.args.self.now.table.nodes.items in
     let o = labelled (names c.args.label) (stmt_of names (body_of c.args.self.now)) in
     let P : Option Place → Type 0 = λ place. LeadsTo names nodes place o in
     let s = enter (stmt_of names c.in-Some.place.inner.now) in
     led_to names nodes c.in-Some.place o (path_of c.enter.new.path.items) (subst P (sym c.in-Some.ensures) (labels.each names apart c.args.label))
     (λ way w.
-    h names
-    ∙ ap (λ p. path_of p ++ s) (c.in_ok-climb-in-Some.ensures way (subst (λ ns. IsWay ns (Some c.in-Some.place.node) way) (sym c.deref.ensures.value) w))
-    ∙ ap (λ p. path_of (p ++ way) ++ s) c.clear.ensures.items))) c.enter.ensures
+    c.enter.ensures.items names
+    ∙ ap (λ p. path_of p ++ s) (c.climb.ensures.items way (subst (λ ns. IsWay ns (Some c.in-Some.place.node) way) (sym c.deref.ensures.value) w))
+    ∙ ap (λ p. path_of (p ++ way) ++ s) c.clear.ensures.items))
 
-pub returns-in-None : goal.returns-in-None
-returns-in-None c = λ names apart. ∥∥₁_elim c.args.self.now.tabled (path_prop _ _) (λ labels.
+pub returns-in-None-clause-path : goal.returns-in-None-clause-path
+returns-in-None-clause-path c = λ names apart. ∥∥₁_elim c.args.self.now.tabled (path_prop _ _) (λ labels.
     let o = labelled (names c.args.label) (stmt_of names (body_of c.args.self.now)) in
     let P : Option Place → Type 0 = λ place. LeadsTo names c.args.self.now.table.nodes.items place o in
     led_nowhere o (path_of c.clear.new.self.items) (subst P (sym c.in-None.ensures) (labels.each names apart c.args.label)))

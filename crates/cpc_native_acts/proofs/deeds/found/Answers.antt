@@ -1,0 +1,13 @@
+use Rattle.cpc_tree.specs.Erase.{type_of}
+use Rattle.cpc_meaning.specs.Act as M
+use Rattle.cpc_native_points.specs.Finds.{found_of}
+use Rattle.cpc_eval.specs.Around.{context_of}
+use Rattle.cpc_native_acts.specs.Plans.{planned}
+use Rattle.cpc_native_acts.proofs.Laying.{plans_stands}
+use Rattle.cpc_native_acts.proofs.deeds.found.Goals as goal
+
+pub returns-in-Ok-clause-value : goal.returns-in-Ok-clause-value
+returns-in-Ok-clause-value c = λ names told spells program served n.
+    let k = context_of names c.args.around.now in
+    let lays = c.in-Ok.ensures.value names told spells program served n in
+    plans_stands names k c.kept.result (planned names k c.in-Ok.plan) (M.found_act k (type_of names c.args.of.now) (found_of names c.args.there)) lays.1 (c.kept.ensures.value names told lays.0)
