@@ -1,5 +1,5 @@
 -- The lists of the loop, as the definitions have them.
-use Rattle.std.specs.Prelude.{◌≡◌, ◌+◌, ◌≤◌, ℕ, List, length, map}
+use Rattle.std.specs.Prelude.{◌≡◌, ◌+◌, ◌<◌, ◌≤◌, ℕ, List, length, map}
 use Rattle.std.specs.VecDeque.{deque_len, deque_capacity}
 use Rattle.cpc_tree.specs.Erase.{Names}
 use Rattle.cpc_meaning.specs.Agenda as A
@@ -58,6 +58,14 @@ counters_of a = record {
   on_conditions = a.conds.arrived;
   on_descriptors = a.descr.arrived;
 }
+
+-- each counter is below this number
+pub record AreBelow (n : ℕ) (c : Counters) : Type 0 where
+  pub conditions : c.conditions < n
+  pub timers : c.timers < n
+  pub sections : c.sections < n
+  pub on_conditions : c.on_conditions < n
+  pub on_descriptors : c.on_descriptors < n
 
 -- the lists and the counters are as they were
 abbrev pub IsAsBefore : {T : Type 0} → (old new : Agenda T) → Type 0

@@ -3,7 +3,7 @@ ghost use Rattle.std.specs.Prelude.{◌≡◌, ◌+◌, ◌<◌, ◌≤◌, ◌^
 ghost use Rattle.cpc_tree.specs.Erase.{Names};
 ghost use Rattle.cpc_tree.specs.Lists.{is_empty};
 ghost use Rattle.cpc_meaning.specs.Agenda as A;
-ghost use Rattle.cpc_agenda.specs.Lists.{due_of, lists_of, counters_of, IsAsBefore};
+ghost use Rattle.cpc_agenda.specs.Lists.{due_of, lists_of, counters_of, IsAsBefore, AreBelow};
 
 use crate::clock::Clock;
 use crate::sections::Sections;
@@ -125,6 +125,7 @@ impl<T: Drop> Agenda<T> {
         ensures sections { IsTrue result → (counters_of self.now).sections + 1 < 2 ^ 63 }
         ensures on_conditions { IsTrue result → (counters_of self.now).on_conditions + 1 < 2 ^ 63 }
         ensures on_descriptors { IsTrue result → (counters_of self.now).on_descriptors + 1 < 2 ^ 63 }
+        ensures enough { AreBelow (2 ^ 62) (counters_of self.now) → IsTrue result }
     {
         self.conds.made() < MOST_NUMBERS
             && self.conds.arrived() < MOST_NUMBERS
