@@ -1,6 +1,5 @@
 -- What a step leaves where memory was refused, and the function that it tells else.
-use Rattle.std.proofs.Common.{◌≡◌, true, List, [], ◌∷◌, ◌++◌, Result, Ok, Err, ap, sym, ◌∙◌}
-use Rattle.std.specs.Prelude.{OnErr}
+use Rattle.std.proofs.Common.{◌≡◌, true, List, [], ◌∷◌, ◌++◌, ap, sym, ◌∙◌}
 use Rattle.std.specs.Borrow.{Bor}
 use Rattle.cpc_tree.specs.Erase.{Names}
 use Rattle.cpc_tree.specs.Points as T
@@ -14,11 +13,6 @@ use Rattle.cpc_native.specs.declared.machine.Stepped.TheVariants as S
 use Rattle.cpc_native.specs.Stacks.{frames_of, stack_of, TellsRunning}
 use Rattle.cpc_native.specs.Well.{StandsAgain, StandsBelow, StandsAtCall, TellsFunction}
 use Rattle.cpc_native.proofs.Frames.{frames_upon}
-
--- what holds in any case holds of an error
-pub any_err : {T E : Type 0} (r : Result T E) (P : Type 0) → P → OnErr r P
-any_err (Ok x) P p = tt
-any_err (Err e) P p = p
 
 module _ (old mid new : Machine) (top : Frame) (was : old.calls.frames.items ≡ mid.calls.frames.items ++ top ∷ []) (arriving : mid.arriving ≡ old.arriving) where
   -- the innermost frame was taken, and put back

@@ -5,7 +5,9 @@ use Rattle.cpc_tree.specs.Erase.{Names}
 use Rattle.cpc_store.specs.Seen.{seen, IsLawful}
 use Rattle.cpc_eval_index.specs.declared.index.Index.{Index}
 use Rattle.cpc_native_builtins.specs.Served.{IsServedCall}
+use Rattle.cpc_eval_values.specs.Shown.{store_of}
 use Rattle.cpc_native_frames.specs.declared.frame.Frame.{Frame}
+use Rattle.cpc_native_frames.specs.Back.{IsAsBefore}
 use Rattle.cpc_native_frames.specs.Frames.{IsWellFrame}
 use Rattle.cpc_native_acts.specs.Acts.{IsLawfulIf, is_call_stood, stood_of}
 use Rattle.cpc_native_acts.specs.Taken.{IsCalledWith}
@@ -55,6 +57,10 @@ pub record StandsBelow (old new : Machine) : Type 0 where
 pub record SameCalls (old new : Machine) : Type 0 where
   pub calls : new.calls.frames.items ≡ old.calls.frames.items
   pub arriving : new.arriving ≡ old.arriving
+
+-- the store is as it was, but for the numbers of blocks that were made and freed since
+abbrev pub IsStoreAsBefore : (old new : Machine) → Type 0
+IsStoreAsBefore old new = (names : Names) → IsAsBefore (store_of names old.store) (store_of names new.store)
 
 -- where the innermost call is, a call stands whose arguments are to be evaluated
 abbrev pub StandsAtCall : Machine → Type 0

@@ -52,19 +52,15 @@ impl<'p> Calls<'p> {
         }
     }
 
-    /// Puts a frame upon the others. `NoMemory` is want of memory, or of numbers for so many slots.
-    #[tactic(auto, using(crate::proofs::Counting::registers_few, crate::proofs::Counting::counts_few))]
-    pub(crate) fn put(&mut self, frame: Frame<'p>) -> Result<(), NoMemory>
-        ensures ok { OnOk result (self.new.frames.items ≡ self.old.frames.items ++ frame.entry ∷ []) }
-        ensures err { OnErr result (self.new.frames.items ≡ self.old.frames.items) }
+    /// Makes room for a frame upon the others. `NoMemory` is want of memory, or of numbers for so many slots.
+    pub(crate) fn make_room(&mut self, frame: &Frame<'p>) -> Result<(), NoMemory>
+        ensures frames { self.new.frames.items ≡ self.old.frames.items }
+        ensures place { OnOk result (HasPlace self.new frame.now) }
     {
-        let Some(slots) = self.slots.checked_add(frame.slots.len() as u64) else {
+        if self.slots.checked_add(frame.slots.len() as u64).is_none() {
             return Err(NoMemory);
-        };
-        let registers = self.registers + registers_in(&frame.slots);
-        self.frames.push(frame)?;
-        self.registers = registers;
-        self.slots = slots;
+        }
+        self.frames.reserve(1)?;
         Ok(())
     }
 

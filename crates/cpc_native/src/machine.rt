@@ -15,6 +15,7 @@ ghost use Rattle.cpc_eval_values.specs.Meets.{Meets};
 ghost use Rattle.cpc_eval_values.specs.Shown.{value_of, values_of, store_of};
 ghost use Rattle.cpc_eval_index.specs.Indexed.{items_of, IsOwn};
 ghost use Rattle.cpc_native_points.specs.Seen.{path_of};
+ghost use Rattle.cpc_native_frames.specs.Back.{IsAsBefore, CanTakeBack};
 ghost use Rattle.cpc_native_frames.specs.Frames.{frame_of, IsWellFrame};
 ghost use Rattle.cpc_native_acts.specs.Acts.{act_of, IsLawfulAct, IsLawfulIf, EntersOwn, enters_act, AsksServed as ActServed, AsksTaken as ActTaken};
 ghost use Rattle.cpc_meaning.specs.Act as M;
@@ -88,7 +89,7 @@ impl<'p> Machine<'p> {
     ghost use Rattle.cpc_native.specs.Next.{FreesAlone, IsStateOf, LeavesSo, LeavesAtMost};
     ghost use Rattle.cpc_native.specs.Room.{HasPlace};
     ghost use Rattle.cpc_native.specs.Runs.{Runs};
-    ghost use Rattle.cpc_native.specs.Well.{AreWell, IsWell, BackAfter, AskedBy, TellsFunction, Unchanged, IsSameBut, EndsEmpty, AsksServed, AsksTaken, IsOver, IsLawfulStep, StandsAgain, StandsBelow, SameCalls, IsIdle, StandsAtCall};
+    ghost use Rattle.cpc_native.specs.Well.{AreWell, IsWell, BackAfter, AskedBy, TellsFunction, Unchanged, IsSameBut, EndsEmpty, AsksServed, AsksTaken, IsOver, IsLawfulStep, StandsAgain, StandsBelow, SameCalls, IsIdle, StandsAtCall, IsStoreAsBefore};
 
     /// A machine with this store in which nothing runs. The texts are those of the names of the program that the index is of.
     pub fn new(alloc: Global, index: Index<'p>, texts: &'p Names, store: Store) -> Self
@@ -123,14 +124,24 @@ impl<'p> Machine<'p> {
             → (frames_of names self.new.calls.frames.items ≡ a.0 ∷ frames_of names self.old.calls.frames.items) × (store_of names self.new.store ≡ a.1)) }
         ensures arriving { OnOk result (self.new.arriving ≡ None) }
         ensures err { OnErr result (SameCalls self.old self.new) }
+        ensures store { OnErr result (IsStoreAsBefore self.old self.new) }
         ensures well { OnOk result (IsWell self.new) }
         ensures index { self.new.index ≡ self.old.index }
         ensures texts { self.new.texts ≡ self.old.texts }
     {
         let frame = enter(alloc, &self.index, function, arguments, &mut self.store)?;
-        self.calls.put(frame)?;
-        self.arriving = None;
-        Ok(())
+        match self.calls.make_room(&frame) {
+            Ok(()) => {
+                self.calls.put_back(frame);
+                self.arriving = None;
+                Ok(())
+            }
+            Err(error) => {
+                // Its blocks are live, so this does not fault.
+                let _ = leave(&frame.slots, &mut self.store);
+                Err(error)
+            }
+        }
     }
 
     // Control goes on in the frame, as a test there holds or not.
@@ -164,6 +175,7 @@ impl<'p> Machine<'p> {
         ensures arriving { OnOk result (self.new.arriving ≡ None) }
         ensures well { IsWell self.new }
         ensures err { OnErr result (StandsAgain frame.entry self.old self.new) }
+        ensures back { OnErr result ((names : Texts) (s : S.Store) → CanTakeBack (slots_of names callee.entry.slots.items) s (store_of names self.old.store) → IsAsBefore s (store_of names self.new.store)) }
         ensures index { self.new.index ≡ self.old.index }
         ensures texts { self.new.texts ≡ self.old.texts }
     {
@@ -201,6 +213,7 @@ impl<'p> Machine<'p> {
         ensures meets { IfOk result (λ stepped. (names : Texts) → Runs names self.old.texts.now (items_of names self.old.index) → Meets (done_of names self.new stepped)
             (P.perform (trees (items_of names self.old.index)) (store_of names self.old.store) (frame_of names frame.entry) (frames_of names self.old.calls.frames.items) (M.Enters (function_of names function.now) (values_of names arguments.now)))) }
         ensures err { OnErr result (StandsAgain frame.entry self.old self.new) }
+        ensures store { OnErr result (IsStoreAsBefore self.old self.new) }
         ensures well { IsWell self.new }
         ensures went { IfOk result (λ stepped. stepped ≡ Stepped.Went) }
         ensures index { self.new.index ≡ self.old.index }
@@ -254,6 +267,7 @@ impl<'p> Machine<'p> {
         ensures meets { IfOk result (λ stepped. (names : Texts) → Runs names self.old.texts.now (items_of names self.old.index) → Meets (done_of names self.new stepped)
             (P.perform (trees (items_of names self.old.index)) (store_of names self.old.store) (frame_of names frame.entry) (frames_of names self.old.calls.frames.items) (act_of names frame.entry.slots.items self.old.store act.entry))) }
         ensures err { OnErr result (StandsAgain frame.entry self.old self.new × (enters_act act.entry ≡ true)) }
+        ensures store { OnErr result (IsStoreAsBefore self.old self.new) }
         ensures well { IsWell self.new }
         ensures lawful { IfOk result (λ stepped. IsLawfulStep stepped) }
         ensures told { IfOk result (λ stepped. TellsFunction stepped frame.entry) }
@@ -284,7 +298,8 @@ impl<'p> Machine<'p> {
     /// Runs a call of the function of this name alone, whatever ran before. Where the program has no such function, nothing
     /// is said.
     ///
-    /// `NoMemory` is want of memory, or of numbers for so many cells; then nothing runs.
+    /// `NoMemory` is want of memory, or of numbers for so many cells; then nothing runs, and the store is as it was, but for the
+    /// numbers of blocks that were made and freed.
     pub fn call(
         &mut self,
         alloc: Global,
@@ -296,6 +311,7 @@ impl<'p> Machine<'p> {
             → function_named (items_of names self.old.index) (names function) ≡ Some g → P.make_frame (trees (items_of names self.old.index)) g (values_of names arguments.now) (store_of names self.old.store) ≡ A.Gives a
             → (stack_of names self.new ≡ P.stack_of a.0) × (store_of names self.new.store ≡ a.1)) }
         ensures err { OnErr result (IsIdle self.new) }
+        ensures store { OnErr result (IsStoreAsBefore self.old self.new) }
         ensures well { OnOk result (IsWell self.new) }
         ensures index { self.new.index ≡ self.old.index }
         ensures texts { self.new.texts ≡ self.old.texts }
@@ -315,13 +331,14 @@ impl<'p> Machine<'p> {
     /// name that it tells is that of the function whose code runs. Where nothing runs, nothing is said.
     ///
     /// `NoMemory` is want of memory, or of numbers for so many cells, and comes only where a call stands. Then the calls stand as
-    /// they were, and so does what arrives; of the store nothing is said.
+    /// they were, and so does what arrives; the store is as it was, but for the numbers of blocks that were made and freed.
     pub fn step(&mut self, alloc: Global) -> Result<Stepped, NoMemory>
         requires { IsWell self.old }
         ensures meets { IfOk result (λ stepped. (names : Texts) → Runs names self.old.texts.now (items_of names self.old.index)
             → Meets (done_of names self.new stepped) (P.plain (trees (items_of names self.old.index)) (store_of names self.old.store) (stack_of names self.old))) }
         ensures err { OnErr result (StandsBelow self.old self.new) }
         ensures stack { OnErr result ((names : Texts) → stack_of names self.new ≡ stack_of names self.old) }
+        ensures store { OnErr result (IsStoreAsBefore self.old self.new) }
         ensures refused { OnErr result (StandsAtCall self.old) }
         ensures well { IsWell self.new }
         ensures lawful { IfOk result (λ stepped. IsLawfulStep stepped) }

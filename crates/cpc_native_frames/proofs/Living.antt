@@ -39,7 +39,7 @@ alive_is names s (S.Boxed n ∷ slots) =
     ∙ ap (λ b. is_some (cells_of Auto n (store_of names s)) && b) (alive_is names s slots)
 
 -- the store without a block
-abbrev without : ℕ → Store → Store
+abbrev pub without : ℕ → Store → Store
 without n s = with_blocks Auto (slice_set (blocks Auto s) n None) s
 
 -- blocks of greater numbers stay
@@ -52,10 +52,10 @@ above n k (S.Boxed m ∷ slots) s h r =
     ∙ ap (λ b. is_some (cells_of Auto m s) && b) (above n (m + 1) slots s (omega (arith, r.0)) r.1)
 
 -- a block that is live is freed
-freed : (n : ℕ) (s : Store) → is_some (cells_of Auto n s) ≡ true → free Auto (At Auto n 0) s ≡ Ok (without n s)
+pub freed : (n : ℕ) (s : Store) → is_some (cells_of Auto n s) ≡ true → free Auto (At Auto n 0) s ≡ Ok (without n s)
 freed n s e = ap (λ b. if b && (0 == 0) then Ok (without n s) else Err F.BadFree) e
 
-unfreed : (n : ℕ) (s : Store) → is_some (cells_of Auto n s) ≡ false → free Auto (At Auto n 0) s ≡ Err F.BadFree
+pub unfreed : (n : ℕ) (s : Store) → is_some (cells_of Auto n s) ≡ false → free Auto (At Auto n 0) s ≡ Err F.BadFree
 unfreed n s e = ap (λ b. if b && (0 == 0) then Ok (without n s) else Err F.BadFree) e
 
 pub all_freed : (names : Names) (k : ℕ) (slots : List Slot) (s : Store) → RiseFrom k slots → alive s slots ≡ true → (t : Store) × (M.free_slots (slots_of names slots) s ≡ Gives t)

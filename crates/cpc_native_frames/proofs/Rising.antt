@@ -32,7 +32,7 @@ rise_more n (S.Register v ∷ slots) slot m m' h e = rise_more n slots slot m m'
 rise_more n (S.Boxed k ∷ slots) slot m m' h e = (h.0, rise_more (k + 1) slots slot m m' h.1 e)
 
 -- the number of the next block does not hang on names
-next_seen : (names : Names) (s : StoreOf Name) → next_block Auto (store_of names s) ≡ next_block Auto s
+pub next_seen : (names : Names) (s : StoreOf Name) → next_block Auto (store_of names s) ≡ next_block Auto s
 next_seen names s = length-map s.auto _
 
 pub next_made : (names : Names) (cells : List Value) (s t : StoreOf Name) → store_of names t ≡ alloc Auto cells (store_of names s) → next_block Auto t ≡ next_block Auto s + 1

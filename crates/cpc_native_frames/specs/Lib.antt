@@ -1,3 +1,4 @@
+pub mod Back
 pub mod Costs
 pub mod Frames
 pub mod Living

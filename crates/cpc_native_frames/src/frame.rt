@@ -1,5 +1,5 @@
 //! The frame of a call: its function, where it stands, and its variables.
-ghost use Rattle.std.specs.Prelude.{◌≡◌, IfOk};
+ghost use Rattle.std.specs.Prelude.{◌≡◌, IfOk, OnErr};
 ghost use Rattle.std.specs.List.{All};
 ghost use Rattle.cpc_tree.specs.Erase.{Names, function_of};
 ghost use Rattle.cpc_tree.specs.Points as T;
@@ -14,7 +14,9 @@ ghost use Rattle.cpc_tree.specs.Registers as R;
 ghost use Rattle.cpc_eval_variables.specs.Kept.{kept_of, kept_from};
 ghost use Rattle.cpc_eval_variables.specs.Told.{IsTold};
 ghost use Rattle.cpc_native_points.specs.Depth.{capped, deep};
+ghost use Rattle.cpc_native_frames.specs.Back.{IsAsBefore, CanTakeBack};
 ghost use Rattle.cpc_native_frames.specs.Frames.{frame_of, IsWellFrame};
+ghost use Rattle.cpc_native_frames.specs.Made.{slots_of};
 
 use crate::making::make_slots;
 use cpc_base::NoMemory;
@@ -60,7 +62,8 @@ fn depth_of(index: &Index<'_>, function: &Function) -> usize
 /// The frame of a call with these arguments, at the beginning of the body, and its blocks in the store. Its point has room
 /// for every path of the body. Where the size of a type is not known nothing is said.
 ///
-/// `NoMemory` is want of memory, or of numbers for so many cells; the blocks that were made are dropped.
+/// `NoMemory` is want of memory, or of numbers for so many cells; the blocks that were made are freed, and the store is as it
+/// was but for their numbers.
 pub fn enter<'p>(
     alloc: Global,
     index: &Index<'p>,
@@ -75,6 +78,8 @@ pub fn enter<'p>(
         → (frame_of names frame, store_of names store.new) ≡ a) }
     ensures well { IfOk result (λ frame. IsWellFrame index.now frame) }
     ensures function { IfOk result (λ frame. frame.function.now ≡ function.now) }
+    ensures back { IfOk result (λ frame. (names : Names) → CanTakeBack (slots_of names frame.slots.items) (store_of names store.old) (store_of names store.new)) }
+    ensures err { OnErr result ((names : Names) → IsAsBefore (store_of names store.old) (store_of names store.new)) }
 {
     let variables = variables_of(index, function);
     let depth = depth_of(index, function);

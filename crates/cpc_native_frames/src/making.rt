@@ -18,6 +18,7 @@ ghost use Rattle.cpc_meaning.specs.Eval as E;
 ghost use Rattle.cpc_tree.specs.Syntax.{Function};
 ghost use Rattle.cpc_tree.specs.Registers as R;
 ghost use Rattle.cpc_eval_variables.specs.Kept.{kept_of, kept_from};
+ghost use Rattle.cpc_native_frames.specs.Back.{IsAsBefore, CanTakeBack, IsMade};
 ghost use Rattle.cpc_native_frames.specs.Frames.{RiseFrom};
 ghost use Rattle.cpc_native_frames.specs.Made.{make_kept, slots_of, IsNext};
 
@@ -63,6 +64,7 @@ fn make_slot(
         → (slot_of names slot, store_of names store.new) ≡ M.make_slot variable.now.is_register n (value_of names first) (store_of names store.old)) }
     ensures lawful { IfOk result (λ slot. IsLawfulSlot slot) }
     ensures next { IfOk result (λ slot. IsNext slot (S.next_block Auto store.old) (S.next_block Auto store.new)) }
+    ensures alone { IfOk result (λ slot. (names : Names) → IsMade (slot_of names slot) (store_of names store.old) (store_of names store.new)) }
     ensures err { OnErr result (store.new ≡ store.old) }
 {
     if variable.is_register {
@@ -86,7 +88,8 @@ fn argument_at(arguments: &[Value], i: usize) -> Value
     }
 }
 
-// Makes the slots of variables, the first of which begin with the arguments. After want of memory some are made.
+// Makes the slots of variables, the first of which begin with the arguments. After want of memory some are made, whose
+// blocks can be freed.
 fn fill(
     alloc: Global,
     index: &Index,
@@ -101,6 +104,7 @@ fn fill(
         → (slots_of names slots.new.items, store_of names store.new) ≡ a) }
     ensures slots { AreLawful slots.new.items }
     ensures rise { OnOk result (RiseFrom 0 slots.new.items) }
+    ensures back { (names : Names) → CanTakeBack (slots_of names slots.new.items) (store_of names store.old) (store_of names store.new) }
 {
     for i in 0..variables.len() {
         slots.push(Slot::Register(Value::Unset))?;
@@ -114,7 +118,8 @@ fn fill(
 /// an auto block whose first cell is the argument. What has no argument is unset. Where the size of a type is not known
 /// nothing is said.
 ///
-/// `NoMemory` is want of memory, or of numbers for so many cells; the blocks that were made are dropped.
+/// `NoMemory` is want of memory, or of numbers for so many cells; the blocks that were made are freed, and the store is as it
+/// was but for their numbers.
 pub fn make_slots(
     alloc: Global,
     index: &Index,
@@ -127,6 +132,8 @@ pub fn make_slots(
         → (a : List E.Slot × S.Store) → M.call_slots (items_of names index.now) f (values_of names arguments.now) (store_of names store.old) ≡ A.Gives a → (slots_of names slots.items, store_of names store.new) ≡ a) }
     ensures lawful { IfOk result (λ slots. AreLawful slots.items) }
     ensures rise { IfOk result (λ slots. RiseFrom 0 slots.items) }
+    ensures back { IfOk result (λ slots. (names : Names) → CanTakeBack (slots_of names slots.items) (store_of names store.old) (store_of names store.new)) }
+    ensures err { OnErr result ((names : Names) → IsAsBefore (store_of names store.old) (store_of names store.new)) }
 {
     let mut slots = Vec::new(alloc);
     match fill(alloc, index, variables, arguments, &mut slots, store) {

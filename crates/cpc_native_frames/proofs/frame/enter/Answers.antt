@@ -4,6 +4,7 @@ use Rattle.cpc_native_points.specs.Seen.{point_of}
 use Rattle.cpc_eval_values.specs.Shown.{values_of, store_of}
 use Rattle.cpc_eval_index.specs.Indexed.{items_of}
 use Rattle.cpc_native_frames.specs.Made.{slots_of}
+use Rattle.cpc_native_frames.proofs.Back.{any_err, as_before}
 use Rattle.cpc_native_frames.proofs.Framing.{entered}
 use Rattle.cpc_native_frames.proofs.frame.enter.Goals as goal
 
@@ -16,3 +17,6 @@ returns-clause-made c = λ names told a e.
 
 pub begin-requires : goal.begin-requires
 begin-requires c = record { room = c.in_ok-point.ensures.room (deep c.args.function.now.body) c.depth_of-depth.ensures }
+
+pub returns-in_err-point-clause-err : goal.returns-in_err-point-clause-err
+returns-in_err-point-clause-err c = any_err c.from_residual.result _ (λ names. as_before (store_of names c.args.store.now))

@@ -13,10 +13,10 @@ use Rattle.cpc_eval_values.specs.Shown.{value_of, values_of, store_of}
 use Rattle.cpc_eval_index.specs.Indexed.{items_of}
 use Rattle.cpc_native_frames.specs.Frames.{frame_of}
 use Rattle.cpc_native.specs.Stacks.{frames_of}
-use Rattle.cpc_native.specs.Well.{StandsAgain}
+use Rattle.cpc_native.specs.Well.{StandsAgain, IsStoreAsBefore}
 use Rattle.cpc_native.proofs.Frames.{told_in, well_upon}
 use Rattle.cpc_native.proofs.Machines.{at_here}
-use Rattle.cpc_native.proofs.Refused.{any_err}
+use Rattle.cpc_native_frames.proofs.Back.{any_err}
 use Rattle.cpc_native.proofs.Stepping.{enters_meets}
 use Rattle.cpc_native.proofs.machine.Machine.enter.Goals as goal
 
@@ -52,3 +52,8 @@ returns-in-Err-clause-well c =
       calls = well_upon old.index old.calls.frames.items c.put_back.new.self.frames.items c.args.frame c.put_back.ensures.frames c.requires.calls c.requires.frame;
       arriving = c.requires.arriving;
     }
+
+pub returns-in_err-put_upon-in-Ok-clause-store : goal.returns-in_err-put_upon-in-Ok-clause-store
+returns-in_err-put_upon-in-Ok-clause-store c =
+    any_err c.from_residual.result (IsStoreAsBefore c.args.self.now c.put_upon.new.self)
+    (λ names. c.in_err-put_upon-in-Ok.ensures.back names (store_of names c.args.self.now.store) (c.in-Ok.ensures.back names))

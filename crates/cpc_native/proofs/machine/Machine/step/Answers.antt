@@ -3,6 +3,7 @@ use Rattle.std.specs.Prelude.{Some, Err}
 use Rattle.std.proofs.lemmas.List.Elements.{All-pop}
 use Rattle.cpc_base.specs.declared.stop.Stop.{Stop}
 use Rattle.cpc_num.specs.declared.kinds.Fault.{Fault}
+use Rattle.cpc_store.specs.Store as S
 use Rattle.cpc_tree.specs.Erase.{Names}
 use Rattle.cpc_native_acts.specs.Acts.{called}
 use Rattle.cpc_meaning.specs.Plain as P
@@ -10,14 +11,16 @@ use Rattle.cpc_meaning.specs.Trees.{trees}
 use Rattle.cpc_eval_values.specs.Meets.{Meets}
 use Rattle.cpc_eval_values.specs.Shown.{store_of}
 use Rattle.cpc_eval_index.specs.Indexed.{items_of}
+use Rattle.cpc_native_frames.specs.Back.{IsAsBefore}
 use Rattle.cpc_native_frames.specs.Frames.{IsWellFrame}
+use Rattle.cpc_native_frames.proofs.Back.{any_err, as_before_by}
 use Rattle.cpc_native.specs.declared.machine.Machine.{Machine}
 use Rattle.cpc_native.specs.Stacks.{stack_of, done_of}
-use Rattle.cpc_native.specs.Well.{IsBack, StandsBelow, StandsAtCall}
+use Rattle.cpc_native.specs.Well.{IsBack, StandsBelow, StandsAtCall, IsStoreAsBefore}
 use Rattle.cpc_native.proofs.Frames.{well_upon, texts_in, serving_in}
 use Rattle.cpc_native.proofs.Putting.{place_kept}
 use Rattle.cpc_native.proofs.Machines.{act_step, enters_kept, fault_step, same_back, same_stack, kept_step}
-use Rattle.cpc_native.proofs.Refused.{any_err, below_again, stands_at_call, tells_running}
+use Rattle.cpc_native.proofs.Refused.{below_again, stands_at_call, tells_running}
 use Rattle.cpc_native.proofs.machine.Machine.step.Goals as goal
 
 -- ---- room to put the frame back
@@ -102,6 +105,9 @@ returns-in-Err-Memory-clause-stack c =
     let new : Machine = record { index = old.index; texts = old.texts; store = c.step.new.store; calls = c.put_back.new.self; arriving = old.arriving } in
     same_stack old mid new c.in-Some.frame c.step.new.frame c.in-Some.ensures.rest refl c.in-Err-Memory.ensures.slots c.step.ensures.function c.step.ensures.point (record { calls = c.put_back.ensures.frames; arriving = refl })
 
+pub returns-in-Err-Memory-clause-store : goal.returns-in-Err-Memory-clause-store
+returns-in-Err-Memory-clause-store c = λ names. as_before_by (store_of names c.args.self.now.store) (store_of names c.step.new.store) (ap (store_of names) c.in-Err-Memory.ensures.store)
+
 pub returns-in-Err-Memory-clause-refused : goal.returns-in-Err-Memory-clause-refused
 returns-in-Err-Memory-clause-refused c =
     stands_at_call c.args.self.now c.take.new.self.frames.items c.in-Some.frame c.in-Some.ensures.rest
@@ -131,6 +137,15 @@ returns-in_err-stepped-in-Ok-clause-stack c =
     let again = c.in_err-stepped-in-Ok.ensures.err in
     any_err c.from_residual.result ((names : Names) → stack_of names c.perform.new.self ≡ stack_of names old)
     (same_stack old mid c.perform.new.self c.in-Some.frame c.step.new.frame c.in-Some.ensures.rest refl (enters_kept c.in-Ok.act c.in-Some.frame.slots.items c.step.new.frame.slots.items again.1 c.in-Ok.ensures.slots_kept) c.step.ensures.function c.step.ensures.point again.0)
+
+pub returns-in_err-stepped-in-Ok-clause-store : goal.returns-in_err-stepped-in-Ok-clause-store
+returns-in_err-stepped-in-Ok-clause-store c =
+    let old = c.args.self.now in
+    let again = c.in_err-stepped-in-Ok.ensures.err in
+    let same = enters_kept c.in-Ok.act old.store c.step.new.store again.1 c.in-Ok.ensures.store_kept in
+    any_err c.from_residual.result (IsStoreAsBefore old c.perform.new.self)
+    (λ names. (let K : S.Store → Type 0 = λ s. IsAsBefore s (store_of names c.perform.new.self.store) in
+    subst K (ap (store_of names) same) (c.in_err-stepped-in-Ok.ensures.store names)))
 
 pub returns-in_err-stepped-in-Ok-clause-refused : goal.returns-in_err-stepped-in-Ok-clause-refused
 returns-in_err-stepped-in-Ok-clause-refused c =
