@@ -57,7 +57,8 @@ pub fn send<W: Runner, R: Wait>(
     }
 }
 
-/// Tells one worker to stop. It waits where the channel is full. At an error there is nobody who receives, and nothing was sent.
+/// Tells one worker to stop. It waits where the channel is full. At an error, which has the stop, there is nobody who receives, and
+/// nothing was sent.
 pub fn send_stop<W: Runner, R: Wait>(
     rt: &R,
     sender: &Sender<W>,
@@ -66,7 +67,7 @@ pub fn send_stop<W: Runner, R: Wait>(
     requires seat { IsSeatAt (sends_on sender.now) pass.old }
     requires role { (view pass.old).submits ≡ true }
     ensures seat { IsSeatAt (sends_on sender.now) pass.new × (pass.new.id ≡ pass.old.id) }
-    ensures sent { MatchResult result (λ _. view pass.new ≡ after_send W.number (view pass.old) Stops) (λ m. view pass.new ≡ view pass.old) }
+    ensures sent { MatchResult result (λ _. view pass.new ≡ after_send W.number (view pass.old) Stops) (λ m. (view pass.new ≡ view pass.old) × (m ≡ Stops)) }
 {
     match sender.send_as::<Sends<W>, R>(rt, pass, Message::Stop) {
         Ok(()) => Ok(()),
