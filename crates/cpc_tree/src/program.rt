@@ -129,8 +129,8 @@ pub enum Expr {
     },
 }
 
-// What an expression, a statement and a part of a program own is let go of here and not by a derive: a crate that lets
-// go of one then calls this, and does not prove it again.
+// What an expression owns is let go of here and not by a derive: a crate that lets go of one then calls this, and does
+// not prove it again.
 impl Drop for Expr {
     fn drop(self) {
         match self {
@@ -225,7 +225,7 @@ impl Drop for Expr {
 ///
 /// `operator` is the place of the assignment's operator, of `=` before a call or a section; where an initialiser is such
 /// a call it is the declared name's, and where there is no place for the value it is the statement's own.
-#[derive(Debug)]
+#[derive(Drop, Debug)]
 pub enum Statement {
     Block {
         place: Place,
@@ -317,104 +317,6 @@ pub enum Statement {
     },
 }
 
-impl Drop for Statement {
-    fn drop(self) {
-        match self {
-            Statement::Block { place: _, inner } => drop(inner),
-            Statement::Empty { place: _ } => {}
-            Statement::Declare {
-                place: _,
-                word: _,
-                of,
-                start,
-            } => {
-                drop(of);
-                drop(start);
-            }
-            Statement::Assign {
-                place: _,
-                operator: _,
-                target,
-                op: _,
-                value,
-            } => {
-                drop(target);
-                drop(value);
-            }
-            Statement::Call {
-                place: _,
-                operator: _,
-                target,
-                function,
-                arguments,
-            } => {
-                drop(target);
-                drop(function);
-                drop(arguments);
-            }
-            Statement::Detach {
-                place: _,
-                operator: _,
-                keyword: _,
-                target,
-                function: _,
-                arguments,
-            } => {
-                drop(target);
-                drop(arguments);
-            }
-            Statement::Spawn {
-                place: _,
-                function: _,
-                arguments,
-            } => drop(arguments),
-            Statement::If {
-                place: _,
-                test,
-                yes,
-                no,
-            } => {
-                drop(test);
-                drop(yes);
-                drop(no);
-            }
-            Statement::While {
-                place: _,
-                test,
-                body,
-            } => {
-                drop(test);
-                drop(body);
-            }
-            Statement::DoWhile {
-                place: _,
-                body,
-                test,
-            } => {
-                drop(body);
-                drop(test);
-            }
-            Statement::For {
-                place: _,
-                first,
-                test,
-                step,
-                body,
-            } => {
-                drop(first);
-                drop(test);
-                drop(step);
-                drop(body);
-            }
-            Statement::Goto { place: _, label: _ } => {}
-            Statement::Label { label: _, inner } => drop(inner),
-            Statement::Break { place: _ } => {}
-            Statement::Continue { place: _ } => {}
-            Statement::Return { place: _, value } => drop(value),
-        }
-    }
-}
-
 /// A parameter, which a prototype may leave unnamed.
 #[derive(Drop, Debug)]
 pub struct Parameter {
@@ -430,7 +332,7 @@ pub struct Field {
 }
 
 /// A function with its body, which is a Block. `place` is that of its first byte, `word` its name.
-#[derive(Debug)]
+#[derive(Drop, Debug)]
 pub struct Function {
     pub place: Place,
     pub mode: Mode,
@@ -440,24 +342,8 @@ pub struct Function {
     pub body: Statement,
 }
 
-impl Drop for Function {
-    fn drop(self) {
-        let Function {
-            place: _,
-            mode: _,
-            word: _,
-            result,
-            parameters,
-            body,
-        } = self;
-        drop(result);
-        drop(parameters);
-        drop(body);
-    }
-}
-
 /// A part of a program (C11 6.9). A declaration of several declarators is several parts.
-#[derive(Debug)]
+#[derive(Drop, Debug)]
 pub enum Item {
     Struct {
         tag: Word,
@@ -480,44 +366,10 @@ pub enum Item {
     Function(Function),
 }
 
-impl Drop for Item {
-    fn drop(self) {
-        match self {
-            Item::Struct { tag: _, fields } => drop(fields),
-            Item::Global { word: _, of, start } => {
-                drop(of);
-                drop(start);
-            }
-            Item::Prototype {
-                place: _,
-                mode: _,
-                word: _,
-                result,
-                parameters,
-            } => {
-                drop(result);
-                drop(parameters);
-            }
-            Item::Function(function) => drop(function),
-        }
-    }
-}
-
 /// A program. Its names are numbers of its table of texts; `end` is the place just after the last byte of its text.
+#[derive(Drop)]
 pub struct Program {
     pub names: Names,
     pub items: Vec<Item>,
     pub end: Place,
-}
-
-impl Drop for Program {
-    fn drop(self) {
-        let Program {
-            names,
-            items,
-            end: _,
-        } = self;
-        drop(names);
-        drop(items);
-    }
 }
