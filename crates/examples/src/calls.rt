@@ -64,8 +64,11 @@ fn file(alloc: Global, name: &str, bytes: &[u8]) -> Result<MemFile, AllocError> 
     })
 }
 
-// The shelf that has the text under this name.
-fn shelf(
+/// The shelf that has the text under this name.
+///
+/// # Errors
+/// Where memory is wanting.
+pub fn shelf(
     alloc: Global,
     name: &str,
     files: Files<'_>,
@@ -79,8 +82,11 @@ fn shelf(
     Ok(MemShelf::new(held, setting.most as usize, failing(alloc, setting.read)?))
 }
 
-// The words of a line; '' is an empty one.
-fn words_of(alloc: Global, line: &str) -> Result<Vec<String>, AllocError> {
+/// The words of a line; `''` is an empty one.
+///
+/// # Errors
+/// Where memory is wanting.
+pub fn words_of(alloc: Global, line: &str) -> Result<Vec<String>, AllocError> {
     let mut words = Vec::new(alloc);
     for word in line.split_whitespace() {
         words.push(String::from_str(alloc, if word == "''" { "" } else { word })?)?;
