@@ -14,7 +14,7 @@ use Rattle.cpc_sections.specs.Jobs.{job_of}
 use Rattle.cpc_sections.specs.declared.job.Job.{Job}
 use Rattle.cpc_run_jobs.specs.Held.{IsJob, AreHeld}
 use Rattle.cpc_run_jobs.specs.Under.{under}
-use Rattle.cpc_run_jobs.proofs.Numbered.{same_number, put_out, left_is_out, left_is_other, numbered_before, numbered_last, below_next}
+use Rattle.cpc_run_jobs.proofs.Numbered.{same_number, put_out, put_not_out, left_is_out, left_not_out, left_is_other, numbered_before, numbered_last, below_next}
 
 -- the job of a number, by what is found
 more_jobs : (names : Names) (o : Option Job) (jobs : List M.Job) (y : M.Job) (n : ℕ) → IsJob names o (job_numbered jobs n) → IsJob names o (job_numbered (jobs ++ y ∷ []) n)
@@ -25,7 +25,7 @@ module _ (names : Names) (held after : List (ℕ × Job)) (jobs : List M.Job) (m
   -- a job is put under the next number
   pub held_put : (x : Job) → x.number ≡ made → ((n : ℕ) → under n after ≡ cond (is_at (nat_cmp x.number) n) (Some x) (under n held))
       → AreHeld names after (jobs ++ job_of names x ∷ []) (suc made) (out ++ made ∷ [])
-  held_put x is put = record { below = below_next jobs (job_of names x) made h.below is; each = each }
+  held_put x is put = record { below = below_next jobs (job_of names x) made h.below is; each = each; none = none }
     where
       last : (n : ℕ) → (n == x.number) ≡ true → IsJob names (under n after) (job_numbered (jobs ++ job_of names x ∷ []) n)
       last n t =
@@ -42,9 +42,16 @@ module _ (names : Names) (held after : List (ℕ × Job)) (jobs : List M.Job) (m
       each : (n : ℕ) → holds_number (out ++ made ∷ []) n ≡ true → IsJob names (under n after) (job_numbered (jobs ++ job_of names x ∷ []) n)
       each n outs = elim (true_or_false (n == x.number)) [ inl t ↦ last n t | inr f ↦ before n f outs ]
 
+      none : (n : ℕ) → holds_number (out ++ made ∷ []) n ≡ false → under n after ≡ None
+      none n not =
+          let both = put_not_out out n made not in
+          let made_not = both.1 in
+          let other : (n == x.number) ≡ false = grind (arith, nat_tests) in
+          put n ∙ ap (λ b. cond b (Some x) (under n held)) (same_number x.number n ∙ other) ∙ h.none n both.0
+
   -- the job of a number is taken out
   pub held_taken : (number : ℕ) → ((n : ℕ) → under n after ≡ cond (is_at (nat_cmp number) n) None (under n held)) → AreHeld names after jobs made (without (λ m. m == number) out)
-  held_taken number taken = record { below = h.below; each = each }
+  held_taken number taken = record { below = h.below; each = each; none = none }
     where
       each : (n : ℕ) → holds_number (without (λ m. m == number) out) n ≡ true → IsJob names (under n after) (job_numbered jobs n)
       each n left = elim (true_or_false (n == number)) [
@@ -54,3 +61,22 @@ module _ (names : Names) (held after : List (ℕ × Job)) (jobs : List M.Job) (m
             subst (λ o. IsJob names o (job_numbered jobs n)) (sym there) (h.each n (left_is_out out n number left))
             )
       ]
+
+      none : (n : ℕ) → holds_number (without (λ m. m == number) out) n ≡ false → under n after ≡ None
+      none n left = elim (true_or_false (n == number)) [
+        | inl t ↦ taken n ∙ ap (λ b. cond b None (under n held)) (same_number number n ∙ t)
+        | inr f ↦ taken n ∙ ap (λ b. cond b None (under n held)) (same_number number n ∙ f) ∙ h.none n (left_not_out out n number f left)
+      ]
+
+  -- what is held is out, and what is not held is not
+  pub is_out : (n : ℕ) (x : Job) → under n held ≡ Some x → holds_number out n ≡ true
+  is_out n x there = elim (true_or_false (holds_number out n)) [
+    | inl t ↦ t
+    | inr f ↦ absurd (let e : Some x ≡ None = sym there ∙ h.none n f in cc)
+  ]
+
+  pub not_held : (n : ℕ) → under n held ≡ None → holds_number out n ≡ false
+  not_held n missing = elim (true_or_false (holds_number out n)) [
+    | inl t ↦ absurd (subst (λ o. IsJob names o (job_numbered jobs n)) missing (h.each n t))
+    | inr f ↦ f
+  ]

@@ -1,3 +1,4 @@
+pub mod AreOut
 mod Collecting
 mod Held
 mod Numbered

@@ -46,6 +46,53 @@ left_is_out (k ∷ out) n m h = elim (true_or_false (k == n)) [
     kept f (inl t) = sym (ap (λ b. holds_number (cond (not b) (k ∷ without (λ j. j == m) out) (without (λ j. j == m) out)) n) t) ∙ h
     kept f (inr e) = sym (ap (λ b. b || holds_number (without (λ j. j == m) out) n) f) ∙ sym (ap (λ b. holds_number (cond (not b) (k ∷ without (λ j. j == m) out) (without (λ j. j == m) out)) n) e) ∙ h
 
+-- what is not out behind which one was put is none of the others, and not that one
+pub put_not_out : (out : List ℕ) (n m : ℕ) → holds_number (out ++ m ∷ []) n ≡ false → (holds_number out n ≡ false) × ((m == n) ≡ false)
+put_not_out [] n m h = elim (true_or_false (m == n)) [
+  | inl t ↦ absurd (let g : true ≡ false = sym (ap (λ b. b || false) t) ∙ h in cc)
+  | inr f ↦ (refl, f)
+]
+put_not_out (k ∷ out) n m h = elim (true_or_false (k == n)) [
+  | inl t ↦ absurd (let g : true ≡ false = sym (ap (λ b. b || holds_number (out ++ m ∷ []) n) t) ∙ h in cc)
+  | inr f ↦ (
+      let g : holds_number (out ++ m ∷ []) n ≡ false = sym (ap (λ b. b || holds_number (out ++ m ∷ []) n) f) ∙ h in
+      let both = put_not_out out n m g in
+      (ap (λ b. b || holds_number out n) f ∙ both.0, both.1)
+      )
+]
+
+-- another that is not left without a number is not out
+left_not_out_first : (k : ℕ) (out : List ℕ) (n m : ℕ) → (k == m) ≡ false → (holds_number (without (λ j. j == m) out) n ≡ false → holds_number out n ≡ false)
+    → holds_number (without (λ j. j == m) (k ∷ out)) n ≡ false → holds_number (k ∷ out) n ≡ false
+left_not_out_first k out n m f rest h =
+    let g : holds_number (k ∷ without (λ j. j == m) out) n ≡ false = sym (ap (λ b. holds_number (cond (not b) (k ∷ without (λ j. j == m) out) (without (λ j. j == m) out)) n) f) ∙ h in
+    elim (true_or_false (k == n)) [
+      | inl t ↦ absurd (let e : true ≡ false = sym (ap (λ b. b || holds_number (without (λ j. j == m) out) n) t) ∙ g in cc)
+      | inr d ↦ ap (λ b. b || holds_number out n) d ∙ rest (sym (ap (λ b. b || holds_number (without (λ j. j == m) out) n) d) ∙ g)
+    ]
+
+pub left_not_out : (out : List ℕ) (n m : ℕ) → (n == m) ≡ false → holds_number (without (λ k. k == m) out) n ≡ false → holds_number out n ≡ false
+left_not_out [] n m other h = h
+left_not_out (k ∷ out) n m other h = elim (true_or_false (k == m)) [
+  | inl t ↦ (
+      let e : (k == n) ≡ false = grind (arith, nat_tests) in
+      let g : holds_number (without (λ j. j == m) out) n ≡ false = sym (ap (λ b. holds_number (cond (not b) (k ∷ without (λ j. j == m) out) (without (λ j. j == m) out)) n) t) ∙ h in
+      ap (λ b. b || holds_number out n) e ∙ left_not_out out n m other g
+      )
+  | inr f ↦ left_not_out_first k out n m f (left_not_out out n m other) h
+]
+
+-- without a number that is not out all are left
+pub without_none : (out : List ℕ) (m : ℕ) → holds_number out m ≡ false → without (λ k. k == m) out ≡ out
+without_none [] m h = refl
+without_none (k ∷ out) m h = elim (true_or_false (k == m)) [
+  | inl t ↦ absurd (let e : true ≡ false = sym (ap (λ b. b || holds_number out m) t) ∙ h in cc)
+  | inr f ↦ (
+      let g : holds_number out m ≡ false = sym (ap (λ b. b || holds_number out m) f) ∙ h in
+      ap (λ b. cond (not b) (k ∷ without (λ j. j == m) out) (without (λ j. j == m) out)) f ∙ ap (λ ks. k ∷ ks) (without_none out m g)
+      )
+]
+
 pub left_is_other : (out : List ℕ) (n m : ℕ) → (n == m) ≡ true → holds_number (without (λ k. k == m) out) n ≡ false
 left_is_other [] n m e = refl
 left_is_other (k ∷ out) n m e = elim (true_or_false (k == m)) [

@@ -1,5 +1,5 @@
 -- The jobs that are held against those of the definition.
-use Rattle.std.specs.Prelude.{◌≡◌, ◌<◌, ◌==◌, ℕ, true, List, [], ◌∷◌, Option, Some, None}
+use Rattle.std.specs.Prelude.{◌≡◌, ◌<◌, ◌==◌, ℕ, true, false, if◌then◌else◌, List, [], ◌∷◌, Option, Some, None}
 use Rattle.std.specs.List.{AllByRecursion}
 use Rattle.cpc_base.specs.Waiting.{without}
 use Rattle.cpc_tree.specs.Erase.{Names}
@@ -17,10 +17,16 @@ abbrev pub IsJob : Names → Option Job → Option M.Job → Type 0
 IsJob names (Some x) job = job ≡ Some (job_of names x)
 IsJob names None job = ⊥
 
--- so many jobs were made, and those of these numbers stand there
+-- so many jobs were made, and those of these numbers stand there, and no others
 pub record AreHeld (names : Names) (held : List (ℕ × Job)) (jobs : List M.Job) (made : ℕ) (out : List ℕ) : Type 0 where
   pub below : AllByRecursion (λ x. x.number < made) jobs
   pub each : (n : ℕ) → holds_number out n ≡ true → IsJob names (under n held) (job_numbered jobs n)
+  pub none : (n : ℕ) → holds_number out n ≡ false → under n held ≡ None
+
+-- those of these numbers that are out, each at its turn
+abbrev pub are_out : List ℕ → List ℕ → List ℕ
+are_out [] out = []
+are_out (n ∷ ns) out = if holds_number out n then n ∷ are_out ns (without (λ m. m == n) out) else are_out ns out
 
 -- what is out once the sections of these numbers were told
 abbrev pub left_out : List ℕ → List ℕ → List ℕ

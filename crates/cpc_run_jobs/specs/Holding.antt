@@ -12,7 +12,7 @@ use Rattle.cpc_meaning.specs.Section as M
 use Rattle.cpc_native.specs.Runs.{Runs}
 use Rattle.cpc_run_globals.specs.Layouts.{AreLayouts}
 use Rattle.cpc_run_jobs.specs.declared.jobs.Jobs.{Jobs}
-pub use Rattle.cpc_run_jobs.specs.Held.{AreHeld, left_out, IfAllGave}
+pub use Rattle.cpc_run_jobs.specs.Held.{AreHeld, are_out, left_out, IfAllGave}
 
 -- the program whose sections they are, where names have these texts
 abbrev pub items_of : Names → Jobs → Program

@@ -1,5 +1,5 @@
 //! Sections that a poll tells: the end of each is asked for, and its cells go back.
-ghost use Rattle.std.specs.Prelude.{◌≡◌, ℕ, ◌∷◌, List, None, Some, IsSome, IfOk, map};
+ghost use Rattle.std.specs.Prelude.{◌≡◌, ℕ, ◌∷◌, List, Some, IsSome, IfOk, map};
 ghost use Rattle.cpc_base.specs.declared.poll.Event.{Event};
 ghost use Rattle.cpc_tree.specs.Erase.{Names, item_of};
 ghost use Rattle.cpc_tree.specs.declared.program.Program.{Program};
@@ -10,7 +10,7 @@ ghost use Rattle.cpc_meaning.specs.Trees.{trees};
 ghost use Rattle.cpc_eval_values.specs.Shown.{values_of, store_of};
 ghost use Rattle.cpc_native.specs.Runs.{Runs};
 ghost use Rattle.cpc_sections.specs.Backs.{CollectsAs, collected_of};
-ghost use Rattle.cpc_run_jobs.specs.Held.{AreHeld, IfAllGave, left_out};
+ghost use Rattle.cpc_run_jobs.specs.Held.{AreHeld, IfAllGave, are_out, left_out};
 ghost use Rattle.cpc_run_jobs.specs.Telling.{Reached, ReachedNext};
 
 use crate::out::Out;
@@ -66,10 +66,10 @@ pub(crate) fn all_told<S: Sections>(
 ) -> Result<Collected, NoMemory>
     requires { IsSome S.program }
     ensures collected { IfOk result (λ told. (p : Program) → S.program ≡ Some p → let items = p.items.items in (names : Names) → Runs names p.names (map (item_of names) items)
-        → (jobs : List M.Job) (made : ℕ) (outs : List ℕ) → AreHeld names out.old jobs made outs → A.not_out (A.completed events.now) outs ≡ None
-        → CollectsAs (collected_of names (store_of names store.new) told) (C.collect (trees (map (item_of names) items)) S.bound jobs (A.completed events.now) (store_of names store.old))) }
+        → (jobs : List M.Job) (made : ℕ) (outs : List ℕ) → AreHeld names out.old jobs made outs
+        → CollectsAs (collected_of names (store_of names store.new) told) (C.collect (trees (map (item_of names) items)) S.bound jobs (are_out (A.completed events.now) outs) (store_of names store.old))) }
     ensures holds { IfOk result (λ told. (p : Program) → S.program ≡ Some p → let items = p.items.items in (names : Names) → Runs names p.names (map (item_of names) items)
-        → (jobs : List M.Job) (made : ℕ) (outs : List ℕ) → AreHeld names out.old jobs made outs → A.not_out (A.completed events.now) outs ≡ None
+        → (jobs : List M.Job) (made : ℕ) (outs : List ℕ) → AreHeld names out.old jobs made outs
         → IfAllGave told (AreHeld names out.new jobs made (left_out (A.completed events.now) outs))) }
 {
     let mut values = Vec::new(alloc);

@@ -1,5 +1,5 @@
 //! The sections that were submitted and that no poll has told.
-ghost use Rattle.std.specs.Prelude.{◌≡◌, ℕ, List, [], Some, None, OnErr, IfOk, map};
+ghost use Rattle.std.specs.Prelude.{◌≡◌, ℕ, List, [], Some, OnErr, IfOk, map};
 ghost use Rattle.std.specs.List.{All};
 ghost use Rattle.cpc_tree.specs.Erase.{Names, item_of};
 ghost use Rattle.cpc_tree.specs.Syntax as X;
@@ -13,7 +13,7 @@ ghost use Rattle.cpc_eval_values.specs.Shown.{value_of, values_of, store_of};
 ghost use Rattle.cpc_native.specs.Runs.{Runs};
 ghost use Rattle.cpc_sections.specs.Backs.{CollectsAs, collected_of};
 ghost use Rattle.cpc_sections.specs.Jobs.{IsLawfulJob, job_of};
-ghost use Rattle.cpc_run_jobs.specs.Holding.{items_of, Serves, Holds, IsAssigned, KeepsJobs, SubmitsAs, IfAllGave, left_out};
+ghost use Rattle.cpc_run_jobs.specs.Holding.{items_of, Serves, Holds, IsAssigned, KeepsJobs, SubmitsAs, IfAllGave, are_out, left_out};
 
 use crate::ends::all_told;
 use crate::out::Out;
@@ -134,10 +134,8 @@ impl<'p> Jobs<'p> {
     ) -> Result<Collected, NoMemory>
         requires { IsAssigned S.program S.bound self.old }
         ensures collected { IfOk result (λ told. (names : Names) → Serves names self.old → (jobs : List M.Job) (made : ℕ) (outs : List ℕ) → Holds names self.old jobs made outs
-            → A.not_out (A.completed events.now) outs ≡ None
-            → CollectsAs (collected_of names (store_of names store.new) told) (C.collect (trees (items_of names self.old)) self.old.bound jobs (A.completed events.now) (store_of names store.old))) }
+            → CollectsAs (collected_of names (store_of names store.new) told) (C.collect (trees (items_of names self.old)) self.old.bound jobs (are_out (A.completed events.now) outs) (store_of names store.old))) }
         ensures holds { IfOk result (λ told. (names : Names) → Serves names self.old → (jobs : List M.Job) (made : ℕ) (outs : List ℕ) → Holds names self.old jobs made outs
-            → A.not_out (A.completed events.now) outs ≡ None
             → IfAllGave told (Holds names self.new jobs made (left_out (A.completed events.now) outs))) }
         ensures keeps { KeepsJobs self.old self.new }
     {

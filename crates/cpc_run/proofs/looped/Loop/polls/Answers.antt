@@ -8,7 +8,8 @@ use Rattle.cpc_meaning.specs.Copies as C
 use Rattle.cpc_meaning.specs.Trees.{trees}
 use Rattle.cpc_sections.specs.Backs.{CollectsAs, collected_of}
 use Rattle.cpc_agenda_turns.specs.Turns.{TakesPoll}
-use Rattle.cpc_run_jobs.specs.Holding.{Holds, IfAllGave, items_of, left_out}
+use Rattle.cpc_run_jobs.specs.Holding.{Holds, IfAllGave, are_out, items_of, left_out}
+use Rattle.cpc_run_jobs.proofs.AreOut.{all_are_out}
 use Rattle.cpc_run.specs.Shown.{shown_of}
 use Rattle.cpc_run.specs.States.{lists_in, polls_in}
 use Rattle.cpc_run.proofs.Kept.{moved_keeps}
@@ -55,10 +56,11 @@ returns-in_ok-poll-in-AllGave-clause-did g c = λ names fits sent s stands.
     let t = store_of names c.finish-collected.new.store in
     let wants = c.requires.wants names in
     let all_out = subst (λ xs. A.not_out ns xs ≡ None) (outs_so names l s stands.lists.agenda) wants.all_out in
-    let came = subst (λ es. A.not_out (A.completed es) (A.out s.agenda) ≡ None → CollectsAs (collected_of names t c.in_ok-values.field-0) (C.collect (trees (items_of names l.jobs)) l.jobs.bound s.jobs (A.completed es) (store_of names c.replace_store-store.result)))
-    c.deref.ensures.value (c.in_ok-values.ensures.collected names fits.serves s.jobs s.agenda.sections_made (A.out s.agenda) stands.lists.held) all_out in
-    let left = subst (λ es. A.not_out (A.completed es) (A.out s.agenda) ≡ None → IfAllGave c.in_ok-values.field-0 (Holds names c.finish-collected.new.self s.jobs s.agenda.sections_made (left_out (A.completed es) (A.out s.agenda))))
-    c.deref.ensures.value (c.in_ok-values.ensures.holds names fits.serves s.jobs s.agenda.sections_made (A.out s.agenda) stands.lists.held) all_out in
+    let came = subst (λ ms. CollectsAs (collected_of names t c.in_ok-values.field-0) (C.collect (trees (items_of names l.jobs)) l.jobs.bound s.jobs ms (store_of names c.replace_store-store.result)))
+    (ap (λ es. are_out (A.completed es) (A.out s.agenda)) c.deref.ensures.value ∙ all_are_out ns (A.out s.agenda) all_out)
+    (c.in_ok-values.ensures.collected names fits.serves s.jobs s.agenda.sections_made (A.out s.agenda) stands.lists.held) in
+    let left = subst (λ es. IfAllGave c.in_ok-values.field-0 (Holds names c.finish-collected.new.self s.jobs s.agenda.sections_made (left_out (A.completed es) (A.out s.agenda))))
+    c.deref.ensures.value (c.in_ok-values.ensures.holds names fits.serves s.jobs s.agenda.sections_made (A.out s.agenda) stands.lists.held) in
     let gave = subst (λ x. CollectsAs (collected_of names t x) (C.collect (trees (items_of names l.jobs)) l.jobs.bound s.jobs ns (store_of names c.replace_store-store.result))) c.in-AllGave.is came in
     let held = subst (λ x. IfAllGave x (Holds names c.finish-collected.new.self s.jobs s.agenda.sections_made (left_out ns (A.out s.agenda)))) c.in-AllGave.is left in
     let taken = subst (λ xs. TakesPoll (values_of names xs) (lists_in names l) (polls_in l) (lists_in names new) (polls_in new)) c.as_slice.ensures.value (c.in_ok-poll-in-AllGave.ensures.taken names) in
@@ -85,8 +87,9 @@ returns-in-OneFailed-clause-did g c = λ names fits sent s stands.
     let t = store_of names c.finish-collected.new.store in
     let wants = c.requires.wants names in
     let all_out = subst (λ xs. A.not_out ns xs ≡ None) (outs_so names l s stands.lists.agenda) wants.all_out in
-    let came = subst (λ es. A.not_out (A.completed es) (A.out s.agenda) ≡ None → CollectsAs (collected_of names t c.in_ok-values.field-0) (C.collect (trees (items_of names l.jobs)) l.jobs.bound s.jobs (A.completed es) (store_of names c.replace_store-store.result)))
-    c.deref.ensures.value (c.in_ok-values.ensures.collected names fits.serves s.jobs s.agenda.sections_made (A.out s.agenda) stands.lists.held) all_out in
+    let came = subst (λ ms. CollectsAs (collected_of names t c.in_ok-values.field-0) (C.collect (trees (items_of names l.jobs)) l.jobs.bound s.jobs ms (store_of names c.replace_store-store.result)))
+    (ap (λ es. are_out (A.completed es) (A.out s.agenda)) c.deref.ensures.value ∙ all_are_out ns (A.out s.agenda) all_out)
+    (c.in_ok-values.ensures.collected names fits.serves s.jobs s.agenda.sections_made (A.out s.agenda) stands.lists.held) in
     let failed = subst (λ x. CollectsAs (collected_of names t x) (C.collect (trees (items_of names l.jobs)) l.jobs.bound s.jobs ns (store_of names c.replace_store-store.result))) c.in-OneFailed.is came in
     poll_broke names l printed s stands fits told new (sent ++ c.put_poll.new.pending.items) refl wants
     (ap (λ x. sent ++ x) (c.in_ok-put_poll.ensures told wants.left wants.next) ∙ sym (append_assoc sent c.args.pending.now.items (shown_of l.trace (Polled told))))
