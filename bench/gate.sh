@@ -1,5 +1,5 @@
 #!/usr/bin/env bash
-# gate.sh: runs the gate, `rt ci`, and prints what each crate took of the processors in it, dearest first, in seconds: for its proof, for
+# gate.sh: runs the gate, `.ci/run`, and prints what each crate took of the processors in it, dearest first, in seconds: for its proof, for
 # its tests (which are proved with it a second time), and for its must-fail edits. Ends with the gate's status.
 # gate.sh last: prints that of the last gate once more, and runs nothing.
 # rt tells no times, so each second the prover's processes are looked at. What one takes in its last second is missed: the last line has
@@ -70,7 +70,7 @@ mkdir -p out
 lines=$(mktemp -u)
 mkfifo "$lines" || exit 126
 # a session of its own, by which its processes are known
-setsid bash -c 'TIMEFORMAT="whole %U %S"; time rt ci' >"$lines" 2>&1 &
+setsid bash -c 'TIMEFORMAT="whole %U %S"; time bash .ci/run' >"$lines" 2>&1 &
 gate=$!
 watch "$gate" &
 watcher=$!
