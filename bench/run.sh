@@ -7,6 +7,8 @@ set -eu
 top=$(cd "$(dirname "${BASH_SOURCE[0]}")/.." && pwd)
 "$top/cpc" check "$top/crates/examples/data/seven.c" >/dev/null
 program=$top/crates/cpc/out/cpc
+# shellcheck source=bench/steps.sh
+. "$top/bench/steps.sh"
 room=$(mktemp -d)
 trap 'rm -rf "$room"' EXIT
 
@@ -34,35 +36,27 @@ row() {
   printf '%-24s %10s steps %12s steps/s %6s\n' "$1" "$2" "$rate" "$(awk -v a="$rate" -v b="$first" 'BEGIN { printf "%.2f", a / b }')"
 }
 
-# a turn of the loop takes its test, the addition and the step of the `for`
 for turns in 33333 333333 3333333; do
-  printf 'int main(void){ int i; int s; s = 0; for (i = 0; i < %s; i++) s = (s + i) %% 1000; cpc_print(s); return 0; }' "$turns" >"$room/loop.c"
+  loop_text "$turns" >"$room/loop.c"
   row "loop" $((3 * turns)) "$room/loop.c"
 done
 
-# a turn of the loop takes its test, the statements of its body and the step of the `for`
 first=
 for long in 10 2000; do
   turns=$((1000000 / (long + 2)))
-  {
-    printf 'int main(void){ int i; int x; x = 0; for (i = 0; i < %s; i++) {' "$turns"
-    for ((at = 0; at < long; at++)); do printf ' x = 1;'; done
-    printf ' } cpc_print(x); return 0; }'
-  } >"$room/body.c"
+  body_text "$turns" "$long" >"$room/body.c"
   row "loop, a body of $long" $((turns * (long + 2))) "$room/body.c"
 done
 
-# a call that goes deeper takes its test, itself, the arrival of its value and the return
 first=
 for deep in 100 10000; do
-  again=$((1000000 / (4 * deep)))
-  printf 'int f(int n){ int r; if (n == 0) return 0; r = f(n - 1); return r; } int main(void){ int i; int r; for (i = 0; i < %s; i++) r = f(%s); cpc_print(r); return 0; }' "$again" "$deep" >"$room/calls.c"
-  row "calls, $deep deep" $((again * (4 * deep + 6))) "$room/calls.c"
+  turns=$((1000000 / (4 * deep)))
+  calls_text "$turns" "$deep" >"$room/calls.c"
+  row "calls, $deep deep" $((turns * (4 * deep + 6))) "$room/calls.c"
 done
 
-# a list of so many blocks, and then a loop that reads one of them
 first=
 for live in 10 100000; do
-  printf 'struct node { int a; struct node *next; }; int main(void){ struct node *p; struct node *q; int i; q = 0; for (i = 0; i < %s; i++) { p = malloc(sizeof(struct node)); p->next = q; p->a = i; q = p; } for (i = 0; i < 333333; i++) p->a = (p->a + i) %% 1000; cpc_print(p->a); return 0; }' "$live" >"$room/blocks.c"
+  blocks_text "$live" 333333 >"$room/blocks.c"
   row "loop, $live blocks" $((999999 + 6 * live)) "$room/blocks.c"
 done
