@@ -1,13 +1,12 @@
 -- The copies of statements in which spawns are calls of the spawners, by the form that the code finds.
 use Rattle.std.proofs.Common.{◌≡◌, refl, sym, ap, ◌∙◌, ℕ, zero, suc, ◌+◌, ◌<◌, arith, Vec, Global, Option, Some, None, Box, List, [], ◌∷◌, ◌++◌, option_map, length, get_or, take}
 use Rattle.cpc_base.specs.declared.stop.Place.{Place}
-use Rattle.cpc_tree.specs.declared.program.Word.{Word}
 use Rattle.cpc_tree.specs.declared.program.Expr as GExpr
 use Rattle.cpc_tree.specs.declared.program.Statement.{Statement}
 use Rattle.cpc_tree.specs.declared.program.Statement.TheVariants as T
 use Rattle.cpc_tree.specs.Syntax as S
-use Rattle.cpc_tree.specs.Syntax.{Stmt, Stmts, NoStmt, AndStmt, MaybeStmt}
-use Rattle.cpc_tree.specs.Erase.{Names, expr_of, exprs_of, text_of, stmt_of, list_of, maybe_at}
+use Rattle.cpc_tree.specs.Syntax.{Stmts, NoStmt, AndStmt}
+use Rattle.cpc_tree.specs.Erase.{Names, expr_of, stmt_of, list_of, maybe_at}
 use Rattle.cpc_tree.proofs.Clauses.{block_is, for_is}
 use Rattle.cpc_convert.specs.Converted.{respawned, respawned_all, respawned_arm}
 use Rattle.cpc_convert_items.proofs.Growing.{taken_more}
@@ -42,35 +41,6 @@ module _ (from to : Names) (e : Statement) (alike : stmt_of from e ≡ stmt_of t
       if_is to place test' a' b' ∙ (ap (λ u. S.If u (stmt_of to a'.value) (maybe_at to b')) copied ∙ (ap (λ u. S.If (expr_of to test) u (maybe_at to b')) at_yes
       ∙ (ap (S.If (expr_of to test) (respawned (stmt_of to a.value))) at_no ∙ sym (ap respawned at_to))))
 
-  pub while_respawned : (place : Place) (test test' : GExpr.Expr) (a a' : Box Statement Global) → e ≡ T.While place test a
-      → expr_of to test' ≡ expr_of to test
-      → (stmt_of from a.value ≡ stmt_of to a.value → stmt_of to a'.value ≡ respawned (stmt_of to a.value))
-      → stmt_of to (T.While place test' a') ≡ respawned (stmt_of to e)
-  while_respawned place test test' a a' is copied body =
-      let at_from : stmt_of from e ≡ S.While (expr_of from test) (stmt_of from a.value) = ap (stmt_of from) is in
-      let at_to : stmt_of to e ≡ S.While (expr_of to test) (stmt_of to a.value) = ap (stmt_of to) is in
-      let same : stmt_of from a.value ≡ stmt_of to a.value = cc in
-      ap (λ u. S.While u (stmt_of to a'.value)) copied ∙ (ap (S.While (expr_of to test)) (body same) ∙ sym (ap respawned at_to))
-
-  pub do_respawned : (place : Place) (test test' : GExpr.Expr) (a a' : Box Statement Global) → e ≡ T.DoWhile place a test
-      → expr_of to test' ≡ expr_of to test
-      → (stmt_of from a.value ≡ stmt_of to a.value → stmt_of to a'.value ≡ respawned (stmt_of to a.value))
-      → stmt_of to (T.DoWhile place a' test') ≡ respawned (stmt_of to e)
-  do_respawned place test test' a a' is copied body =
-      let at_from : stmt_of from e ≡ S.DoWhile (stmt_of from a.value) (expr_of from test) = ap (stmt_of from) is in
-      let at_to : stmt_of to e ≡ S.DoWhile (stmt_of to a.value) (expr_of to test) = ap (stmt_of to) is in
-      let same : stmt_of from a.value ≡ stmt_of to a.value = cc in
-      ap (S.DoWhile (stmt_of to a'.value)) copied ∙ (ap (λ u. S.DoWhile u (expr_of to test)) (body same) ∙ sym (ap respawned at_to))
-
-  pub label_respawned : (label : Word) (a a' : Box Statement Global) → e ≡ T.Label label a
-      → (stmt_of from a.value ≡ stmt_of to a.value → stmt_of to a'.value ≡ respawned (stmt_of to a.value))
-      → stmt_of to (T.Label label a') ≡ respawned (stmt_of to e)
-  label_respawned label a a' is body =
-      let at_from : stmt_of from e ≡ S.Label (text_of from label.name) (stmt_of from a.value) = ap (stmt_of from) is in
-      let at_to : stmt_of to e ≡ S.Label (text_of to label.name) (stmt_of to a.value) = ap (stmt_of to) is in
-      let same : stmt_of from a.value ≡ stmt_of to a.value = cc in
-      ap (S.Label (text_of to label.name)) (body same) ∙ sym (ap respawned at_to)
-
   pub for_respawned : (place : Place) (first first' : Vec Statement Global) (test test' : Option GExpr.Expr) (step step' : Option (Box Statement Global)) (a a' : Box Statement Global) → e ≡ T.For place first test step a
       → option_map (expr_of to) test' ≡ option_map (expr_of to) test
       → (list_of from first.items ≡ list_of to first.items → list_of to first'.items ≡ respawned_all (list_of to first.items))
@@ -89,21 +59,6 @@ module _ (from to : Names) (e : Statement) (alike : stmt_of from e ≡ stmt_of t
       let whole : S.For (list_of to first'.items) (option_map (expr_of to) test') (maybe_at to step') (stmt_of to a'.value)
       ≡ S.For (respawned_all (list_of to first.items)) (option_map (expr_of to) test) (respawned_arm (maybe_at to step)) (respawned (stmt_of to a.value)) = cc in
       sym (for_is to place first' test' step' a') ∙ (whole ∙ sym (ap respawned at_to))
-
-  pub spawn_named : (place : Place) (f : Word) (es : Vec GExpr.Expr Global) → e ≡ T.Spawn place f es → text_of from f.name ≡ text_of to f.name
-  spawn_named place f es is =
-      let at_from : stmt_of from e ≡ S.Spawn (text_of from f.name) (exprs_of from es.items) = ap (stmt_of from) is in
-      let at_to : stmt_of to e ≡ S.Spawn (text_of to f.name) (exprs_of to es.items) = ap (stmt_of to) is in
-      cc
-
-pub arm_respawned : (from to : Names) (e : Option (Box Statement Global)) (b b' : Box Statement Global) → e ≡ Some b → maybe_at from e ≡ maybe_at to e
-    → (stmt_of from b.value ≡ stmt_of to b.value → stmt_of to b'.value ≡ respawned (stmt_of to b.value))
-    → maybe_at to (Some b') ≡ respawned_arm (maybe_at to e)
-arm_respawned from to e b b' is alike all =
-    let at_from : maybe_at from e ≡ S.Present (stmt_of from b.value) = ap (maybe_at from) is in
-    let at_to : maybe_at to e ≡ S.Present (stmt_of to b.value) = ap (maybe_at to) is in
-    let same : stmt_of from b.value ≡ stmt_of to b.value = cc in
-    ap S.Present (all same) ∙ sym (ap respawned_arm at_to)
 
 -- ---- rows
 

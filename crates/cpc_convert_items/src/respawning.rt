@@ -1,121 +1,127 @@
 //! Statements once more, in which each spawn is a call of the spawner.
-ghost use Rattle.std.specs.Prelude.{◌≡◌, Option, Some, None, IfOk};
+ghost use Rattle.std.specs.Prelude.{◌≡◌, Option, Some, None, IfOk, option_map};
 ghost use Rattle.cpc_tree.specs.Erase as E;
-ghost use Rattle.cpc_tree.specs.Erase.{Table, in_table, stmt_of, list_of, maybe_at};
+ghost use Rattle.cpc_tree.specs.Erase.{Table, in_table, type_of, expr_of, exprs_of, stmt_of, list_of, maybe_at};
+ghost use Rattle.cpc_tree.specs.Syntax as S;
 ghost use Rattle.cpc_convert.specs.Converted.{respawned, respawned_all, respawned_arm};
 ghost use Rattle.cpc_convert_names.specs.Book.{IsBook};
 
-use cpc_base::NoMemory;
+use cpc_base::{NoMemory, Place};
 use cpc_convert_images::{copies, copy, copy_if};
 use cpc_convert_names::Book;
-use cpc_tree::program::{Expr, Statement, Word};
+use cpc_num::Op;
+use cpc_tree::program::{CType, Expr, Statement, Word};
 use cpc_types::copy_of;
 use std::alloc::Global;
 
-// A call, a section or a spawn. No other statement comes here. `NoMemory` is want of memory.
-fn respawn_call(
+// A declaration once more. `NoMemory` is want of memory.
+fn declared(
     alloc: Global,
-    book: &Book<'_>,
-    statement: &Statement,
+    place: Place,
+    word: Word,
+    of: &CType,
+    start: &Option<Expr>,
 ) -> Result<Statement, NoMemory>
-    ensures { IfOk result (λ s. (table : Table) (to : E.Names) → IsBook table to book.now → stmt_of (in_table table) statement.now ≡ stmt_of to statement.now → stmt_of to s ≡ respawned (stmt_of to statement.now)) }
+    ensures { IfOk result (λ s. (names : E.Names) → stmt_of names s ≡ S.Declare (names word.name) (type_of names of.now) (option_map (expr_of names) start.now)) }
 {
-    match statement {
-        Statement::Call {
-            place,
-            operator,
-            target,
-            function,
-            arguments,
-        } => Ok(Statement::Call {
-            place: *place,
-            operator: *operator,
-            target: copy_if(alloc, target)?,
-            function: copy(alloc, function)?,
-            arguments: copies(alloc, arguments)?,
-        }),
-        Statement::Detach {
-            place,
-            operator,
-            keyword,
-            target,
-            function,
-            arguments,
-        } => Ok(Statement::Detach {
-            place: *place,
-            operator: *operator,
-            keyword: *keyword,
-            target: copy_if(alloc, target)?,
-            function: *function,
-            arguments: copies(alloc, arguments)?,
-        }),
-        Statement::Spawn {
-            place,
-            function,
-            arguments,
-        } => {
-            let name = book.spawner(function.name);
-            Ok(Statement::Call {
-                place: *place,
-                operator: *place,
-                target: None,
-                function: Expr::Name(Word {
-                    place: *place,
-                    name,
-                }),
-                arguments: copies(alloc, arguments)?,
-            })
-        }
-        _ => Err(NoMemory),
-    }
+    Ok(Statement::Declare {
+        place,
+        word,
+        of: copy_of(alloc, of)?,
+        start: copy_if(alloc, start)?,
+    })
 }
 
-// A statement with no other one in it. No other comes here. `NoMemory` is want of memory.
-fn respawn_simple(
+// An assignment once more. `NoMemory` is want of memory.
+fn assigned(
+    alloc: Global,
+    place: Place,
+    operator: Place,
+    target: &Expr,
+    op: Option<Op>,
+    value: &Expr,
+) -> Result<Statement, NoMemory>
+    ensures { IfOk result (λ s. (names : E.Names) → stmt_of names s ≡ S.Assign (expr_of names target.now) op (expr_of names value.now)) }
+{
+    Ok(Statement::Assign {
+        place,
+        operator,
+        target: copy(alloc, target)?,
+        op,
+        value: copy(alloc, value)?,
+    })
+}
+
+// A return once more. `NoMemory` is want of memory.
+fn returned(alloc: Global, place: Place, value: &Option<Expr>) -> Result<Statement, NoMemory>
+    ensures { IfOk result (λ s. (names : E.Names) → stmt_of names s ≡ S.Return (option_map (expr_of names) value.now)) }
+{
+    Ok(Statement::Return {
+        place,
+        value: copy_if(alloc, value)?,
+    })
+}
+
+// A call once more. `NoMemory` is want of memory.
+fn called(
+    alloc: Global,
+    place: Place,
+    operator: Place,
+    target: &Option<Expr>,
+    function: &Expr,
+    arguments: &[Expr],
+) -> Result<Statement, NoMemory>
+    ensures { IfOk result (λ s. (names : E.Names) → stmt_of names s ≡ S.Call (option_map (expr_of names) target.now) (expr_of names function.now) (exprs_of names arguments.now)) }
+{
+    Ok(Statement::Call {
+        place,
+        operator,
+        target: copy_if(alloc, target)?,
+        function: copy(alloc, function)?,
+        arguments: copies(alloc, arguments)?,
+    })
+}
+
+// A section once more. `NoMemory` is want of memory.
+fn detached(
+    alloc: Global,
+    place: Place,
+    operator: Place,
+    keyword: Place,
+    target: &Option<Expr>,
+    function: Word,
+    arguments: &[Expr],
+) -> Result<Statement, NoMemory>
+    ensures { IfOk result (λ s. (names : E.Names) → stmt_of names s ≡ S.Detach (option_map (expr_of names) target.now) (names function.name) (exprs_of names arguments.now)) }
+{
+    Ok(Statement::Detach {
+        place,
+        operator,
+        keyword,
+        target: copy_if(alloc, target)?,
+        function,
+        arguments: copies(alloc, arguments)?,
+    })
+}
+
+// What a spawn becomes: a call of the spawner. `NoMemory` is want of memory.
+fn spawner_called(
     alloc: Global,
     book: &Book<'_>,
-    statement: &Statement,
+    place: Place,
+    function: Word,
+    arguments: &[Expr],
 ) -> Result<Statement, NoMemory>
-    ensures { IfOk result (λ s. (table : Table) (to : E.Names) → IsBook table to book.now → stmt_of (in_table table) statement.now ≡ stmt_of to statement.now → stmt_of to s ≡ respawned (stmt_of to statement.now)) }
+    ensures { IfOk result (λ s. (table : Table) (to : E.Names) → IsBook table to book.now → in_table table function.name ≡ to function.name → stmt_of to s ≡ respawned (S.Spawn (to function.name) (exprs_of to arguments.now))) }
 {
-    match statement {
-        Statement::Empty { place } => Ok(Statement::Empty { place: *place }),
-        Statement::Break { place } => Ok(Statement::Break { place: *place }),
-        Statement::Continue { place } => Ok(Statement::Continue { place: *place }),
-        Statement::Goto { place, label } => Ok(Statement::Goto {
-            place: *place,
-            label: *label,
-        }),
-        Statement::Declare {
-            place,
-            word,
-            of,
-            start,
-        } => Ok(Statement::Declare {
-            place: *place,
-            word: *word,
-            of: copy_of(alloc, of)?,
-            start: copy_if(alloc, start)?,
-        }),
-        Statement::Assign {
-            place,
-            operator,
-            target,
-            op,
-            value,
-        } => Ok(Statement::Assign {
-            place: *place,
-            operator: *operator,
-            target: copy(alloc, target)?,
-            op: *op,
-            value: copy(alloc, value)?,
-        }),
-        Statement::Return { place, value } => Ok(Statement::Return {
-            place: *place,
-            value: copy_if(alloc, value)?,
-        }),
-        _ => respawn_call(alloc, book, statement),
-    }
+    let name = book.spawner(function.name);
+    Ok(Statement::Call {
+        place,
+        operator: place,
+        target: None,
+        function: Expr::Name(Word { place, name }),
+        arguments: copies(alloc, arguments)?,
+    })
 }
 
 /// A statement whose spawns are calls of the spawners. `NoMemory` is want of memory.
@@ -135,6 +141,42 @@ pub(crate) fn respawn(
                 inner,
             })
         }
+        Statement::Empty { place } => Ok(Statement::Empty { place: *place }),
+        Statement::Declare {
+            place,
+            word,
+            of,
+            start,
+        } => declared(alloc, *place, *word, of, start),
+        Statement::Assign {
+            place,
+            operator,
+            target,
+            op,
+            value,
+        } => assigned(alloc, *place, *operator, target, *op, value),
+        Statement::Call {
+            place,
+            operator,
+            target,
+            function,
+            arguments,
+        } => called(alloc, *place, *operator, target, function, arguments),
+        Statement::Detach {
+            place,
+            operator,
+            keyword,
+            target,
+            function,
+            arguments,
+        } => detached(
+            alloc, *place, *operator, *keyword, target, *function, arguments,
+        ),
+        Statement::Spawn {
+            place,
+            function,
+            arguments,
+        } => spawner_called(alloc, book, *place, *function, arguments),
         Statement::If {
             place,
             test,
@@ -188,6 +230,10 @@ pub(crate) fn respawn(
                 body,
             })
         }
+        Statement::Goto { place, label } => Ok(Statement::Goto {
+            place: *place,
+            label: *label,
+        }),
         Statement::Label { label, inner } => {
             let inner = respawn_boxed(alloc, book, inner)?;
             Ok(Statement::Label {
@@ -195,7 +241,9 @@ pub(crate) fn respawn(
                 inner,
             })
         }
-        _ => respawn_simple(alloc, book, statement),
+        Statement::Break { place } => Ok(Statement::Break { place: *place }),
+        Statement::Continue { place } => Ok(Statement::Continue { place: *place }),
+        Statement::Return { place, value } => returned(alloc, *place, value),
     }
 }
 
