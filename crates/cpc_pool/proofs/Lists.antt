@@ -1,5 +1,5 @@
 -- What holds of each of a list holds of the first and of the rest, and of the same list by another name.
-use Rattle.std.proofs.Common.{◌≡◌, ◌+◌, ℕ, List, [], ◌∷◌, ◌++◌, length, subst, sym, ◌∙◌, Option, Some, None}
+use Rattle.std.proofs.Common.{◌≡◌, ◌+◌, ℕ, List, [], ◌++◌, length, subst, sym, ◌∙◌, Option, Some, None}
 use Rattle.std.specs.Prelude.{All, MatchOption, option_to_list}
 use Rattle.std.proofs.lemmas.List.{nil_from_length}
 use Rattle.std.proofs.lemmas.List.Elements.{All-head, All-tail}

@@ -1,5 +1,5 @@
 -- What the acts of a pool come to.
-use Rattle.std.specs.Prelude.{◌≡◌, ◌⊎◌, ℕ, ◌<◌, List, [], ◌∷◌, ◌++◌, length, slice_index_or, Option, Some, MatchOption}
+use Rattle.std.specs.Prelude.{◌≡◌, ◌⊎◌, ℕ, ◌<◌, List, [], ◌∷◌, ◌++◌, suc, length, take, drop, slice_get, slice_index_or, Option, Some, None, MatchOption}
 use Rattle.crossbeam_queue.specs.Fifo.{Held}
 use Rattle.cpc_pool_jobs.specs.declared.message.Message.TheVariants as M
 use Rattle.cpc_pool_jobs.specs.declared.views.View.{View}
@@ -31,3 +31,17 @@ Accepted ends [] left v w r = (left ≡ []) × MatchOption r ((w ≡ v) × Held 
 -- among these completions, that at this place is of a job each of whose ends is an end of this one
 abbrev pub IsOf : {J E : Type 0} → (J → E → Type 0) → List (Done J E) → ℕ → J → Type 0
 IsOf {J} {E} ends dones at j = (at < length dones) × ((d : Done J E) (e : E) → ends (slice_index_or dones at d).job e → ends j e)
+
+-- the completion at this place is of the same job
+abbrev pub IsAt : {J E : Type 0} → (J → J → Type 0) → List (Done J E) → ℕ → J → Type 0
+IsAt same dones at j = MatchOption (slice_get dones at) ⊥ (λ d. same d.job j)
+
+-- none of these completions before a place is of the same job
+abbrev pub NoneAt : {J E : Type 0} → (J → J → Type 0) → List (Done J E) → ℕ → J → Type 0
+NoneAt same dones n j = (at : ℕ) → at < n → IsAt same dones at j → ⊥
+
+-- The end of the first completion of the same job was taken out, and the others stay in their order; where there is none, all stay
+abbrev pub Taken : {J E : Type 0} → (J → J → Type 0) → J → List (Done J E) → List (Done J E) → Option E → Type 0
+Taken same j old new None = NoneAt same old (length old) j × (new ≡ old)
+Taken {J} {E} same j old new (Some e) =
+    (at : ℕ) × (d : Done J E) × NoneAt same old at j × (slice_get old at ≡ Some d) × same d.job j × (e ≡ d.end) × (new ≡ take at old ++ drop (suc at) old)

@@ -1,6 +1,6 @@
 //! Completions that wait to be taken.
-ghost use Rattle.std.specs.Prelude.{◌≡◌, ◌<◌, [], ◌∷◌, ◌++◌, length, IsTrue, MatchOption, IfSome, OnOk, option_to_list};
-ghost use Rattle.cpc_pool.specs.Acts.{IsOf};
+ghost use Rattle.std.specs.Prelude.{◌≡◌, ◌↔◌, ◌<◌, [], ◌∷◌, ◌++◌, length, IsTrue, MatchOption, IfSome, OnOk, option_to_list};
+ghost use Rattle.cpc_pool.specs.Acts.{IsAt, IsOf, NoneAt, Taken};
 
 use cpc_pool_ends::DoneOf;
 use cpc_pool_jobs::Runner;
@@ -65,7 +65,8 @@ impl<W: Runner> Completions<W> {
 
     // Whether the completion at this place is of the same job, so that its end is the end of this one.
     fn is_at(&self, at: usize, job: &W::Job) -> bool
-        ensures { IsTrue result → IsOf W.ends self.now.0 at job.now }
+        ensures same { IsTrue result ↔ IsAt W.same self.now.0 at job.now }
+        ensures ends { IsTrue result → IsOf W.ends self.now.0 at job.now }
     {
         match self.list.get(at) {
             Some(done) => W::is_same(&done.job, job),
@@ -75,7 +76,8 @@ impl<W: Runner> Completions<W> {
 
     // The place of the first completion of the same job.
     fn place(&self, job: &W::Job) -> Option<usize>
-        ensures { IfSome result (λ at. IsOf W.ends self.now.0 at job.now) }
+        ensures first { MatchOption result (NoneAt W.same self.now.0 (length self.now.0) job.now) (λ at. NoneAt W.same self.now.0 at job.now × IsAt W.same self.now.0 at job.now) }
+        ensures ends { IfSome result (λ at. IsOf W.ends self.now.0 at job.now) }
     {
         for at in 0..self.list.len() {
             if self.is_at(at, job) {
@@ -87,7 +89,8 @@ impl<W: Runner> Completions<W> {
 
     /// Takes out the first completion of the same job, and gives its end, which is then the end of this one. The others stay as they are.
     pub fn take(&mut self, job: &W::Job) -> Option<W::End>
-        ensures { IfSome result (λ e. W.ends job.now e) }
+        ensures taken { Taken W.same job.now self.old.0 self.new.0 result }
+        ensures ends { IfSome result (λ e. W.ends job.now e) }
     {
         let at = self.place(job)?;
         let done = self.list.remove(at)?;

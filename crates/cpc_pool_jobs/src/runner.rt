@@ -1,5 +1,5 @@
 //! What a pool runs.
-ghost use Rattle.std.specs.Prelude.{ℕ, ◌≡◌, IsTrue};
+ghost use Rattle.std.specs.Prelude.{ℕ, ◌≡◌, ◌↔◌, IsTrue};
 
 /// Runs jobs of one kind, one at a time in each of several threads.
 ///
@@ -17,6 +17,9 @@ pub trait Runner: Drop {
     /// What a job has to meet so that it may be run.
     ghost meets: { Self.Job → Type 0 };
 
+    /// That two jobs ask for the same.
+    ghost same: { Self.Job → Self.Job → Type 0 };
+
     /// That the end is this job's.
     ghost ends: { Self.Job → Self.End → Type 0 };
 
@@ -26,7 +29,8 @@ pub trait Runner: Drop {
 
     /// Whether two jobs ask for the same: then an end of the first is an end of the second.
     fn is_same(first: &Self::Job, second: &Self::Job) -> bool
-        ensures { IsTrue result → (e : Self.End) → ends first.now e → ends second.now e };
+        ensures same { IsTrue result ↔ same first.now second.now }
+        ensures ends { same first.now second.now → (e : Self.End) → ends first.now e → ends second.now e };
 
     /// Runs a job.
     fn run(&self, job: &Self::Job) -> Self::End

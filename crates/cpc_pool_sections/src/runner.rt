@@ -63,6 +63,7 @@ impl<B: Assigned> Sectioner<B> {
 
 impl<B: Assigned> Runner for Sectioner<B> {
     ghost use Rattle.cpc_sections.specs.Jobs.{IsLawfulJob};
+    ghost use Rattle.cpc_pool_sections.specs.Same.{IsSameJob};
     ghost use Rattle.cpc_run_sections.specs.Ends.{MayEnd};
 
     type Job = Job;
@@ -70,6 +71,8 @@ impl<B: Assigned> Runner for Sectioner<B> {
     type End = Result<SectionEnd, NoMemory>;
 
     ghost number = { λ j. j.number };
+
+    ghost same = { IsSameJob };
 
     ghost meets = { IsLawfulJob };
 

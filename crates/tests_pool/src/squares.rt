@@ -25,6 +25,8 @@ impl Runner for Squares {
 
     ghost number = { λ j. j.number };
 
+    ghost same = { λ j k. (j.number ≡ k.number) × (j.side ≡ k.side) };
+
     ghost meets = { λ j. ⊤ };
 
     ghost ends = { λ j e. e ≡ j.side * j.side };
