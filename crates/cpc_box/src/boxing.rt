@@ -101,13 +101,17 @@ fn add<'a>(
     }
 }
 
-/// The cps functions of a program, boxed; all are of this program. `NoMemory` is want of memory.
-pub fn boxed<'a>(alloc: Global, source: &'a Program) -> Result<Boxed<'a>, NoMemory>
-    requires { IsSpeakable source.now }
+/// The cps functions of a program, boxed; all are of this program, whose index this is. `NoMemory` is want of memory.
+pub fn boxed<'a>(
+    alloc: Global,
+    source: &'a Program,
+    index: Index<'a>,
+) -> Result<Boxed<'a>, NoMemory>
+    requires speakable { IsSpeakable source.now }
+    requires index { program_items index ≡ source.now.items.items }
     ensures source { IfOk result (λ boxed. boxed.source.now ≡ source.now) }
     ensures functions { IfOk result (λ boxed. All (λ f. f.source.now ≡ source.now) boxed.functions.items) }
 {
-    let index = Index::of(alloc, source)?;
     let mut functions = Vec::new(alloc);
     for item in &source.items {
         add(alloc, source, &index, item, &mut functions)?;

@@ -19,6 +19,7 @@ use cpc_base::{Dialect, Name, Names, NoMemory, Stop};
 use cpc_check_items::{Bodies, Earlier};
 use cpc_check_names::{breadth_rules, main_rules};
 use cpc_check_rules::{Breach, First};
+use cpc_eval_index::ProgramTable;
 use cpc_tree::program::Program;
 use cpc_types::Scope;
 use std::alloc::Global;
@@ -95,8 +96,15 @@ pub fn check(
         Ok(first) => first,
         Err(NoMemory) => return Err((program, Stop::Memory)),
     };
-    match first.breach {
-        Some(breach) => Err((program, Stop::Fault(breach))),
-        None => Ok(Checked { program, dialect }),
+    if let Some(breach) = first.breach {
+        return Err((program, Stop::Fault(breach)));
+    }
+    match ProgramTable::of(alloc, &program) {
+        Ok(table) => Ok(Checked {
+            program,
+            dialect,
+            table,
+        }),
+        Err(NoMemory) => Err((program, Stop::Memory)),
     }
 }

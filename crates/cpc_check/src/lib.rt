@@ -1,4 +1,4 @@
-//! Checks programs: the first of the rules that one breaks, or that it breaks none.
+//! Checks programs: the first of the rules that one breaks, or that it breaks none; then what its names stand for is found once.
 #![tactic(auto)]
 
 mod checked;

@@ -1,12 +1,14 @@
--- What tables by name say of a list of items.
+-- What tables say of a list of items.
 use Rattle.std.specs.Prelude.{◌≡◌, ℕ, List, map, take, length, get_or, slice_get, Some, None}
 use Rattle.std.specs.List.{sum_by}
 use Rattle.cpc_tree.specs.Erase.{Names, item_of}
 use Rattle.cpc_check_rules.specs.Apart.{AreApart}
 use Rattle.cpc_tree.specs.declared.program.Item.{Item}
 use Rattle.cpc_types.specs.Counted.{name_of, tag_of}
+use Rattle.cpc_eval_index.specs.Bodies.{AreFunctionTables}
 use Rattle.cpc_eval_index.specs.Placed.{place_at, first_place, last_place, definition_of, globals_in}
 use Rattle.cpc_eval_index.specs.Sized.{declared_size}
+use Rattle.cpc_eval_index.specs.declared.index.ProgramTable.{ProgramTable}
 use Rattle.cpc_eval_index.specs.declared.tables.Tables.{Tables}
 
 -- how many globals come before the k-th of these items
@@ -23,3 +25,8 @@ pub record AreTables (xs : List Item) (t : Tables) : Type 0 where
   pub before : (k : ℕ) (x : Item) → slice_get xs k ≡ Some x → get_or t.globals.items k 0 ≡ globals_before xs k
   pub sizes : length t.sizes.items ≡ length xs
   pub sized : (k : ℕ) (x : Item) → slice_get xs k ≡ Some x → (names : Names) → AreApart names → get_or t.sizes.items k None ≡ declared_size names (map (item_of names) (take k xs)) x
+
+-- the table of a program of these items: what their names stand for, and the tables of their functions
+pub record IsProgramTable (xs : List Item) (t : ProgramTable) : Type 0 where
+  pub items : AreTables xs t.items
+  pub functions : AreFunctionTables xs t.functions.items

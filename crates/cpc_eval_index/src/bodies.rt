@@ -1,50 +1,45 @@
-//! The locals of the functions that a list of items defines.
-ghost use Rattle.std.specs.Prelude.{◌≡◌, map, option_map, get_or, slice_get, IfOk, None};
-ghost use Rattle.cpc_eval_locals.specs.Owners.{owner_of, owner_if};
-ghost use Rattle.cpc_eval_index.specs.Bodies.{function_defined};
+//! The tables of the functions that a list of items defines.
+ghost use Rattle.std.specs.Prelude.{◌≡◌, IfOk, None, get_or, option_map};
+ghost use Rattle.cpc_eval_index.specs.Bodies.{AreFunctionTables, IsItemTable};
 
 use cpc_base::NoMemory;
-use cpc_eval_locals::Locals;
+use cpc_eval_locals::FunctionTable;
 use cpc_tree::program::Item;
 use std::alloc::Global;
 
-// The locals of the function that an item defines. `NoMemory` is want of memory.
-fn item_locals(alloc: Global, item: &Item) -> Result<Option<Locals<'_>>, NoMemory>
-    ensures { IfOk result (λ row. owner_if row ≡ function_defined item.now) }
+// The table of the function that an item defines. `NoMemory` is want of memory.
+fn item_table(alloc: Global, item: &Item) -> Result<Option<FunctionTable>, NoMemory>
+    ensures { IfOk result (λ row. IsItemTable item.now row) }
 {
     match item {
-        Item::Function(function) => Ok(Some(Locals::of(alloc, function)?)),
+        Item::Function(function) => {
+            let table = FunctionTable::of(alloc, function)?;
+            Ok(Some(table))
+        }
         _ => Ok(None),
     }
 }
 
-/// The locals of the function that each item of a list defines. `NoMemory` is want of memory.
-pub(crate) fn locals_of(alloc: Global, list: &[Item]) -> Result<Vec<Option<Locals<'_>>>, NoMemory>
-    ensures { IfOk result (λ rows. map owner_if rows.items ≡ map function_defined list.now) }
+/// The table of the function that each item of a list defines. `NoMemory` is want of memory.
+pub(crate) fn function_tables(
+    alloc: Global,
+    list: &[Item],
+) -> Result<Vec<Option<FunctionTable>>, NoMemory>
+    ensures { IfOk result (λ rows. AreFunctionTables list.now rows.items) }
 {
     let mut rows = Vec::new(alloc);
     for item in list {
-        let row = item_locals(alloc, item)?;
+        let row = item_table(alloc, item)?;
         rows.push(row)?;
     }
     Ok(rows)
 }
 
-// What stands at a place of a row.
-fn row_at<'a, 'p>(rows: &'a [Option<Locals<'p>>], place: usize) -> Option<&'a Option<Locals<'p>>>
-    ensures { option_map (λ row. row.now) result ≡ slice_get rows.now place }
+/// The table at a place of a row, if there is one.
+pub(crate) fn table_at(rows: &[Option<FunctionTable>], place: usize) -> Option<&FunctionTable>
+    ensures { option_map (λ table. table.now) result ≡ get_or rows.now place None }
 {
-    rows.get(place)
-}
-
-/// The locals at a place.
-pub(crate) fn locals_at<'a, 'p>(
-    rows: &'a [Option<Locals<'p>>],
-    place: usize,
-) -> Option<&'a Locals<'p>>
-    ensures { option_map (λ locals. owner_of locals.now) result ≡ get_or (map owner_if rows.now) place None }
-{
-    match row_at(rows, place) {
+    match rows.get(place) {
         Some(row) => row.as_ref(),
         None => None,
     }

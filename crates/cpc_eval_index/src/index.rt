@@ -1,34 +1,50 @@
 //! An index of a program by name.
-ghost use Rattle.std.specs.Prelude.{◌≡◌, map, option_map, slice_get};
-ghost use Rattle.std.proofs.Props.{props};
+ghost use Rattle.std.specs.Prelude.{◌≡◌, IfOk, map, option_map, slice_get};
 ghost use Rattle.cpc_tree.specs.Erase.{Names, type_of, field_of, function_of};
 ghost use Rattle.cpc_check_rules.specs.Apart.{AreApart};
 ghost use Rattle.cpc_tree.specs.Typing as T;
-ghost use Rattle.cpc_eval_locals.specs.Owners.{owner_of, owner_if};
-ghost use Rattle.cpc_eval_index.specs.Bodies.{function_defined};
-ghost use Rattle.cpc_eval_index.specs.Meanings.{meant_if};
+ghost use Rattle.cpc_eval_locals.specs.Owners.{owner_of};
+ghost use Rattle.cpc_eval_index.specs.Bodies.{IsItemTable};
+ghost use Rattle.cpc_eval_index.specs.Tabled.{IsProgramTable};
+ghost use Rattle.cpc_eval_index.specs.Meanings.{definition_seen, meant_if};
 ghost use Rattle.cpc_eval_index.specs.Sized.{capped_size, capped_field};
-ghost use Rattle.cpc_eval_index.specs.Tabled.{AreTables};
 
-use crate::bodies::{locals_at, locals_of};
+use crate::bodies::{function_tables, table_at};
 use crate::items::{fields_of, function_of};
 use crate::meant::{Meant, meaning};
 use crate::sizes::{field_in, measure};
 use crate::tables::Tables;
 use cpc_base::{Name, NoMemory};
-use cpc_eval_locals::Locals;
+use cpc_eval_locals::{FunctionTable, Locals};
 use cpc_tree::program::{CType, Field, Function, Item, Program};
 use std::alloc::Global;
 
-/// What the names of a program stand for, and the locals of its functions. Each call takes a time that does not grow with the number of its items, and no
-/// memory.
+/// What is found out of a program once: which items its names stand for, the cells of its structs, and the tables of its functions.
+/// It has nothing of the program itself, so it can be kept beside it.
 #[derive(Drop)]
+pub struct ProgramTable {
+    pub(crate) items: Tables,
+    pub(crate) functions: Vec<Option<FunctionTable>>,
+}
+
+impl ProgramTable {
+    /// The table of a program. `NoMemory` is want of memory.
+    pub fn of(alloc: Global, program: &Program) -> Result<ProgramTable, NoMemory>
+        ensures { IfOk result (λ table. IsProgramTable program.now.items.items table) }
+    {
+        let items = Tables::of(alloc, &program.items)?;
+        let functions = function_tables(alloc, &program.items)?;
+        Ok(ProgramTable { items, functions })
+    }
+}
+
+/// What the names of a program stand for, and the locals of its functions, by the program's table. Each call takes a time that does
+/// not grow with the number of its items, and no memory.
+#[derive(Clone, Copy)]
 pub struct Index<'p> {
     program: &'p Program,
-    tables: Tables,
-    locals: Vec<Option<Locals<'p>>>,
-    ghost tabled: { AreTables program.now.items.items tables } by { Prim.hlevel props },
-    ghost kept: { ∥ map owner_if locals.items ≡ map function_defined program.now.items.items ∥₁ },
+    table: &'p ProgramTable,
+    ghost tabled: { ∥ IsProgramTable program.now.items.items table.now ∥₁ },
 }
 
 // The item of a number.
@@ -38,33 +54,41 @@ fn item_at(program: &Program, place: usize) -> Option<&Item>
     program.items.get(place)
 }
 
+// The locals of the function that an item defines, by a table of it.
+fn locals_in<'p>(item: &'p Item, table: Option<&'p FunctionTable>) -> Option<Locals<'p>>
+    requires { ∥ IsItemTable item.now (option_map (λ t. t.now) table) ∥₁ }
+    ensures { (names : Names) → option_map (λ locals. function_of names (owner_of locals)) result ≡ definition_seen names item.now }
+{
+    match item {
+        Item::Function(function) => match table {
+            Some(table) => Some(Locals::over(function, table)),
+            None => None,
+        },
+        _ => None,
+    }
+}
+
 impl<'p> Index<'p> {
-    ghost use Rattle.std.specs.Prelude.{IfOk};
     ghost use Rattle.cpc_tree.specs.Erase.{item_of};
     ghost use Rattle.cpc_eval_index.specs.Indexed.{program_items, items_of};
 
-    /// The index of a program. `NoMemory` is want of memory.
-    pub fn of(alloc: Global, program: &'p Program) -> Result<Index<'p>, NoMemory>
-        ensures { IfOk result (λ index. program_items index ≡ program.now.items.items) }
+    /// The index of a program, by a table of it.
+    pub fn over(program: &'p Program, table: &'p ProgramTable) -> Index<'p>
+        requires { ∥ IsProgramTable program.now.items.items table.now ∥₁ }
+        ensures { program_items result ≡ program.now.items.items }
     {
-        let tables = Tables::of(alloc, &program.items)?;
-        let locals = locals_of(alloc, &program.items)?;
-        Ok(Index {
-            program,
-            tables,
-            locals,
-        })
+        Index { program, table }
     }
 
     /// What a name stands for among the items: the first that declares it. It is no local.
     pub fn meant(&self, name: Name) -> Option<Meant<'p>>
         ensures { (names : Names) → AreApart names → meant_if names result ≡ T.item_named 0 (items_of names self.now) (names name) }
     {
-        match self.tables.named.at(name) {
+        match self.table.items.named.at(name) {
             None => None,
             Some(place) => match item_at(self.program, place) {
                 None => None,
-                Some(item) => meaning(item, self.tables.globals_before(place)),
+                Some(item) => meaning(item, self.table.items.globals_before(place)),
             },
         }
     }
@@ -73,7 +97,7 @@ impl<'p> Index<'p> {
     pub fn function(&self, name: Name) -> Option<&'p Function>
         ensures { (names : Names) → AreApart names → option_map (λ f. function_of names f.now) result ≡ T.function_named (items_of names self.now) (names name) }
     {
-        match self.tables.defined.at(name) {
+        match self.table.items.defined.at(name) {
             None => None,
             Some(place) => match item_at(self.program, place) {
                 None => None,
@@ -83,12 +107,15 @@ impl<'p> Index<'p> {
     }
 
     /// The locals of the first definition of a function of this name.
-    pub fn locals(&self, name: Name) -> Option<&Locals<'p>>
-        ensures { ∥ ((names : Names) → AreApart names → option_map (λ locals. function_of names (owner_of locals.now)) result ≡ T.function_named (items_of names self.now) (names name)) ∥₁ }
+    pub fn locals(&self, name: Name) -> Option<Locals<'p>>
+        ensures { ∥ ((names : Names) → AreApart names → option_map (λ locals. function_of names (owner_of locals)) result ≡ T.function_named (items_of names self.now) (names name)) ∥₁ }
     {
-        match self.tables.defined.at(name) {
+        match self.table.items.defined.at(name) {
             None => None,
-            Some(place) => locals_at(&self.locals, place),
+            Some(place) => match item_at(self.program, place) {
+                None => None,
+                Some(item) => locals_in(item, table_at(&self.table.functions, place)),
+            },
         }
     }
 
@@ -96,7 +123,7 @@ impl<'p> Index<'p> {
     pub fn size(&self, of: &CType) -> Option<u64>
         ensures { (names : Names) → AreApart names → result ≡ capped_size (items_of names self.now) (type_of names of.now) }
     {
-        measure(of, &self.tables)
+        measure(of, &self.table.items)
     }
 
     /// The offset and the type of a field of the struct that has a tag; for the offset u64::MAX stands for every
@@ -106,7 +133,7 @@ impl<'p> Index<'p> {
     {
         match self.fields(tag) {
             None => None,
-            Some(fields) => field_in(fields, name, &self.tables),
+            Some(fields) => field_in(fields, name, &self.table.items),
         }
     }
 
@@ -114,7 +141,7 @@ impl<'p> Index<'p> {
     fn fields(&self, tag: Name) -> Option<&'p [Field]>
         ensures { (names : Names) → AreApart names → option_map (λ fs. map (field_of names) fs.now) result ≡ T.fields (items_of names self.now) (names tag) }
     {
-        match self.tables.tagged.at(tag) {
+        match self.table.items.tagged.at(tag) {
             None => None,
             Some(place) => match item_at(self.program, place) {
                 None => None,

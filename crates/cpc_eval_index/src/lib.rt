@@ -9,5 +9,5 @@ mod places;
 mod sizes;
 mod tables;
 
-pub use index::Index;
+pub use index::{Index, ProgramTable};
 pub use meant::Meant;

@@ -1,3 +1,4 @@
+pub mod Crossing
 pub mod Counted
 pub mod Holding
 pub mod Paths

@@ -13,10 +13,10 @@ use Rattle.cpc_tree.specs.Points.{declared}
 use Rattle.cpc_eval_values.specs.Counted.{capped}
 use Rattle.cpc_eval_locals.specs.declared.marks.Key.{Key}
 use Rattle.cpc_eval_locals.specs.declared.marks.Key.TheVariants as K
-use Rattle.cpc_eval_locals.specs.declared.marks.Own.{Own}
+use Rattle.cpc_eval_locals.specs.declared.marks.Declared.{Declared}
 use Rattle.cpc_eval_locals.specs.declared.marks.Mark as G
 use Rattle.cpc_eval_locals.specs.Marks.{Mark, own_of, marked_if, marked, row_key, marks, marks_row}
-use Rattle.cpc_eval_locals.specs.Seen.{own_seen, mark_seen, marks_seen}
+use Rattle.cpc_eval_locals.specs.Seen.{declared_seen, mark_seen, marks_seen}
 use Rattle.cpc_eval_locals.proofs.Nodes.{block_seen, for_seen, row_end, row_more}
 
 -- ---- rows
@@ -58,13 +58,13 @@ noted old pushed new k d e c own t push deep count is some made =
 
 -- ---- what the code notes, where there was memory
 
-pub note_ok : {A E : Type 0} (r : Result A E) (new mid old : List G.Mark) (k : Key) (d e c : ℕ) (own : Option Own) (s : Statement)
-    → mid ≡ old ++ record { depth = d; key = k; count = c; own = own } ∷ [] → e ≡ suc d → ((names : Names) → c ≡ capped (declared (stmt_of names s))) → ((names : Names) → own_seen names own ≡ own_of (stmt_of names s)) → 0 < c
+pub note_ok : {A E : Type 0} (r : Result A E) (new mid old : List G.Mark) (k : Key) (d e c : ℕ) (own : Option Declared) (s : Statement)
+    → mid ≡ old ++ record { depth = d; key = k; count = c; own = own } ∷ [] → e ≡ suc d → ((names : Names) → c ≡ capped (declared (stmt_of names s))) → ((names : Names) → declared_seen names own ≡ own_of (stmt_of names s)) → 0 < c
     → OnOk r ((names : Names) → marks_seen names new ≡ marks_seen names mid ++ marks e (stmt_of names s))
     → OnOk r ((names : Names) → marks_seen names new ≡ marks_seen names old ++ marked k d (stmt_of names s) (marks (suc d) (stmt_of names s)))
 note_ok (Ok a) new mid old k d e c own s push deep count is some made = λ names.
     let m : G.Mark = record { depth = d; key = k; count = c; own = own } in
-    noted (marks_seen names old) (marks_seen names mid) (marks_seen names new) k d e c (own_seen names own) (stmt_of names s) (ap (marks_seen names) push ∙ map-append (mark_seen names) old (m ∷ [])) deep (count names) (is names) some (made names)
+    noted (marks_seen names old) (marks_seen names mid) (marks_seen names new) k d e c (declared_seen names own) (stmt_of names s) (ap (marks_seen names) push ∙ map-append (mark_seen names) old (m ∷ [])) deep (count names) (is names) some (made names)
 note_ok (Err a) new mid old k d e c own s push deep count is some made = made
 
 pub block_ok : {A E : Type 0} (r : Result A E) (new old : List G.Mark) (d : ℕ) (s : Statement) (place : Place) (inner : Vec Statement Global) (xs : List Statement) → s ≡ T.Block place inner → xs ≡ inner.items

@@ -1,10 +1,6 @@
 -- The function whose locals these are, as the code has it.
-use Rattle.std.specs.Prelude.{option_map, Option}
 use Rattle.cpc_tree.specs.declared.program.Function.{Function}
 use Rattle.cpc_eval_locals.specs.declared.locals.Locals.{Locals}
 
 abbrev pub owner_of : Locals → Function
 owner_of l = l.function.now
-
-abbrev pub owner_if : Option Locals → Option Function
-owner_if o = option_map owner_of o

@@ -6,33 +6,39 @@ ghost use Rattle.cpc_check_rules.specs.Apart.{AreApart};
 ghost use Rattle.cpc_native_points.specs.Bodies.{body_of};
 ghost use Rattle.cpc_native_points.specs.Seen.{path_of};
 ghost use Rattle.cpc_eval_variables.specs.Told.{IsTold};
-ghost use Rattle.cpc_eval_variables.specs.Kept.{kept_from, kept_of, types_kept};
+ghost use Rattle.cpc_eval_variables.specs.Kept.{kept_from, types_kept};
 ghost use Rattle.cpc_eval_variables.specs.Typed.{types_in};
 ghost use Rattle.cpc_eval_locals.specs.Held.{held_among, local_in, capped_held};
+ghost use Rattle.cpc_eval_locals.specs.Kept.{kept_by};
 ghost use Rattle.cpc_eval_locals.specs.Locals.{held_of};
 ghost use Rattle.cpc_eval_locals.specs.Marks as M;
 ghost use Rattle.cpc_eval_locals.specs.Seen.{marks_seen};
+ghost use Rattle.cpc_eval_locals.specs.Tabled.{IsFunctionTable};
 
 use crate::looking::{Local, Reached, look, own_after};
 use crate::marks::{Mark, mark_parts, own_of};
+use crate::variables::{Variable, variables_of};
 use cpc_base::{Name, NoMemory};
-use cpc_eval_variables::{Variable, variables};
-use cpc_native_points::{Labels, Part};
+use cpc_native_points::{BodyTable, Labels, Part};
 use cpc_tree::program::{Function, Parameter, Statement};
 use std::alloc::Global;
 
-/// The parameters and the locals of a function, in order, and by name and place, and its labels. A call takes a time that
-/// grows with the number of the locals and how deep they stand, and not with the length of the function.
+/// What is found out of a function once: its variables, the statements of its body that declare locals, and where its labels
+/// lead. It has nothing of the function itself, so it can be kept beside it.
 #[derive(Drop)]
+pub struct FunctionTable {
+    pub(crate) marks: Vec<Mark>,
+    pub(crate) variables: Vec<Variable>,
+    pub(crate) labels: BodyTable,
+}
+
+/// The parameters and the locals of a function, in order, and by name and place, and its labels, by the function's table. A
+/// call takes a time that grows with the number of the locals and how deep they stand, and not with the length of the function.
+#[derive(Clone, Copy)]
 pub struct Locals<'p> {
     function: &'p Function,
-    marks: Vec<Mark<'p>>,
-    variables: Vec<Variable<'p>>,
-    labels: Labels<'p>,
-    ghost marked: { ∥ ((names : Names) → marks_seen names marks.items ≡ M.marks 0 (stmt_of names function.now.body)) ∥₁ },
-    ghost kept: { ∥ ((names : Names) → IsTold names function.now.parameters.items → kept_of names variables.items ≡ kept_from (function_of names function.now) 0 (R.variables (function_of names function.now))) ∥₁ },
-    ghost typed: { ∥ ((names : Names) → types_kept (kept_of names variables.items) ≡ types_in (R.variables (function_of names function.now))) ∥₁ },
-    ghost led: { ∥ body_of labels ≡ function.now.body ∥₁ },
+    table: &'p FunctionTable,
+    ghost tabled: { ∥ IsFunctionTable function.now table.now ∥₁ },
 }
 
 // What a name stands for after a parameter, of which so many come before it.
@@ -91,47 +97,56 @@ fn outside<'p>(parameters: &'p [Parameter], body: &'p Statement, name: Name) -> 
 }
 
 // The marks of a body. `NoMemory` is want of memory.
-fn marks_of(alloc: Global, body: &Statement) -> Result<Vec<Mark<'_>>, NoMemory>
+fn marks_of(alloc: Global, body: &Statement) -> Result<Vec<Mark>, NoMemory>
     ensures { IfOk result (λ marks. (names : Names) → marks_seen names marks.items ≡ M.marks 0 (stmt_of names body.now)) }
 {
     let mut marks = Vec::new(alloc);
-    mark_parts(body, 0, &mut marks)?;
+    mark_parts(alloc, body, 0, &mut marks)?;
     Ok(marks)
 }
 
-impl<'p> Locals<'p> {
-    ghost use Rattle.cpc_eval_locals.specs.Owners.{owner_of};
-
-    /// The locals of a function. `NoMemory` is want of memory.
-    pub fn of(alloc: Global, function: &'p Function) -> Result<Locals<'p>, NoMemory>
-        ensures { IfOk result (λ locals. owner_of locals ≡ function.now) }
+impl FunctionTable {
+    /// The table of a function. `NoMemory` is want of memory.
+    pub fn of(alloc: Global, function: &Function) -> Result<FunctionTable, NoMemory>
+        ensures { IfOk result (λ table. IsFunctionTable function.now table) }
     {
         let marks = marks_of(alloc, &function.body)?;
-        let variables = variables(alloc, function)?;
-        let labels = Labels::of(alloc, &function.body)?;
-        Ok(Locals {
-            function,
+        let variables = variables_of(alloc, function)?;
+        let labels = BodyTable::of(alloc, &function.body)?;
+        Ok(FunctionTable {
             marks,
             variables,
             labels,
         })
     }
+}
+
+impl<'p> Locals<'p> {
+    ghost use Rattle.cpc_eval_locals.specs.Owners.{owner_of};
+
+    /// The locals of a function, by a table of it.
+    pub fn over(function: &'p Function, table: &'p FunctionTable) -> Locals<'p>
+        requires { ∥ IsFunctionTable function.now table.now ∥₁ }
+        ensures { owner_of result ≡ function.now }
+    {
+        Locals { function, table }
+    }
 
     /// The variables of the function in order: its parameters, and then its locals in the order of the text. It takes no
     /// memory.
-    pub fn variables(&self) -> &[Variable<'p>]
+    pub fn variables(&self) -> &'p [Variable]
         ensures kept { (names : Names) → IsTold names (owner_of self.now).parameters.items
-            → kept_of names result.now ≡ kept_from (function_of names (owner_of self.now)) 0 (R.variables (function_of names (owner_of self.now))) }
-        ensures types { (names : Names) → types_kept (kept_of names result.now) ≡ types_in (R.variables (function_of names (owner_of self.now))) }
+            → kept_by names result.now ≡ kept_from (function_of names (owner_of self.now)) 0 (R.variables (function_of names (owner_of self.now))) }
+        ensures types { (names : Names) → types_kept (kept_by names result.now) ≡ types_in (R.variables (function_of names (owner_of self.now))) }
     {
-        &self.variables
+        &self.table.variables
     }
 
     /// The labels of the function's body. It takes no memory.
-    pub fn labels(&self) -> &Labels<'p>
-        ensures { ∥ body_of result.now ≡ (owner_of self.now).body ∥₁ }
+    pub fn labels(&self) -> Labels<'p>
+        ensures { ∥ body_of result ≡ (owner_of self.now).body ∥₁ }
     {
-        &self.labels
+        Labels::over(&self.function.body, &self.table.labels)
     }
 
     /// The innermost parameter or local that a name stands for at a path of the function's body. It takes no memory. A
@@ -141,6 +156,6 @@ impl<'p> Locals<'p> {
             → held_of names result ≡ capped_held (local_in (R.scope_in_function (function_of names (owner_of self.now)) (path_of path.now)) (names name)) }
     {
         let before = outside(&self.function.parameters, &self.function.body, name);
-        look(&self.marks, path, name, before)
+        look(&self.table.marks, path, name, before)
     }
 }

@@ -128,13 +128,13 @@ fn part_at(path: &[Part], depth: usize) -> Option<Part>
 }
 
 // A mark as deep as the path was followed, where this part comes.
-fn at_part<'p>(mark: &Mark<'p>, part: Part, name: Name, at: Reached<'p>) -> Next<'p>
+fn at_part<'p>(mark: &'p Mark, part: Part, name: Name, at: Reached<'p>) -> Next<'p>
     requires room { at.depth + 1 < 2 ^ 64 }
     ensures { (names : Names) → AreApart names → (path : List Part) (rest : List M.Mark) → at.entry.depth ≡ mark.now.depth → slice_get path at.entry.depth ≡ Some part
         → look_next names (names name) path result rest ≡ look_from names (names name) path at.entry (mark_seen names mark.now ∷ rest) }
 {
     let count = at.count.saturating_add(mark.count);
-    let own = own_after(mark.own, name, at.count, at.held);
+    let own = own_after(mark.own(), name, at.count, at.held);
     match way_at(mark.key, part) {
         Way::Down => Next::Goes(Reached {
             depth: at.depth + 1,
@@ -156,7 +156,7 @@ fn at_part<'p>(mark: &Mark<'p>, part: Part, name: Name, at: Reached<'p>) -> Next
 }
 
 // A mark as deep as the path was followed.
-fn level<'p>(mark: &Mark<'p>, path: &[Part], name: Name, at: Reached<'p>) -> Next<'p>
+fn level<'p>(mark: &'p Mark, path: &[Part], name: Name, at: Reached<'p>) -> Next<'p>
     ensures { (names : Names) → AreApart names → (rest : List M.Mark) → at.entry.depth ≡ mark.now.depth
         → look_next names (names name) path.now result rest ≡ look_from names (names name) path.now at.entry (mark_seen names mark.now ∷ rest) }
 {
@@ -167,7 +167,7 @@ fn level<'p>(mark: &Mark<'p>, path: &[Part], name: Name, at: Reached<'p>) -> Nex
 }
 
 // One mark.
-fn over<'p>(mark: &Mark<'p>, path: &[Part], name: Name, at: Reached<'p>) -> Next<'p>
+fn over<'p>(mark: &'p Mark, path: &[Part], name: Name, at: Reached<'p>) -> Next<'p>
     ensures { (names : Names) → AreApart names → (rest : List M.Mark) → look_next names (names name) path.now result rest ≡ look_from names (names name) path.now at.entry (mark_seen names mark.now ∷ rest) }
 {
     match at.depth.cmp(&mark.depth) {
@@ -179,7 +179,7 @@ fn over<'p>(mark: &Mark<'p>, path: &[Part], name: Name, at: Reached<'p>) -> Next
 
 /// What a name stands for at a path, by marks, from what was reached on.
 pub(crate) fn look<'p>(
-    marks: &[Mark<'p>],
+    marks: &'p [Mark],
     path: &[Part],
     name: Name,
     before: Reached<'p>,

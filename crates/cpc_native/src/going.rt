@@ -20,7 +20,7 @@ pub(crate) fn go_on(index: &Index<'_>, function: &Function, point: &mut Point, h
     ensures room { vec_capacity point.new.path ≡ vec_capacity point.old.path }
 {
     match index.locals(function.word.name) {
-        Some(locals) => after(locals.labels(), point, holds),
+        Some(locals) => after(&locals.labels(), point, holds),
         None => unreachable!(),
     }
 }

@@ -443,7 +443,7 @@ impl<'p> Machine<'p> {
     {
         let live = self.live_cells();
         match self.index.locals(function) {
-            Some(locals) => live.saturating_add(call_cells(&self.index, locals)),
+            Some(locals) => live.saturating_add(call_cells(&self.index, &locals)),
             None => live,
         }
     }

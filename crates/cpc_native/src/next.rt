@@ -23,7 +23,7 @@ fn called_cells(index: &Index<'_>, function: &Function) -> u64
     ensures { (names : Names) → AreApart names → result ≡ min (call_cells (items_of names index.now) (function_of names function.now)) greatest }
 {
     match index.locals(function.word.name) {
-        Some(locals) => call_cells(index, locals),
+        Some(locals) => call_cells(index, &locals),
         None => unreachable!(),
     }
 }

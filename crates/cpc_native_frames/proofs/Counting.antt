@@ -7,8 +7,9 @@ use Rattle.cpc_tree.specs.Syntax.{Variable, Program}
 use Rattle.cpc_tree.specs.Typing as T
 use Rattle.cpc_meaning_cell_laws.specs.Cells.{or_zero, variables_cells}
 use Rattle.cpc_eval_index.specs.Sized.{capped}
-use Rattle.cpc_eval_variables.specs.declared.registers.Variable as V
-use Rattle.cpc_eval_variables.specs.Kept.{kept_of, types_kept}
+use Rattle.cpc_eval_locals.specs.declared.variables.Variable as V
+use Rattle.cpc_eval_locals.specs.Kept.{kept_by}
+use Rattle.cpc_eval_variables.specs.Kept.{types_kept}
 use Rattle.cpc_eval_variables.specs.Typed.{types_in}
 use Rattle.cpc_native_frames.specs.Costs.{types_cells}
 
@@ -26,15 +27,15 @@ module _ (p : Program) where
 
   module _ (names : Names) (vs : List V.Variable) (i : ℕ) where
     -- one more variable
-    pub cells_more : (v : V.Variable) (t c r : ℕ) → i < length vs → v ≡ get_or vs i v → c ≡ capped (or_zero (T.size p (type_of names v.of.now))) → r ≡ min (t + c) (2 ^ 64 - 1)
-        → capped (r + types_cells p (types_kept (kept_of names (drop (i + 1) vs)))) ≡ capped (t + types_cells p (types_kept (kept_of names (drop i vs))))
+    pub cells_more : (v : V.Variable) (t c r : ℕ) → i < length vs → v ≡ get_or vs i v → c ≡ capped (or_zero (T.size p (type_of names v.of))) → r ≡ min (t + c) (2 ^ 64 - 1)
+        → capped (r + types_cells p (types_kept (kept_by names (drop (i + 1) vs)))) ≡ capped (t + types_cells p (types_kept (kept_by names (drop i vs))))
     cells_more v t c r h e k q =
-        let all : types_cells p (types_kept (kept_of names (drop i vs))) ≡ or_zero (T.size p (type_of names v.of.now)) + types_cells p (types_kept (kept_of names (drop (i + 1) vs))) =
-        ap (λ ws. types_cells p (types_kept (kept_of names ws))) (drop_to_item vs i v h e) in
+        let all : types_cells p (types_kept (kept_by names (drop i vs))) ≡ or_zero (T.size p (type_of names v.of)) + types_cells p (types_kept (kept_by names (drop (i + 1) vs))) =
+        ap (λ ws. types_cells p (types_kept (kept_by names ws))) (drop_to_item vs i v h e) in
         omega arith
 
     -- none is left
-    pub cells_end : (t : ℕ) → length vs ≤ i → t < 2 ^ 64 → t ≡ capped (t + types_cells p (types_kept (kept_of names (drop i vs))))
+    pub cells_end : (t : ℕ) → length vs ≤ i → t < 2 ^ 64 → t ≡ capped (t + types_cells p (types_kept (kept_by names (drop i vs))))
     cells_end t h low =
-        let none : types_cells p (types_kept (kept_of names (drop i vs))) ≡ 0 = ap (λ ws. types_cells p (types_kept (kept_of names ws))) (drop_all i vs h) in
+        let none : types_cells p (types_kept (kept_by names (drop i vs))) ≡ 0 = ap (λ ws. types_cells p (types_kept (kept_by names ws))) (drop_all i vs h) in
         omega arith

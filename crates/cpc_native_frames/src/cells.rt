@@ -9,7 +9,8 @@ ghost use Rattle.cpc_eval_values.specs.Shown.{store_of};
 ghost use Rattle.cpc_eval_index.specs.Indexed.{items_of};
 ghost use Rattle.cpc_eval_index.specs.Sized.{capped};
 ghost use Rattle.cpc_eval_locals.specs.Owners.{owner_of};
-ghost use Rattle.cpc_eval_variables.specs.Kept.{kept_of, types_kept};
+ghost use Rattle.cpc_eval_locals.specs.Kept.{kept_by};
+ghost use Rattle.cpc_eval_variables.specs.Kept.{types_kept};
 ghost use Rattle.cpc_native_frames.specs.Costs.{types_cells};
 ghost use Rattle.cpc_native_frames.specs.Frames.{RiseFrom};
 ghost use Rattle.cpc_native_frames.specs.Living.{slot_size, CanLeave};
@@ -17,8 +18,7 @@ ghost use Rattle.cpc_native_frames.specs.Made.{slots_of};
 
 use cpc_eval::Slot;
 use cpc_eval_index::Index;
-use cpc_eval_locals::Locals;
-use cpc_eval_variables::Variable;
+use cpc_eval_locals::{Locals, Variable};
 use cpc_store::{Block, Class, Store};
 use cpc_tree::program::CType;
 
@@ -30,12 +30,12 @@ fn type_cells(index: &Index<'_>, of: &CType) -> u64
 }
 
 // The cells of variables.
-fn types_cells(index: &Index<'_>, variables: &[Variable<'_>]) -> u64
-    ensures { (names : Names) → AreApart names → result ≡ capped (types_cells (items_of names index.now) (types_kept (kept_of names variables.now))) }
+fn types_cells(index: &Index<'_>, variables: &[Variable]) -> u64
+    ensures { (names : Names) → AreApart names → result ≡ capped (types_cells (items_of names index.now) (types_kept (kept_by names variables.now))) }
 {
     let mut total: u64 = 0;
     for variable in variables {
-        total = total.saturating_add(type_cells(index, variable.of));
+        total = total.saturating_add(type_cells(index, &variable.of));
     }
     total
 }

@@ -11,7 +11,8 @@ ghost use Rattle.cpc_meaning.specs.Trees.{trees};
 ghost use Rattle.cpc_eval_values.specs.Shown.{values_of, store_of};
 ghost use Rattle.cpc_eval_index.specs.Indexed.{items_of, IsOwn};
 ghost use Rattle.cpc_tree.specs.Registers as R;
-ghost use Rattle.cpc_eval_variables.specs.Kept.{kept_of, kept_from};
+ghost use Rattle.cpc_eval_variables.specs.Kept.{kept_from};
+ghost use Rattle.cpc_eval_locals.specs.Kept.{kept_by};
 ghost use Rattle.cpc_eval_variables.specs.Told.{IsTold};
 ghost use Rattle.cpc_native_points.specs.Depth.{capped, deep};
 ghost use Rattle.cpc_native_frames.specs.Back.{IsAsBefore, CanTakeBack};
@@ -22,7 +23,7 @@ use crate::making::make_slots;
 use cpc_base::NoMemory;
 use cpc_eval::Slot;
 use cpc_eval_index::Index;
-use cpc_eval_variables::Variable;
+use cpc_eval_locals::Variable;
 use cpc_native_points::{Point, begin};
 use cpc_store::{Store, Value};
 use cpc_tree::program::Function;
@@ -37,10 +38,10 @@ pub struct Frame<'p> {
 }
 
 // The variables of a function of the program.
-fn variables_of<'a, 'p>(index: &'a Index<'p>, function: &Function) -> &'a [Variable<'p>]
+fn variables_of<'p>(index: &Index<'p>, function: &Function) -> &'p [Variable]
     requires { IsOwn index.now function.now }
     ensures { (names : Names) → IsTold names function.now.parameters.items
-        → kept_of names result.now ≡ kept_from (function_of names function.now) 0 (R.variables (function_of names function.now)) }
+        → kept_by names result.now ≡ kept_from (function_of names function.now) 0 (R.variables (function_of names function.now)) }
 {
     match index.locals(function.word.name) {
         Some(locals) => locals.variables(),

@@ -17,7 +17,8 @@ ghost use Rattle.cpc_meaning.specs.Answer as A;
 ghost use Rattle.cpc_meaning.specs.Eval as E;
 ghost use Rattle.cpc_tree.specs.Syntax.{Function};
 ghost use Rattle.cpc_tree.specs.Registers as R;
-ghost use Rattle.cpc_eval_variables.specs.Kept.{kept_of, kept_from};
+ghost use Rattle.cpc_eval_locals.specs.Kept.{kept_by};
+ghost use Rattle.cpc_eval_variables.specs.Kept.{kept_from};
 ghost use Rattle.cpc_native_frames.specs.Back.{IsAsBefore, CanTakeBack, IsMade};
 ghost use Rattle.cpc_native_frames.specs.Frames.{RiseFrom};
 ghost use Rattle.cpc_native_frames.specs.Made.{make_kept, slots_of, IsNext};
@@ -26,7 +27,7 @@ use crate::freeing::free_slots;
 use cpc_base::NoMemory;
 use cpc_eval::Slot;
 use cpc_eval_index::Index;
-use cpc_eval_variables::Variable;
+use cpc_eval_locals::Variable;
 use cpc_store::{Block, Class, Store, Value};
 use cpc_tree::program::CType;
 use std::alloc::Global;
@@ -60,7 +61,7 @@ fn make_slot(
     store: &mut Store,
 ) -> Result<Slot, NoMemory>
     requires { IsLawful (seen first) }
-    ensures made { IfOk result (λ slot. (names : Names) → AreApart names → (n : ℕ) → T.size (items_of names index.now) (type_of names variable.now.of.now) ≡ Some n
+    ensures made { IfOk result (λ slot. (names : Names) → AreApart names → (n : ℕ) → T.size (items_of names index.now) (type_of names variable.now.of) ≡ Some n
         → (slot_of names slot, store_of names store.new) ≡ M.make_slot variable.now.is_register n (value_of names first) (store_of names store.old)) }
     ensures lawful { IfOk result (λ slot. IsLawfulSlot slot) }
     ensures next { IfOk result (λ slot. IsNext slot (S.next_block Auto store.old) (S.next_block Auto store.new)) }
@@ -70,7 +71,7 @@ fn make_slot(
     if variable.is_register {
         return Ok(Slot::Register(first));
     }
-    let cells = index.size(variable.of).unwrap_or(0);
+    let cells = index.size(&variable.of).unwrap_or(0);
     let number = make_block(alloc, cells, first, store)?;
     Ok(Slot::Boxed(number))
 }
@@ -100,7 +101,7 @@ fn fill(
 ) -> Result<(), NoMemory>
     requires empty { slots.old.items ≡ [] }
     requires lawful { All (λ v. IsLawful (seen v)) arguments.now }
-    ensures made { OnOk result ((names : Names) → AreApart names → (a : List E.Slot × S.Store) → make_kept (items_of names index.now) (kept_of names variables.now) (values_of names arguments.now) (store_of names store.old) ≡ A.Gives a
+    ensures made { OnOk result ((names : Names) → AreApart names → (a : List E.Slot × S.Store) → make_kept (items_of names index.now) (kept_by names variables.now) (values_of names arguments.now) (store_of names store.old) ≡ A.Gives a
         → (slots_of names slots.new.items, store_of names store.new) ≡ a) }
     ensures slots { AreLawful slots.new.items }
     ensures rise { OnOk result (RiseFrom 0 slots.new.items) }
@@ -128,7 +129,7 @@ pub fn make_slots(
     store: &mut Store,
 ) -> Result<Vec<Slot>, NoMemory>
     requires { All (λ v. IsLawful (seen v)) arguments.now }
-    ensures made { IfOk result (λ slots. (names : Names) → AreApart names → (f : Function) → kept_of names variables.now ≡ kept_from f 0 (R.variables f)
+    ensures made { IfOk result (λ slots. (names : Names) → AreApart names → (f : Function) → kept_by names variables.now ≡ kept_from f 0 (R.variables f)
         → (a : List E.Slot × S.Store) → M.call_slots (items_of names index.now) f (values_of names arguments.now) (store_of names store.old) ≡ A.Gives a → (slots_of names slots.items, store_of names store.new) ≡ a) }
     ensures lawful { IfOk result (λ slots. AreLawful slots.items) }
     ensures rise { IfOk result (λ slots. RiseFrom 0 slots.items) }

@@ -1,7 +1,8 @@
 -- Paths that have room for where control goes.
 use Rattle.std.proofs.Common.{◌≡◌, ℕ, ◌+◌, ◌≤◌, List, ◌∷◌, ◌++◌, length, Option, Some, None, sym, ap, subst, ◌∙◌, length-append, Vec, Box, Global, arith}
 use Rattle.std.proofs.lemmas.List.{length-map}
-use Rattle.cpc_tree.specs.Erase.{Names, stmt_of, list_of}
+use Rattle.cpc_tree.specs.Syntax.{Stmt, Present}
+use Rattle.cpc_tree.specs.Erase.{stmt_of, list_of}
 use Rattle.cpc_tree.specs.declared.program.Expr as GExpr
 use Rattle.cpc_tree.specs.declared.program.Statement.{Statement}
 use Rattle.cpc_tree.specs.declared.program.Statement.TheVariants as T
@@ -15,8 +16,7 @@ use Rattle.cpc_native_points.specs.declared.parts.Part as G
 use Rattle.cpc_native_points.specs.declared.moves.Move.{Move}
 use Rattle.cpc_native_points.specs.declared.moves.Move.TheVariants as M
 use Rattle.cpc_native_points.specs.declared.table.Node.{Node}
-use Rattle.cpc_native_points.specs.declared.table.Place.{Place}
-use Rattle.cpc_native_points.specs.Parts.{entered}
+use Rattle.cpc_native_points.specs.Parts.{entered, statement_at}
 use Rattle.cpc_native_points.specs.declared.parts.Part.TheVariants as V
 use Rattle.cpc_base.specs.declared.stop.Place as Stop
 use Rattle.cpc_native_points.proofs.Nodes.{block_seen, for_seen}
@@ -39,13 +39,26 @@ led_fits d path M.Continued w g f = tt
 led_fits d path M.Nowhere w g f = tt
 
 -- a label leads to a path that is not too long
-pub led_within : (names : Names) (nodes : List Node) (place : Place) (o : Option Path) (d : ℕ) → FitsIf d o → (l : IsLed names nodes place o) → length l.way + length (enter (stmt_of names place.inner.now)) ≤ d
-led_within names nodes place o d f l =
-    let s = enter (stmt_of names place.inner.now) in
+pub led_within : (body : Stmt) (nodes : List Node) (number : ℕ) (o : Option Path) (d : ℕ) → FitsIf d o → (l : IsLed body nodes number o) → length l.way + length (enter l.inner) ≤ d
+led_within body nodes number o d f l =
+    let s = enter l.inner in
     let there : length (path_of l.way ++ s) ≤ d = subst (FitsIf d) l.whole f in
     let all = length-append (path_of l.way) s in
     let long = length-map l.way part_of in
     omega (arith, there, all, long)
+
+same_there : (s t : Stmt) → Present s ≡ Present t → s ≡ t
+same_there s t h = cc
+
+-- nor is the path to where the statement begins that stands at the end of the way
+pub led_room : (body : Stmt) (nodes : List Node) (number : ℕ) (o : Option Path) (d : ℕ) (path : List G.Part) (s : Stmt) → FitsIf d o → (l : IsLed body nodes number o) → path ≡ l.way → statement_at body (path_of path) ≡ Present s
+    → length path + length (enter s) ≤ d
+led_room body nodes number o d path s f l put there =
+    let same = same_there s l.inner (sym there ∙ ap (λ p. statement_at body (path_of p)) put ∙ l.there) in
+    let all = led_within body nodes number o d f l in
+    let long = ap length put in
+    let more = ap (λ t. length (enter t)) same in
+    omega (arith, all, long, more)
 
 -- a row has as many parts to put as its statement
 pub block_long : (e : Statement) (place : Stop.Place) (inner : Vec Statement Global) (xs : List Statement) → e ≡ T.Block place inner → xs ≡ inner.items

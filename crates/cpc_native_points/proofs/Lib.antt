@@ -1,3 +1,4 @@
+pub mod Crossing
 pub mod Deepness
 pub mod Finding
 pub mod Fitting
@@ -7,5 +8,6 @@ pub mod Nodes
 pub mod Pointing
 pub mod Replacing
 pub mod Rows
+pub mod Walking
 pub mod Ways
 pub mod Within

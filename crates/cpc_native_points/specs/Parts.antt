@@ -24,6 +24,20 @@ child (For first t step s) TheBody = Present s
 child (Label l s) TheBody = Present s
 child _ _ = Absent
 
+-- the same, in a statement that may be absent
+abbrev pub child_in : MaybeStmt → Part → MaybeStmt
+child_in Absent n = Absent
+child_in (Present s) n = child s n
+
+-- the statement at a path, if one stands there, in one that may be absent
+abbrev pub statement_in : MaybeStmt → Path → MaybeStmt
+statement_in o [] = o
+statement_in o (n ∷ p) = statement_in (child_in o n) p
+
+-- the statement at a path in a statement, if one stands there
+abbrev pub statement_at : Stmt → Path → MaybeStmt
+statement_at s p = statement_in (Present s) p
+
 -- into a part, where it is there
 abbrev pub enter_part : Part → MaybeStmt → Move
 enter_part n Absent = Out

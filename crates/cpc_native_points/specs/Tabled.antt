@@ -5,22 +5,25 @@ use Rattle.cpc_base.specs.Bytes.{Text}
 use Rattle.cpc_base.specs.declared.names.Name.{Name}
 use Rattle.cpc_tree.specs.declared.program.Statement.{Statement}
 use Rattle.cpc_tree.specs.Erase.{Names, stmt_of}
+use Rattle.cpc_tree.specs.Syntax.{Stmt, Present}
 use Rattle.cpc_tree.specs.Points.{Path, enter, labelled, or_else}
 use Rattle.cpc_check_rules.specs.Apart.{AreApart}
+use Rattle.cpc_native_points.specs.declared.labels.BodyTable.{BodyTable}
 use Rattle.cpc_native_points.specs.declared.parts.Part.{Part}
 use Rattle.cpc_native_points.specs.declared.table.Node.{Node}
-use Rattle.cpc_native_points.specs.declared.table.Place.{Place}
 use Rattle.cpc_native_points.specs.declared.table.Table.{Table}
+use Rattle.cpc_native_points.specs.Depth.{capped, depth}
+use Rattle.cpc_native_points.specs.Parts.{statement_at}
 use Rattle.cpc_native_points.specs.Seen.{path_of}
 
--- what the label of a name is put before
-abbrev pub place_at : Table → ℕ → Option Place
+-- the number of what the label of a name is put before
+abbrev pub place_at : Table → ℕ → Option ℕ
 place_at t x = hash.get nat_eq t.places x
 
 -- the first, or else the second
-abbrev pub or_place : Option Place → Option Place → Option Place
+abbrev pub or_place : Option ℕ → Option ℕ → Option ℕ
 or_place None o = o
-or_place (Some w) o = Some w
+or_place (Some k) o = Some k
 
 -- ---- ways
 
@@ -46,28 +49,36 @@ Grows old new = (at : Option ℕ) (way : List Part) → IsWay old.nodes.items at
 
 -- ---- labels
 
--- a label leads to where the statement begins that it is put before
-pub record IsLed (names : Names) (nodes : List Node) (place : Place) (o : Option Path) : Type 0 where
+-- a label of a body leads to where the statement of this number begins
+pub record IsLed (body : Stmt) (nodes : List Node) (number : ℕ) (o : Option Path) : Type 0 where
   pub way : List Part
-  pub is : IsWay nodes (Some place.node) way
-  pub whole : o ≡ Some (path_of way ++ enter (stmt_of names place.inner.now))
+  pub is : IsWay nodes (Some number) way
+  pub inner : Stmt
+  pub there : statement_at body (path_of way) ≡ Present inner
+  pub whole : o ≡ Some (path_of way ++ enter inner)
 
-abbrev pub LeadsTo : Names → List Node → Option Place → Option Path → Type 0
-LeadsTo names nodes None o = o ≡ None
-LeadsTo names nodes (Some place) o = IsLed names nodes place o
+abbrev pub LeadsTo : Stmt → List Node → Option ℕ → Option Path → Type 0
+LeadsTo body nodes None o = o ≡ None
+LeadsTo body nodes (Some number) o = IsLed body nodes number o
 
--- where the table says that the label of a name leads
-abbrev pub Tells : Names → Table → Name → Option Path → Type 0
-Tells names t x o = LeadsTo names t.nodes.items (place_at t x.0) o
+-- where the table says that the label of a name leads in a body
+abbrev pub Tells : Stmt → Table → Name → Option Path → Type 0
+Tells body t x o = LeadsTo body t.nodes.items (place_at t x.0) o
 
 -- the path behind a way
 abbrev pub under_way : List Part → Option Path → Option Path
 under_way way o = option_map (λ (p : Path). path_of way ++ p) o
 
--- the labels of a statement were added behind those that there were
-abbrev pub Gathers : Names → Table → Table → Option ℕ → (Text → Option Path) → Type 0
-Gathers names old new at label = (way : List Part) → IsWay old.nodes.items at way → (x : Name) (o : Option Path) → Tells names old x o → Tells names new x (or_else o (under_way way (label (names x))))
+-- labels in a statement were added behind those that there were, whatever the body is in which it stands at the number
+abbrev pub Gathers : Names → Table → Table → Option ℕ → Stmt → (Text → Option Path) → Type 0
+Gathers names old new at s label = (body : Stmt) (way : List Part) → IsWay old.nodes.items at way → statement_at body (path_of way) ≡ Present s
+    → (x : Name) (o : Option Path) → Tells body old x o → Tells body new x (or_else o (under_way way (label (names x))))
 
 -- a table of the labels of a body
 pub record AreLabels (body : Statement) (t : Table) : Type 0 where
-  pub each : (names : Names) → AreApart names → (x : Name) → Tells names t x (labelled (names x) (stmt_of names body))
+  pub each : (names : Names) → AreApart names → (x : Name) → Tells (stmt_of names body) t x (labelled (names x) (stmt_of names body))
+
+-- the table has the labels of a body, and says how deep it is
+pub record IsBodyTable (body : Statement) (t : BodyTable) : Type 0 where
+  pub labels : AreLabels body t.table
+  pub deep : (names : Names) → t.depth ≡ capped (depth (stmt_of names body))

@@ -1,36 +1,45 @@
 //! Where the labels of a body lead, by a table that is made once.
-ghost use Rattle.std.specs.Prelude.{◌≡◌, ◌≤◌, ◌∷◌, None, Some, if◌then◌else◌, IfOk, IfSome, OnOk, bytes_eq, vec_capacity};
+ghost use Rattle.std.specs.Prelude.{◌≡◌, ◌≤◌, ◌+◌, ◌∷◌, ◌++◌, length, ℕ, None, Some, if◌then◌else◌, IfOk, IfSome, OnOk, bytes_eq, vec_len, vec_capacity};
 ghost use Rattle.cpc_tree.specs.Erase.{Names, stmt_of, list_of, maybe_at};
+ghost use Rattle.cpc_tree.specs.Syntax.{Stmt, Present};
 ghost use Rattle.cpc_tree.specs.Points as P;
 ghost use Rattle.cpc_check_rules.specs.Apart.{AreApart};
 ghost use Rattle.cpc_native_points.specs.Depth as D;
+ghost use Rattle.cpc_native_points.specs.Depth.{numbers};
+ghost use Rattle.cpc_native_points.specs.Parts.{child, nth, statement_at};
 ghost use Rattle.cpc_native_points.specs.Seen.{part_of, path_of};
-ghost use Rattle.cpc_native_points.specs.Tabled.{AreLabels, Gathers, Grows};
+ghost use Rattle.cpc_native_points.specs.Tabled.{AreLabels, Gathers, Grows, IsBodyTable};
 
 use crate::depths::depth_of;
 use crate::entering::enter;
+use crate::moves::statement_at;
 use crate::parts::Part;
-use crate::table::{Place, Table, climb};
+use crate::table::{Table, climb};
 use cpc_base::{Name, NoMemory};
 use cpc_tree::program::Statement;
 use std::alloc::Global;
 
-/// Where the labels of a body lead, and how deep it is. Finding a label takes a time that does not grow with the length of
-/// the body.
+/// Where the labels of a body lead, and how deep it is: numbers alone, which can be kept beside the body.
 #[derive(Drop)]
+pub struct BodyTable {
+    pub(crate) table: Table,
+    pub(crate) depth: usize,
+}
+
+/// The labels of a body, by its table. Finding one takes a time that grows with how deep it stands, and not with the length
+/// of the body.
+#[derive(Clone, Copy)]
 pub struct Labels<'p> {
     body: &'p Statement,
-    table: Table<'p>,
-    depth: usize,
-    ghost tabled: { ∥ AreLabels body.now table ∥₁ },
-    ghost measured: { ∥ ((names : Names) → depth ≡ D.capped (D.depth (stmt_of names body.now))) ∥₁ },
+    table: &'p BodyTable,
+    ghost tabled: { ∥ IsBodyTable body.now table.now ∥₁ },
 }
 
 // Adds the labels in a statement of this number.
 #[cycle(gathered)]
-fn gather<'p>(s: &'p Statement, at: Option<usize>, table: &mut Table<'p>) -> Result<(), NoMemory>
+fn gather(s: &Statement, at: Option<usize>, table: &mut Table) -> Result<(), NoMemory>
     ensures kept { OnOk result (Grows table.old table.new) }
-    ensures led { OnOk result ((names : Names) → AreApart names → Gathers names table.old table.new at (λ l. P.labelled l (stmt_of names s.now))) }
+    ensures led { OnOk result ((names : Names) → AreApart names → Gathers names table.old table.new at (stmt_of names s.now) (λ l. P.labelled l (stmt_of names s.now))) }
 {
     match s {
         Statement::Block { inner, .. } => gather_row(inner, at, table),
@@ -48,14 +57,15 @@ fn gather<'p>(s: &'p Statement, at: Option<usize>, table: &mut Table<'p>) -> Res
 
 // Those in a statement that is a part of the one of this number.
 #[cycle(gathered)]
-fn gather_part<'p>(
-    s: &'p Statement,
+fn gather_part(
+    s: &Statement,
     part: Part,
     at: Option<usize>,
-    table: &mut Table<'p>,
+    table: &mut Table,
 ) -> Result<(), NoMemory>
     ensures kept { OnOk result (Grows table.old table.new) }
-    ensures led { OnOk result ((names : Names) → AreApart names → Gathers names table.old table.new at (λ l. P.path_under (part_of part) (P.labelled l (stmt_of names s.now)))) }
+    ensures led { OnOk result ((names : Names) (around : Stmt) → AreApart names → child around (part_of part) ≡ Present (stmt_of names s.now)
+        → Gathers names table.old table.new at around (λ l. P.path_under (part_of part) (P.labelled l (stmt_of names s.now)))) }
 {
     let number = table.add(part, at)?;
     gather(s, Some(number), table)
@@ -63,13 +73,14 @@ fn gather_part<'p>(
 
 // Those in an arm that may be absent.
 #[cycle(gathered)]
-fn gather_arm<'p>(
-    arm: &'p Option<Box<Statement>>,
+fn gather_arm(
+    arm: &Option<Box<Statement>>,
     at: Option<usize>,
-    table: &mut Table<'p>,
+    table: &mut Table,
 ) -> Result<(), NoMemory>
     ensures kept { OnOk result (Grows table.old table.new) }
-    ensures led { OnOk result ((names : Names) → AreApart names → Gathers names table.old table.new at (λ l. P.path_under P.TheNo (P.labelled_arm l (maybe_at names arm.now)))) }
+    ensures led { OnOk result ((names : Names) (around : Stmt) → AreApart names → child around P.TheNo ≡ maybe_at names arm.now
+        → Gathers names table.old table.new at around (λ l. P.path_under P.TheNo (P.labelled_arm l (maybe_at names arm.now)))) }
 {
     match arm {
         Some(s) => gather_part(s, Part::No, at, table),
@@ -79,30 +90,28 @@ fn gather_arm<'p>(
 
 // A label, and those in what it is put before.
 #[cycle(gathered)]
-fn gather_behind<'p>(
+fn gather_behind(
     label: Name,
-    inner: &'p Statement,
+    inner: &Statement,
     at: Option<usize>,
-    table: &mut Table<'p>,
+    table: &mut Table,
 ) -> Result<(), NoMemory>
     ensures kept { OnOk result (Grows table.old table.new) }
-    ensures led { OnOk result ((names : Names) → AreApart names → Gathers names table.old table.new at
+    ensures led { OnOk result ((names : Names) (around : Stmt) → AreApart names → child around P.TheBody ≡ Present (stmt_of names inner.now)
+        → Gathers names table.old table.new at around
         (λ l. if bytes_eq (names label) l then Some (P.TheBody ∷ P.enter (stmt_of names inner.now)) else P.path_under P.TheBody (P.labelled l (stmt_of names inner.now)))) }
 {
     let node = table.add(Part::Body, at)?;
-    table.put(label, Place { node, inner })?;
+    table.put(label, node)?;
     gather(inner, Some(node), table)
 }
 
 // Those in a row of statements.
 #[cycle(gathered)]
-fn gather_row<'p>(
-    row: &'p [Statement],
-    at: Option<usize>,
-    table: &mut Table<'p>,
-) -> Result<(), NoMemory>
+fn gather_row(row: &[Statement], at: Option<usize>, table: &mut Table) -> Result<(), NoMemory>
     ensures kept { OnOk result (Grows table.old table.new) }
-    ensures led { OnOk result ((names : Names) → AreApart names → Gathers names table.old table.new at (λ l. P.labelled_in l (list_of names row.now))) }
+    ensures led { OnOk result ((names : Names) (around : Stmt) → AreApart names → ((n : ℕ) → child around (P.Nth n) ≡ nth (list_of names row.now) n)
+        → Gathers names table.old table.new at around (λ l. P.labelled_in l (list_of names row.now))) }
 {
     for (n, s) in row.iter().enumerate() {
         gather_part(s, Part::Nth(n), at, table)?;
@@ -111,7 +120,7 @@ fn gather_row<'p>(
 }
 
 // The table of a body.
-fn table_of(alloc: Global, body: &Statement) -> Result<Table<'_>, NoMemory>
+fn table_of(alloc: Global, body: &Statement) -> Result<Table, NoMemory>
     ensures { IfOk result (λ table. AreLabels body.now table) }
 {
     let mut table = Table::new(alloc);
@@ -119,16 +128,38 @@ fn table_of(alloc: Global, body: &Statement) -> Result<Table<'_>, NoMemory>
     Ok(table)
 }
 
-impl<'p> Labels<'p> {
-    ghost use Rattle.cpc_native_points.specs.Bodies.{body_of};
-
-    /// The labels of a body. `NoMemory` is want of memory.
-    pub fn of(alloc: Global, body: &'p Statement) -> Result<Labels<'p>, NoMemory>
-        ensures { IfOk result (λ labels. body_of labels ≡ body.now) }
+impl BodyTable {
+    /// The table of a body. `NoMemory` is want of memory.
+    pub fn of(alloc: Global, body: &Statement) -> Result<BodyTable, NoMemory>
+        ensures { IfOk result (λ table. IsBodyTable body.now table) }
     {
         let table = table_of(alloc, body)?;
         let depth = depth_of(body);
-        Ok(Labels { body, table, depth })
+        Ok(BodyTable { table, depth })
+    }
+}
+
+// Puts where the statement at a path of a body begins behind the path, which has room for it.
+fn enter_at(body: &Statement, path: &mut Vec<Part>)
+    requires room { (s : Stmt) → statement_at (stmt_of numbers body.now) (path_of path.old.items) ≡ Present s → vec_len path.old + length (P.enter s) ≤ vec_capacity path.old }
+    ensures items { (names : Names) (s : Stmt) → statement_at (stmt_of names body.now) (path_of path.old.items) ≡ Present s → path_of path.new.items ≡ path_of path.old.items ++ P.enter s }
+    ensures capacity { vec_capacity path.new ≡ vec_capacity path.old }
+{
+    match statement_at(body, path) {
+        Some(inner) => enter(inner, path),
+        None => {}
+    }
+}
+
+impl<'p> Labels<'p> {
+    ghost use Rattle.cpc_native_points.specs.Bodies.{body_of};
+
+    /// The labels of a body, by a table of it.
+    pub fn over(body: &'p Statement, table: &'p BodyTable) -> Labels<'p>
+        requires { ∥ IsBodyTable body.now table.now ∥₁ }
+        ensures { body_of result ≡ body.now }
+    {
+        Labels { body, table }
     }
 
     /// The body.
@@ -143,7 +174,7 @@ impl<'p> Labels<'p> {
     pub fn depth(&self) -> usize
         ensures { (names : Names) → result ≡ D.capped (D.depth (stmt_of names (body_of self.now))) }
     {
-        self.depth
+        self.table.depth
     }
 
     /// Puts the path where a label leads. It has room for every path of the body. Where the body has no label of this name,
@@ -154,10 +185,11 @@ impl<'p> Labels<'p> {
         ensures capacity { vec_capacity path.new ≡ vec_capacity path.old }
     {
         path.clear();
-        match self.table.place(label) {
-            Some(place) => {
-                climb(&self.table.nodes, Some(place.node), path);
-                enter(place.inner, path)
+        let table = &self.table.table;
+        match table.place(label) {
+            Some(number) => {
+                climb(&table.nodes, Some(number), path);
+                enter_at(self.body, path)
             }
             None => {}
         }

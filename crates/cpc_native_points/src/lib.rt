@@ -10,5 +10,5 @@ mod parts;
 mod table;
 
 pub use control::{Found, after, begin, standing};
-pub use labels::Labels;
+pub use labels::{BodyTable, Labels};
 pub use parts::{Part, Phase, Point};

@@ -82,6 +82,17 @@ pub(crate) fn child(s: &Statement, part: Part) -> Option<&Statement>
     }
 }
 
+/// The statement at a path in a statement, if one stands there.
+pub(crate) fn statement_at<'p>(s: &'p Statement, path: &[Part]) -> Option<&'p Statement>
+    ensures { (names : Names) → maybe_seen names result ≡ S.statement_at (stmt_of names s.now) (path_of path.now) }
+{
+    let mut at = s;
+    for part in path {
+        at = child(at, *part)?;
+    }
+    Some(at)
+}
+
 /// Where control goes from a statement that no part of is taken.
 fn leaf<'a>(s: &Statement) -> Move<'a>
     ensures { (names : Names) (path : P.Path) → Leads names path result (S.leaf (stmt_of names s.now)) }

@@ -1,10 +1,9 @@
-//! A table of the labels of a body: what each is put before, and the way to that.
+//! A table of the labels of a body: the number of what each is put before, and the way to that.
 ghost use Rattle.std.specs.Prelude.{◌≡◌, ◌<◌, ◌-◌, ◌∷◌, ◌++◌, [], ℕ, List, length, slice_get, None, Some, IfOk, OnOk, cond, nat_eq, vec_len, vec_capacity};
 ghost use Rattle.cpc_native_points.specs.Tabled.{HasWay, IsWay, or_place, place_at};
 
 use crate::parts::Part;
 use cpc_base::{Name, NoMemory};
-use cpc_tree::program::Statement;
 use std::alloc::Global;
 use std::collections::HashMap;
 
@@ -15,21 +14,14 @@ pub(crate) struct Node {
     pub(crate) above: Option<usize>,
 }
 
-/// What a label is put before, and its number.
-#[derive(Clone, Copy)]
-pub(crate) struct Place<'p> {
-    pub(crate) node: usize,
-    pub(crate) inner: &'p Statement,
-}
-
-/// The statements in a body, numbered in the order of the text, and what the labels among them are put before.
+/// The statements in a body, numbered in the order of the text, and the numbers of those that labels are put before.
 #[derive(Drop)]
-pub(crate) struct Table<'p> {
+pub(crate) struct Table {
     pub(crate) nodes: Vec<Node>,
-    places: HashMap<u64, Place<'p>>,
+    places: HashMap<u64, usize>,
 }
 
-impl<'p> Table<'p> {
+impl Table {
     /// No statement, and no label.
     pub(crate) fn new(alloc: Global) -> Self
         ensures nodes { result.nodes.items ≡ [] }
@@ -52,8 +44,8 @@ impl<'p> Table<'p> {
         Ok(number)
     }
 
-    /// What the label of a name is put before.
-    pub(crate) fn place(&self, name: Name) -> Option<Place<'p>>
+    /// The number of the statement that the label of a name is put before.
+    pub(crate) fn place(&self, name: Name) -> Option<usize>
         ensures { result ≡ place_at self.now name.0 }
     {
         match self.places.get(&name.0) {
@@ -62,19 +54,19 @@ impl<'p> Table<'p> {
         }
     }
 
-    // The label of a name is put before this, whatever it was before.
-    fn set(&mut self, name: Name, place: Place<'p>) -> Result<(), NoMemory>
+    // The label of a name is put before the statement of this number, whatever it was before.
+    fn set(&mut self, name: Name, place: usize) -> Result<(), NoMemory>
         ensures nodes { self.new.nodes.items ≡ self.old.nodes.items }
-        ensures places { OnOk result ((x : ℕ) → place_at self.new x ≡ cond (nat_eq name.0 x) (Some place.entry) (place_at self.old x)) }
+        ensures places { OnOk result ((x : ℕ) → place_at self.new x ≡ cond (nat_eq name.0 x) (Some place) (place_at self.old x)) }
     {
         self.places.insert(name.0, place)?;
         Ok(())
     }
 
-    /// A label is put before this, unless there was one of its name. `NoMemory` is want of memory.
-    pub(crate) fn put(&mut self, name: Name, place: Place<'p>) -> Result<(), NoMemory>
+    /// A label is put before the statement of this number, unless there was one of its name. `NoMemory` is want of memory.
+    pub(crate) fn put(&mut self, name: Name, place: usize) -> Result<(), NoMemory>
         ensures nodes { self.new.nodes.items ≡ self.old.nodes.items }
-        ensures places { OnOk result ((x : ℕ) → place_at self.new x ≡ or_place (place_at self.old x) (cond (nat_eq name.0 x) (Some place.entry) None)) }
+        ensures places { OnOk result ((x : ℕ) → place_at self.new x ≡ or_place (place_at self.old x) (cond (nat_eq name.0 x) (Some place) None)) }
     {
         match self.place(name) {
             Some(_) => Ok(()),

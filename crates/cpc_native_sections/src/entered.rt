@@ -20,15 +20,18 @@ use cpc_sections::Job;
 use cpc_tree::program::Program;
 use std::alloc::Global;
 
-/// A machine in which the function of a job is called on a copy of its cells, in a store that holds nothing else.
+/// A machine in which the function of a job is called on a copy of its cells, in a store that holds nothing else. What
+/// the names of the program stand for is found in its index.
 ///
 /// `NoMemory` is want of memory, or of numbers for so many cells.
 pub(crate) fn entered<'p>(
     alloc: Global,
     program: &'p Program,
+    index: Index<'p>,
     job: &Job,
 ) -> Result<Machine<'p>, NoMemory>
-    requires { IsLawfulJob job.now }
+    requires lawful { IsLawfulJob job.now }
+    requires index { program_items index ≡ program.now.items.items }
     ensures index { IfOk result (λ m. program_items m.index ≡ program.now.items.items) }
     ensures texts { IfOk result (λ m. m.texts.now ≡ program.now.names) }
     ensures well { IfOk result (λ m. IsWell m) }
@@ -38,7 +41,6 @@ pub(crate) fn entered<'p>(
 {
     let store = first_store(alloc, &job.cells)?;
     let args = first_arguments(alloc, job)?;
-    let index = Index::of(alloc, program)?;
     let mut machine = Machine::new(alloc, index, &program.names, store);
     machine.call(alloc, job.function, &args)?;
     Ok(machine)

@@ -1,6 +1,7 @@
 //! The run of a section, from the call of its function to its end.
 ghost use Rattle.std.specs.Prelude.{◌≡◌, IfOk, IfSome};
 ghost use Rattle.cpc_tree.specs.Erase.{Names};
+ghost use Rattle.cpc_eval_index.specs.Indexed.{program_items};
 ghost use Rattle.cpc_native.specs.Well.{IsWell};
 ghost use Rattle.cpc_sections.specs.Jobs.{EndsAs, IsLawfulJob, IsLawfulEnd};
 ghost use Rattle.cpc_native_sections.specs.Ends.{IsEndOf};
@@ -9,6 +10,7 @@ ghost use Rattle.cpc_native_sections.specs.Led.{LeadsTo, StaysWell, IsRunning, s
 use crate::asked::asked;
 use crate::entered::entered;
 use cpc_base::{Name, NoMemory};
+use cpc_eval_index::Index;
 use cpc_native::{Machine, Stepped};
 use cpc_num::Fault;
 use cpc_sections::{Job, SectionEnd, ended};
@@ -62,7 +64,7 @@ fn run(
 }
 
 /// What a section comes to: its function is called on a copy of the job's cells, in a store of its own, and makes at most so
-/// many steps. Nothing is shared with any other run.
+/// many steps. Nothing is shared with any other run but the program and its index, which are read alone.
 ///
 /// The end is that of the definition, wherever that tells one.
 ///
@@ -70,13 +72,15 @@ fn run(
 pub fn run_section(
     alloc: Global,
     program: &Program,
+    index: Index<'_>,
     job: &Job,
     bound: u64,
 ) -> Result<SectionEnd, NoMemory>
-    requires { IsLawfulJob job.now }
+    requires lawful { IsLawfulJob job.now }
+    requires index { program_items index ≡ program.now.items.items }
     ensures { IfOk result (IsEndOf program.now bound job.now) }
 {
-    let mut machine = entered(alloc, program, job)?;
+    let mut machine = entered(alloc, program, index, job)?;
     let no_copy = job.cells.is_empty();
     run(alloc, &mut machine, job.function, no_copy, bound)
 }

@@ -13,6 +13,7 @@ use Rattle.cpc_check.specs.contracts.checked.Checked as Checked
 use Rattle.cpc_pool_sections.specs.contracts.runner.Sectioner as Sectioner
 use Rattle.cpc_pool_sections.specs.contracts.runner.Sectioner.TheInside as Inside
 use Rattle.cpc_run_sections.specs.declared.assigned.Assigned.{Ghosts}
+use Rattle.cpc_eval_index.proofs.Crossing.{program_table_send, program_table_sync}
 use Rattle.cpc_num.proofs.kinds.Kind.TheSendSync as kind
 use Rattle.cpc_num.proofs.kinds.Op.TheSendSync as op
 use Rattle.cpc_tree.specs.contracts.program.Item as Item
@@ -43,10 +44,10 @@ program_sync : IsSync Program.the_row
 program_sync = search (names_sync, item_sync, crosses, sendable) depth 30
 
 checked_send : IsSend Checked.the_row
-checked_send = declared_send Checked.the_type (program_send, (dialect.the_send, tt))
+checked_send = declared_send Checked.the_type (program_send, (dialect.the_send, (program_table_send, tt)))
 
 checked_sync : IsSync Checked.the_row
-checked_sync = declared_sync Checked.the_type (program_sync, (dialect.the_sync, tt))
+checked_sync = declared_sync Checked.the_type (program_sync, (dialect.the_sync, (program_table_sync, tt)))
 
 -- so may a runner of its sections, where the type that stands for what was assigned may
 module _ (B : RattleType) (g : Ghosts B.Denot) where

@@ -87,6 +87,13 @@ impl<B: Assigned> Runner for Sectioner<B> {
     }
 
     fn run(&self, job: &Job) -> Result<SectionEnd, NoMemory> {
-        run_section(self.alloc, &self.program.program, job, self.bound)
+        let program = &*self.program;
+        run_section(
+            self.alloc,
+            &program.program,
+            program.index(),
+            job,
+            self.bound,
+        )
     }
 }

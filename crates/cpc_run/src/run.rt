@@ -243,10 +243,11 @@ fn left_at_first<O: Sink>(
     told(alloc, &program.names, trace, out, &mut pending, due)
 }
 
-// Runs a program that is never stuck, by whatever texts tell its names. What these stand for is found once.
+// Runs a program that is never stuck, by whatever texts tell its names. What these stand for is found in its index.
 fn run_program<O: Sink, R: HostRule, S: Sections>(
     alloc: Global,
     program: &Program,
+    index: Index<'_>,
     limits: Limits,
     polls: &[Told],
     hosts: &HostTable<R>,
@@ -255,6 +256,7 @@ fn run_program<O: Sink, R: HostRule, S: Sections>(
     out: &mut O,
 ) -> RunReport
     requires given { GivenTwice program.now }
+    requires index { program_items index ≡ program.now.items.items }
     requires program { S.program ≡ Some program.now }
     requires bound { S.bound ≡ limits.section_steps }
     requires never_stuck { (h : History) → NeverStuck (program_of program.now) h }
@@ -266,10 +268,6 @@ fn run_program<O: Sink, R: HostRule, S: Sections>(
     ensures cause { result.ended ≡ IsWriteFault → Rose (O.faults out.old) (O.faults out.new) }
     ensures later { O.faults out.old ≤ O.faults out.new }
 {
-    let index = match Index::of(alloc, program) {
-        Ok(index) => index,
-        Err(NoMemory) => return STARVED,
-    };
     let first = match first_cells(program, &index) {
         Ok(first) => first,
         Err(NoMemory) => return STARVED,
@@ -332,6 +330,7 @@ pub fn run_event<O: Sink, R: HostRule, S: Sections>(
     run_program(
         alloc,
         &program.program,
+        program.index(),
         limits,
         polls,
         hosts,

@@ -53,7 +53,7 @@ pub fn translate(alloc: Global, text: &[u8]) -> Result<Translated, Stop<TextFaul
     converted_has_the_same_runs();
     converted_rests_with_held_frames();
     let source = read(alloc, text, Dialect::Cpc)?;
-    let printed = match event_text(alloc, &source.program) {
+    let printed = match event_text(alloc, &source.program, source.index()) {
         Ok(printed) => printed,
         Err(NoMemory) => return Err(Stop::Memory),
     };

@@ -225,6 +225,6 @@ fn boxed_shown(alloc: Global, boxed: &Boxed<'_>) -> Result<Vec<u8>, NoMemory> {
 /// What the passes make of the cps functions of a program. `NoMemory` is want of memory.
 pub(crate) fn checked_shown(alloc: Global, checked: &Checked) -> Result<Vec<u8>, NoMemory> {
     is_spelled(checked);
-    let boxed = boxed(alloc, &checked.program)?;
+    let boxed = boxed(alloc, &checked.program, checked.index())?;
     boxed_shown(alloc, &boxed)
 }

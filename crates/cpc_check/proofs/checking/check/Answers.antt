@@ -12,7 +12,8 @@ pub invariant_of-result : goal.invariant_of-result
 invariant_of-result c = record {
   read = ∣ c.requires.read ∣₁;
   within = ∣ c.requires.within ∣₁;
-  unbroken = is_none (breaks c.args.dialect (located c.args.program)) (sym (noted_whole c.args.dialect c.args.program (first_of c.in-Ok.first) c.are_distinct.ensures c.requires.within c.in-Ok.ensures) ∙ ap (λ o. option_map pair_of o) c.in-None.is);
+  unbroken = is_none (breaks c.args.dialect (located c.args.program)) (sym (noted_whole c.args.dialect c.args.program (first_of c.in-Ok.first) c.are_distinct.ensures c.requires.within c.in-Ok.ensures) ∙ ap (λ o. option_map pair_of o) c.in_default.is);
+  tabled = ∣ c.in-Ok-of.ensures ∣₁;
 }
 
 pub returns-in-Some-clause-refused : goal.returns-in-Some-clause-refused

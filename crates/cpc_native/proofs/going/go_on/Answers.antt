@@ -16,7 +16,7 @@ use Rattle.cpc_native.proofs.going.go_on.Goals as goal
 pub after-requires : goal.after-requires
 after-requires c =
     let f = c.args.function.now in
-    let l = owner_of c.in-Some.locals.now in
+    let l = owner_of c.in-Some.locals in
     let capacity = c.args.point.now.path.cap in
     record {
       room = ∥∥₁_elim c.in-Some.ensures (at_most_prop _ _) (λ found. ∥∥₁_elim c.labels.ensures (at_most_prop _ _) (λ body.
@@ -29,7 +29,7 @@ after-requires c =
 pub returns-clause-point : goal.returns-clause-point
 returns-clause-point c = λ names apart.
     let f = c.args.function.now in
-    let l = owner_of c.in-Some.locals.now in
+    let l = owner_of c.in-Some.locals in
     let old = point_of c.args.point.now in
     let new = point_of c.after.new.point in
     let P : S.Stmt → Type 0 = λ body. IfSome (next_point body old c.args.holds) (λ q. new ≡ q) in

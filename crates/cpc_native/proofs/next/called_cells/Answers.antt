@@ -12,7 +12,7 @@ use Rattle.cpc_native.proofs.next.called_cells.Goals as goal
 pub returns : goal.returns
 returns c = λ names apart. ∥∥₁_elim c.in-Some.ensures (ℕ_set _ _) (λ found.
     let p = items_of names c.args.index.now in
-    let same = same_function _ (function_of names c.args.function.now) (function_of names (owner_of c.in-Some.locals.now)) (found names apart) (c.requires names apart) in
+    let same = same_function _ (function_of names c.args.function.now) (function_of names (owner_of c.in-Some.locals)) (found names apart) (c.requires names apart) in
     c.call_cells.ensures names apart ∙ ap (λ f. min (call_cells p f) greatest) same)
 
 pub unreachable-requires : goal.unreachable-requires

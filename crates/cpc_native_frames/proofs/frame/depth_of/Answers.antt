@@ -12,7 +12,7 @@ use Rattle.cpc_native_frames.proofs.frame.depth_of.Goals as goal
 pub returns : goal.returns
 returns c =
     let f = c.args.function.now in
-    let l = owner_of c.in-Some.locals.now in
+    let l = owner_of c.in-Some.locals in
     ∥∥₁_elim c.in-Some.ensures (ℕ_set _ _) (λ found. ∥∥₁_elim c.labels.ensures (ℕ_set _ _) (λ led.
     let same : function_of numbers l ≡ function_of numbers f = same_function _ (function_of numbers f) (function_of numbers l) (found numbers numbers_apart) (c.requires numbers numbers_apart) in
     c.depth.ensures numbers ∙ ap (λ s. capped (deep s)) led ∙ ap (λ (g : S.Function). capped (depth g.body)) same))

@@ -12,7 +12,7 @@ use Rattle.cpc_native_frames.proofs.frame.variables_of.Goals as goal
 pub returns : goal.returns
 returns c = λ names told.
     let f = c.args.function.now in
-    let l = owner_of c.in-Some.locals.now in
+    let l = owner_of c.in-Some.locals in
     ∥∥₁_elim c.in-Some.ensures (kept_set _ _) (λ found.
     let same : function_of names l ≡ function_of names f = same_function _ (function_of names f) (function_of names l) (found names told.apart) (c.requires names told.apart) in
     c.variables.ensures.kept names (told_along names f.parameters.items told l.parameters.items (ap (λ (g : S.Function). g.parameters) same))

@@ -12,8 +12,8 @@ use Rattle.cpc_meaning.specs.Eval as E
 use Rattle.cpc_meaning.specs.Slots.{make_slot}
 use Rattle.cpc_eval_values.specs.Shown.{values_of, store_of}
 use Rattle.cpc_eval_index.specs.Indexed.{items_of}
-use Rattle.cpc_eval_variables.specs.declared.registers.Variable as V
-use Rattle.cpc_eval_variables.specs.Kept.{kept_of}
+use Rattle.cpc_eval_locals.specs.declared.variables.Variable as V
+use Rattle.cpc_eval_locals.specs.Kept.{kept_by}
 use Rattle.cpc_eval.specs.declared.around.Slot.{Slot}
 use Rattle.cpc_eval.specs.declared.around.Slot.TheVariants as S
 use Rattle.cpc_eval.specs.Around.{slot_of}
@@ -35,8 +35,8 @@ loop-i-init c =
       lawful = subst P is none;
       rise = (let Q : List Slot → Type 0 = λ l. Rising 0 l (next_block Auto c.args.store.now) in subst Q is (omega arith));
       back = λ names. (let Q : List Slot → Type 0 = λ l. CanTakeBack (slots_of names l) (store_of names c.args.store.now) (store_of names c.args.store.now) in subst Q is (back_none (store_of names c.args.store.now)));
-      rest = λ names apart a e. ap (λ l. make_on (items_of names c.args.index.now) (slots_of names l) (kept_of names c.args.variables.now) (values_of names c.args.arguments.now) (store_of names c.args.store.now)) c.requires.empty
-          ∙ on_none (items_of names c.args.index.now) (kept_of names c.args.variables.now) (values_of names c.args.arguments.now) (store_of names c.args.store.now) a e;
+      rest = λ names apart a e. ap (λ l. make_on (items_of names c.args.index.now) (slots_of names l) (kept_by names c.args.variables.now) (values_of names c.args.arguments.now) (store_of names c.args.store.now)) c.requires.empty
+          ∙ on_none (items_of names c.args.index.now) (kept_by names c.args.variables.now) (values_of names c.args.arguments.now) (store_of names c.args.store.now) a e;
     }
 
 -- ---- want of memory
@@ -77,13 +77,13 @@ loop-i-preserved c =
           (back_more (slots_of names done) (slot_of names slot) (store_of names c.args.store.now) (store_of names c.loop-i.store) (store_of names c.make_slot.new.store) (c.loop-i.invariant.back names) (c.in_ok-slots.ensures.alone names)));
       rest = λ names apart a e.
           let p = items_of names c.args.index.now in
-          let ks = kept_of names c.args.variables.now in
+          let ks = kept_by names c.args.variables.now in
           let vs = values_of names c.args.arguments.now in
           let v = c.index-variables-i.result in
-          let k : Ty × Bool = (type_of names v.of.now, v.is_register) in
+          let k : Ty × Bool = (type_of names v.of, v.is_register) in
           let s = store_of names c.loop-i.store in
           let t = store_of names c.make_slot.new.store in
-          let next = next_at (λ (x : V.Variable). (type_of names x.of.now, x.is_register)) c.args.variables.now i v c.loop-i-test.true c.index-variables-i.is in
+          let next = next_at (λ (x : V.Variable). (type_of names x.of, x.is_register)) c.args.variables.now i v c.loop-i-test.true c.index-variables-i.is in
           let front = slots_of names done in
           let made = λ (n : ℕ) (h : size p k.0 ≡ Some n). c.in_ok-slots.ensures.made names apart n h ∙ ap (λ w. make_slot k.1 n w s) (c.argument_at-first.ensures.value names) in
           let before = ap (λ l. make_on p front l (drop i vs) s) (sym next) ∙ c.loop-i.invariant.rest names apart a e in
@@ -99,7 +99,7 @@ returns-clause-made c = λ names apart a e.
     let front = slots_of names c.loop-i.slots.items in
     let vs = values_of names c.args.arguments.now in
     let s = store_of names c.loop-i.store in
-    let none = none_at (λ (x : V.Variable). (type_of names x.of.now, x.is_register)) c.args.variables.now c.loop-i.i (omega arith) in
+    let none = none_at (λ (x : V.Variable). (type_of names x.of, x.is_register)) c.args.variables.now c.loop-i.i (omega arith) in
     on_end p front (drop c.loop-i.i vs) s a (ap (λ l. make_on p front l (drop c.loop-i.i vs) s) (sym none) ∙ c.loop-i.invariant.rest names apart a e)
 
 pub returns-clause-rise : goal.returns-clause-rise

@@ -8,7 +8,7 @@ use Rattle.cpc_meaning.specs.Eval as E
 use Rattle.cpc_eval_values.specs.Shown.{values_of, store_of}
 use Rattle.cpc_eval_index.specs.Indexed.{items_of}
 use Rattle.cpc_eval.specs.Spots.{AreLawful}
-use Rattle.cpc_eval_variables.specs.Kept.{kept_of}
+use Rattle.cpc_eval_locals.specs.Kept.{kept_by}
 use Rattle.cpc_native_frames.specs.Back.{CanTakeBack}
 use Rattle.cpc_native_frames.specs.Made.{make_kept, slots_of}
 use Rattle.cpc_native_frames.proofs.Filling.{make_on}
@@ -22,6 +22,6 @@ invariant-loop-i l = record {
   lawful : AreLawful l.slots.items;
   rise : Rising 0 l.slots.items (next_block Auto l.store);
   back : (names : Names) → CanTakeBack (slots_of names l.slots.items) (store_of names l.initial.store) (store_of names l.store);
-  rest : (names : Names) → AreApart names → (a : List E.Slot × Store) → make_kept (items_of names l.index) (kept_of names l.variables) (values_of names l.arguments) (store_of names l.initial.store) ≡ Gives a
-      → make_on (items_of names l.index) (slots_of names l.slots.items) (drop l.i (kept_of names l.variables)) (drop l.i (values_of names l.arguments)) (store_of names l.store) ≡ Gives a;
+  rest : (names : Names) → AreApart names → (a : List E.Slot × Store) → make_kept (items_of names l.index) (kept_by names l.variables) (values_of names l.arguments) (store_of names l.initial.store) ≡ Gives a
+      → make_on (items_of names l.index) (slots_of names l.slots.items) (drop l.i (kept_by names l.variables)) (drop l.i (values_of names l.arguments)) (store_of names l.store) ≡ Gives a;
 }

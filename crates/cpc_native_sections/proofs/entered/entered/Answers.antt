@@ -18,7 +18,7 @@ returns-clause-entered c = λ names runs bound end h.
     let old = c.new-machine.result in
     let new = c.call.new.self in
     let q = items_of names old.index in
-    let same = ap (items_of names) c.new-machine.ensures.index ∙ ap (map (item_of names)) c.in_ok-index.ensures in
+    let same = ap (items_of names) c.new-machine.ensures.index ∙ ap (map (item_of names)) c.requires.index in
     let row = ap (values_of names) c.deref-2.ensures.value ∙ c.in_ok-args.ensures.row names in
     let store = ap (store_of names) c.new-machine.ensures.store ∙ c.in_ok-store.ensures names ∙ ap (λ xs. copy_store (values_of names xs)) c.deref.ensures.value in
     begun_in names p q job bound end (values_of names c.deref-2.result.now) (store_of names old.store) (store_of names new.store) (stack_of names new) same row store

@@ -13,7 +13,7 @@ use Rattle.cpc_eval.proofs.around.Around.local.Goals as goal
 pub returns-in-Some : goal.returns-in-Some
 returns-in-Some c = λ names told.
     let a = c.args.self.now in
-    let l = owner_of c.in-Some.locals.now in
+    let l = owner_of c.in-Some.locals in
     ∥∥₁_elim a.own (held_set _ _) (λ own. ∥∥₁_elim c.in-Some.ensures (held_set _ _) (λ found.
     let same : function_of names l ≡ function_of names a.function.now = same_function _ (function_of names a.function.now) (function_of names l) (found names told.apart) (own names told.apart) in
     c.at.ensures names (told_along names a.function.now.parameters.items told l.parameters.items (ap (λ (f : S.Function). f.parameters) same))

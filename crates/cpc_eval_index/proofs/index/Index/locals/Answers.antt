@@ -1,18 +1,26 @@
-use Rattle.std.proofs.Common.{◌∙◌, get_or, map, None, ap}
-use Rattle.std.proofs.Math.Logic.{∥∥₁_map}
-use Rattle.cpc_eval_locals.specs.Owners.{owner_if}
-use Rattle.cpc_eval_index.proofs.Kept.{kept_found}
-use Rattle.cpc_eval_index.proofs.Known.{defined_absent}
+use Rattle.std.proofs.Common.{◌∙◌, get_or, None, ap}
+use Rattle.cpc_eval_index.proofs.Kept.{known, one_known}
+use Rattle.cpc_eval_index.proofs.Known.{defined_absent, defined_missing, defined_found}
 use Rattle.cpc_eval_index.proofs.index.Index.locals.Goals as goal
+
+pub locals_in-requires : goal.locals_in-requires
+locals_in-requires c =
+    one_known c.args.self.now c.in-Some.place c.in-Some-item_at.item.now _ c.in-Some-item_at.ensures
+    (c.table_at.ensures ∙ ap (λ rows. get_or rows c.in-Some.place None) c.deref.ensures.value)
 
 pub returns-in-None : goal.returns-in-None
 returns-in-None c =
     let i = c.args.self.now in
-    ∣ (λ names apart. defined_absent names apart i.program.now.items.items i.tables c.args.name i.tabled c.in-None.ensures) ∣₁
+    ∣ (λ names apart. defined_absent names apart i.program.now.items.items i.table.now.items c.args.name (known i) c.in-None.ensures) ∣₁
 
-pub returns-in-Some : goal.returns-in-Some
-returns-in-Some c =
+pub returns-in-None-item_at : goal.returns-in-None-item_at
+returns-in-None-item_at c =
     let i = c.args.self.now in
-    ∥∥₁_map i.kept (λ kept names apart.
-    kept_found names apart i.program.now.items.items i.tables c.args.name i.tabled c.in-Some.place c.in-Some.ensures i.locals.items c.locals_at.result kept
-    (c.locals_at.ensures ∙ ap (λ rows. get_or (map owner_if rows) c.in-Some.place None) c.deref.ensures.value))
+    ∣ (λ names apart. defined_missing names apart i.program.now.items.items i.table.now.items c.args.name (known i) c.in-Some.place c.in-Some.ensures c.in-None-item_at.ensures) ∣₁
+
+pub returns-in-Some-item_at : goal.returns-in-Some-item_at
+returns-in-Some-item_at c =
+    let i = c.args.self.now in
+    ∣ (λ names apart.
+    c.locals_in.ensures names
+    ∙ defined_found names apart i.program.now.items.items i.table.now.items c.args.name (known i) c.in-Some.place c.in-Some-item_at.item.now c.in-Some.ensures c.in-Some-item_at.ensures) ∣₁

@@ -23,9 +23,9 @@ returns c = λ names told.
     let rows = c.deref.ensures.value in
     let ms = marks_seen names c.deref-2.result.now in
     let P : List Parameter → Type 0 = IsTold names in
-    ∥∥₁_elim c.args.self.now.marked (held_set _ _) (λ marked.
+    ∥∥₁_elim c.args.self.now.tabled (held_set _ _) (λ tabled.
     at_is names f x (path_of path) before.count (held_among x 0 (map (parameter_of names) f.parameters.items)) (held_of names before.held) (held_of names c.look.result) (own_of (stmt_of names f.body)) ms
     (known.count ∙ ap length rows) known.few refl refl
     (known.held names (subst P (sym rows) told) ∙ ap (λ ps. own_after x before.count (held_among x 0 (map (parameter_of names) ps)) (own_of (stmt_of names f.body))) rows)
-    (ap (marks_seen names) c.deref-2.ensures.value ∙ marked names)
+    (ap (marks_seen names) c.deref-2.ensures.value ∙ tabled.marked names)
     (c.look.ensures names told.apart ∙ ap (λ d. look x before.count (held_of names before.held) d (path_of (drop d path)) ms) known.depth))

@@ -15,7 +15,7 @@ with_call live cells call before r a b e = omega arith
 pub returns-in-Some : goal.returns-in-Some
 returns-in-Some c = λ names apart g named. ∥∥₁_elim c.in-Some.ensures (ℕ_set _ _) (λ found.
     let p = items_of names c.args.self.now.index in
-    let same : function_of names (owner_of c.in-Some.locals.now) ≡ g = same_function _ g (function_of names (owner_of c.in-Some.locals.now)) (found names apart) named in
+    let same : function_of names (owner_of c.in-Some.locals) ≡ g = same_function _ g (function_of names (owner_of c.in-Some.locals)) (found names apart) named in
     with_call c.live_cells-live.result c.call_cells.result (call_cells p g) _ c.saturating_add.result (c.live_cells-live.ensures names)
     (c.call_cells.ensures names apart ∙ ap (λ (f : X.Function). min (call_cells p f) (2 ^ 64 - 1)) same) c.saturating_add.ensures)
 

@@ -1,5 +1,5 @@
 use Rattle.cpc_eval_index.proofs.Kept.{rows_more, rows_all}
-use Rattle.cpc_eval_index.proofs.bodies.locals_of.Goals as goal
+use Rattle.cpc_eval_index.proofs.bodies.function_tables.Goals as goal
 
 pub loop-item-preserved : goal.loop-item-preserved
 loop-item-preserved c =

@@ -1,0 +1,12 @@
+-- The table of a program may be sent to threads, and shared among them.
+use denote.Param.Send.{IsSend, IsSync, sendable}
+use Rattle.std.proofs.Crossing.{crosses}
+use Rattle.std.proofs.option.Option.TheSendSync as option
+use Rattle.cpc_eval_locals.proofs.Crossing.{function_table_send, function_table_sync}
+use Rattle.cpc_eval_index.specs.contracts.index.ProgramTable as ProgramTable
+
+pub program_table_send : IsSend ProgramTable.the_row
+program_table_send = search (function_table_send, option.the_field_send, crosses, sendable) depth 30
+
+pub program_table_sync : IsSync ProgramTable.the_row
+program_table_sync = search (function_table_sync, option.the_field_sync, crosses, sendable) depth 30
