@@ -14,8 +14,9 @@ use Rattle.cpc_check_rules.specs.Apart.{Spells}
 use Rattle.cpc_eval_index.specs.declared.index.Index.{Index}
 use Rattle.cpc_eval_index.specs.Indexed.{program_items, items_of}
 use Rattle.cpc_eval_variables.specs.Told.{IsTold}
-use Rattle.cpc_eval_variables.specs.Kept.{kept_of, kept_from}
-use Rattle.cpc_eval_variables.specs.declared.registers.Variable as V
+use Rattle.cpc_eval_locals.specs.Kept.{kept_by}
+use Rattle.cpc_eval_variables.specs.Kept.{kept_from}
+use Rattle.cpc_eval_locals.specs.declared.variables.Variable as V
 use Rattle.cpc_forms_code.specs.declared.boxed.Variable.{Variable}
 use Rattle.cpc_forms_code.specs.declared.boxed.BoxedPoint as B
 use Rattle.cpc_forms_code.specs.Seen.{AreNamed}
@@ -70,7 +71,7 @@ module _ (names : Names) (ms : List V.Variable) (p : S.Program) (f : S.Function)
 
 module _ (source : Program) (function : Function) (index : Index) (ms : List V.Variable) (w : Walk) where
   pub is_boxed : program_items index ≡ source.items.items
-      → ((names : Names) → IsTold names function.parameters.items → kept_of names ms ≡ kept_from (function_of names function) 0 (variables (function_of names function)))
+      → ((names : Names) → IsTold names function.parameters.items → kept_by names ms ≡ kept_from (function_of names function) 0 (variables (function_of names function)))
       → ((names : Names) → Spells source.names names → IsTold names function.parameters.items → map (variable_seen names) w.variables.items ≡ marked_by ms 0 (variables (function_of names function)))
       → ((names : Names) → Spells source.names names → IsTold names function.parameters.items → AreNamed names w.variables.items)
       → ((names : Names) → Spells source.names names → IsTold names function.parameters.items

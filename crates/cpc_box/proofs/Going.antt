@@ -7,7 +7,7 @@ use Rattle.cpc_base.proofs.Lists.{appended_empty}
 use Rattle.cpc_tree.specs.Erase.{Names}
 use Rattle.cpc_tree.specs.Syntax as S
 use Rattle.cpc_tree.specs.Typing as T
-use Rattle.cpc_eval_variables.specs.declared.registers.Variable as V
+use Rattle.cpc_eval_locals.specs.declared.variables.Variable as V
 use Rattle.cpc_forms_code.specs.declared.boxed.Variable.{Variable}
 use Rattle.cpc_forms_code.specs.declared.boxed.BoxedPoint as B
 use Rattle.cpc_forms_code.specs.Seen.{AreNamed, local_seen}

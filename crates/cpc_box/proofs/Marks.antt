@@ -3,8 +3,9 @@ use Rattle.std.proofs.Common.{◌≡◌, ℕ, zero, suc, Bool, true, List, [], �
 use Rattle.cpc_tree.specs.Erase.{Names}
 use Rattle.cpc_tree.specs.Syntax as S
 use Rattle.cpc_tree.specs.Registers.{is_register}
-use Rattle.cpc_eval_variables.specs.declared.registers.Variable as V
-use Rattle.cpc_eval_variables.specs.Kept.{kept_of, kept_from}
+use Rattle.cpc_eval_locals.specs.declared.variables.Variable as V
+use Rattle.cpc_eval_locals.specs.Kept.{kept_by}
+use Rattle.cpc_eval_variables.specs.Kept.{kept_from}
 use Rattle.cpc_forms_code.specs.Points.{Marked, marked_from}
 use Rattle.cpc_box.specs.Walked.{marked_by, mark_of}
 
@@ -29,15 +30,15 @@ longer done n v c = let h = length-append done (v ∷ []) in let i : length (v �
 
 module _ (names : Names) (f : S.Function) where
   -- variables from the n-th on have the marks that were kept of them
-  same : (done ms all : List V.Variable) (n : ℕ) (xs : List S.Variable) → all ≡ done ++ ms → n ≡ length done → kept_of names ms ≡ kept_from f n xs → marked_by all n xs ≡ marked_from f n xs
+  same : (done ms all : List V.Variable) (n : ℕ) (xs : List S.Variable) → all ≡ done ++ ms → n ≡ length done → kept_by names ms ≡ kept_from f n xs → marked_by all n xs ≡ marked_from f n xs
   same done ms all n [] e c k = refl
   same done [] all n (x ∷ xs) e c k = absurd cc
   same done (v ∷ ms) all n (x ∷ xs) e c k =
       let at : slice_get all n ≡ Some v = ap (λ l. slice_get l n) e ∙ get_middle done ms n v c in
-      let head : v.is_register ≡ is_register f n x = (let g : register_of (kept_of names (v ∷ ms)) ≡ register_of (kept_from f n (x ∷ xs)) = ap register_of k in g) in
-      let tail : kept_of names ms ≡ kept_from f (suc n) xs = tail_of _ _ _ _ k in
+      let head : v.is_register ≡ is_register f n x = (let g : register_of (kept_by names (v ∷ ms)) ≡ register_of (kept_from f n (x ∷ xs)) = ap register_of k in g) in
+      let tail : kept_by names ms ≡ kept_from f (suc n) xs = tail_of _ _ _ _ k in
       ap (λ b. mark x b ∷ marked_by all (suc n) xs) (ap mark_of at ∙ head)
       ∙ ap (λ l. mark x (is_register f n x) ∷ l) (same (done ++ v ∷ []) ms all (suc n) xs (e ∙ sym (append_assoc done (v ∷ []) ms)) (let j : suc n ≡ length (done ++ v ∷ []) = longer done n v c in j) tail)
 
-  pub marks_same : (ms : List V.Variable) (xs : List S.Variable) → kept_of names ms ≡ kept_from f 0 xs → marked_by ms 0 xs ≡ marked_from f 0 xs
+  pub marks_same : (ms : List V.Variable) (xs : List S.Variable) → kept_by names ms ≡ kept_from f 0 xs → marked_by ms 0 xs ≡ marked_from f 0 xs
   marks_same ms xs k = same [] ms ms 0 xs refl refl k

@@ -6,7 +6,7 @@ use Rattle.cpc_tree.specs.Syntax as S
 use Rattle.cpc_tree.specs.Typing as T
 use Rattle.cpc_tree.specs.Registers.{as_variable, or_empty, parameter_scope}
 use Rattle.cpc_tree.specs.declared.program.Parameter.{Parameter}
-use Rattle.cpc_eval_variables.specs.declared.registers.Variable as V
+use Rattle.cpc_eval_locals.specs.declared.variables.Variable as V
 use Rattle.cpc_box.specs.declared.walk.Walk.{Walk}
 use Rattle.cpc_box.specs.Walked.{Came}
 use Rattle.cpc_box.proofs.Going.{both, came_as, walk_length}

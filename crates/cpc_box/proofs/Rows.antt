@@ -5,7 +5,7 @@ use Rattle.cpc_base.proofs.Lists.{appended_empty}
 use Rattle.cpc_tree.specs.Erase.{Names}
 use Rattle.cpc_tree.specs.Syntax as S
 use Rattle.cpc_tree.specs.Typing as T
-use Rattle.cpc_eval_variables.specs.declared.registers.Variable as V
+use Rattle.cpc_eval_locals.specs.declared.variables.Variable as V
 use Rattle.cpc_forms_code.specs.Points.{BoxedPoint}
 use Rattle.cpc_box.specs.declared.walk.Walk.{Walk}
 use Rattle.cpc_box.specs.Outline.{declares, declares_in, behind, behind_all, outline, outline_in}

@@ -11,7 +11,7 @@ use Rattle.cpc_tree.specs.Typing as Y
 use Rattle.cpc_tree.specs.Points.{Simple}
 use Rattle.cpc_tree.specs.Syntax.{Block, If, While, DoWhile, For}
 use Rattle.cpc_tree.specs.Erase.{Names, expr_of, stmt_of, list_of, maybe_at}
-use Rattle.cpc_eval_variables.specs.declared.registers.Variable as V
+use Rattle.cpc_eval_locals.specs.declared.variables.Variable as V
 use Rattle.cpc_eval_variables.proofs.Nodes.{block_seen, if_seen, for_seen}
 use Rattle.cpc_box.specs.declared.walk.Walk.{Walk}
 use Rattle.cpc_box.specs.Outline.{declares, declares_in, here, outline, outline_in}

@@ -4,6 +4,7 @@ ghost use Rattle.cpc_tree.specs.Erase.{Names, function_of, stmt_of, parameter_of
 ghost use Rattle.cpc_tree.specs.Registers as R;
 ghost use Rattle.cpc_check_rules.specs.Apart.{Spells};
 ghost use Rattle.cpc_eval_index.specs.Indexed.{program_items, items_of};
+ghost use Rattle.cpc_eval_locals.specs.Owners.{owner_of};
 ghost use Rattle.cpc_eval_variables.specs.Told.{IsTold};
 ghost use Rattle.cpc_meaning.specs.Threads.{is_cps_mode};
 ghost use Rattle.cpc_forms_code.specs.Points.{variable_seen};
@@ -16,7 +17,7 @@ use crate::around::Around;
 use crate::walk::{Known, Walk};
 use cpc_base::NoMemory;
 use cpc_eval_index::Index;
-use cpc_eval_variables::variables;
+use cpc_eval_locals::Locals;
 use cpc_forms_code::{Boxed, BoxedFunction};
 use cpc_tree::program::{Function, Item, Mode, Program};
 use std::alloc::Global;
@@ -37,25 +38,26 @@ fn walked<'a>(alloc: Global, function: &'a Function, known: Known<'_>) -> Result
     Ok(walk)
 }
 
-// A cps function, boxed.
+// A cps function, boxed, which has these locals.
 fn boxed_function<'a>(
     alloc: Global,
     source: &'a Program,
     index: &Index<'_>,
     function: &'a Function,
+    locals: Locals<'_>,
 ) -> Result<BoxedFunction<'a>, NoMemory>
+    requires locals { owner_of locals ≡ function.now }
     requires index { program_items index.now ≡ source.now.items.items }
     requires told { ∥ ((names : Names) × IsSpelled names source.now function.now) ∥₁ }
     ensures source { IfOk result (λ boxed. boxed.source.now ≡ source.now) }
     ensures function { IfOk result (λ boxed. boxed.function.now ≡ function.now) }
 {
-    let kept = variables(alloc, function)?;
     let known = Known {
         around: Around {
             index,
             texts: &source.names,
         },
-        kept: &kept,
+        kept: locals.variables(),
     };
     let walk = walked(alloc, function, known)?;
     Ok(BoxedFunction {
@@ -76,24 +78,28 @@ fn is_cps(mode: Mode) -> bool
     }
 }
 
-// Adds what an item defines, where that is a cps function.
+// Adds what the item of a number defines, where that is a cps function.
 fn add<'a>(
     alloc: Global,
     source: &'a Program,
     index: &Index<'_>,
+    place: usize,
     item: &'a Item,
     functions: &mut Vec<BoxedFunction<'a>>,
 ) -> Result<(), NoMemory>
     requires index { program_items index.now ≡ source.now.items.items }
     requires told { IsSpeakable source.now }
-    requires there { (k : ℕ) × (slice_get source.now.items.items k ≡ Some item.now) }
+    requires there { slice_get source.now.items.items place ≡ Some item.now }
     ensures functions { OnOk result (map (λ f. f.function.now) functions.new.items ≡ map (λ f. f.function.now) functions.old.items ++ cps_functions (item.now ∷ [])) }
     ensures sources { OnOk result (All (λ f. f.source.now ≡ source.now) functions.old.items → All (λ f. f.source.now ≡ source.now) functions.new.items) }
 {
     match item {
         Item::Function(function) => {
             if is_cps(function.mode) {
-                functions.push(boxed_function(alloc, source, index, function)?)?;
+                let Some(locals) = index.locals_of(place) else {
+                    unreachable!()
+                };
+                functions.push(boxed_function(alloc, source, index, function, locals)?)?;
             }
             Ok(())
         }
@@ -113,8 +119,8 @@ pub fn boxed<'a>(
     ensures functions { IfOk result (λ boxed. All (λ f. f.source.now ≡ source.now) boxed.functions.items) }
 {
     let mut functions = Vec::new(alloc);
-    for item in &source.items {
-        add(alloc, source, &index, item, &mut functions)?;
+    for (place, item) in source.items.iter().enumerate() {
+        add(alloc, source, &index, place, item, &mut functions)?;
     }
     Ok(Boxed { source, functions })
 }

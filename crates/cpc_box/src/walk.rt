@@ -12,14 +12,14 @@ ghost use Rattle.cpc_eval_variables.specs.Told.{IsTold};
 ghost use Rattle.cpc_tree.specs.declared.program.Expr as GExpr;
 ghost use Rattle.cpc_base.specs.declared.names.Name as N;
 ghost use Rattle.cpc_eval_index.specs.Indexed.{items_of};
-ghost use Rattle.cpc_eval_variables.specs.declared.registers.Variable as K;
+ghost use Rattle.cpc_eval_locals.specs.declared.variables.Variable as K;
 ghost use Rattle.cpc_forms_code.specs.Points as Q;
 ghost use Rattle.cpc_box.specs.Outline.{variable_if, local_if};
 ghost use Rattle.cpc_box.specs.Walked.{mark_of, IsSeen};
 
 use crate::around::{Around, manner};
 use cpc_base::{Name, NoMemory};
-use cpc_eval_variables::Variable as Kept;
+use cpc_eval_locals::Variable as Kept;
 use cpc_forms_code::{BoxedPoint, Manner, Stood, Variable};
 use cpc_tree::program::{CType, Expr, Parameter, Statement, Word};
 use std::alloc::Global;
@@ -35,7 +35,7 @@ pub(crate) struct Walk<'a> {
 #[derive(Clone, Copy)]
 pub(crate) struct Known<'a> {
     pub(crate) around: Around<'a>,
-    pub(crate) kept: &'a [Kept<'a>],
+    pub(crate) kept: &'a [Kept],
 }
 
 /// Whether a row has no statement.
@@ -49,7 +49,7 @@ fn is_none(row: &[Statement]) -> bool
 }
 
 // Whether the variable of a number is a register.
-fn mark(kept: &[Kept<'_>], number: usize) -> bool
+fn mark(kept: &[Kept], number: usize) -> bool
     ensures { result ≡ mark_of (slice_get kept.now number) }
 {
     match kept.get(number) {
@@ -158,7 +158,7 @@ impl<'a> Walk<'a> {
         name: Option<Name>,
         of: &'a CType,
         scope: Option<usize>,
-        kept: &[Kept<'_>],
+        kept: &[Kept],
     ) -> Result<usize, NoMemory>
         ensures number { IfOk result (λ number. number ≡ length self.old.variables.items) }
         ensures came { IfOk result (λ number. (names : Names) (sc : T.Scope) → Chain names self.old.variables.items scope sc → (name ≡ None → (x : N.Name) → bytes_eq [] (names x) ≡ false)
@@ -179,7 +179,7 @@ impl<'a> Walk<'a> {
     pub(crate) fn parameters(
         &mut self,
         parameters: &'a [Parameter],
-        kept: &[Kept<'_>],
+        kept: &[Kept],
     ) -> Result<Option<usize>, NoMemory>
         requires { self.old.variables.items ≡ [] }
         ensures { IfOk result (λ after. (names : Names) → IsTold names parameters.now
@@ -197,7 +197,7 @@ impl<'a> Walk<'a> {
         &mut self,
         parameter: &'a Parameter,
         scope: Option<usize>,
-        kept: &[Kept<'_>],
+        kept: &[Kept],
     ) -> Result<usize, NoMemory>
         ensures { IfOk result (λ number. (names : Names) (sc : T.Scope) → Chain names self.old.variables.items scope sc → (parameter.now.word ≡ None → (x : N.Name) → bytes_eq [] (names x) ≡ false)
             → Came names kept.now self.old self.new (R.as_variable (parameter_of names parameter.now) ∷ []) [] (Some number)
@@ -216,7 +216,7 @@ impl<'a> Walk<'a> {
         of: &'a CType,
         fixed: bool,
         scope: Option<usize>,
-        kept: &[Kept<'_>],
+        kept: &[Kept],
     ) -> Result<Option<usize>, NoMemory>
         ensures { IfOk result (λ after. (names : Names) (sc : T.Scope) → Chain names self.old.variables.items scope sc
             → Came names kept.now self.old self.new (variable_if fixed (record { called = names word.now.name; type = type_of names of.now })) [] after

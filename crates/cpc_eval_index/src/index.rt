@@ -1,10 +1,11 @@
 //! An index of a program by name.
-ghost use Rattle.std.specs.Prelude.{◌≡◌, IfOk, map, option_map, slice_get};
+ghost use Rattle.std.specs.Prelude.{◌≡◌, IfOk, Some, map, option_map, slice_get};
 ghost use Rattle.cpc_tree.specs.Erase.{Names, type_of, field_of, function_of};
 ghost use Rattle.cpc_check_rules.specs.Apart.{AreApart};
 ghost use Rattle.cpc_tree.specs.Typing as T;
 ghost use Rattle.cpc_eval_locals.specs.Owners.{owner_of};
-ghost use Rattle.cpc_eval_index.specs.Bodies.{IsItemTable};
+ghost use Rattle.cpc_eval_index.specs.Bodies.{IsItemTable, function_defined};
+ghost use Rattle.cpc_tree.specs.declared.program.Item.{Item};
 ghost use Rattle.cpc_eval_index.specs.Tabled.{IsProgramTable};
 ghost use Rattle.cpc_eval_index.specs.Meanings.{definition_seen, meant_if};
 ghost use Rattle.cpc_eval_index.specs.Sized.{capped_size, capped_field};
@@ -57,7 +58,8 @@ fn item_at(program: &Program, place: usize) -> Option<&Item>
 // The locals of the function that an item defines, by a table of it.
 fn locals_in<'p>(item: &'p Item, table: Option<&'p FunctionTable>) -> Option<Locals<'p>>
     requires { ∥ IsItemTable item.now (option_map (λ t. t.now) table) ∥₁ }
-    ensures { (names : Names) → option_map (λ locals. function_of names (owner_of locals)) result ≡ definition_seen names item.now }
+    ensures owner { option_map (λ locals. owner_of locals) result ≡ function_defined item.now }
+    ensures seen { (names : Names) → option_map (λ locals. function_of names (owner_of locals)) result ≡ definition_seen names item.now }
 {
     match item {
         Item::Function(function) => match table {
@@ -116,6 +118,16 @@ impl<'p> Index<'p> {
                 None => None,
                 Some(item) => locals_in(item, table_at(&self.table.functions, place)),
             },
+        }
+    }
+
+    /// The locals of the function that the item of a number defines, if it defines one.
+    pub fn locals_of(&self, place: usize) -> Option<Locals<'p>>
+        ensures { (item : Item) → slice_get (program_items self.now) place ≡ Some item → option_map (λ locals. owner_of locals) result ≡ function_defined item }
+    {
+        match item_at(self.program, place) {
+            None => None,
+            Some(item) => locals_in(item, table_at(&self.table.functions, place)),
         }
     }
 

@@ -22,5 +22,5 @@ pub returns-in-Some-item_at : goal.returns-in-Some-item_at
 returns-in-Some-item_at c =
     let i = c.args.self.now in
     ∣ (λ names apart.
-    c.locals_in.ensures names
+    c.locals_in.ensures.seen names
     ∙ defined_found names apart i.program.now.items.items i.table.now.items c.args.name (known i) c.in-Some.place c.in-Some-item_at.item.now c.in-Some.ensures c.in-Some-item_at.ensures) ∣₁

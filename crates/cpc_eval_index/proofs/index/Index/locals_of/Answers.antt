@@ -1,0 +1,17 @@
+use Rattle.std.proofs.Common.{◌≡◌, ◌∙◌, get_or, None, Some, ap, sym}
+use Rattle.cpc_eval_index.specs.Bodies.{function_defined}
+use Rattle.cpc_eval_index.proofs.Kept.{one_known}
+use Rattle.cpc_eval_index.proofs.index.Index.locals_of.Goals as goal
+
+pub locals_in-requires : goal.locals_in-requires
+locals_in-requires c =
+    one_known c.args.self.now c.args.place c.in-Some.item.now _ c.in-Some.ensures
+    (c.table_at.ensures ∙ ap (λ rows. get_or rows c.args.place None) c.deref.ensures.value)
+
+pub returns-in-Some : goal.returns-in-Some
+returns-in-Some c = λ item at.
+    let same : c.in-Some.item.now ≡ item = (let e : Some c.in-Some.item.now ≡ Some item = c.in-Some.ensures ∙ at in cc) in
+    c.locals_in.ensures.owner ∙ ap function_defined same
+
+pub returns-in-None : goal.returns-in-None
+returns-in-None c = λ item at. absurd (let e : None ≡ Some item = c.in-None.ensures ∙ at in cc)
