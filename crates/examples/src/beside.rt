@@ -1,10 +1,8 @@
 //! Two sections that are out at once.
-use crate::calls::{Files, shelf, words_of};
-use crate::failing::steady;
-use crate::held::{Together, Watched};
 use cpc_base::{Calls, MemSink};
 use cpc_cli::cpc_main;
 use cpc_hosts::{HostTable, Kept, StdHosts};
+use examples_rows::{Files, Together, Watched, shelf, steady, words_of};
 use std::alloc::Global;
 use std::sync::{Arc, Wait};
 use std::thread::Threads;

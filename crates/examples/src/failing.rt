@@ -1,56 +1,13 @@
 //! Calls in which one thing fails: each read, each put on `out` and each put on `err` in turn; and calls over each front of
 //! a text. A function gives what the first call left that is not so.
-use crate::calls::{Files, Left, Setting, make};
+use crate::calls::make;
 use cpc_hosts::{HostTable, Kept, StdHosts};
+use examples_rows::{
+    Due, Files, Left, Setting, calls_for, is_cut, is_due, is_left, reads_for, steady,
+};
 use std::alloc::{AllocError, Global};
 use std::sync::Wait;
 use std::thread::Threads;
-
-/// What is due to a call where nothing fails.
-#[derive(Clone, Copy)]
-pub struct Due<'a> {
-    /// On `out`.
-    pub out: &'a [u8],
-    /// On `err`.
-    pub err: &'a [u8],
-    /// The status.
-    pub status: u64,
-}
-
-/// So many bytes a call, and nothing fails.
-pub fn steady(most: u64) -> Setting {
-    Setting {
-        most,
-        read: 0,
-        put: 0,
-        said: 0,
-        idle: 0,
-    }
-}
-
-// How many calls of so many bytes this length takes.
-fn calls_for(length: usize, most: u64) -> u64 {
-    (length as u64)
-        .saturating_add(most)
-        .saturating_sub(1)
-        .checked_div(most)
-        .unwrap_or(0)
-}
-
-// Whether a call left this.
-fn is_left(left: &Left, status: u64, out: &[u8], err: &[u8]) -> bool {
-    u64::from(left.status) == status && left.out.as_slice() == out && left.err.as_slice() == err
-}
-
-// Whether a call left what is due where nothing fails.
-fn is_due(left: &Left, due: Due<'_>) -> bool {
-    is_left(left, due.status, due.out, due.err)
-}
-
-// How many reads take all of a file; the last finds its end.
-fn reads_for(file: &[u8], most: u64) -> u64 {
-    calls_for(file.len(), most).saturating_add(1)
-}
 
 /// Each read fails, of the text and then of the history, and none is made behind these.
 ///
@@ -99,19 +56,6 @@ where
         }
     }
     Ok(None)
-}
-
-// Whether a call whose put failed left a proper front of what is due, and more than the calls before it: they had so many
-// bytes, or none was made.
-fn is_cut(left: &Left, due: Due<'_>, before: Option<usize>) -> bool {
-    let length = left.out.len();
-    let is_more = match before {
-        Some(before) => before < length,
-        None => length == 0,
-    };
-    let is_front = length < due.out.len() && due.out.starts_with(left.out.as_slice());
-    let is_told = left.status == 9 && left.err.as_slice() == b"write fault\n".as_slice();
-    is_more && is_front && is_told
 }
 
 /// Each put on `out` fails. Where a put takes a byte, there is one for each byte that is due.

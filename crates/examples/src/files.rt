@@ -1,6 +1,7 @@
 //! The files of rows: calls over a text, each with what it has to write and how it has to end. A row that is not so is shown.
-use crate::row::Row;
+use crate::row::take_line;
 use cpc_hosts::{HostTable, Kept, StdHosts};
+use examples_rows::Row;
 use std::fs;
 use std::sync::Wait;
 use std::thread::Threads;
@@ -56,7 +57,7 @@ where
     let mut line = Vec::new(alloc);
     for byte in bytes.iter() {
         if *byte == b'\n' {
-            row.take(rt, threads, hosts, line.as_slice())?;
+            take_line(rt, threads, hosts, &mut row, line.as_slice())?;
             line.clear();
         } else {
             line.push(*byte)?;

@@ -5,8 +5,6 @@ mod beside;
 mod calls;
 mod failing;
 mod files;
-mod held;
-mod idle;
 mod row;
 mod shown;
 
