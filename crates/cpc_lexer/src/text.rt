@@ -1,8 +1,11 @@
 //! The tokens of a text.
-ghost use Rattle.std.specs.Prelude.{◌≡◌, ◌+◌, ◌<◌, ◌≤◌, ◌^◌, length, map, All, IfOk, IfErr, OnOk, OnErr, IfSome, ◌++◌};
+ghost use Rattle.std.specs.Prelude.{◌≡◌, ◌+◌, ◌<◌, ◌≤◌, ◌^◌, length, map, All, IfOk, IfErr, OnOk, OnErr, IfSome, ◌++◌, List, Err};
+ghost use Rattle.cpc_base.specs.Bytes.{Text};
+ghost use Rattle.cpc_base.specs.declared.stop.Stop.TheVariants.{Fault};
 ghost use Rattle.cpc_tree.specs.Erase.{in_table};
-ghost use Rattle.cpc_tree.specs.Tokens.{placed_of};
-ghost use Rattle.cpc_tree.specs.Cut.{text_start, place_behind, IsFaulty, IsCut, IsLexFault, HasOneAnswer};
+ghost use Rattle.cpc_tree.specs.Tokens.{Placed, placed_of};
+ghost use Rattle.cpc_tree.specs.Cut.{text_start, place_behind, Row, IsFaulty, IsCut, IsLexFault, HasOneAnswer};
+ghost use Rattle.cpc_lexer.specs.declared.fault.LexFault.{LexFault};
 ghost use Rattle.cpc_lexer.specs.Faults.{IfFault};
 ghost use Rattle.cpc_lexer.specs.Fronts.{IsLongestFront, kind_piece};
 ghost use Rattle.cpc_lexer.specs.Table.{with_kind, with_tokens, HasGrown, NameBelow, TokenBelow, kept};
@@ -19,8 +22,8 @@ use std::alloc::Global;
 ///
 /// # Errors
 ///
-/// `Stop::Fault` with the first fault, which stands at the first byte of what is faulty, and `Stop::Memory` for want of
-/// memory. After either the table may hold further names behind the old ones.
+/// `Stop::Fault` with the first fault, which stands at the first byte of what is faulty; the names of the tokens before it
+/// are in the table then. `Stop::Memory` for want of memory, after which the table may hold further names behind the old ones.
 pub fn tokens(
     alloc: Global,
     text: &[u8],
@@ -34,6 +37,8 @@ pub fn tokens(
     ensures below { IfOk result (λ v. All (TokenBelow (length names.new)) v.items) }
 
     ensures fault { IfErr result (λ stop. IfFault stop (λ f. IsLexFault text.now dialect f.place f.number)) }
+    // Behind a fault the table holds the names of the tokens before it.
+    ensures stands { (f : LexFault) → result ≡ Err (Fault f) → (list : List Placed) × (rest : Text) × Row dialect text_start text.now list f.place rest × (names.new ≡ with_tokens names.old list) }
     ensures grown { HasGrown names.old names.new }
     ensures room { length names.new ≤ length names.old + length text.now }
 
