@@ -5,6 +5,7 @@ ghost use Rattle.cpc_base.specs.declared.stop.Stop.TheVariants.{Fault};
 ghost use Rattle.cpc_tree.specs.Erase.{program_of};
 ghost use Rattle.cpc_tree.specs.Locate.{located};
 ghost use Rattle.cpc_meaning.specs.Runs.{SameRuns, Within};
+ghost use Rattle.cpc_printer.specs.Style.{IsPrint};
 ghost use Rattle.cpc_check.specs.Accepted.{Accepts};
 ghost use Rattle.cpc_convert_event.specs.Converted.{converted};
 ghost use Rattle.cpc_convert_shape_laws.specs.Shape.{Shape};
@@ -42,6 +43,8 @@ pub struct Translated {
 pub fn translate(alloc: Global, text: &[u8]) -> Result<Translated, Stop<TextFault>>
     ensures source { IfOk result (λ t. Accepts D.Cpc text.now (located t.source.program)) }
     ensures printed { IfOk result (λ t. Accepts D.Event t.printed.items (located t.read_back.program)) }
+    // It is a row of blanks and of the tokens that the printer writes of that program.
+    ensures print { IfOk result (λ t. IsPrint t.printed.items (program_of t.read_back.program)) }
     ensures dialects { IfOk result (λ t. (t.source.dialect ≡ D.Cpc) × (t.read_back.dialect ≡ D.Event)) }
     ensures equal { IfOk result (λ t. program_of t.read_back.program ≡ converted (program_of t.source.program)) }
     ensures same { IfOk result (λ t. SameRuns (program_of t.source.program) (program_of t.read_back.program)) }

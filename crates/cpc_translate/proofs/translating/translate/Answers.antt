@@ -19,6 +19,9 @@ returns-in-Ok-read_again-clause-equal c =
     let q = print_accepted c.args.text.now p s.accepted s.bytes c.as_slice.result.now (subst (λ t. IsPrint t (converted (program_of p))) (sym c.as_slice.ensures.value) c.in-Ok.ensures) in
     c.in-Ok-read_again.ensures.equal q.0 q.1 ∙ q.2
 
+pub returns-in-Ok-read_again-clause-print : goal.returns-in-Ok-read_again-clause-print
+returns-in-Ok-read_again-clause-print c = subst (λ q. IsPrint c.in-Ok.printed.items q) (sym (returns-in-Ok-read_again-clause-equal c)) c.in-Ok.ensures
+
 pub returns-in-Ok-read_again-clause-same : goal.returns-in-Ok-read_again-clause-same
 returns-in-Ok-read_again-clause-same c =
     let s = c.in_ok-source.ensures in
