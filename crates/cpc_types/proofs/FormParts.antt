@@ -7,7 +7,7 @@ use Rattle.cpc_tree.specs.Syntax.{Ty, TyInt, ESizeOf, Program}
 use Rattle.cpc_tree.specs.Typing as T
 use Rattle.cpc_tree.specs.Typing.{◌>>=◌}
 use Rattle.cpc_types.specs.Found.{used_of}
-use Rattle.cpc_types.specs.Forms.{binary_of, choice_of, cast_of, index_of, arrow_of}
+use Rattle.cpc_types.specs.Forms.{binary_of, choice_of, cast_of, index_of, arrow_of, of_both, element_of}
 
 value_of : (o : Option Ty) → (o >>= (λ (r : Ty). Some (T.AValue r))) ≡ option_map T.AValue o
 value_of None = refl
@@ -72,16 +72,45 @@ pub binary_right : (p : Program) (op : Op) (m n : Bool) (a b : Option T.Typed) �
 unfolding two
 binary_right p op m n a b e = two_right a b (λ v w. T.binary_type p op m n v w >>= (λ (r : Ty). Some (T.AValue r))) e
 
+-- ---- two operands, one after the other
+
+second_used : {X : Type 0} (t : Ty) (b : Option T.Typed) (f : Ty → Ty → Option X) → (b >>= (λ e. T.used e >>= (λ u. f t u))) ≡ of_both (Some t) (used_of b) f
+second_used t None f = refl
+second_used t (Some e) f = elim (T.used e) as (λ o. (o >>= (λ u. f t u)) ≡ of_both (Some t) o f) [ None ↦ refl | Some u ↦ refl ]
+
+two_used : {X : Type 0} (a b : Option T.Typed) (f : Ty → Ty → Option X) → two a b f ≡ of_both (used_of a) (used_of b) f
+unfolding two
+two_used None b f = refl
+two_used (Some d) b f = elim (T.used d) as (λ o. (o >>= (λ t. b >>= (λ e. T.used e >>= (λ u. f t u)))) ≡ of_both o (used_of b) f) [ None ↦ refl | Some t ↦ second_used t b f ]
+
+values_of : (a b : Option Ty) (f : Ty → Ty → Option Ty) → of_both a b (λ t u. f t u >>= (λ (r : Ty). Some (T.AValue r))) ≡ option_map T.AValue (of_both a b f)
+values_of None b f = refl
+values_of (Some t) None f = refl
+values_of (Some t) (Some u) f = value_of (f t u)
+
+pub binary_used : (p : Program) (op : Op) (m n : Bool) (a b : Option T.Typed) (o q : Option Ty) → o ≡ used_of a → q ≡ used_of b
+    → option_map T.AValue (of_both o q (T.binary_type p op m n)) ≡ binary_of p op m n a b
+unfolding two
+binary_used p op m n a b o q e f =
+    let g = λ (v w : Ty). T.binary_type p op m n v w >>= (λ (r : Ty). Some (T.AValue r)) in
+    ap (λ u. option_map T.AValue (of_both u q (T.binary_type p op m n))) e
+    ∙ (ap (λ u. option_map T.AValue (of_both (used_of a) u (T.binary_type p op m n))) f
+    ∙ sym (two_used a b g ∙ values_of (used_of a) (used_of b) (T.binary_type p op m n)))
+
+pub index_used : (p : Program) (a b : Option T.Typed) (o q : Option Ty) → o ≡ used_of a → q ≡ used_of b → of_both o q (element_of p) ≡ index_of p a b
+unfolding two
+index_used p a b o q e f = ap (λ u. of_both u q (element_of p)) e ∙ (ap (λ u. of_both (used_of a) u (element_of p)) f ∙ sym (two_used a b (element_of p)))
+
 element_at : Option Ty → Option T.Typed
 element_at o = o >>= (λ (r : Ty). T.target r >>= (λ (v : Ty). Some (T.APlace v)))
 
-pub index_some : (p : Program) (a b : Option T.Typed) (t u r : Ty) → Some t ≡ used_of a → Some u ≡ used_of b → Some r ≡ T.sum_type p t u → index_of p a b ≡ option_map T.APlace (T.target r)
-unfolding two element_at
-index_some p a b t u r e f g = two_some a b (λ v w. element_at (T.sum_type p v w)) t u e f ∙ ap element_at (sym g) ∙ place_of (T.target r)
+pub element_some : (p : Program) (t u r : Ty) → Some r ≡ T.sum_type p t u → element_of p t u ≡ option_map T.APlace (T.target r)
+unfolding element_at
+element_some p t u r g = ap element_at (sym g) ∙ place_of (T.target r)
 
-pub index_apart : (p : Program) (a b : Option T.Typed) (t u : Ty) → Some t ≡ used_of a → Some u ≡ used_of b → None ≡ T.sum_type p t u → index_of p a b ≡ None
-unfolding two element_at
-index_apart p a b t u e f g = two_some a b (λ v w. element_at (T.sum_type p v w)) t u e f ∙ ap element_at (sym g)
+pub element_none : (p : Program) (t u : Ty) → None ≡ T.sum_type p t u → element_of p t u ≡ None
+unfolding element_at
+element_none p t u g = ap element_at (sym g)
 
 pub index_left : (p : Program) (a b : Option T.Typed) → None ≡ used_of a → index_of p a b ≡ None
 unfolding two element_at
@@ -101,23 +130,14 @@ test_none : {X : Type 0} (o : Option Ty) (r : Option X) → is_some o ≡ false 
 test_none None r e = refl
 test_none (Some k) r e = cc
 
-pub choice_some : (m n : Bool) (c a b : Option T.Typed) (t u : Ty) → is_some (T.tested_type c) ≡ true → Some t ≡ used_of a → Some u ≡ used_of b → choice_of m n c a b ≡ option_map T.AValue (T.choice_type m n t u)
+pub choice_tested : (m n : Bool) (c a b : Option T.Typed) (o q : Option Ty) → is_some (T.tested_type c) ≡ true → o ≡ used_of a → q ≡ used_of b
+    → option_map T.AValue (of_both o q (T.choice_type m n)) ≡ choice_of m n c a b
 unfolding two
-choice_some m n c a b t u h e f =
+choice_tested m n c a b o q h e f =
     let g = λ (v w : Ty). T.choice_type m n v w >>= (λ (r : Ty). Some (T.AValue r)) in
-    test_first (T.tested_type c) (two a b g) h ∙ two_some a b g t u e f ∙ value_of (T.choice_type m n t u)
-
-pub choice_left : (m n : Bool) (c a b : Option T.Typed) → is_some (T.tested_type c) ≡ true → None ≡ used_of a → choice_of m n c a b ≡ None
-unfolding two
-choice_left m n c a b h e =
-    let g = λ (v w : Ty). T.choice_type m n v w >>= (λ (r : Ty). Some (T.AValue r)) in
-    test_first (T.tested_type c) (two a b g) h ∙ two_left a b g e
-
-pub choice_right : (m n : Bool) (c a b : Option T.Typed) → is_some (T.tested_type c) ≡ true → None ≡ used_of b → choice_of m n c a b ≡ None
-unfolding two
-choice_right m n c a b h e =
-    let g = λ (v w : Ty). T.choice_type m n v w >>= (λ (r : Ty). Some (T.AValue r)) in
-    test_first (T.tested_type c) (two a b g) h ∙ two_right a b g e
+    ap (λ u. option_map T.AValue (of_both u q (T.choice_type m n))) e
+    ∙ (ap (λ u. option_map T.AValue (of_both (used_of a) u (T.choice_type m n))) f
+    ∙ sym (test_first (T.tested_type c) (two a b g) h ∙ two_used a b g ∙ values_of (used_of a) (used_of b) (T.choice_type m n)))
 
 pub choice_untested : (m n : Bool) (c a b : Option T.Typed) → is_some (T.tested_type c) ≡ false → choice_of m n c a b ≡ None
 unfolding two

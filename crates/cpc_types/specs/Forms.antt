@@ -72,6 +72,18 @@ arrow_of p o x = do
   t ← used d
   T.field_type p (T.target t) x
 
+-- what is made of two types that are there
+abbrev pub of_both : {X : Type 0} → Option Ty → Option Ty → (Ty → Ty → Option X) → Option X
+of_both (Some t) (Some u) f = f t u
+of_both _ _ f = None
+
+-- an element of a value of the first type, where the index has the second
+abbrev pub element_of : Program → Ty → Ty → Option Typed
+element_of p t u = do
+  r ← T.sum_type p t u
+  v ← T.target r
+  Some (APlace v)
+
 -- the type of an expression with one operand, or None
 abbrev pub narrow_typed : R.Scope → Expr → Option Typed
 narrow_typed s (EUnary op a) = unary_of op (is_named a) (R.typed s a)

@@ -1,5 +1,5 @@
 //! The types of expressions.
-ghost use Rattle.std.specs.Prelude.{◌≡◌, IfOk};
+ghost use Rattle.std.specs.Prelude.{◌≡◌, Ok, IfOk};
 ghost use Rattle.cpc_tree.specs.Erase.{Names, expr_of};
 ghost use Rattle.cpc_check_rules.specs.Apart.{AreApart};
 ghost use Rattle.cpc_check_rules.specs.Scopes as R;
@@ -8,11 +8,11 @@ ghost use Rattle.cpc_types.specs.Forms.{narrow_typed, wide_typed, logical_typed}
 ghost use Rattle.cpc_types.specs.Scoped.{scope_of};
 
 use crate::forms::{
-    arrow_form, binary_form, cast_form, choice_form, index_form, is_named, member_form, size_form,
-    test_form, unary_form,
+    arrow_form, binary_form, cast_form, index_form, is_named, member_form, size_form, test_form,
+    tested_form, unary_form,
 };
 use crate::names::name_type;
-use crate::operators::{TypeFound, is_null};
+use crate::operators::{TypeFound, is_null, is_tested};
 use crate::scope::Scope;
 use cpc_base::NoMemory;
 use cpc_num::Kind;
@@ -40,6 +40,20 @@ pub fn typing(alloc: Global, e: &Expr, scope: &Scope) -> Result<TypeFound, NoMem
         Expr::Or { .. } => logical(alloc, e, scope),
         Expr::Choose { .. } => logical(alloc, e, scope),
         Expr::Index { .. } => wide(alloc, e, scope),
+    }
+}
+
+// What was found of two operands, where the second did not want memory.
+fn both_found(
+    first: TypeFound,
+    second: Result<TypeFound, NoMemory>,
+) -> Result<(TypeFound, TypeFound), NoMemory>
+    ensures first { IfOk result (λ both. both.0 ≡ first) }
+    ensures second { IfOk result (λ both. second ≡ Ok both.1) }
+{
+    match second {
+        Ok(second) => Ok((first, second)),
+        Err(error) => Err(error),
     }
 }
 
@@ -85,14 +99,18 @@ fn wide(alloc: Global, e: &Expr, scope: &Scope) -> Result<TypeFound, NoMemory>
             right,
             ..
         } => {
-            let first = typing(alloc, left, scope)?;
-            let second = typing(alloc, right, scope)?;
+            let (first, second) = both_found(
+                typing(alloc, left, scope)?,
+                typing(alloc, right, scope),
+            )?;
             let nulls = (is_null(left), is_null(right));
             binary_form(alloc, *op, nulls, first, second, scope)
         }
         Expr::Index { operand, index, .. } => {
-            let first = typing(alloc, operand, scope)?;
-            let second = typing(alloc, index, scope)?;
+            let (first, second) = both_found(
+                typing(alloc, operand, scope)?,
+                typing(alloc, index, scope),
+            )?;
             index_form(alloc, first, second, scope)
         }
         _ => Ok(TypeFound::Absent),
@@ -106,21 +124,24 @@ fn logical(alloc: Global, e: &Expr, scope: &Scope) -> Result<TypeFound, NoMemory
 {
     match e {
         Expr::And { left, right, .. } => {
-            let first = typing(alloc, left, scope)?;
-            let second = typing(alloc, right, scope)?;
+            let (first, second) = both_found(
+                typing(alloc, left, scope)?,
+                typing(alloc, right, scope),
+            )?;
             Ok(test_form(first, second))
         }
         Expr::Or { left, right, .. } => {
-            let first = typing(alloc, left, scope)?;
-            let second = typing(alloc, right, scope)?;
+            let (first, second) = both_found(
+                typing(alloc, left, scope)?,
+                typing(alloc, right, scope),
+            )?;
             Ok(test_form(first, second))
         }
         Expr::Choose { test, yes, no, .. } => {
-            let tested = typing(alloc, test, scope)?;
-            let first = typing(alloc, yes, scope)?;
-            let second = typing(alloc, no, scope)?;
+            let tested = is_tested(typing(alloc, test, scope)?);
+            let (first, second) = both_found(typing(alloc, yes, scope)?, typing(alloc, no, scope))?;
             let nulls = (is_null(yes), is_null(no));
-            Ok(choice_form(nulls, tested, first, second))
+            Ok(tested_form(nulls, tested, first, second))
         }
         _ => Ok(TypeFound::Absent),
     }

@@ -1,5 +1,5 @@
 //! The types of the forms of expression by those of their parts.
-ghost use Rattle.std.specs.Prelude.{◌≡◌, IfOk};
+ghost use Rattle.std.specs.Prelude.{◌≡◌, IfOk, Option, is_some, option_map};
 ghost use Rattle.cpc_tree.specs.Erase.{Names, type_of, expr_of};
 ghost use Rattle.cpc_check_rules.specs.Apart.{AreApart};
 ghost use Rattle.cpc_num.specs.declared.kinds.Kind.TheVariants.{ULong};
@@ -7,7 +7,8 @@ ghost use Rattle.cpc_tree.specs.Typing as T;
 ghost use Rattle.cpc_check_rules.specs.Scopes as R;
 ghost use Rattle.cpc_tree.specs.Syntax.{ESizeOf};
 ghost use Rattle.cpc_types.specs.Found.{found_of, can_move};
-ghost use Rattle.cpc_types.specs.Forms.{is_named, unary_of, binary_of, choice_of, cast_of, index_of, member_of, arrow_of};
+ghost use Rattle.cpc_types.specs.Listed.{optional_of};
+ghost use Rattle.cpc_types.specs.Forms.{is_named, unary_of, binary_of, choice_of, cast_of, index_of, member_of, arrow_of, of_both, element_of};
 ghost use Rattle.cpc_types.specs.Scoped.{scope_of};
 
 use crate::copies::copy_of;
@@ -65,7 +66,6 @@ pub fn unary_form(
 }
 
 /// An operator on two operands. `nulls` tells which of them are the literal 0.
-#[tactic(auto, using(std::proofs::lemmas::Grind::common_steps, crate::proofs::FormParts::binary_some, crate::proofs::FormParts::binary_left, crate::proofs::FormParts::binary_right))]
 pub fn binary_form(
     alloc: Global,
     op: Op,
@@ -76,14 +76,32 @@ pub fn binary_form(
 ) -> Result<TypeFound, NoMemory>
     ensures { IfOk result (λ form. (names : Names) → AreApart names → found_of names form ≡ binary_of (scope_of names scope.now).items op nulls.0 nulls.1 (found_of names left) (found_of names right)) }
 {
-    let Some(t) = used(left) else {
-        return Ok(TypeFound::Absent);
-    };
-    let Some(u) = used(right) else {
-        return Ok(TypeFound::Absent);
-    };
-    let found = binary_type(alloc, op, nulls, &t, &u, can_move(&t, &u, scope))?;
-    Ok(value_of(found))
+    let t = used(left);
+    let u = used(right);
+    operated(alloc, op, nulls, &t, &u, scope)
+}
+
+// An operator on two values of these types.
+fn operated(
+    alloc: Global,
+    op: Op,
+    nulls: (bool, bool),
+    t: &Option<CType>,
+    u: &Option<CType>,
+    scope: &Scope,
+) -> Result<TypeFound, NoMemory>
+    ensures { IfOk result (λ form. (names : Names) → AreApart names → found_of names form ≡ option_map T.AValue (of_both (optional_of names t.now) (optional_of names u.now) (T.binary_type (scope_of names scope.now).items op nulls.0 nulls.1))) }
+{
+    match t {
+        Some(t) => match u {
+            Some(u) => {
+                let found = binary_type(alloc, op, nulls, t, u, can_move(t, u, scope))?;
+                Ok(value_of(found))
+            }
+            None => Ok(TypeFound::Absent),
+        },
+        None => Ok(TypeFound::Absent),
+    }
 }
 
 /// `&&` and `||`.
@@ -97,20 +115,41 @@ pub fn test_form(left: TypeFound, right: TypeFound) -> TypeFound
 }
 
 /// `?:`. `nulls` tells which of the two arms are the literal 0.
-#[tactic(auto, using(std::proofs::lemmas::Grind::common_steps, crate::proofs::FormParts::choice_some, crate::proofs::FormParts::choice_left, crate::proofs::FormParts::choice_right, crate::proofs::FormParts::choice_untested))]
 pub fn choice_form(nulls: (bool, bool), test: TypeFound, yes: TypeFound, no: TypeFound) -> TypeFound
     ensures { (names : Names) → AreApart names → found_of names result ≡ choice_of nulls.0 nulls.1 (found_of names test) (found_of names yes) (found_of names no) }
 {
-    if !is_tested(test) {
-        return TypeFound::Absent;
+    tested_form(nulls, is_tested(test), yes, no)
+}
+
+/// `?:`, where `tested` tells whether what stands before the `?` can be tested.
+pub(crate) fn tested_form(
+    nulls: (bool, bool),
+    tested: bool,
+    yes: TypeFound,
+    no: TypeFound,
+) -> TypeFound
+    ensures { (names : Names) (test : Option T.Typed) → AreApart names → tested ≡ is_some (T.tested_type test) → found_of names result ≡ choice_of nulls.0 nulls.1 test (found_of names yes) (found_of names no) }
+{
+    let t = used(yes);
+    let u = used(no);
+    if tested {
+        value_of(chosen(nulls, t, u))
+    } else {
+        TypeFound::Absent
     }
-    let Some(t) = used(yes) else {
-        return TypeFound::Absent;
-    };
-    let Some(u) = used(no) else {
-        return TypeFound::Absent;
-    };
-    value_of(choice_type(nulls.0, nulls.1, t, u))
+}
+
+// The type of `?:` by those of its arms.
+fn chosen(nulls: (bool, bool), t: Option<CType>, u: Option<CType>) -> Option<CType>
+    ensures { (names : Names) → AreApart names → optional_of names result ≡ of_both (optional_of names t) (optional_of names u) (T.choice_type nulls.0 nulls.1) }
+{
+    match t {
+        Some(t) => match u {
+            Some(u) => choice_type(nulls.0, nulls.1, t, u),
+            None => None,
+        },
+        None => None,
+    }
 }
 
 /// A cast. `null` tells whether the operand is the literal 0.
@@ -146,7 +185,6 @@ pub fn size_form(of: &CType, scope: &Scope) -> TypeFound
 }
 
 /// An element.
-#[tactic(auto, using(std::proofs::lemmas::Grind::common_steps, crate::proofs::FormParts::index_some, crate::proofs::FormParts::index_apart, crate::proofs::FormParts::index_left, crate::proofs::FormParts::index_right))]
 pub fn index_form(
     alloc: Global,
     operand: TypeFound,
@@ -155,14 +193,29 @@ pub fn index_form(
 ) -> Result<TypeFound, NoMemory>
     ensures { IfOk result (λ form. (names : Names) → AreApart names → found_of names form ≡ index_of (scope_of names scope.now).items (found_of names operand) (found_of names index)) }
 {
-    let Some(t) = used(operand) else {
-        return Ok(TypeFound::Absent);
-    };
-    let Some(u) = used(index) else {
-        return Ok(TypeFound::Absent);
-    };
-    match sum_type(alloc, &t, &u, can_move(&t, &u, scope))? {
-        Some(sum) => Ok(place_at(target(sum))),
+    let t = used(operand);
+    let u = used(index);
+    element(alloc, &t, &u, scope)
+}
+
+// An element of a value of the first type, where the index has the second.
+#[tactic(auto, using(std::proofs::lemmas::Grind::common_steps, crate::proofs::FormParts::element_some, crate::proofs::FormParts::element_none))]
+fn element(
+    alloc: Global,
+    t: &Option<CType>,
+    u: &Option<CType>,
+    scope: &Scope,
+) -> Result<TypeFound, NoMemory>
+    ensures { IfOk result (λ form. (names : Names) → AreApart names → found_of names form ≡ of_both (optional_of names t.now) (optional_of names u.now) (element_of (scope_of names scope.now).items)) }
+{
+    match t {
+        Some(t) => match u {
+            Some(u) => match sum_type(alloc, t, u, can_move(t, u, scope))? {
+                Some(sum) => Ok(place_at(target(sum))),
+                None => Ok(TypeFound::Absent),
+            },
+            None => Ok(TypeFound::Absent),
+        },
         None => Ok(TypeFound::Absent),
     }
 }
