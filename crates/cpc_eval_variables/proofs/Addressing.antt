@@ -1,5 +1,5 @@
 -- What is added for an expression, by the form that the code finds.
-use Rattle.std.proofs.Common.{◌≡◌, List, ◌++◌, Option, None, refl, sym, ap, ◌∙◌, append_assoc, Vec, Box, Global}
+use Rattle.std.proofs.Common.{◌≡◌, ◌⊎◌, inl, inr, ℕ, List, ◌++◌, Option, None, refl, sym, ap, ◌∙◌, append_assoc, Vec, Box, Global}
 use Rattle.cpc_base.specs.declared.stop.Place.{Place}
 use Rattle.cpc_base.specs.declared.names.Name.{Name}
 use Rattle.cpc_tree.specs.declared.program.Word.{Word}
@@ -51,3 +51,32 @@ no_name names scope (E.Index' p q a r i) h = refl
 no_name names scope (E.Member' p q e field) h = refl
 no_name names scope (E.Arrow' p q e field) h = refl
 no_name names scope (E.CallIn' p q f shape row) h = refl
+
+-- what is added for parts that the code reads by references
+module _ (names : Names) (scope : Scope) (e : GExpr.Expr) where
+  pub index_added : (place : Place) (a b : Box GExpr.Expr Global) (v w : GExpr.Expr) (x y z : List ℕ) → e ≡ E.Index place a b → v ≡ a.value → w ≡ b.value
+      → y ≡ x ++ addresses scope (expr_of names v) → z ≡ y ++ addresses scope (expr_of names w) → z ≡ x ++ addresses scope (expr_of names e)
+  index_added place a b v w x y z is ev ew k m =
+      let A : GExpr.Expr → List ℕ = λ q. addresses scope (expr_of names q) in
+      both_added x (A v) (A w) (A e) y z k m (ap A is ∙ (ap (λ q. A q ++ A b.value) (sym ev) ∙ ap (λ q. A v ++ A q) (sym ew)))
+
+  pub choice_added : (place : Place) (t a b : Box GExpr.Expr Global) (u v w : GExpr.Expr) (x y z l : List ℕ) → e ≡ E.Choose place t a b → u ≡ t.value → v ≡ a.value → w ≡ b.value
+      → y ≡ x ++ addresses scope (expr_of names u) → z ≡ y ++ addresses scope (expr_of names v) → l ≡ z ++ addresses scope (expr_of names w) → l ≡ x ++ addresses scope (expr_of names e)
+  choice_added place t a b u v w x y z l is eu ev ew k m n =
+      let A : GExpr.Expr → List ℕ = λ q. addresses scope (expr_of names q) in
+      both_added x (A u ++ A v) (A w) (A e) z l (both_added x (A u) (A v) (A u ++ A v) y z k m refl) n
+      (ap A is ∙ (ap (λ q. (A q ++ A a.value) ++ A b.value) (sym eu) ∙ (ap (λ q. (A u ++ A q) ++ A b.value) (sym ev) ∙ ap (λ q. (A u ++ A v) ++ A q) (sym ew))))
+
+  -- in the two operands of an operator
+  operands : (a b : Box GExpr.Expr Global) → ((p : Place) × (op : _) × e ≡ E.Binary p op a b) ⊎ (((p : Place) × e ≡ E.And p a b) ⊎ ((p : Place) × e ≡ E.Or p a b))
+      → addresses scope (expr_of names e) ≡ addresses scope (expr_of names a.value) ++ addresses scope (expr_of names b.value)
+  operands a b (inl (p, op, is)) = ap (λ q. addresses scope (expr_of names q)) is
+  operands a b (inr (inl (p, is))) = ap (λ q. addresses scope (expr_of names q)) is
+  operands a b (inr (inr (p, is))) = ap (λ q. addresses scope (expr_of names q)) is
+
+  pub operands_added : (a b : Box GExpr.Expr Global) (v w : GExpr.Expr) (x y z : List ℕ)
+      → ((p : Place) × (op : _) × e ≡ E.Binary p op a b) ⊎ (((p : Place) × e ≡ E.And p a b) ⊎ ((p : Place) × e ≡ E.Or p a b)) → v ≡ a.value → w ≡ b.value
+      → y ≡ x ++ addresses scope (expr_of names v) → z ≡ y ++ addresses scope (expr_of names w) → z ≡ x ++ addresses scope (expr_of names e)
+  operands_added a b v w x y z is ev ew k m =
+      let A : GExpr.Expr → List ℕ = λ q. addresses scope (expr_of names q) in
+      both_added x (A v) (A w) (A e) y z k m (operands a b is ∙ (ap (λ q. A q ++ A b.value) (sym ev) ∙ ap (λ q. A v ++ A q) (sym ew)))

@@ -8,17 +8,17 @@ use Rattle.cpc_tree.specs.declared.program.Parameter.{Parameter}
 use Rattle.cpc_tree.specs.declared.program.Expr as GExpr
 use Rattle.cpc_tree.specs.declared.program.Statement.{Statement}
 use Rattle.cpc_tree.specs.declared.program.Statement.TheVariants as T
-use Rattle.cpc_tree.specs.Syntax.{Ty, Variable, For}
+use Rattle.cpc_tree.specs.Syntax.{Ty, Variable, Stmt, For}
 use Rattle.cpc_tree.specs.Erase.{Names, type_of, expr_of, stmt_of, list_of, maybe_at, parameter_of}
 use Rattle.cpc_tree.specs.Typing as Y
-use Rattle.cpc_tree.specs.Points.{locals, locals_in, declared, extended, extended_all}
-use Rattle.cpc_tree.specs.Registers.{addresses_by, addresses_in, parameter_scope}
+use Rattle.cpc_tree.specs.Points.{locals, locals_in, locals_arm, declared, extended, extended_all}
+use Rattle.cpc_tree.specs.Registers.{addresses, addresses_by, addresses_in, addresses_arm, parameter_scope, as_variable}
 use Rattle.cpc_eval_variables.specs.declared.scope.Scope.{Scope}
 use Rattle.cpc_eval_variables.specs.Told.{IsTold}
 use Rattle.cpc_eval_variables.specs.Scoped.{scope_of, scope_over}
 use Rattle.cpc_eval_variables.specs.Typed.{types_in, types_of}
 use Rattle.cpc_eval_variables.proofs.Addressing.{both_added}
-use Rattle.cpc_eval_variables.proofs.Nodes.{block_seen, for_seen, row_more}
+use Rattle.cpc_eval_variables.proofs.Nodes.{block_seen, if_seen, for_seen, row_more}
 
 -- ---- lists that grow
 
@@ -71,6 +71,35 @@ module _ (names : Names) (e : Statement) where
       ∙ (ap (λ (s : Statement). addresses_by scope n (For (list_of names first.items) (option_map (expr_of names) test) (maybe_at names step) (stmt_of names s))) bs
       ∙ ap (addresses_by scope n) (sym (for_seen names e place first test step body is)))
 
+  pub if_locals : (place : Place) (test : GExpr.Expr) (a : Box Statement Global) (b : Option (Box Statement Global)) (s : Statement) → e ≡ T.If place test a b → s ≡ a.value
+      → locals (stmt_of names s) ++ locals_arm (maybe_at names b) ≡ locals (stmt_of names e)
+  if_locals place test a b s is es = ap (λ (q : Statement). locals (stmt_of names q) ++ locals_arm (maybe_at names b)) es ∙ ap locals (sym (if_seen names e place test a b is))
+
+  -- a test and two arms, the second in the scope after the first
+  pub if_added : (scope behind : Y.Scope) (n m : ℕ) (place : Place) (test : GExpr.Expr) (a : Box Statement Global) (b : Option (Box Statement Global)) (s : Statement) (x y z w : List ℕ)
+      → e ≡ T.If place test a b → s ≡ a.value → behind ≡ scope → m ≡ n + declared (stmt_of names s)
+      → y ≡ x ++ addresses scope (expr_of names test) → z ≡ y ++ addresses_by scope n (stmt_of names s) → w ≡ z ++ addresses_arm behind m (maybe_at names b)
+      → w ≡ x ++ addresses_by scope n (stmt_of names e)
+  if_added scope behind n m place test a b s x y z w is es same count k l h =
+      let t = addresses scope (expr_of names test) in
+      let S : Statement → List ℕ = λ q. addresses_by scope n (stmt_of names q) in
+      let R : Statement → List ℕ = λ q. addresses_arm scope (n + declared (stmt_of names q)) (maybe_at names b) in
+      let last : w ≡ z ++ R s = h ∙ (ap (λ q. z ++ addresses_arm q m (maybe_at names b)) same ∙ ap (λ i. z ++ addresses_arm scope i (maybe_at names b)) count) in
+      both_added x (t ++ S s) (R s) (S e) z w (both_added x t (S s) (t ++ S s) y z k l refl) last
+      (ap (addresses_by scope n) (if_seen names e place test a b is) ∙ ap (λ (q : Statement). (t ++ S q) ++ R q) (sym es))
+
+  pub while_added : (scope : Y.Scope) (n : ℕ) (place : Place) (test : GExpr.Expr) (body : Box Statement Global) (s : Statement) (x y z : List ℕ) → e ≡ T.While place test body → s ≡ body.value
+      → y ≡ x ++ addresses scope (expr_of names test) → z ≡ y ++ addresses_by scope n (stmt_of names s) → z ≡ x ++ addresses_by scope n (stmt_of names e)
+  while_added scope n place test body s x y z is es k h =
+      let S : Statement → List ℕ = λ q. addresses_by scope n (stmt_of names q) in
+      both_added x (addresses scope (expr_of names test)) (S s) (S e) y z k h (ap S is ∙ ap (λ q. addresses scope (expr_of names test) ++ S q) (sym es))
+
+  pub do_added : (scope behind : Y.Scope) (n : ℕ) (place : Place) (body : Box Statement Global) (test : GExpr.Expr) (s : Statement) (x y z : List ℕ) → e ≡ T.DoWhile place body test → s ≡ body.value
+      → behind ≡ scope → y ≡ x ++ addresses_by scope n (stmt_of names s) → z ≡ y ++ addresses behind (expr_of names test) → z ≡ x ++ addresses_by scope n (stmt_of names e)
+  do_added scope behind n place body test s x y z is es same k h =
+      let S : Statement → List ℕ = λ q. addresses_by scope n (stmt_of names q) in
+      both_added x (S s) (addresses scope (expr_of names test)) (S e) y z k (h ∙ ap (λ q. y ++ addresses q (expr_of names test)) same) (ap S is ∙ ap (λ q. S q ++ addresses scope (expr_of names test)) (sym es))
+
 -- the number of variables behind a statement
 pub later_count : (names : Names) (ts us : List (Bor CType)) (xs : List Variable) (n a b : ℕ) → types_of names us ≡ types_of names ts ++ types_in xs → a ≡ length us → b ≡ length ts → n + (a - b) ≡ n + length xs
 later_count names ts us xs n a b e p q = let h = counted names ts us xs e in omega arith
@@ -116,3 +145,16 @@ pub scope_same : (names : Names) (a b : Scope) → a.parameters.now ≡ b.parame
 scope_same names a b p q =
     ap (λ ps. scope_over names (parameter_scope 0 (map (parameter_of names) ps) []) a.locals.items) p
     ∙ ap (λ ls. scope_over names (parameter_scope 0 (map (parameter_of names) b.parameters.now) []) ls) q
+
+-- ---- a whole function
+
+pub all_types : (names : Names) (ps qs : List Parameter) (xs : List Variable) (y z : List Ty) → qs ≡ ps → y ≡ types_in (map as_variable (map (parameter_of names) qs)) → z ≡ y ++ types_in xs
+    → z ≡ types_in (map as_variable (map (parameter_of names) ps) ++ xs)
+all_types names ps qs xs y z e p q = both_types [] (map as_variable (map (parameter_of names) ps)) xs y z (p ∙ ap (λ l. types_in (map as_variable (map (parameter_of names) l))) e) q
+
+pub all_addressed : (names : Names) (ps qs : List Parameter) (scope : Y.Scope) (n : ℕ) (body : Stmt) (y z : List ℕ) → qs ≡ ps → scope ≡ parameter_scope 0 (map (parameter_of names) qs) [] → n ≡ length ps → y ≡ []
+    → z ≡ y ++ addresses_by scope n body → z ≡ addresses_by (parameter_scope 0 (map (parameter_of names) ps) []) (length (map (parameter_of names) ps)) body
+all_addressed names ps qs scope n body y z e at count none h =
+    h ∙ (ap (λ l. l ++ addresses_by scope n body) none
+    ∙ (ap (λ s. addresses_by s n body) (at ∙ ap (λ l. parameter_scope 0 (map (parameter_of names) l) []) e)
+    ∙ ap (λ i. addresses_by (parameter_scope 0 (map (parameter_of names) ps) []) i body) (count ∙ sym (length-map ps (parameter_of names)))))

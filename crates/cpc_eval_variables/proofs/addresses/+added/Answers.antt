@@ -3,7 +3,7 @@ use Rattle.std.proofs.lemmas.Result.{on_ok_weaker}
 use Rattle.cpc_tree.specs.Erase.{expr_of, exprs_of}
 use Rattle.cpc_tree.specs.Registers.{addresses, addresses_all}
 use Rattle.cpc_eval_variables.specs.Scoped.{scope_of}
-use Rattle.cpc_eval_variables.proofs.Addressing.{unary_plain, call_taken, both_added}
+use Rattle.cpc_eval_variables.proofs.Addressing.{unary_plain, call_taken, both_added, index_added, choice_added, operands_added}
 use Rattle.cpc_eval_variables.proofs.addresses.+added.Goals as goal
 
 pub add_addresses-returns-in-None : goal.add_addresses-returns-in-None
@@ -22,3 +22,18 @@ add_addresses-returns-in_ok-add_addresses-in-CallIn t c = on_ok_weaker c.add_all
     let u = c.deref-in-CallIn-2.ensures.value in
     let all : addresses scope (expr_of names c.args.e.now) ≡ addresses scope (expr_of names c.deref-in-CallIn.result.now) ++ addresses_all scope (exprs_of names c.deref-in-CallIn-2.result.now) = cc in
     both_added _ _ _ _ _ _ k m all) c.add_all_addresses.ensures
+
+pub add_addresses-returns-in_ok-add_addresses-in-Choose-2 : goal.add_addresses-returns-in_ok-add_addresses-in-Choose-2
+add_addresses-returns-in_ok-add_addresses-in-Choose-2 t c = on_ok_weaker c.add_addresses-in-Choose-3.result (λ h names told.
+    choice_added names (scope_of names c.args.scope.now) c.args.e.now _ c.in-Choose.test c.in-Choose.yes c.in-Choose.no _ _ _ _ _ _ _ c.in-Choose.is c.deref-in-Choose.ensures c.deref-in-Choose-2.ensures c.deref-in-Choose-3.ensures
+    (c.in_ok-add_addresses-in-Choose.ensures names told) (c.in_ok-add_addresses-in-Choose-2.ensures names told) (h names told)) c.add_addresses-in-Choose-3.ensures
+
+pub add_addresses-returns-in_ok-add_addresses-in-Index : goal.add_addresses-returns-in_ok-add_addresses-in-Index
+add_addresses-returns-in_ok-add_addresses-in-Index t c = on_ok_weaker c.add_addresses-in-Index-2.result (λ h names told.
+    index_added names (scope_of names c.args.scope.now) c.args.e.now _ c.in-Index.operand c.in-Index.index _ _ _ _ _ c.in-Index.is c.deref-in-Index.ensures c.deref-in-Index-2.ensures
+    (c.in_ok-add_addresses-in-Index.ensures names told) (h names told)) c.add_addresses-in-Index-2.ensures
+
+pub add_addresses-returns-in_ok-add_addresses-in-Binary : goal.add_addresses-returns-in_ok-add_addresses-in-Binary
+add_addresses-returns-in_ok-add_addresses-in-Binary t c = on_ok_weaker c.add_addresses-in-Binary-2.result (λ h names told.
+    operands_added names (scope_of names c.args.scope.now) c.args.e.now c.in-Binary.left c.in-Binary.right _ _ _ _ _ c.in-Binary.is c.deref-in-Binary.ensures c.deref-in-Binary-2.ensures
+    (c.in_ok-add_addresses-in-Binary.ensures names told) (h names told)) c.add_addresses-in-Binary-2.ensures

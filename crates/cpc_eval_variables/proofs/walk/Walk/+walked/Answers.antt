@@ -1,11 +1,12 @@
 use Rattle.std.proofs.Common.{◌≡◌, ◌+◌, ◌++◌, length, ap, ◌∙◌, option_map, refl, arith}
 use Rattle.std.proofs.lemmas.Result.{on_ok_weaker}
 use Rattle.cpc_tree.specs.Erase.{expr_of, stmt_of, list_of, maybe_at}
-use Rattle.cpc_tree.specs.Points.{locals, locals_in, extended_all}
+use Rattle.cpc_tree.specs.Points.{locals, locals_in, locals_arm, extended_all}
 use Rattle.cpc_tree.specs.Registers.{addresses_by, addresses_in, addresses_if, addresses_arm}
 use Rattle.cpc_eval_variables.specs.Scoped.{scope_of}
 use Rattle.cpc_eval_variables.specs.Typed.{types_in, types_of}
-use Rattle.cpc_eval_variables.proofs.Walking.{kept_longer, kept_on, later_count, told_same, header_added, block_locals, block_addresses, for_locals, for_addresses, types_more, scope_more, addressed_more, both_types, scope_same}
+use Rattle.cpc_eval_variables.proofs.Addressing.{both_added}
+use Rattle.cpc_eval_variables.proofs.Walking.{kept_longer, kept_on, later_count, told_same, header_added, block_locals, block_addresses, for_locals, for_addresses, types_more, scope_more, addressed_more, both_types, scope_same, if_locals, if_added, while_added, do_added}
 use Rattle.cpc_eval_variables.proofs.walk.Walk.+walked.Goals as goal
 
 pub inside-returns-in-Block-clause-types : goal.inside-returns-in-Block-clause-types
@@ -77,3 +78,35 @@ inside-returns-in_ok-inside-in-For-clause-types t c = λ names.
     (c.in_ok-inside-in-For.ensures.types names ∙ ap (λ ts. types_of names ts ++ types_in b) c.in_ok-step-in-For.ensures.types)
     ∙ ap (λ l. types_of names c.args.self.now.types.items ++ types_in l)
     (for_locals names c.args.s.now c.in-For.place c.in-For.first c.in-For.test c.in-For.step c.in-For.body c.deref-in-For.result.now c.deref-in-For-2.result.now c.in-For.is c.deref-in-For.ensures.value c.deref-in-For-2.ensures)
+
+pub inside-returns-in_ok-after-in-If-clause-addressed : goal.inside-returns-in_ok-after-in-If-clause-addressed
+inside-returns-in_ok-after-in-If-clause-addressed t c = on_ok_weaker c.arm.result (λ h names told.
+    let yes = c.in_ok-after-in-If.ensures in
+    if_added names c.args.s.now (scope_of names c.args.self.now.scope) (scope_of names c.counted.new.self.scope) c.args.n c.in_ok-after-in-If.after
+    _ c.in-If.test c.in-If.yes c.in-If.no c.deref-in-If.result.now _ _ _ _ c.in-If.is c.deref-in-If.ensures
+    (scope_same names c.counted.new.self.scope c.args.self.now.scope yes.parameters yes.locals) (yes.behind names)
+    (c.in_ok-add_addresses-in-If.ensures names told) (yes.addressed names told) (h names (told_same names _ _ yes.parameters told))) c.arm.ensures.addressed
+
+pub inside-returns-in_ok-after-in-If-clause-types : goal.inside-returns-in_ok-after-in-If-clause-types
+inside-returns-in_ok-after-in-If-clause-types t c = on_ok_weaker c.arm.result (λ h names.
+    let s = c.deref-in-If.result.now in
+    both_types (types_of names c.args.self.now.types.items) (locals (stmt_of names s)) (locals_arm (maybe_at names c.in-If.no)) _ _ (c.in_ok-after-in-If.ensures.types names) (h names)
+    ∙ ap (λ l. types_of names c.args.self.now.types.items ++ types_in l) (if_locals names c.args.s.now _ c.in-If.test c.in-If.yes c.in-If.no s c.in-If.is c.deref-in-If.ensures)) c.arm.ensures.types
+
+pub inside-returns-in_ok-add_addresses-in-While-clause-addressed : goal.inside-returns-in_ok-add_addresses-in-While-clause-addressed
+inside-returns-in_ok-add_addresses-in-While-clause-addressed t c = on_ok_weaker c.inside.result (λ h names told.
+    while_added names c.args.s.now (scope_of names c.args.self.now.scope) c.args.n _ c.in-While.test c.in-While.body c.deref-in-While.result.now _ _ _ c.in-While.is c.deref-in-While.ensures
+    (c.in_ok-add_addresses-in-While.ensures names told) (h names told)) c.inside.ensures.addressed
+
+pub inside-returns-in_ok-inside-in-DoWhile-clause-addressed : goal.inside-returns-in_ok-inside-in-DoWhile-clause-addressed
+inside-returns-in_ok-inside-in-DoWhile-clause-addressed t c = on_ok_weaker c.add_addresses-in-DoWhile.result (λ h names told.
+    let body = c.in_ok-inside-in-DoWhile.ensures in
+    do_added names c.args.s.now (scope_of names c.args.self.now.scope) (scope_of names c.inside-in-DoWhile.new.self.scope) c.args.n _ c.in-DoWhile.body c.in-DoWhile.test c.deref-in-DoWhile.result.now _ _ _
+    c.in-DoWhile.is c.deref-in-DoWhile.ensures (scope_same names c.inside-in-DoWhile.new.self.scope c.args.self.now.scope body.parameters body.locals)
+    (body.addressed names told) (h names (told_same names _ _ body.parameters told))) c.add_addresses-in-DoWhile.ensures
+
+pub header-returns-clause-addressed : goal.header-returns-clause-addressed
+header-returns-clause-addressed t c = λ names told.
+    let row = c.in_ok-row.ensures in
+    both_added _ _ _ _ _ _ (row.addressed names told)
+    (c.in_ok-add_addresses_if.ensures names (told_same names _ _ row.parameters told) ∙ ap (λ s. c.row.new.self.addressed.items ++ addresses_if s (option_map (expr_of names) c.args.test.now)) (row.scope names)) refl
