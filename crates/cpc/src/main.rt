@@ -12,7 +12,7 @@ ghost use Rattle.cpc_cli.specs.declared.answer.Report.{Report};
 
 use cpc_base::{Failed, NoMemory, Shelf, Sink, write_all};
 use cpc_cli::cpc_main;
-use cpc_files::{RealShelf, RealSink};
+use cpc_files::{OpenedShelf, StreamSink, SystemFiles};
 use cpc_hosts::{Answer, abs_diff, clamp, greatest, least, sign, standard_hosts};
 use cpc_pool::NoGate;
 use std::alloc::Global;
@@ -119,9 +119,9 @@ fn ended<E: Sink>(called: Result<u8, NoMemory>, err: &mut E) -> ExitCode
 }
 
 fn main(rt: HostRuntime) -> ExitCode {
-    let mut shelf = RealShelf::new(&rt);
-    let mut out = RealSink::new(rt.stdout());
-    let mut err = RealSink::new(rt.stderr());
+    let mut shelf = OpenedShelf::new(SystemFiles(&rt));
+    let mut out = StreamSink::new(rt.stdout());
+    let mut err = StreamSink::new(rt.stderr());
     let called = match words(&rt) {
         Ok(words) => called(
             rt,

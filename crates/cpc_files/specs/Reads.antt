@@ -1,8 +1,8 @@
--- What a read of a file gives.
-use Rattle.std.specs.Prelude.{◌≡◌, ℕ, ◌<◌, List, length, take, Option, Some, IfSome}
-use Rattle.std.specs.Io.KnownBytes.{Consumes, IsAtEnd}
+-- What a file gives that is read.
+use Rattle.std.specs.Prelude.{◌≡◌, ℕ, List, drop, Option, Some}
 
--- the file was taken to `offset`, where its position is known, and what it would give from there begins with the first n bytes of `into`: none only at its end, or with no room
-abbrev pub ReadAt : {F : Type 0} → (position : F → Option ℕ) → (remaining : F → Option (List ℕ)) → (file : F) → (offset n : ℕ) → (into : List ℕ) → Type 0
-ReadAt {F} position remaining file offset n into = (there left : F) × IfSome (position file) (λ _. position there ≡ Some offset)
-    × Consumes (remaining there) (remaining left) (take n into) × (n ≡ 0 → 0 < length into → IsAtEnd (remaining left))
+-- a file that holds these bytes stands at the first of them, and from wherever it is taken it gives those from there on
+pub record StandsAtFirst {F : Type 0} (position : F → Option ℕ) (all remaining : F → Option (List ℕ)) (bytes : List ℕ) (file : F) : Type 0 where
+  pub first : position file ≡ Some 0
+  pub holds : all file ≡ Some bytes
+  pub gives : (there : F) (offset : ℕ) → position there ≡ Some offset → all there ≡ Some bytes → remaining there ≡ Some (drop offset bytes)

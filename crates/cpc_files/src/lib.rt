@@ -1,9 +1,11 @@
-//! The files and streams of the system, as a shelf and sinks. They tell nothing of content, and count each failure.
+//! Files that are opened by name as a shelf, and streams as sinks. They count each failure.
 #![tactic(auto)]
 
 mod faults;
+mod opener;
 mod shelf;
 mod sink;
 
-pub use shelf::RealShelf;
-pub use sink::RealSink;
+pub use opener::{Opener, SystemFiles};
+pub use shelf::OpenedShelf;
+pub use sink::StreamSink;

@@ -1,56 +1,52 @@
-//! Files of the system.
-ghost use Rattle.std.specs.Prelude.{◌≡◌, ◌≤◌, length, IfOk, IsOk, None};
-ghost use Rattle.cpc_files.specs.Reads.{ReadAt};
+//! Files that are opened by name.
+ghost use Rattle.std.specs.Prelude.{◌≡◌, ◌≤◌, length, IfOk};
+ghost use Rattle.cpc_base.specs.Outside.{IsRead};
 
 use crate::faults::Faults;
+use crate::opener::Opener;
 use cpc_base::{Failed, Shelf};
+use std::io;
 use std::io::{Read, Seek, SeekFrom};
-use std::rt::Files;
-use std::{fs, io};
 
-/// The files of the system, with one count for all names.
+/// The files of an opener, with one count of faults for all names. Each read opens its file anew.
 #[derive(Drop)]
-pub struct RealShelf<'a, R> {
-    rt: &'a R,
+pub struct OpenedShelf<O> {
+    opener: O,
     faults: Faults,
 }
 
-impl<'a, R> RealShelf<'a, R> {
-    /// The files of the system, with no fault so far.
-    pub fn new(rt: &'a R) -> Self
-        ensures { result.faults.count ≡ 0 }
+impl<O: Opener> OpenedShelf<O> {
+    /// The files of an opener, with no fault so far.
+    pub fn new(opener: O) -> Self
+        ensures opener { result.opener ≡ opener }
+        ensures none { result.faults.count ≡ 0 }
     {
-        RealShelf {
-            rt,
+        OpenedShelf {
+            opener,
             faults: Faults::none(),
         }
     }
 }
 
-// Reads what stands in a file from `offset` on, if the file could be opened.
-fn read_opened<F: Read + Seek + Drop>(
-    opened: io::Result<F>,
-    offset: u64,
-    into: &mut [u8],
-) -> io::Result<usize>
+// Opens a file, and reads what stands in it from `offset` on.
+fn read_piece<O: Opener>(opener: &O, name: &str, offset: u64, into: &mut [u8]) -> io::Result<usize>
     ensures within { IfOk result (λ n. n ≤ length into.new) }
-    ensures opened { IsOk result → IsOk opened }
-    ensures bytes { IfOk opened (λ file. IfOk result (λ n. ReadAt F.stream_position F.remaining file offset n into.new)) }
+    ensures bytes { IfOk result (λ n. IsRead (O.files opener.now) name.now offset into.new n) }
 {
-    let mut file = opened?;
+    let mut file = opener.open(name)?;
     file.seek(SeekFrom::Start(offset))?;
     file.read(into)
 }
 
-impl<R: Files> Shelf for RealShelf<'_, R> {
-    ghost files = { λ _. None };
+impl<O: Opener> Shelf for OpenedShelf<O> {
+    ghost files = { λ s. O.files s.opener };
 
     ghost faults = { λ s _. s.faults.count };
 
     ghost asked = { λ _ _. 0 };
 
     fn read_at(&mut self, name: &str, offset: u64, into: &mut [u8]) -> Result<usize, Failed> {
-        let read = read_opened(fs::open(self.rt, name), offset, into);
+        let read = read_piece(&self.opener, name, offset, into);
         self.faults.noted(read)
     }
 }

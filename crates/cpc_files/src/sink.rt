@@ -1,4 +1,4 @@
-//! Streams of the system.
+//! Streams as sinks.
 ghost use Rattle.std.specs.Prelude.{◌≡◌, ◌≤◌, length, IfOk, MatchResult, None};
 ghost use Rattle.std.specs.Io.KnownBytes.{WriteAppends};
 ghost use Rattle.cpc_base.specs.Plan.{one_more};
@@ -8,26 +8,26 @@ use cpc_base::{Failed, Sink};
 use std::io;
 use std::io::{ErrorKind, Write};
 
-/// A stream of the system.
+/// A stream, with a count of its faults. As a sink it tells nothing of what it took.
 #[derive(Drop)]
-pub struct RealSink<W> {
+pub struct StreamSink<W> {
     to: W,
     faults: Faults,
 }
 
-impl<W: Write> RealSink<W> {
+impl<W: Write> StreamSink<W> {
     /// A stream, with no fault so far.
     pub fn new(to: W) -> Self
         ensures { result.faults.count ≡ 0 }
     {
-        RealSink {
+        StreamSink {
             to,
             faults: Faults::none(),
         }
     }
 }
 
-impl<W: Write> Sink for RealSink<W> {
+impl<W: Write> Sink for StreamSink<W> {
     ghost taken = { λ _. None };
 
     ghost faults = { λ s. s.faults.count };
