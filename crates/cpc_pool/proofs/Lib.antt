@@ -1,2 +1,3 @@
+mod Coming
 mod Lists
 mod Taking

@@ -1,9 +1,11 @@
 //! A pool with both its passes: where jobs are submitted, and where their ends come back.
-ghost use Rattle.std.specs.Prelude.{◌≡◌, ◌⊎◌, ◌+◌, ◌≤◌, [], IfOk, IfSome, MatchResult};
+ghost use Rattle.std.specs.Prelude.{◌≡◌, [], None, IfOk, IfSome, MatchOption, MatchResult, option_to_list};
 ghost use Rattle.std.specs.Arc.{arc_value};
 ghost use Rattle.crossbeam_channel.specs.Claims.{view as job_view};
 ghost use Rattle.crossbeam_channel.specs.Ends.{sends_on};
+ghost use Rattle.crossbeam_queue.specs.Passes.{view as done_view};
 ghost use Rattle.cpc_pool.specs.Passes.{Submits, Pops};
+ghost use Rattle.cpc_pool.specs.Arrivals.{Answers, Came, Finished, Handed, Unfinished, Waits};
 
 use super::completions::Completions;
 use super::gate::Gate;
@@ -15,8 +17,8 @@ use std::marker::Model;
 use std::sync::Wait;
 use std::thread::Threads;
 
-/// A pool with both its passes, the handle, and the completions that came before they were asked for. Contracts see it as the least number
-/// that a job may have which is sent.
+/// A pool with both its passes, the handle, and the completions that came before they were asked for. Contracts see it as what is
+/// known of its jobs: which were sent, and which completions came.
 pub struct Hands<W: Runner, G: Gate, R: Wait> {
     rt: R,
     pool: Pool<W, G>,
@@ -27,15 +29,23 @@ pub struct Hands<W: Runner, G: Gate, R: Wait> {
 }
 
 impl<W: Runner, G: Gate, R: Wait> Model for Hands<W, G, R> {
-    ghost use Rattle.std.specs.Prelude.{◌≡◌, ℕ};
+    ghost use Rattle.std.specs.Prelude.{◌≡◌};
     ghost use Rattle.std.specs.Arc.{arc_value};
     ghost use Rattle.crossbeam_channel.specs.Claims.{view as job_view};
     ghost use Rattle.crossbeam_channel.specs.Ends.{sends_on};
+    ghost use Rattle.crossbeam_queue.specs.Passes.{view as done_view};
     ghost use Rattle.cpc_pool.specs.Passes.{Submits, Pops, AreBelow};
+    ghost use Rattle.cpc_pool.specs.Arrivals.{Known};
 
-    ghost Value = { ℕ };
+    ghost Value = { Known W.Job W.End };
 
-    ghost view = { λ s. s.next };
+    ghost view = { λ s. record {
+      next = s.next;
+      early = s.early.0;
+      own = s.pool.own.0;
+      popped = (done_view s.dones).popped;
+      sent = (job_view s.jobs).sent;
+    } };
 
     ghost invariant = { λ s. (Submits (sends_on s.pool.jobs) s.jobs × ((job_view s.jobs).stops ≡ 0) × AreBelow s.next (job_view s.jobs).sent) × Pops (arc_value s.pool.crew.dones) s.dones };
 }
@@ -53,6 +63,11 @@ fn look<W: Runner, G: Gate, R: Wait>(
     ensures dones { Pops (arc_value pool.new.crew.dones) dones.new }
     ensures same { (pool.new.jobs ≡ pool.old.jobs) × (pool.new.crew ≡ pool.old.crew) }
     ensures ends { IfOk result (λ o. IfSome o (λ e. W.ends job.now e)) }
+    ensures looked { MatchResult result
+        (λ o. MatchOption o
+        (Waits W.same job.now early.old.0 early.new.0 pool.old.own.0 pool.new.own.0 (done_view dones.old).popped (done_view dones.new).popped)
+        (λ e. Answers W.same job.now early.old.0 early.new.0 pool.old.own.0 pool.new.own.0 (done_view dones.old).popped (done_view dones.new).popped e))
+        (λ _. (early.new.0 ≡ early.old.0) × (pool.new.own.0 ≡ pool.old.own.0) × (done_view dones.new ≡ done_view dones.old)) }
 {
     early.reserve()?;
     let Some(done) = pool.accept(rt, dones) else {
@@ -78,6 +93,9 @@ fn wait_for<W: Runner, G: Gate, R: Wait>(
     ensures dones { Pops (arc_value pool.new.crew.dones) dones.new }
     ensures same { (pool.new.jobs ≡ pool.old.jobs) × (pool.new.crew ≡ pool.old.crew) }
     ensures ends { IfOk result (λ e. W.ends job.now e) }
+    ensures waited { MatchResult result
+        (λ e. Answers W.same job.now early.old.0 early.new.0 pool.old.own.0 pool.new.own.0 (done_view dones.old).popped (done_view dones.new).popped e)
+        (λ _. Waits W.same job.now early.old.0 early.new.0 pool.old.own.0 pool.new.own.0 (done_view dones.old).popped (done_view dones.new).popped) }
 {
     for _ in rt.forever() {
         if let Some(end) = look(rt, pool, dones, early, job)? {
@@ -98,7 +116,8 @@ impl<W: Runner, G: Gate, R: Wait> Hands<W, G, R> {
     ) -> Hands<W, G, R>
         requires jobs { Submits (sends_on pool.jobs) jobs × ((job_view jobs).stops ≡ 0) × ((job_view jobs).sent ≡ []) }
         requires dones { Pops (arc_value pool.crew.dones) dones }
-        ensures { result ≡ 0 }
+        ensures next { result.next ≡ 0 }
+        ensures nothing { (result.early ≡ []) × (result.own ≡ pool.own.0) × (result.popped ≡ (done_view dones).popped) × (result.sent ≡ []) }
     {
         Hands {
             rt,
@@ -114,7 +133,7 @@ impl<W: Runner, G: Gate, R: Wait> Hands<W, G, R> {
     /// want of memory, and the job comes back.
     pub fn submit(&mut self, job: W::Job) -> Result<(), (W::Job, AllocError)>
         requires { W.meets job }
-        ensures { MatchResult result (λ _. (self.new ≡ self.old) ⊎ ((self.old ≤ W.number job) × (self.new ≡ W.number job + 1))) (λ e. (e.0 ≡ job) × (self.new ≡ self.old)) }
+        ensures { MatchResult result (λ _. Handed W.number W.ends job self.old self.new) (λ e. (e.0 ≡ job) × (self.new ≡ self.old)) }
     {
         let number = W::number_of(&job);
         if number < self.next || number == u64::MAX {
@@ -125,9 +144,12 @@ impl<W: Runner, G: Gate, R: Wait> Hands<W, G, R> {
         Ok(())
     }
 
-    /// A completion, if there is one: a job, with an end that is its own.
+    /// A completion, if there is one: a job, with an end that is its own. Those that are kept for `finish` are left to it.
     pub fn accept(&mut self) -> Option<DoneOf<W>>
-        ensures next { self.new ≡ self.old }
+        ensures next { (self.new.next ≡ self.old.next) × (self.new.sent ≡ self.old.sent) }
+        ensures early { self.new.early ≡ self.old.early }
+        ensures came { Came self.old.own self.new.own self.old.popped self.new.popped (option_to_list result) }
+        ensures none { result ≡ None → self.old.own ≡ [] }
         ensures ends { IfSome result (λ d. W.ends d.job d.end) }
     {
         self.pool.accept(&self.rt, &mut self.dones)
@@ -141,11 +163,12 @@ impl<W: Runner, G: Gate, R: Wait> Hands<W, G, R> {
     }
 
     /// The end of a job that was submitted, and whose end was not taken yet. It is waited for where it is not there. Others that come
-    /// before it are kept.
+    /// before it are kept, in the order in which they came.
     ///
-    /// An error is want of memory; then no end is lost.
+    /// An error is want of memory; then no end is lost: all that came is kept, and none of it is of this job.
     pub fn finish(&mut self, job: &W::Job) -> Result<W::End, AllocError>
-        ensures next { self.new ≡ self.old }
+        ensures next { (self.new.next ≡ self.old.next) × (self.new.sent ≡ self.old.sent) }
+        ensures finished { MatchResult result (λ e. Finished W.same job.now self.old self.new e) (λ _. Unfinished W.same job.now self.old self.new) }
         ensures ends { IfOk result (λ e. W.ends job.now e) }
     {
         if let Some(end) = self.early.take(job) {

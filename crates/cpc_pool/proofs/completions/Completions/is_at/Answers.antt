@@ -13,7 +13,7 @@ returns-in-Some-clause-same g c =
     let j = c.args.job.now in
     let d = c.in-Some.done.now in
     let within = c.in-Some.ensures.variant.0 refl in
-    let read : slice_get items at ≡ Some d = slice_get_read items (length items) at d refl (omega (arith, within)) c.in-Some.ensures.lookup in
+    let read : slice_get items at ≡ Some d = slice_get_read items (length items) at d (refl {a = length items}) (omega (arith, within)) c.in-Some.ensures.lookup in
     let there : slice_get ds at ≡ Some d = subst (λ v. slice_get v.0 at ≡ Some d) c.self.view_is read in
     ((λ (t : IsTrue c.is_same.result). at_place same ds at d j there (c.is_same.ensures.same.0 t)), (λ i. c.is_same.ensures.same.1 (of_place same ds at d j there i)))
 

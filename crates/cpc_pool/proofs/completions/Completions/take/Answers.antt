@@ -12,7 +12,7 @@ returns-clause-taken g c =
     let at = c.in_ok-at.at in
     let d = c.in_ok-done.done in
     let within = c.in_ok-done.ensures.variant.0 refl in
-    let read : slice_get items at ≡ Some d = slice_get_read items (length items) at d refl (omega (arith, within)) c.in_ok-done.ensures.value in
+    let read : slice_get items at ≡ Some d = slice_get_read items (length items) at d (refl {a = length items}) (omega (arith, within)) c.in_ok-done.ensures.value in
     let there : slice_get ds at ≡ Some d = subst (λ v. slice_get v.0 at ≡ Some d) c.self.view_is read in (
       at,
       d,
