@@ -6,7 +6,7 @@ use Rattle.cpc_pool_jobs.specs.declared.views.View.{View}
 use Rattle.cpc_pool_jobs.specs.Views.{after_send}
 use Rattle.cpc_pool_ends.specs.declared.done.Done.{Done}
 use Rattle.cpc_pool_ends.specs.declared.views.DoneView.{DoneView}
-use Rattle.cpc_pool_ends.specs.Views.{Arrives, Settled}
+use Rattle.cpc_pool_ends.specs.Views.{Arrives, Settled, after_push}
 
 -- the completion of a job that the pool ran itself
 abbrev pub ran : {J E : Type 0} → J → E → Done J E
@@ -15,6 +15,10 @@ ran j e = record { worker = 0; job = j; end = e }
 -- the pool ran the job: its completion stands last in the pool's own list
 abbrev pub Ran : {J E : Type 0} → (J → E → Type 0) → J → List (Done J E) → List (Done J E) → Type 0
 Ran {J} {E} ends j own left = (e : E) × (left ≡ own ++ ran j e ∷ []) × ends j e
+
+-- a worker pushed the completion of a job that it ran, with an end that is the job's own
+abbrev pub Brought : {J E : Type 0} → (J → E → Type 0) → ℕ → J → DoneView J E → DoneView J E → Type 0
+Brought {J} {E} ends n j v w = (e : E) × ends j e × (w ≡ after_push v (record { worker = n; job = j; end = e }))
 
 -- A job was submitted. It was sent, or the pool ran it
 abbrev pub Submitted : {J E : Type 0} → (J → ℕ) → (J → E → Type 0) → J → List (Done J E) → List (Done J E) → View → View → Type 0

@@ -1,9 +1,11 @@
 //! What a worker does in its thread.
-ghost use Rattle.std.specs.Prelude.{◌≡◌, ℕ, true, IfOk};
+ghost use Rattle.std.specs.Prelude.{◌≡◌, ◌⊎◌, ℕ, true, IfOk};
 ghost use Rattle.std.specs.Arc.{arc_value};
 ghost use Rattle.crossbeam_channel.specs.Claims.{view as job_view, IsSeatAt};
 ghost use Rattle.crossbeam_channel.specs.Ends.{receives_on};
 ghost use Rattle.crossbeam_queue.specs.Passes.{view as done_view, IsPassOf};
+ghost use Rattle.cpc_pool_ends.specs.Views.{after_push};
+ghost use Rattle.cpc_pool.specs.Acts.{Brought};
 ghost use Rattle.cpc_pool.specs.Passes.{WorksAt, PushesAt};
 
 use super::bell::Bell;
@@ -58,7 +60,8 @@ fn bring<W: Runner, R: Wait>(
 )
     requires role { PushesAt dones.now number pass.old × (done.worker ≡ number) }
     requires ends { W.ends done.job done.end }
-    ensures { PushesAt dones.now number pass.new }
+    ensures role { PushesAt dones.now number pass.new }
+    ensures pushed { done_view pass.new ≡ after_push (done_view pass.old) done }
 {
     let mut left = done;
     for _ in rt.forever() {
@@ -73,8 +76,8 @@ fn bring<W: Runner, R: Wait>(
     unreachable!()
 }
 
-// Runs a job, and brings its completion. A job whose end nobody asks for any more is not run.
-fn work_on<W: Runner, G: Gate, R: Wait>(
+// Runs a job, and brings its completion, which has the job's own end.
+fn run_one<W: Runner, G: Gate, R: Wait>(
     rt: &R,
     crew: &Crew<W, G>,
     number: u64,
@@ -83,11 +86,9 @@ fn work_on<W: Runner, G: Gate, R: Wait>(
 )
     requires role { PushesAt (arc_value crew.now.dones) number bringing.old }
     requires meets { W.meets job }
-    ensures { PushesAt (arc_value crew.now.dones) number bringing.new }
+    ensures role { PushesAt (arc_value crew.now.dones) number bringing.new }
+    ensures brought { Brought W.ends number job (done_view bringing.old) (done_view bringing.new) }
 {
-    if crew.over.load(Ordering::SeqCst) {
-        return;
-    }
     let at = W::number_of(&job);
     crew.gate.before(at);
     let end = crew.runner.run(&job);
@@ -99,6 +100,25 @@ fn work_on<W: Runner, G: Gate, R: Wait>(
     };
     bring(rt, &crew.dones, number, bringing, done);
     crew.bell.ring(rt);
+}
+
+// Runs a job, and brings its completion. A job whose end nobody asks for any more is not run.
+fn work_on<W: Runner, G: Gate, R: Wait>(
+    rt: &R,
+    crew: &Crew<W, G>,
+    number: u64,
+    bringing: &mut DonePass<W>,
+    job: W::Job,
+)
+    requires role { PushesAt (arc_value crew.now.dones) number bringing.old }
+    requires meets { W.meets job }
+    ensures role { PushesAt (arc_value crew.now.dones) number bringing.new }
+    ensures brought { (done_view bringing.new ≡ done_view bringing.old) ⊎ Brought W.ends number job (done_view bringing.old) (done_view bringing.new) }
+{
+    if crew.over.load(Ordering::SeqCst) {
+        return;
+    }
+    run_one(rt, crew, number, bringing, job);
 }
 
 /// Takes jobs and brings completions, each with the end of its own job, until it is told to stop. Once the pool stops, jobs are taken
