@@ -21,6 +21,7 @@ use Rattle.cpc_check_rules.specs.StmtRules.{in_scope, inner, behind, all_behind,
 use Rattle.cpc_check_rules.specs.ItemRules.{body_breaks}
 use Rattle.cpc_types.specs.Blocks.{without_block}
 use Rattle.cpc_check_statements.specs.Plain.{for_breaks}
+use Rattle.cpc_check_statements.specs.Standing.{behind_body}
 use Rattle.cpc_check_statements.proofs.Parts.{after_one, after_two, after_three}
 
 abbrev Firsts : Type 0
@@ -177,3 +178,8 @@ pub walk_body : (names : Names) (w : Where) (o x : Firsts) (s : Statement) (plac
     → x ≡ noted o (stmts_breaks w (located_list names xs)) → x ≡ noted o (body_breaks w (located_stmt names s))
 walk_body names w o x s place row xs i d k =
     k ∙ ap (λ ys. noted o (stmts_breaks w (located_list names ys))) d ∙ ap (λ t. noted o (body_breaks w t)) (sym (block_seen names s place row i))
+
+pub body_behind : (names : Names) (w : Where) (z : Scope) (s : Statement) (place : Place) (row : Vec Statement Global) (xs : List Statement) → s ≡ T.Block place row → xs ≡ row.items
+    → z ≡ (all_behind w (located_list names xs)).scope → z ≡ (behind_body w (located_stmt names s)).scope
+body_behind names w z s place row xs i d k =
+    k ∙ ap (λ ys. (all_behind w (located_list names ys)).scope) d ∙ ap (λ t. (behind_body w t).scope) (sym (block_seen names s place row i))

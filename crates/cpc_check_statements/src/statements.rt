@@ -8,7 +8,7 @@ ghost use Rattle.cpc_check_rules.specs.StmtRules as S;
 ghost use Rattle.cpc_check_rules.specs.Noted.{noted, first_of};
 ghost use Rattle.cpc_types.specs.Blocks.{without_block};
 ghost use Rattle.cpc_types.specs.Scoped.{all_items, scope_of};
-ghost use Rattle.cpc_check_statements.specs.Standing.{standing};
+ghost use Rattle.cpc_check_statements.specs.Standing.{standing, behind_body};
 ghost use Rattle.cpc_check_statements.specs.Plain.{for_breaks};
 
 use crate::around::{Around, standing};
@@ -188,6 +188,7 @@ pub fn body_rules(
 ) -> Result<(), NoMemory>
     ensures noted { OnOk result ((names : Names) → Spells around.now.names.now names → first_of first.new ≡ noted (first_of first.old) (I.body_breaks (standing names scope.old around.now) (located_stmt names body.now))) }
     ensures left { OnOk result ((names : Names) → without_block (scope_of names scope.new) ≡ without_block (scope_of names scope.old)) }
+    ensures scope { OnOk result ((names : Names) → scope_of names scope.new ≡ (behind_body (standing names scope.old around.now) (located_stmt names body.now)).scope) }
     ensures all { all_items scope.new ≡ all_items scope.old }
 {
     match body {
