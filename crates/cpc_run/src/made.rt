@@ -1,15 +1,16 @@
 //! One step of a run, within the cap on live cells.
-ghost use Rattle.std.specs.Prelude.{◌≡◌, true, false, List, ℤ, Ok, IfOk, ◌++◌, ◌-◌, ◌+◌, ◌<◌, ◌^◌, length, min};
+ghost use Rattle.std.specs.Prelude.{◌≡◌, true, false, List, ℤ, Ok, IfOk, ◌++◌, ◌-◌, ◌+◌, ◌<◌, ◌≤◌, ◌^◌, length, min};
 ghost use Rattle.cpc_base.specs.Bytes.{Text};
 ghost use Rattle.cpc_check_rules.specs.Apart.{Spells};
 ghost use Rattle.cpc_tree.specs.Erase.{Names as Spelling};
+ghost use Rattle.cpc_meaning.specs.Agenda.{needs_poll};
 ghost use Rattle.cpc_meaning.specs.Events.{callbacks};
 ghost use Rattle.cpc_meaning.specs.Machine.{try_step};
 ghost use Rattle.cpc_meaning.specs.Runs.{live_cells};
 ghost use Rattle.cpc_run_jobs.specs.Holding.{IsAssigned};
 ghost use Rattle.cpc_run.specs.Answers.{MadeAnswered};
 ghost use Rattle.cpc_run.specs.Going.{Goes};
-ghost use Rattle.cpc_run.specs.States.{States, Stands, Within, Fits, IsSteady, Keeps, program_in};
+ghost use Rattle.cpc_run.specs.States.{States, Stands, Within, Fits, IsSteady, Keeps, program_in, lists_in};
 ghost use Rattle.cpc_run.specs.Reports.{MadeSo, MadePolls, MadeSteady};
 
 use crate::looped::Loop;
@@ -56,11 +57,18 @@ impl<'p> Loop<'p> {
     }
 
     /// How many bytes may wait before they are written: none where the next step may take a poll.
-    pub(crate) fn most_held(&self) -> usize {
-        if !self.running && self.turns.agenda.needs_poll() {
-            return 0;
+    pub(crate) fn most_held(&self) -> usize
+        ensures none { (names : Spelling) → self.now.running ≡ false → needs_poll (lists_in names self.now) ≡ true → result ≡ 0 }
+        ensures most { result ≤ 4096 }
+    {
+        if self.running {
+            return CHUNK;
         }
-        CHUNK
+        if self.turns.agenda.needs_poll() {
+            0
+        } else {
+            CHUNK
+        }
     }
 
     /// A step of the run, unless it would leave too many cells. What it puts out is put behind `pending`.

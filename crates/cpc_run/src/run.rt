@@ -1,5 +1,5 @@
 //! A run from its first state to its end, or to one of its bounds.
-ghost use Rattle.std.specs.Prelude.{◌≡◌, ◌++◌, ◌-◌, ◌<◌, ◌≤◌, ◌^◌, List, ℤ, [], IfOk, OnOk, OnErr, Option, Some, None, length, map, true};
+ghost use Rattle.std.specs.Prelude.{◌≡◌, ◌++◌, ◌-◌, ◌<◌, ◌≤◌, ◌^◌, ◌⊎◌, List, ℤ, [], IfOk, OnOk, OnErr, Option, Some, None, length, map, true};
 ghost use Rattle.std.specs.Io.KnownBytes.{append_known};
 ghost use Rattle.cpc_base.specs.Bytes.{Text};
 ghost use Rattle.cpc_base.specs.Outside.{Rose};
@@ -49,6 +49,7 @@ const STARVED: RunReport = RunReport {
 fn drain<O: Sink>(out: &mut O, pending: &mut Vec<u8>, least: usize) -> Result<(), Failed>
     ensures all { OnOk result ((told : Option Text) (sent : Text) → O.taken out.old ≡ append_known told sent → Drained told (O.taken out.new) sent pending.old.items pending.new.items) }
     ensures emptied { least ≡ 0 → OnOk result (pending.new.items ≡ []) }
+    ensures few { OnOk result ((pending.new.items ≡ []) ⊎ (length pending.new.items < least)) }
     ensures part { OnErr result ((told : Option Text) (sent : Text) → O.taken out.old ≡ append_known told sent → Wrote told (O.taken out.new) (λ o. IsPrefix o (sent ++ pending.old.items))) }
     ensures cause { OnErr result (Rose (O.faults out.old) (O.faults out.new)) }
     ensures later { O.faults out.old ≤ O.faults out.new }
