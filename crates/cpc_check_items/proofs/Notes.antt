@@ -26,7 +26,7 @@ use Rattle.cpc_check_rules.specs.Scopes as S
 use Rattle.cpc_check_rules.specs.FunctionRules.{is_reserved, reserved_breaks}
 use Rattle.cpc_check_rules.specs.ItemRules as R
 use Rattle.cpc_check_rules.proofs.Firsts.{noted_both}
-use Rattle.cpc_types.specs.Counted.{fields_count, count}
+use Rattle.cpc_shapes.specs.Counted.{fields_count, count}
 use Rattle.cpc_check_items.specs.Signatures.{types_of}
 
 abbrev Firsts : Type 0

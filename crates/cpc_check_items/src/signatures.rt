@@ -5,8 +5,8 @@ ghost use Rattle.cpc_check_rules.specs.Apart.{AreApart};
 ghost use Rattle.cpc_check_rules.specs.ItemRules as R;
 ghost use Rattle.cpc_check_items.specs.Signatures.{types_of, are_mixed};
 
+use cpc_shapes::same_type;
 use cpc_tree::program::{CType, Function, Mode, Parameter};
-use cpc_types::same_type;
 
 /// What is declared of a function.
 #[derive(Clone, Copy)]

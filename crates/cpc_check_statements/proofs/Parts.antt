@@ -17,7 +17,7 @@ use Rattle.cpc_check_rules.specs.Calls as C
 use Rattle.cpc_check_rules.specs.ExprRules.{expr_breaks, call_breaks}
 use Rattle.cpc_check_rules.specs.StmtRules as S
 use Rattle.cpc_check_rules.proofs.Firsts.{noted_both}
-use Rattle.cpc_types.specs.Forms as F
+use Rattle.cpc_shapes.specs.Forms as F
 use Rattle.cpc_check_statements.specs.Plain.{is_unfit, value_type}
 use Rattle.cpc_check_statements.proofs.Order.{noted_swap}
 

@@ -9,9 +9,9 @@ ghost use Rattle.cpc_check_rules.specs.Apart.{AreApart, Spells};
 ghost use Rattle.cpc_check_rules.specs.Operators as O;
 ghost use Rattle.cpc_check_rules.specs.StmtRules as S;
 ghost use Rattle.cpc_check_rules.specs.Noted.{noted, first_of};
-ghost use Rattle.cpc_types.specs.Forms as F;
+ghost use Rattle.cpc_shapes.specs.Forms as F;
 ghost use Rattle.cpc_types.specs.Found.{found_of};
-ghost use Rattle.cpc_types.specs.Listed.{optional_of};
+ghost use Rattle.cpc_shapes.specs.Listed.{optional_of};
 ghost use Rattle.cpc_types.specs.Scoped.{scope_of};
 ghost use Rattle.cpc_check_values.specs.Stands.{where_of};
 ghost use Rattle.cpc_check_statements.specs.Plain.{is_unfit, value_type};
@@ -22,8 +22,9 @@ use cpc_base::{NoMemory, Place};
 use cpc_check_rules::{First, Rule};
 use cpc_check_values::{Where, value_rules};
 use cpc_num::Op;
+use cpc_shapes::copy_of;
 use cpc_tree::program::{CType, Expr};
-use cpc_types::{Scope, TypeFound, copy_of, is_null, takes_value, used};
+use cpc_types::{Scope, TypeFound, is_null, takes_value, used};
 use std::alloc::Global;
 
 /// Whether an expression has a type, and is not assignable to this one.

@@ -6,15 +6,16 @@ ghost use Rattle.cpc_check_rules.specs.Apart.{AreApart};
 ghost use Rattle.cpc_check_rules.specs.Operators as O;
 ghost use Rattle.cpc_check_rules.specs.Calls as C;
 ghost use Rattle.cpc_check_rules.specs.Noted.{noted, first_of};
-ghost use Rattle.cpc_types.specs.Forms as F;
+ghost use Rattle.cpc_shapes.specs.Forms as F;
 ghost use Rattle.cpc_types.specs.Found.{found_of};
 ghost use Rattle.cpc_types.specs.Scoped.{scope_of};
 
 use cpc_base::{NoMemory, Place};
 use cpc_check_rules::{First, Rule};
 use cpc_num::Op;
+use cpc_shapes::same_type;
 use cpc_tree::program::CType;
-use cpc_types::{Scope, TypeFound, binary_form, cells, same_type};
+use cpc_types::{Scope, TypeFound, binary_form, cells};
 use std::alloc::Global;
 
 // Whether an expression has a type.

@@ -13,8 +13,8 @@ use Rattle.cpc_tree.specs.Syntax.{Ty}
 use Rattle.cpc_tree.specs.Typing as T
 use Rattle.cpc_check_rules.specs.Scopes.{Scope}
 use Rattle.cpc_check_rules.specs.Calls as C
-use Rattle.cpc_types.specs.Listed.{optional_of}
-use Rattle.cpc_types.proofs.CodeParts.{code_is}
+use Rattle.cpc_shapes.specs.Listed.{optional_of}
+use Rattle.cpc_shapes.proofs.CodeParts.{code_is}
 use Rattle.cpc_check_values.specs.declared.primitives.Primitive.{Primitive}
 use Rattle.cpc_check_values.specs.declared.primitives.Primitive.TheVariants as R
 use Rattle.cpc_check_values.proofs.Arguments.{counted}

@@ -16,7 +16,7 @@ use Rattle.cpc_check_rules.specs.Noted.{noted}
 use Rattle.cpc_check_rules.specs.Operators as O
 use Rattle.cpc_check_rules.specs.Operators.{Where, typed_at}
 use Rattle.cpc_check_rules.specs.ExprRules.{expr_breaks}
-use Rattle.cpc_types.specs.Forms as F
+use Rattle.cpc_shapes.specs.Forms as F
 use Rattle.cpc_check_values.specs.Walked.{wide_typed, wide_breaks, logical_typed, logical_breaks}
 use Rattle.cpc_check_values.proofs.Walks.{after_two, after_three}
 use Rattle.cpc_check_values.proofs.Steps.{at, bare_at}

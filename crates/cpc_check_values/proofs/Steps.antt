@@ -18,7 +18,7 @@ use Rattle.cpc_check_rules.specs.Noted.{noted}
 use Rattle.cpc_check_rules.specs.Operators as O
 use Rattle.cpc_check_rules.specs.Operators.{Where, typed_at, first}
 use Rattle.cpc_check_rules.specs.ExprRules.{expr_breaks}
-use Rattle.cpc_types.specs.Forms as F
+use Rattle.cpc_shapes.specs.Forms as F
 use Rattle.cpc_check_values.specs.Parts.{unary_breaks}
 use Rattle.cpc_check_values.specs.Walked.{narrow_typed, narrow_breaks}
 use Rattle.cpc_check_values.proofs.Walks.{unary_whole, unary_noted, cast_noted, member_noted, arrow_noted}

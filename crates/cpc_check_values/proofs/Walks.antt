@@ -12,7 +12,7 @@ use Rattle.cpc_check_rules.specs.Operators as O
 use Rattle.cpc_check_rules.specs.Operators.{Where, typed_at, first}
 use Rattle.cpc_check_rules.specs.ExprRules.{expr_breaks}
 use Rattle.cpc_check_rules.proofs.Firsts.{noted_both}
-use Rattle.cpc_types.specs.Forms as F
+use Rattle.cpc_shapes.specs.Forms as F
 use Rattle.cpc_types.proofs.ExprParts.{unary_typed}
 use Rattle.cpc_check_values.specs.Parts.{unary_breaks}
 

@@ -1,7 +1,7 @@
 //! What is called, and what naming it breaks.
 ghost use Rattle.std.specs.Prelude.{◌≡◌, ◌++◌, Some, map, option_map, slice_get, if◌then◌else◌};
 ghost use Rattle.cpc_tree.specs.Syntax.{TyInt};
-ghost use Rattle.cpc_types.specs.Listed.{optional_of};
+ghost use Rattle.cpc_shapes.specs.Listed.{optional_of};
 ghost use Rattle.cpc_tree.specs.Erase.{Names as Spelling, type_of, parameter_of};
 ghost use Rattle.cpc_tree.specs.Locate.{located_expr, located_exprs};
 ghost use Rattle.cpc_tree.specs.Primitives as P;

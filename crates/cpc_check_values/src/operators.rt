@@ -12,7 +12,7 @@ ghost use Rattle.cpc_check_rules.specs.Apart.{AreApart};
 ghost use Rattle.cpc_check_rules.specs.Operators as O;
 ghost use Rattle.cpc_check_rules.specs.Noted.{noted, first_of};
 ghost use Rattle.cpc_types.specs.Found.{found_of};
-ghost use Rattle.cpc_types.specs.Forms as F;
+ghost use Rattle.cpc_shapes.specs.Forms as F;
 ghost use Rattle.cpc_types.specs.Scoped.{scope_of};
 
 use crate::parts::{is_incomplete_sum, is_typed};

@@ -10,8 +10,9 @@ ghost use Rattle.cpc_types.specs.Scoped.{scope_of};
 ghost use Rattle.cpc_check_values.specs.Parts.{place_of};
 
 use cpc_num::Op;
+use cpc_shapes::same_type;
 use cpc_tree::program::CType;
-use cpc_types::{Scope, TypeFound, cells, same_type};
+use cpc_types::{Scope, TypeFound, cells};
 
 /// Whether an expression has a type.
 pub(crate) fn is_typed(found: &TypeFound) -> bool

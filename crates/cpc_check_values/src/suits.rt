@@ -68,7 +68,7 @@ fn callback_parameters(alloc: Global) -> Result<Vec<CType>, NoMemory>
 }
 
 // The type of a function that takes a `void *` and an `int`, and gives nothing.
-#[tactic(auto, using(std::proofs::lemmas::Grind::common_steps, cpc_types::proofs::CodeParts::code_is))]
+#[tactic(auto, using(std::proofs::lemmas::Grind::common_steps, cpc_shapes::proofs::CodeParts::code_is))]
 fn callback_type(alloc: Global) -> Result<CType, NoMemory>
     ensures { IfOk result (λ of. (names : Names) → type_of names of ≡ T.function_type TyVoid (P.any_pointer ∷ TyInt Kind.Int ∷ [])) }
 {

@@ -8,7 +8,7 @@ ghost use Rattle.cpc_check_rules.specs.Calls as C;
 ghost use Rattle.cpc_check_rules.specs.ExprRules as E;
 ghost use Rattle.cpc_check_rules.specs.Noted.{noted, first_of};
 ghost use Rattle.cpc_types.specs.Found.{found_of};
-ghost use Rattle.cpc_types.specs.Listed.{optional_of};
+ghost use Rattle.cpc_shapes.specs.Listed.{optional_of};
 ghost use Rattle.cpc_check_values.specs.Wants.{want_of, callee_of};
 ghost use Rattle.cpc_check_values.specs.Stands.{where_of};
 ghost use Rattle.cpc_check_values.specs.Walked.{narrow_breaks, narrow_typed, wide_breaks, wide_typed, inside_breaks, logical_breaks, logical_typed, wanted_breaks};
@@ -26,8 +26,9 @@ use crate::wheres::Where;
 use cpc_base::NoMemory;
 use cpc_check_rules::{First, Rule};
 use cpc_num::Kind;
+use cpc_shapes::is_named;
 use cpc_tree::program::{CType, Expr};
-use cpc_types::{TypeFound, is_named, is_null, name_type};
+use cpc_types::{TypeFound, is_null, name_type};
 use std::alloc::Global;
 
 /// The type of an expression that is used as a value or a place, and notes what it breaks. `NoMemory` is want of memory.

@@ -2,14 +2,14 @@
 ghost use Rattle.std.specs.Prelude.{◌≡◌, IfOk, length, map, option_map, slice_get};
 ghost use Rattle.cpc_tree.specs.Erase.{Names, type_of};
 ghost use Rattle.cpc_check_rules.specs.Calls as C;
-ghost use Rattle.cpc_types.specs.Listed.{optional_of};
+ghost use Rattle.cpc_shapes.specs.Listed.{optional_of};
 ghost use Rattle.cpc_check_values.specs.Wants.{want_of, primitive_of, front_wants, primitive_wants, section_wants, wants_of, callee_of, wants_count};
 
 use crate::primitives::Primitive;
 use cpc_base::NoMemory;
 use cpc_num::Kind;
+use cpc_shapes::copy_of;
 use cpc_tree::program::{CType, Mode, Parameter};
-use cpc_types::copy_of;
 use std::alloc::Global;
 
 /// What an argument must be.

@@ -14,7 +14,7 @@ use Rattle.cpc_tree.specs.Typing as T
 use Rattle.cpc_store.specs.Store.{Value, Whole}
 use Rattle.cpc_meaning.specs.Answer.{Answer, Gives, ◌>>=◌, needed}
 use Rattle.cpc_meaning.specs.Eval as E
-use Rattle.cpc_types.specs.Found.{used_of}
+use Rattle.cpc_shapes.specs.Found.{used_of}
 use Rattle.cpc_eval_values.specs.Meets.{Meets}
 use Rattle.cpc_eval_values.proofs.Meeting.{meets_then, meets_fault}
 use Rattle.cpc_eval.specs.Around.{operate_in, type_in, meant_in}

@@ -4,7 +4,7 @@ use Rattle.cpc_tree.specs.Syntax.{Ty, TyPointer, Program}
 use Rattle.cpc_tree.specs.Typing as T
 use Rattle.cpc_meaning.specs.Answer.{Gives, NoAnswer}
 use Rattle.cpc_meaning.specs.Eval as E
-use Rattle.cpc_types.specs.Found.{used_of}
+use Rattle.cpc_shapes.specs.Found.{used_of}
 use Rattle.cpc_eval_values.specs.Counted.{IsSize}
 use Rattle.cpc_eval.specs.Shapes.{Agrees}
 

@@ -17,7 +17,7 @@ use Rattle.cpc_tree.specs.Syntax.{Ty, TyInt, Program}
 use Rattle.cpc_tree.specs.Typing as T
 use Rattle.cpc_tree.specs.Typing.{◌>>=◌, AValue, Scope}
 use Rattle.cpc_meaning.specs.Eval as E
-use Rattle.cpc_types.specs.Forms.{is_named, unary_of, binary_of, choice_of, index_of}
+use Rattle.cpc_shapes.specs.Forms.{is_named, unary_of, binary_of, choice_of, index_of}
 use Rattle.cpc_eval_locals.specs.Held.{Held, local_in, capped_held}
 use Rattle.cpc_eval.specs.Around.{meant_or, meant_in, type_in, type_within}
 use Rattle.cpc_eval.specs.Shapes.{Agrees}

@@ -10,9 +10,9 @@ use Rattle.cpc_tree.specs.declared.program.UnaryOp.TheVariants as U
 use Rattle.cpc_tree.specs.Syntax.{Ty, TyInt, TyPointer, TyVoid, TyCondvar, TyCode, TyStruct, TyArray, Program}
 use Rattle.cpc_tree.specs.Typing as T
 use Rattle.cpc_tree.specs.Typing.{◌>>=◌, AValue, APlace}
-use Rattle.cpc_types.specs.Found.{used_of}
-use Rattle.cpc_types.specs.Forms.{choice_of, index_of, unary_of}
-use Rattle.cpc_types.proofs.OperatorParts.{sum_common}
+use Rattle.cpc_shapes.specs.Found.{used_of}
+use Rattle.cpc_shapes.specs.Forms.{choice_of, index_of, unary_of}
+use Rattle.cpc_shapes.proofs.OperatorParts.{sum_common}
 use Rattle.cpc_eval.specs.Shapes.{Agrees}
 
 pub agrees_absent : {A : Type 0} (r o : Option A) → o ≡ None → Agrees r o

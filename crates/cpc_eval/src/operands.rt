@@ -8,7 +8,7 @@ ghost use Rattle.cpc_check_rules.specs.Apart.{AreApart};
 ghost use Rattle.cpc_store.specs.Seen.{seen, IsLawful};
 ghost use Rattle.cpc_store.specs.Store.{Whole};
 ghost use Rattle.cpc_eval_index.specs.Indexed.{items_of};
-ghost use Rattle.cpc_types.specs.Found.{used_of};
+ghost use Rattle.cpc_shapes.specs.Found.{used_of};
 ghost use Rattle.cpc_meaning.specs.Eval as E;
 ghost use Rattle.cpc_eval_values.specs.Meets.{Meets};
 ghost use Rattle.cpc_meaning.specs.Answer.{Gives};

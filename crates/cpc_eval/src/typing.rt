@@ -4,13 +4,13 @@ ghost use Rattle.cpc_num.specs.declared.kinds.Kind.TheVariants as K;
 ghost use Rattle.cpc_tree.specs.Erase.{Names, expr_of, type_of};
 ghost use Rattle.cpc_tree.specs.Syntax.{Ty, Program, TyInt};
 ghost use Rattle.cpc_tree.specs.declared.program.UnaryOp.TheVariants as U;
-ghost use Rattle.cpc_types.specs.Found.{used_of};
+ghost use Rattle.cpc_shapes.specs.Found.{used_of};
 ghost use Rattle.cpc_eval_index.specs.Sized.{capped_field};
 ghost use Rattle.cpc_tree.specs.Typing as T;
 ghost use Rattle.cpc_check_rules.specs.Apart.{AreApart};
 ghost use Rattle.cpc_eval_index.specs.Indexed.{items_of};
 ghost use Rattle.cpc_eval_index.specs.Meanings.{meant_if};
-ghost use Rattle.cpc_types.specs.Forms.{unary_of, binary_of, choice_of, index_of, member_of, arrow_of};
+ghost use Rattle.cpc_shapes.specs.Forms.{unary_of, binary_of, choice_of, index_of, member_of, arrow_of};
 ghost use Rattle.cpc_meaning.specs.Eval as E;
 ghost use Rattle.cpc_eval.specs.Around.{context_of, IsToldIn, type_in, type_within};
 ghost use Rattle.cpc_eval.specs.Shapes.{shape_of, shapes_of, types_of, field_among, Agrees};
@@ -20,8 +20,8 @@ use crate::shapes::{Shape, Typed, kind_of, pointee, pointer_shape, used};
 use cpc_base::Name;
 use cpc_eval_index::{Index, Meant};
 use cpc_num::{Kind, Op, common, promoted};
+use cpc_shapes::is_named;
 use cpc_tree::program::{CType, Expr, Mode, UnaryOp};
-use cpc_types::is_named;
 
 /// The type of an expression, where it has one; where it has none there may be any. It takes no memory.
 #[cycle(typing)]

@@ -7,8 +7,8 @@ use Rattle.cpc_tree.specs.Syntax.{Ty, TyArray, Program}
 use Rattle.cpc_tree.specs.Typing as T
 use Rattle.cpc_tree.specs.Typing.{◌>>=◌}
 use Rattle.cpc_tree.specs.declared.program.Field.{Field}
-use Rattle.cpc_types.specs.Counted.{fields_count}
-use Rattle.cpc_types.proofs.CellCounts.{size_array, fields_next}
+use Rattle.cpc_shapes.specs.Counted.{fields_count}
+use Rattle.cpc_shapes.proofs.CellCounts.{size_array, fields_next}
 use Rattle.cpc_eval_index.specs.Sized.{capped, capped_size}
 
 -- ---- the greatest number

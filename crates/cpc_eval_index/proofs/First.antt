@@ -4,7 +4,7 @@ use Rattle.std.specs.Prelude.{slice_get}
 use Rattle.std.specs.List.{sum_by}
 use Rattle.std.proofs.lemmas.List.Sums.{sum_by-cons}
 use Rattle.cpc_base.specs.declared.names.Name.{Name}
-use Rattle.cpc_types.specs.Indexed.{is_name}
+use Rattle.cpc_shapes.specs.Indexed.{is_name}
 use Rattle.cpc_eval_index.specs.Placed.{or_place, first_place}
 
 -- one more name at the end

@@ -6,7 +6,7 @@ use Rattle.std.proofs.Props.{props}
 use Rattle.std.proofs.lemmas.List.{take_more, take_all, get_or_push, get_or_append_left}
 use Rattle.std.proofs.lemmas.Option.{slice_get_within}
 use Rattle.cpc_tree.specs.declared.program.Item.{Item}
-use Rattle.cpc_types.proofs.Indexes.{pushed_at}
+use Rattle.cpc_shapes.proofs.Indexes.{pushed_at}
 use Rattle.cpc_eval_locals.specs.declared.locals.FunctionTable.{FunctionTable}
 use Rattle.cpc_eval_index.specs.Bodies.{IsItemTable, AreFunctionTables}
 use Rattle.cpc_eval_index.specs.Indexed.{program_items}

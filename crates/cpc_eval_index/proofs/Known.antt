@@ -12,10 +12,10 @@ use Rattle.cpc_base.specs.Bytes.{Text}
 use Rattle.cpc_tree.specs.declared.program.Item.{Item}
 use Rattle.cpc_tree.specs.declared.program.Item.TheVariants as I
 use Rattle.cpc_check_rules.specs.Apart.{AreApart}
-use Rattle.cpc_types.specs.Indexed.{is_name, latest, last_below}
-use Rattle.cpc_types.specs.Counted.{count, name_of, tag_of, size_at}
-use Rattle.cpc_types.specs.Declaring.{item_at, fields_seen, fields_of}
-use Rattle.cpc_types.proofs.Latest.{map_reverse, absent, found}
+use Rattle.cpc_shapes.specs.Indexed.{is_name, latest, last_below}
+use Rattle.cpc_shapes.specs.Counted.{count, name_of, tag_of, size_at}
+use Rattle.cpc_shapes.specs.Declaring.{item_at, fields_seen, fields_of}
+use Rattle.cpc_shapes.proofs.Latest.{map_reverse, absent, found}
 use Rattle.cpc_eval_index.specs.Placed.{place_at, last_place, definition_of, globals_in}
 use Rattle.cpc_eval_index.specs.Meanings.{meaning, definition_seen}
 use Rattle.cpc_eval_index.specs.Sized.{capped, capped_size, capped_field, declared_size, tag_size, AreSizes}

@@ -11,9 +11,9 @@ use Rattle.cpc_tree.specs.Erase.{Names, item_of}
 use Rattle.cpc_check_rules.specs.Apart.{AreApart}
 use Rattle.cpc_tree.specs.declared.program.Item.{Item}
 use Rattle.cpc_tree.specs.declared.program.Item.TheVariants as I
-use Rattle.cpc_types.specs.Indexed.{is_name, latest}
-use Rattle.cpc_types.specs.Counted.{name_of, tag_of}
-use Rattle.cpc_types.proofs.Indexes.{pushed_at}
+use Rattle.cpc_shapes.specs.Indexed.{is_name, latest}
+use Rattle.cpc_shapes.specs.Counted.{name_of, tag_of}
+use Rattle.cpc_shapes.proofs.Indexes.{pushed_at}
 use Rattle.cpc_eval_index.specs.declared.tables.Tables.{Tables}
 use Rattle.cpc_eval_index.specs.Placed.{place_at, or_place, first_place, last_place, definition_of, globals_in}
 use Rattle.cpc_eval_index.specs.Sized.{declared_size}

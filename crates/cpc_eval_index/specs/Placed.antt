@@ -3,7 +3,7 @@ use Rattle.std.specs.Prelude.{ℕ, suc, if◌then◌else◌, List, [], ◌∷◌
 use Rattle.cpc_base.specs.declared.names.Name.{Name}
 use Rattle.cpc_tree.specs.declared.program.Item.{Item}
 use Rattle.cpc_tree.specs.declared.program.Item.TheVariants as I
-use Rattle.cpc_types.specs.Indexed.{is_name, latest}
+use Rattle.cpc_shapes.specs.Indexed.{is_name, latest}
 use Rattle.cpc_eval_index.specs.declared.places.Places.{Places}
 
 -- the number that a name has

@@ -6,7 +6,7 @@ use Rattle.cpc_tree.specs.Syntax.{Ty, TyStruct, Program}
 use Rattle.cpc_tree.specs.Typing as T
 use Rattle.cpc_tree.specs.declared.program.Item.{Item}
 use Rattle.cpc_tree.specs.declared.program.Item.TheVariants as I
-use Rattle.cpc_types.specs.Counted.{fields_count, size_at}
+use Rattle.cpc_shapes.specs.Counted.{fields_count, size_at}
 use Rattle.cpc_eval_index.specs.Placed.{place_at}
 use Rattle.cpc_eval_index.specs.declared.tables.Tables.{Tables}
 

@@ -4,7 +4,7 @@ use Rattle.std.specs.List.{sum_by}
 use Rattle.cpc_tree.specs.Erase.{Names, item_of}
 use Rattle.cpc_check_rules.specs.Apart.{AreApart}
 use Rattle.cpc_tree.specs.declared.program.Item.{Item}
-use Rattle.cpc_types.specs.Counted.{name_of, tag_of}
+use Rattle.cpc_shapes.specs.Counted.{name_of, tag_of}
 use Rattle.cpc_eval_index.specs.Bodies.{AreFunctionTables}
 use Rattle.cpc_eval_index.specs.Placed.{place_at, first_place, last_place, definition_of, globals_in}
 use Rattle.cpc_eval_index.specs.Sized.{declared_size}

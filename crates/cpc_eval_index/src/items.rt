@@ -1,8 +1,8 @@
 //! What single items declare.
 ghost use Rattle.std.specs.Prelude.{◌≡◌, ◌≤◌, map, option_map};
 ghost use Rattle.cpc_tree.specs.Erase.{Names, field_of, function_of};
-ghost use Rattle.cpc_types.specs.Counted.{name_of, tag_of};
-ghost use Rattle.cpc_types.specs.Declaring.{fields_seen};
+ghost use Rattle.cpc_shapes.specs.Counted.{name_of, tag_of};
+ghost use Rattle.cpc_shapes.specs.Declaring.{fields_seen};
 ghost use Rattle.cpc_eval_index.specs.Placed.{definition_of, globals_in};
 ghost use Rattle.cpc_eval_index.specs.Meanings.{definition_seen};
 

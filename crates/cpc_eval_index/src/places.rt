@@ -1,6 +1,6 @@
 //! For each name the number of an item that declares it.
 ghost use Rattle.std.specs.Prelude.{◌≡◌, ℕ, ◌<◌, OnOk, None, Some, length, if◌then◌else◌};
-ghost use Rattle.cpc_types.specs.Indexed.{is_name};
+ghost use Rattle.cpc_shapes.specs.Indexed.{is_name};
 ghost use Rattle.cpc_eval_index.specs.Placed.{place_at, or_place};
 
 use cpc_base::{Name, NoMemory};

@@ -4,7 +4,7 @@ ghost use Rattle.cpc_tree.specs.Erase.{Names, type_of, field_of};
 ghost use Rattle.cpc_check_rules.specs.Apart.{AreApart};
 ghost use Rattle.cpc_tree.specs.Syntax.{Program};
 ghost use Rattle.cpc_tree.specs.Typing as T;
-ghost use Rattle.cpc_types.specs.Counted.{fields_count};
+ghost use Rattle.cpc_shapes.specs.Counted.{fields_count};
 ghost use Rattle.cpc_eval_index.specs.Sized.{capped, capped_size, capped_field, AreSizes, declared_size};
 
 use crate::tables::Tables;

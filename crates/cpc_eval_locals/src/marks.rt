@@ -6,8 +6,8 @@ ghost use Rattle.cpc_eval_locals.specs.Seen.{declared_seen, own_seen, marks_seen
 
 use crate::counting::declared;
 use cpc_base::{Name, NoMemory};
+use cpc_shapes::copy_of;
 use cpc_tree::program::{CType, Statement};
-use cpc_types::copy_of;
 use std::alloc::Global;
 
 /// Which part of the statement around it a statement is.

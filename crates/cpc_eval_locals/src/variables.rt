@@ -9,8 +9,8 @@ ghost use Rattle.cpc_eval_locals.specs.Kept.{kept_by, kept_one};
 
 use cpc_base::NoMemory;
 use cpc_eval_variables::{Variable as Found, variables};
+use cpc_shapes::copy_of;
 use cpc_tree::program::{CType, Function};
-use cpc_types::copy_of;
 use std::alloc::Global;
 
 /// A parameter or a local of a function: its type, and whether it is a register. One that is no register has a block of

@@ -8,9 +8,10 @@ use Rattle.cpc_tree.specs.Erase.{Names, item_of}
 use Rattle.cpc_check_rules.specs.Apart.{AreApart}
 use Rattle.cpc_tree.specs.declared.program.Item.{Item}
 use Rattle.cpc_types.specs.Indexed.{IsIndex}
-use Rattle.cpc_types.specs.Counted.{name_of, tag_of, AreDeclared, declared_size}
+use Rattle.cpc_types.specs.Counted.{AreDeclared, declared_size}
+use Rattle.cpc_shapes.specs.Counted.{name_of, tag_of}
 use Rattle.cpc_types.specs.declared.items.Items.{Items}
-use Rattle.cpc_types.proofs.Indexes.{pushed_at}
+use Rattle.cpc_shapes.proofs.Indexes.{pushed_at}
 
 -- no more items are in scope than there are
 pub within_all : (xs : List Item) (i : Items) → AreDeclared xs i → i.names.count ≤ length xs
@@ -54,7 +55,3 @@ module _ (xs : List Item) (y : Item) (i j : Items) (s : Option ℕ) where
         ap length sizes ∙ length-append i.sizes.items (s ∷ []) ∙ ap (λ n. n + 1) f ∙ sym (length-append xs (y ∷ []));
     sized = size_pushed d sizes size;
   }
-
--- the first items and the next
-pub next_item : (xs : List Item) (n : ℕ) (x : Item) → n < length xs → x ≡ get_or xs n x → take (n + 1) xs ≡ take n xs ++ x ∷ []
-next_item xs n x h e = take_more xs n x h ∙ ap (λ y. take n xs ++ y ∷ []) (sym e)

@@ -8,11 +8,12 @@ use Rattle.cpc_tree.specs.Typing as T
 use Rattle.cpc_tree.specs.declared.program.Item.{Item}
 use Rattle.cpc_tree.specs.declared.program.Item.TheVariants as I
 use Rattle.cpc_check_rules.specs.Scopes as R
-use Rattle.cpc_types.specs.Indexed.{is_name, last_below}
-use Rattle.cpc_types.specs.Counted.{capped, capped_size, count, name_of, tag_of, size_at, tag_size, AreSizes, AreDeclared, declared_size}
-use Rattle.cpc_types.specs.Declaring.{item_at, meaning, meaning_of, fields_seen, fields_of}
+use Rattle.cpc_shapes.specs.Indexed.{is_name, last_below}
+use Rattle.cpc_types.specs.Counted.{tag_size, AreSizes, AreDeclared, declared_size}
+use Rattle.cpc_shapes.specs.Counted.{capped, capped_size, count, name_of, tag_of, size_at}
+use Rattle.cpc_shapes.specs.Declaring.{item_at, meaning, meaning_of, fields_seen, fields_of}
 use Rattle.cpc_types.specs.declared.items.Items.{Items}
-use Rattle.cpc_types.proofs.Latest.{map_reverse, absent, found}
+use Rattle.cpc_shapes.proofs.Latest.{map_reverse, absent, found}
 
 module _ (names : Names) (apart : AreApart names) where
   -- ---- sizes

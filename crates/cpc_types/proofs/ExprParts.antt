@@ -13,7 +13,7 @@ use Rattle.cpc_tree.specs.Syntax as S
 use Rattle.cpc_tree.specs.Typing as T
 use Rattle.cpc_tree.specs.Typing.{◌>>=◌}
 use Rattle.cpc_check_rules.specs.Scopes as R
-use Rattle.cpc_types.specs.Forms.{is_named, unary_of, binary_of, choice_of, cast_of, index_of, member_of, arrow_of, narrow_typed, wide_typed, logical_typed}
+use Rattle.cpc_shapes.specs.Forms.{is_named, unary_of, binary_of, choice_of, cast_of, index_of, member_of, arrow_of, narrow_typed, wide_typed, logical_typed}
 
 addressed : (o : Option T.Typed) → (o >>= (λ d. Some (T.address_type d))) ≡ option_map T.address_type o
 addressed None = refl

@@ -4,7 +4,7 @@ use Rattle.cpc_base.specs.Bytes.{Text}
 use Rattle.cpc_tree.specs.Syntax.{Ty, TyStruct, Variable, Program}
 use Rattle.cpc_tree.specs.Typing as T
 use Rattle.cpc_tree.specs.Typing.{◌>>=◌}
-use Rattle.cpc_types.specs.Found.{field_place}
+use Rattle.cpc_shapes.specs.Found.{field_place}
 
 place_of : Option (ℕ × Ty) → Option T.Typed
 place_of None = None

@@ -15,14 +15,15 @@ use Rattle.cpc_tree.specs.declared.program.Item.{Item}
 use Rattle.cpc_tree.specs.declared.program.Item.TheVariants as I
 use Rattle.cpc_check_rules.specs.Apart.{AreApart}
 use Rattle.cpc_check_rules.specs.Calls as C
-use Rattle.cpc_types.specs.Indexed.{is_name, last_below}
-use Rattle.cpc_types.specs.Counted.{capped, capped_size, tag_of, AreDeclared}
+use Rattle.cpc_shapes.specs.Indexed.{is_name, last_below}
+use Rattle.cpc_types.specs.Counted.{AreDeclared}
+use Rattle.cpc_shapes.specs.Counted.{capped, capped_size, tag_of}
 use Rattle.cpc_types.specs.Integral.{have_integers, flag_at, tag_integral, AreIntegral, declared_integral, AreTold}
 use Rattle.cpc_types.specs.Scoped.{all_items, scope_of}
 use Rattle.cpc_types.specs.declared.items.Items.{Items}
 use Rattle.cpc_types.specs.declared.scope.Scope.{Scope}
-use Rattle.cpc_types.proofs.Latest.{map_reverse, absent, found}
-use Rattle.cpc_types.proofs.Indexes.{pushed_at}
+use Rattle.cpc_shapes.proofs.Latest.{map_reverse, absent, found}
+use Rattle.cpc_shapes.proofs.Indexes.{pushed_at}
 use Rattle.cpc_types.proofs.Declared.{within_all}
 use Rattle.cpc_types.proofs.Scopes.{items_are}
 

@@ -1,14 +1,8 @@
-pub mod CellCounts
-pub mod CodeParts
 pub mod Declared
 pub mod Declares
 pub mod Entered
 pub mod ExprParts
 pub mod FieldPlaces
-pub mod FormParts
-pub mod Indexes
 pub mod Integrals
-pub mod Latest
-pub mod OperatorParts
 pub mod Scopes
 pub mod Taking

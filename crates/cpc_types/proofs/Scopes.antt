@@ -6,9 +6,9 @@ use Rattle.cpc_tree.specs.Syntax.{Program}
 use Rattle.cpc_base.specs.declared.names.Name.{Name}
 use Rattle.cpc_tree.specs.Typing as T
 use Rattle.cpc_tree.specs.declared.program.Item.{Item}
-use Rattle.cpc_types.specs.Indexed.{last_below}
+use Rattle.cpc_shapes.specs.Indexed.{last_below}
 use Rattle.cpc_types.specs.Counted.{AreSizes}
-use Rattle.cpc_types.specs.Declaring.{item_at, meaning_of, fields_of}
+use Rattle.cpc_shapes.specs.Declaring.{item_at, meaning_of, fields_of}
 use Rattle.cpc_types.specs.Scoped.{all_items, items_of, scope_of}
 use Rattle.cpc_types.specs.Blocks.{outer_meant}
 use Rattle.cpc_types.specs.declared.scope.Scope.{Scope}

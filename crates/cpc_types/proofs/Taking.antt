@@ -5,7 +5,7 @@ use Rattle.cpc_num.specs.declared.kinds.Kind.{Kind}
 use Rattle.cpc_tree.specs.Syntax.{Ty, TyVoid, TyInt, TyCondvar, TyPointer, TyCode, Tys}
 use Rattle.cpc_tree.specs.Typing as T
 use Rattle.cpc_check_rules.specs.Scopes as R
-use Rattle.cpc_types.specs.Shapes.{is_void, is_condvar}
+use Rattle.cpc_shapes.specs.Shapes.{is_void, is_condvar}
 
 or_false : (b : Bool) → (false || (b && false)) ≡ false
 or_false true = refl

@@ -1,52 +1,16 @@
--- What items declare, and how many cells types have.
-use Rattle.std.specs.Prelude.{◌≡◌, ℕ, nat_le, if◌then◌else◌, List, map, take, reverse, length, get_or, slice_get, Option, Some, None, option_map}
+-- What the items in scope declare, and how many cells their structs have.
+use Rattle.std.specs.Prelude.{◌≡◌, ℕ, List, map, take, length, get_or, slice_get, Option, Some, None, option_map}
 use Rattle.cpc_tree.specs.Erase.{Names, item_of, field_of}
 use Rattle.cpc_check_rules.specs.Apart.{AreApart}
 use Rattle.cpc_base.specs.declared.names.Name.{Name}
-use Rattle.cpc_tree.specs.Syntax.{Ty, TyStruct, Variable, Program}
-use Rattle.cpc_tree.specs.Typing as T
-use Rattle.cpc_tree.specs.Typing.{◌>>=◌}
+use Rattle.cpc_tree.specs.Syntax.{TyStruct, Program}
 use Rattle.cpc_tree.specs.declared.program.Item.{Item}
 use Rattle.cpc_tree.specs.declared.program.Item.TheVariants as I
-use Rattle.cpc_check_rules.specs.Scopes.{cell_limit}
-use Rattle.cpc_types.specs.Indexed.{IsIndex, last_below}
+use Rattle.cpc_shapes.specs.Counted.{capped, capped_size, fields_count, name_of, tag_of, size_at}
+use Rattle.cpc_types.specs.Indexed.{IsIndex}
+use Rattle.cpc_shapes.specs.Indexed.{last_below}
 use Rattle.cpc_types.specs.declared.items.Items.{Items}
 
--- a number of cells, where one more than the limit stands for every greater one
-abbrev pub capped : ℕ → ℕ
-capped n = if nat_le n cell_limit then n else 65537
-
--- the number of cells of a type, capped
-abbrev pub capped_size : Program → Ty → Option ℕ
-capped_size p t = option_map capped (T.size p t)
-
--- how many cells there are
-abbrev pub count : T.Cells → Option ℕ
-count o = do
-  xs ← o
-  Some (length xs)
-
--- the number of cells of fields
-abbrev pub fields_count : Program → List Variable → Option ℕ
-fields_count p fs = count (T.fields_cells (T.struct_cells (reverse p)) fs)
-
--- the name of a variable or a function that an item declares
-abbrev pub name_of : Item → Option Name
-name_of (I.Struct tag fields) = None
-name_of (I.Global w t start) = Some w.name
-name_of (I.Prototype p mode w result ps) = Some w.name
-name_of (I.Function f) = Some f.word.name
-
--- the tag of a struct that an item declares
-abbrev pub tag_of : Item → Option Name
-tag_of (I.Struct tag fields) = Some tag.name
-tag_of _ = None
-
-abbrev pub size_at : List (Option ℕ) → Option ℕ → Option ℕ
-size_at sizes None = None
-size_at sizes (Some k) = get_or sizes k None
-
--- the cells of the struct in scope that has a tag, capped
 abbrev pub tag_size : Items → Name → Option ℕ
 tag_size i tag = size_at i.sizes.items (last_below i.tags.count i.tags.names.items tag.0)
 

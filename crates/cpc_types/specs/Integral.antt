@@ -8,7 +8,7 @@ use Rattle.cpc_tree.specs.declared.program.Item.{Item}
 use Rattle.cpc_tree.specs.declared.program.Item.TheVariants as I
 use Rattle.cpc_check_rules.specs.Apart.{AreApart}
 use Rattle.cpc_check_rules.specs.Calls as C
-use Rattle.cpc_types.specs.Indexed.{last_below}
+use Rattle.cpc_shapes.specs.Indexed.{last_below}
 use Rattle.cpc_types.specs.declared.items.Items.{Items}
 
 -- whether the cells of fields are all integers

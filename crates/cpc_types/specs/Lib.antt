@@ -1,11 +1,7 @@
 pub mod Blocks
 pub mod Counted
-pub mod Declaring
-pub mod Forms
 pub mod Found
 pub mod Indexed
 pub mod Meanings
 pub mod Scoped
-pub mod Shapes
-pub mod Listed
 pub mod Integral

@@ -8,8 +8,8 @@ ghost use Rattle.cpc_types.specs.Scoped.{scope_of};
 use crate::expressions::typing;
 use crate::operators::{are_alike, is_null, used};
 use crate::scope::Scope;
-use crate::shapes::{is_condvar, kind_of, pointee, same_type};
 use cpc_base::NoMemory;
+use cpc_shapes::{is_condvar, kind_of, pointee, same_type};
 use cpc_tree::program::{CType, Expr};
 use std::alloc::Global;
 

@@ -6,8 +6,8 @@ ghost use Rattle.cpc_tree.specs.Syntax.{Program};
 ghost use Rattle.cpc_check_rules.specs.Scopes as R;
 ghost use Rattle.cpc_types.specs.Blocks.{inside, without_block, with_parameter, with_parameters, local_or, outer_meant};
 
-use crate::copies::copy_of;
 use cpc_base::{Name, NoMemory};
+use cpc_shapes::copy_of;
 use cpc_tree::program::{CType, Parameter};
 use std::alloc::Global;
 

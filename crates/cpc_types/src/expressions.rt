@@ -4,18 +4,19 @@ ghost use Rattle.cpc_tree.specs.Erase.{Names, expr_of};
 ghost use Rattle.cpc_check_rules.specs.Apart.{AreApart};
 ghost use Rattle.cpc_check_rules.specs.Scopes as R;
 ghost use Rattle.cpc_types.specs.Found.{found_of};
-ghost use Rattle.cpc_types.specs.Forms.{narrow_typed, wide_typed, logical_typed};
+ghost use Rattle.cpc_shapes.specs.Forms.{narrow_typed, wide_typed, logical_typed};
 ghost use Rattle.cpc_types.specs.Scoped.{scope_of};
 
 use crate::forms::{
-    arrow_form, binary_form, cast_form, index_form, is_named, member_form, size_form, test_form,
-    tested_form, unary_form,
+    arrow_form, binary_form, cast_form, index_form, member_form, size_form, test_form, tested_form,
+    unary_form,
 };
 use crate::names::name_type;
 use crate::operators::{TypeFound, is_null, is_tested};
 use crate::scope::Scope;
 use cpc_base::NoMemory;
 use cpc_num::Kind;
+use cpc_shapes::is_named;
 use cpc_tree::program::{CType, Expr};
 use std::alloc::Global;
 

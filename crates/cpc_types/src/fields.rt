@@ -2,17 +2,17 @@
 ghost use Rattle.std.specs.Prelude.{◌≡◌, IfOk, map};
 ghost use Rattle.cpc_tree.specs.Erase.{Names, field_of};
 ghost use Rattle.cpc_check_rules.specs.Apart.{AreApart};
-ghost use Rattle.cpc_types.specs.Listed.{optional_of};
+ghost use Rattle.cpc_shapes.specs.Listed.{optional_of};
 ghost use Rattle.cpc_tree.specs.Typing as T;
-ghost use Rattle.cpc_types.specs.Found.{found_of, field_place};
+ghost use Rattle.cpc_types.specs.Found.{found_of};
+ghost use Rattle.cpc_shapes.specs.Found.{field_place};
 ghost use Rattle.cpc_types.specs.Scoped.{scope_of};
 
-use crate::copies::copy_of;
 use crate::operators::TypeFound;
 use crate::scope::Scope;
-use crate::shapes::tag_of;
 use crate::sizes::is_complete;
 use cpc_base::{Name, NoMemory};
+use cpc_shapes::{copy_of, tag_of};
 use cpc_tree::program::{CType, Field};
 use std::alloc::Global;
 

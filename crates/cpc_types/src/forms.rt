@@ -6,12 +6,12 @@ ghost use Rattle.cpc_num.specs.declared.kinds.Kind.TheVariants.{ULong};
 ghost use Rattle.cpc_tree.specs.Typing as T;
 ghost use Rattle.cpc_check_rules.specs.Scopes as R;
 ghost use Rattle.cpc_tree.specs.Syntax.{ESizeOf};
-ghost use Rattle.cpc_types.specs.Found.{found_of, can_move};
-ghost use Rattle.cpc_types.specs.Listed.{optional_of};
-ghost use Rattle.cpc_types.specs.Forms.{is_named, unary_of, binary_of, choice_of, cast_of, index_of, member_of, arrow_of, of_both, element_of};
+ghost use Rattle.cpc_types.specs.Found.{found_of};
+ghost use Rattle.cpc_shapes.specs.Found.{can_move};
+ghost use Rattle.cpc_shapes.specs.Listed.{optional_of};
+ghost use Rattle.cpc_shapes.specs.Forms.{is_named, unary_of, binary_of, choice_of, cast_of, index_of, member_of, arrow_of, of_both, element_of};
 ghost use Rattle.cpc_types.specs.Scoped.{scope_of};
 
-use crate::copies::copy_of;
 use crate::fields::field_type;
 use crate::operators::{
     TypeFound, address_type, binary_type, can_cast, choice_type, int_where, is_tested, moved,
@@ -21,6 +21,7 @@ use crate::scope::Scope;
 use crate::sizes::is_complete;
 use cpc_base::{Name, NoMemory};
 use cpc_num::{Kind, Op};
+use cpc_shapes::copy_of;
 use cpc_tree::program::{CType, Expr, UnaryOp};
 use std::alloc::Global;
 
@@ -31,16 +32,6 @@ fn can_move(t: &CType, u: &CType, scope: &Scope) -> bool
     match moved(t, u) {
         Some(to) => is_complete(to, scope),
         None => false,
-    }
-}
-
-/// Whether an expression is a name.
-pub fn is_named(e: &Expr) -> bool
-    ensures { (names : Names) → result ≡ is_named (expr_of names e.now) }
-{
-    match e {
-        Expr::Name(_) => true,
-        _ => false,
     }
 }
 
@@ -105,7 +96,7 @@ fn operated(
 }
 
 /// `&&` and `||`.
-#[tactic(auto, using(std::proofs::lemmas::Grind::common_steps, crate::proofs::FormParts::tested_both))]
+#[tactic(auto, using(std::proofs::lemmas::Grind::common_steps, cpc_shapes::proofs::FormParts::tested_both))]
 pub fn test_form(left: TypeFound, right: TypeFound) -> TypeFound
     ensures { (names : Names) → found_of names result ≡ T.test_type (found_of names left) (found_of names right) }
 {
@@ -153,7 +144,7 @@ fn chosen(nulls: (bool, bool), t: Option<CType>, u: Option<CType>) -> Option<CTy
 }
 
 /// A cast. `null` tells whether the operand is the literal 0.
-#[tactic(auto, using(std::proofs::lemmas::Grind::common_steps, crate::proofs::FormParts::cast_some, crate::proofs::FormParts::cast_none))]
+#[tactic(auto, using(std::proofs::lemmas::Grind::common_steps, cpc_shapes::proofs::FormParts::cast_some, cpc_shapes::proofs::FormParts::cast_none))]
 pub fn cast_form(
     alloc: Global,
     of: &CType,
@@ -173,7 +164,7 @@ pub fn cast_form(
 }
 
 /// `sizeof`.
-#[tactic(auto, using(std::proofs::lemmas::Grind::common_steps, crate::proofs::FormParts::size_typed))]
+#[tactic(auto, using(std::proofs::lemmas::Grind::common_steps, cpc_shapes::proofs::FormParts::size_typed))]
 pub fn size_form(of: &CType, scope: &Scope) -> TypeFound
     ensures { (names : Names) → AreApart names → found_of names result ≡ R.typed (scope_of names scope.now) (ESizeOf (type_of names of.now)) }
 {
@@ -199,7 +190,7 @@ pub fn index_form(
 }
 
 // An element of a value of the first type, where the index has the second.
-#[tactic(auto, using(std::proofs::lemmas::Grind::common_steps, crate::proofs::FormParts::element_some, crate::proofs::FormParts::element_none))]
+#[tactic(auto, using(std::proofs::lemmas::Grind::common_steps, cpc_shapes::proofs::FormParts::element_some, cpc_shapes::proofs::FormParts::element_none))]
 fn element(
     alloc: Global,
     t: &Option<CType>,
@@ -237,7 +228,7 @@ pub fn member_form(
 }
 
 /// A field of what a pointer points to.
-#[tactic(auto, using(std::proofs::lemmas::Grind::common_steps, crate::proofs::FormParts::arrow_some, crate::proofs::FormParts::arrow_none))]
+#[tactic(auto, using(std::proofs::lemmas::Grind::common_steps, cpc_shapes::proofs::FormParts::arrow_some, cpc_shapes::proofs::FormParts::arrow_none))]
 pub fn arrow_form(
     alloc: Global,
     found: TypeFound,

@@ -1,6 +1,7 @@
 //! An index by name: which of the items in scope declares a name last.
 ghost use Rattle.std.specs.Prelude.{◌≡◌, ◌+◌, ◌<◌, ◌≤◌, ◌++◌, ◌∷◌, [], OnOk, length};
-ghost use Rattle.cpc_types.specs.Indexed.{IsIndex, last_below};
+ghost use Rattle.cpc_types.specs.Indexed.{IsIndex};
+ghost use Rattle.cpc_shapes.specs.Indexed.{last_below};
 
 use cpc_base::{Name, NoMemory};
 use std::alloc::Global;
@@ -40,7 +41,7 @@ impl Index {
     }
 
     // Makes room for a name.
-    #[tactic(auto, using(std::proofs::lemmas::Grind::common_steps, crate::proofs::Indexes::more_room))]
+    #[tactic(auto, using(std::proofs::lemmas::Grind::common_steps, cpc_shapes::proofs::Indexes::more_room))]
     fn admit(&mut self, name: Name) -> Result<(), NoMemory>
         requires { IsIndex self.old }
         ensures index { OnOk result (IsIndex self.new) }
@@ -76,7 +77,7 @@ impl Index {
     }
 
     // The next item comes into scope.
-    #[tactic(auto, using(std::proofs::lemmas::Grind::common_steps, crate::proofs::Indexes::forward_none, crate::proofs::Indexes::forward_some))]
+    #[tactic(auto, using(std::proofs::lemmas::Grind::common_steps, cpc_shapes::proofs::Indexes::forward_none, cpc_shapes::proofs::Indexes::forward_some))]
     fn forward(&mut self)
         requires index { IsIndex self.old }
         requires more { self.old.count < length self.old.names.items }
@@ -91,7 +92,7 @@ impl Index {
     }
 
     // The last item leaves the scope.
-    #[tactic(auto, using(std::proofs::lemmas::Grind::common_steps, crate::proofs::Indexes::back_none, crate::proofs::Indexes::back_some))]
+    #[tactic(auto, using(std::proofs::lemmas::Grind::common_steps, cpc_shapes::proofs::Indexes::back_none, cpc_shapes::proofs::Indexes::back_some))]
     fn back(&mut self)
         requires index { IsIndex self.old }
         requires some { 0 < self.old.count }

@@ -2,9 +2,11 @@
 ghost use Rattle.std.specs.Prelude.{◌≡◌, ◌+◌, ◌<◌, ◌≤◌, IfOk, OnOk, length, take, option_map};
 ghost use Rattle.cpc_tree.specs.Erase.{Names};
 ghost use Rattle.cpc_tree.specs.Syntax.{Program};
-ghost use Rattle.cpc_types.specs.Indexed.{IsIndex, last_below};
-ghost use Rattle.cpc_types.specs.Declaring.{item_at};
-ghost use Rattle.cpc_types.specs.Counted.{AreDeclared, AreSizes, name_of, tag_of, tag_size, declared_size};
+ghost use Rattle.cpc_types.specs.Indexed.{IsIndex};
+ghost use Rattle.cpc_shapes.specs.Indexed.{last_below};
+ghost use Rattle.cpc_shapes.specs.Declaring.{item_at};
+ghost use Rattle.cpc_types.specs.Counted.{AreDeclared, AreSizes, tag_size, declared_size};
+ghost use Rattle.cpc_shapes.specs.Counted.{name_of, tag_of};
 ghost use Rattle.cpc_types.specs.Integral.{AreIntegral, AreTold, tag_integral, declared_integral};
 
 use crate::index::Index;

@@ -1,7 +1,7 @@
 //! What names stand for.
 ghost use Rattle.std.specs.Prelude.{◌≡◌, map, option_map};
 ghost use Rattle.cpc_tree.specs.Erase.{Names, field_of};
-ghost use Rattle.cpc_types.specs.Declaring.{meaning, fields_seen};
+ghost use Rattle.cpc_shapes.specs.Declaring.{meaning, fields_seen};
 ghost use Rattle.cpc_types.specs.Meanings.{meant_of};
 
 use cpc_tree::program::{CType, Field, Item, Mode, Parameter};

@@ -8,11 +8,11 @@ ghost use Rattle.cpc_types.specs.Found.{found_of};
 ghost use Rattle.cpc_types.specs.Meanings.{meant_of};
 ghost use Rattle.cpc_types.specs.Scoped.{scope_of};
 
-use crate::copies::copy_of;
 use crate::meant::Meant;
 use crate::operators::TypeFound;
 use crate::scope::Scope;
 use cpc_base::{Name, NoMemory};
+use cpc_shapes::copy_of;
 use cpc_tree::program::{CType, Mode, Parameter};
 use std::alloc::Global;
 
@@ -29,7 +29,7 @@ fn parameter_types(alloc: Global, parameters: &[Parameter]) -> Result<Vec<CType>
 }
 
 // The code type of a function.
-#[tactic(auto, using(std::proofs::lemmas::Grind::common_steps, crate::proofs::CodeParts::code_is))]
+#[tactic(auto, using(std::proofs::lemmas::Grind::common_steps, cpc_shapes::proofs::CodeParts::code_is))]
 fn code_type(alloc: Global, of: &CType, parameters: &[Parameter]) -> Result<CType, NoMemory>
     ensures { IfOk result (λ code. (names : Names) → type_of names code ≡ T.function_type (type_of names of.now) (map T.parameter_type (map (parameter_of names) parameters.now))) }
 {

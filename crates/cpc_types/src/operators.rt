@@ -2,17 +2,20 @@
 ghost use Rattle.std.specs.Prelude.{◌≡◌, IfOk, is_some, if◌then◌else◌, ◌&&◌, ◌||◌, option_map};
 ghost use Rattle.cpc_tree.specs.Erase.{Names, type_of, expr_of};
 ghost use Rattle.cpc_check_rules.specs.Apart.{AreApart};
-ghost use Rattle.cpc_types.specs.Listed.{optional_of};
+ghost use Rattle.cpc_shapes.specs.Listed.{optional_of};
 ghost use Rattle.cpc_tree.specs.Typing.{AValue, APlace};
 ghost use Rattle.cpc_tree.specs.Typing as T;
 ghost use Rattle.cpc_tree.specs.Syntax.{TyInt, Program};
-ghost use Rattle.cpc_types.specs.Shapes.{is_void};
-ghost use Rattle.cpc_types.specs.Found.{found_of, used_of, pointed, can_move};
+ghost use Rattle.cpc_shapes.specs.Shapes.{is_void};
+ghost use Rattle.cpc_types.specs.Found.{found_of};
+ghost use Rattle.cpc_shapes.specs.Found.{used_of, pointed, can_move};
 
-use crate::copies::{copy_of, pointer_to};
-use crate::shapes::{is_condvar, is_reference, is_testable, is_void, kind_of, pointee, same_type};
 use cpc_base::NoMemory;
 use cpc_num::{Kind, Op, common, promoted};
+use cpc_shapes::{
+    copy_of, is_condvar, is_reference, is_testable, is_void, kind_of, pointee, pointer_to,
+    same_type,
+};
 use cpc_tree::program::{CType, Expr, UnaryOp};
 use std::alloc::Global;
 
@@ -54,7 +57,7 @@ pub fn used(found: TypeFound) -> Option<CType>
     }
 }
 
-#[tactic(auto, using(std::proofs::lemmas::Grind::common_steps, crate::proofs::OperatorParts::common_some, crate::proofs::OperatorParts::common_left, crate::proofs::OperatorParts::common_right))]
+#[tactic(auto, using(std::proofs::lemmas::Grind::common_steps, cpc_shapes::proofs::OperatorParts::common_some, cpc_shapes::proofs::OperatorParts::common_left, cpc_shapes::proofs::OperatorParts::common_right))]
 fn common_type(t: &CType, u: &CType) -> Option<CType>
     ensures { (names : Names) → optional_of names result ≡ T.common_type (type_of names t.now) (type_of names u.now) }
 {
@@ -68,7 +71,7 @@ fn common_type(t: &CType, u: &CType) -> Option<CType>
 }
 
 /// What the pointer of a sum or a difference points to.
-#[tactic(auto, using(std::proofs::lemmas::Grind::common_steps, crate::proofs::OperatorParts::pointed_left, crate::proofs::OperatorParts::pointed_right))]
+#[tactic(auto, using(std::proofs::lemmas::Grind::common_steps, cpc_shapes::proofs::OperatorParts::pointed_left, cpc_shapes::proofs::OperatorParts::pointed_right))]
 pub(crate) fn moved<'t>(t: &'t CType, u: &'t CType) -> Option<&'t CType>
     ensures { (names : Names) → option_map (λ to. type_of names to.now) result ≡ pointed (type_of names t.now) (type_of names u.now) }
 {
@@ -91,7 +94,7 @@ fn movable(alloc: Global, to: &CType, complete: bool) -> Result<Option<CType>, N
 }
 
 /// The type of a sum: an integer, or a moved pointer.
-#[tactic(auto, using(std::proofs::lemmas::Grind::common_steps, crate::proofs::OperatorParts::sum_left, crate::proofs::OperatorParts::sum_left_other, crate::proofs::OperatorParts::sum_right, crate::proofs::OperatorParts::sum_right_other, crate::proofs::OperatorParts::sum_common))]
+#[tactic(auto, using(std::proofs::lemmas::Grind::common_steps, cpc_shapes::proofs::OperatorParts::sum_left, cpc_shapes::proofs::OperatorParts::sum_left_other, cpc_shapes::proofs::OperatorParts::sum_right, cpc_shapes::proofs::OperatorParts::sum_right_other, cpc_shapes::proofs::OperatorParts::sum_common))]
 pub(crate) fn sum_type(
     alloc: Global,
     t: &CType,
@@ -116,7 +119,7 @@ pub(crate) fn sum_type(
 }
 
 // An integer, a moved pointer, or a distance.
-#[tactic(auto, using(std::proofs::lemmas::Grind::common_steps, crate::proofs::OperatorParts::difference_common, crate::proofs::OperatorParts::difference_far, crate::proofs::OperatorParts::difference_moved, crate::proofs::OperatorParts::difference_other))]
+#[tactic(auto, using(std::proofs::lemmas::Grind::common_steps, cpc_shapes::proofs::OperatorParts::difference_common, cpc_shapes::proofs::OperatorParts::difference_far, cpc_shapes::proofs::OperatorParts::difference_moved, cpc_shapes::proofs::OperatorParts::difference_other))]
 fn difference_type(
     alloc: Global,
     t: &CType,
@@ -158,7 +161,7 @@ fn int_if(holds: bool) -> Option<CType>
     }
 }
 
-#[tactic(auto, using(std::proofs::lemmas::Grind::common_steps, crate::proofs::OperatorParts::order_far, crate::proofs::OperatorParts::order_near, crate::proofs::OperatorParts::order_one_pointer, crate::proofs::OperatorParts::order_none, crate::proofs::OperatorParts::order_one_integer))]
+#[tactic(auto, using(std::proofs::lemmas::Grind::common_steps, cpc_shapes::proofs::OperatorParts::order_far, cpc_shapes::proofs::OperatorParts::order_near, cpc_shapes::proofs::OperatorParts::order_one_pointer, cpc_shapes::proofs::OperatorParts::order_none, cpc_shapes::proofs::OperatorParts::order_one_integer))]
 fn order_type(t: &CType, u: &CType) -> Option<CType>
     ensures { (names : Names) → AreApart names → optional_of names result ≡ T.order_type (type_of names t.now) (type_of names u.now) }
 {
@@ -188,7 +191,7 @@ pub(crate) fn are_alike(a: &CType, b: &CType) -> bool
     }
 }
 
-#[tactic(auto, using(std::proofs::lemmas::Grind::common_steps, crate::proofs::OperatorParts::comparable_integer, crate::proofs::OperatorParts::comparable_pointers, crate::proofs::OperatorParts::comparable_pointer, crate::proofs::OperatorParts::comparable_code, crate::proofs::OperatorParts::comparable_condvar))]
+#[tactic(auto, using(std::proofs::lemmas::Grind::common_steps, cpc_shapes::proofs::OperatorParts::comparable_integer, cpc_shapes::proofs::OperatorParts::comparable_pointers, cpc_shapes::proofs::OperatorParts::comparable_pointer, cpc_shapes::proofs::OperatorParts::comparable_code, cpc_shapes::proofs::OperatorParts::comparable_condvar))]
 fn are_comparable(t: &CType, u: &CType) -> bool
     ensures { (names : Names) → AreApart names → result ≡ T.are_comparable (type_of names t.now) (type_of names u.now) }
 {
@@ -212,7 +215,7 @@ fn equality_type(left_null: bool, right_null: bool, t: &CType, u: &CType) -> Opt
     int_if(are_comparable(t, u) || left_fits || right_fits)
 }
 
-#[tactic(auto, using(std::proofs::lemmas::Grind::common_steps, crate::proofs::OperatorParts::shift_some, crate::proofs::OperatorParts::shift_left, crate::proofs::OperatorParts::shift_right))]
+#[tactic(auto, using(std::proofs::lemmas::Grind::common_steps, cpc_shapes::proofs::OperatorParts::shift_some, cpc_shapes::proofs::OperatorParts::shift_left, cpc_shapes::proofs::OperatorParts::shift_right))]
 fn shift_type(t: &CType, u: &CType) -> Option<CType>
     ensures { (names : Names) → optional_of names result ≡ T.shift_type (type_of names t.now) (type_of names u.now) }
 {
@@ -247,7 +250,7 @@ pub(crate) fn binary_type(
 }
 
 /// The type of `?:`. `yes_null` and `no_null` tell which arms are the literal 0.
-#[tactic(auto, using(std::proofs::lemmas::Grind::common_steps, crate::proofs::OperatorParts::choice_same, crate::proofs::OperatorParts::choice_other))]
+#[tactic(auto, using(std::proofs::lemmas::Grind::common_steps, cpc_shapes::proofs::OperatorParts::choice_same, cpc_shapes::proofs::OperatorParts::choice_other))]
 pub(crate) fn choice_type(yes_null: bool, no_null: bool, t: CType, u: CType) -> Option<CType>
     ensures { (names : Names) → AreApart names → optional_of names result ≡ T.choice_type yes_null no_null (type_of names t) (type_of names u) }
 {

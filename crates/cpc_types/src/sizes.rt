@@ -7,7 +7,8 @@ ghost use Rattle.cpc_tree.specs.Typing as T;
 ghost use Rattle.cpc_check_rules.specs.Scopes as R;
 ghost use Rattle.cpc_check_rules.specs.ItemRules as IR;
 ghost use Rattle.cpc_types.specs.Indexed.{IsIndex};
-ghost use Rattle.cpc_types.specs.Counted.{capped, capped_size, fields_count, AreSizes};
+ghost use Rattle.cpc_types.specs.Counted.{AreSizes};
+ghost use Rattle.cpc_shapes.specs.Counted.{capped, capped_size, fields_count};
 ghost use Rattle.cpc_types.specs.Scoped.{scope_of};
 
 use crate::items::Items;
@@ -29,7 +30,7 @@ fn capped(count: u64) -> u64
 }
 
 // The number of cells of elements in a row, capped.
-#[tactic(auto, using(std::proofs::lemmas::Grind::common_steps, crate::proofs::CellCounts::product_capped, crate::proofs::CellCounts::product_over))]
+#[tactic(auto, using(std::proofs::lemmas::Grind::common_steps, cpc_shapes::proofs::CellCounts::product_capped, cpc_shapes::proofs::CellCounts::product_over))]
 fn repeated(count: u64, length: u64) -> u64
     ensures { (k : ℕ) → count ≡ capped k → result ≡ capped (length * k) }
 {
@@ -40,7 +41,7 @@ fn repeated(count: u64, length: u64) -> u64
 }
 
 // The number of cells of two together, capped.
-#[tactic(auto, using(std::proofs::lemmas::Grind::common_steps, crate::proofs::CellCounts::sum_capped, crate::proofs::CellCounts::sum_over))]
+#[tactic(auto, using(std::proofs::lemmas::Grind::common_steps, cpc_shapes::proofs::CellCounts::sum_capped, cpc_shapes::proofs::CellCounts::sum_over))]
 fn together(first: u64, second: u64) -> u64
     ensures sum { (j k : ℕ) → first ≡ capped j → second ≡ capped k → result ≡ capped (j + k) }
     ensures low { result ≤ 65537 }
@@ -52,7 +53,7 @@ fn together(first: u64, second: u64) -> u64
 }
 
 /// The number of cells of a type that is complete, capped.
-#[tactic(auto, using(std::proofs::lemmas::Grind::common_steps, crate::proofs::CellCounts::measure_array, crate::proofs::CellCounts::measure_incomplete))]
+#[tactic(auto, using(std::proofs::lemmas::Grind::common_steps, cpc_shapes::proofs::CellCounts::measure_array, cpc_shapes::proofs::CellCounts::measure_incomplete))]
 pub(crate) fn measure(of: &CType, items: &Items) -> Option<u64>
     requires { IsIndex items.now.tags }
     ensures { (names : Names) (p : Program) → AreSizes items.now names p → result ≡ capped_size p (type_of names of.now) }
@@ -108,7 +109,7 @@ pub fn is_sized(of: &CType, scope: &Scope) -> bool
 }
 
 /// Whether fields that are complete have more cells together than a struct may have.
-#[tactic(auto, using(std::proofs::lemmas::Grind::common_steps, crate::proofs::CellCounts::over_some, crate::proofs::CellCounts::over_none))]
+#[tactic(auto, using(std::proofs::lemmas::Grind::common_steps, cpc_shapes::proofs::CellCounts::over_some, cpc_shapes::proofs::CellCounts::over_none))]
 pub fn are_oversized(fields: &[Field], scope: &Scope) -> bool
     ensures { (names : Names) → AreApart names → result ≡ IR.is_oversized (fields_count (scope_of names scope.now).items (map (field_of names) fields.now)) }
 {

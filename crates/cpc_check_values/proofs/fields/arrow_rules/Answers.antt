@@ -3,7 +3,7 @@ use Rattle.cpc_tree.specs.Locate.{ident}
 use Rattle.cpc_check_rules.specs.Noted.{noted, first_of}
 use Rattle.cpc_types.specs.Found.{found_of}
 use Rattle.cpc_types.specs.Scoped.{scope_of}
-use Rattle.cpc_types.specs.Forms as F
+use Rattle.cpc_shapes.specs.Forms as F
 use Rattle.cpc_check_values.proofs.Taken.{arrow_typed, arrow_absent}
 use Rattle.cpc_check_values.proofs.fields.arrow_rules.Goals as goal
 use Rattle.cpc_check_values.proofs.fields.arrow_rules.Goals.{then-typed, else-typed}

@@ -1,5 +1,5 @@
 use Rattle.cpc_eval_index.specs.Indexed.{items_of}
-use Rattle.cpc_types.specs.Found.{used_of}
+use Rattle.cpc_shapes.specs.Found.{used_of}
 use Rattle.cpc_eval.specs.Shapes.{types_of, shape_of}
 use Rattle.cpc_eval.proofs.Sizing.{no_type, no_pointer}
 use Rattle.cpc_eval.proofs.operands.element_size.Goals as goal

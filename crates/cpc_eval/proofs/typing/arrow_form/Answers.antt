@@ -1,5 +1,5 @@
 use Rattle.cpc_eval_index.specs.Indexed.{items_of}
-use Rattle.cpc_types.proofs.FormParts.{arrow_none}
+use Rattle.cpc_shapes.proofs.FormParts.{arrow_none}
 use Rattle.cpc_eval.specs.Shapes.{types_of}
 use Rattle.cpc_eval.proofs.Types.{agrees_absent}
 use Rattle.cpc_eval.proofs.typing.arrow_form.Goals as goal

@@ -1,5 +1,5 @@
 use Rattle.cpc_eval.specs.Shapes.{types_of, shape_of}
-use Rattle.cpc_types.proofs.FormParts.{binary_some, binary_left, binary_right}
+use Rattle.cpc_shapes.proofs.FormParts.{binary_some, binary_left, binary_right}
 use Rattle.cpc_eval.proofs.Types.{agrees_absent, agrees_by}
 use Rattle.cpc_eval.proofs.typing.binary_form.Goals as goal
 

@@ -2,7 +2,7 @@ use Rattle.std.proofs.Common.{◌∙◌, ap, sym, Some, option_map}
 use Rattle.cpc_num.specs.declared.kinds.Kind.{Kind}
 use Rattle.cpc_tree.specs.Syntax.{TyInt}
 use Rattle.cpc_tree.specs.Typing as T
-use Rattle.cpc_types.proofs.OperatorParts.{common_some}
+use Rattle.cpc_shapes.proofs.OperatorParts.{common_some}
 use Rattle.cpc_eval.specs.Shapes.{shape_of}
 use Rattle.cpc_eval.proofs.typing.common_form.Goals as goal
 

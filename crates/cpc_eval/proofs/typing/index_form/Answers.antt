@@ -1,6 +1,6 @@
 use Rattle.std.proofs.Common.{refl, ◌∙◌}
 use Rattle.cpc_tree.specs.Typing as T
-use Rattle.cpc_types.proofs.FormParts.{index_left, index_right}
+use Rattle.cpc_shapes.proofs.FormParts.{index_left, index_right}
 use Rattle.cpc_eval.specs.Shapes.{types_of, shape_of}
 use Rattle.cpc_eval.proofs.Types.{agrees_absent, index_pointer, index_other, dereferenced}
 use Rattle.cpc_eval.proofs.typing.index_form.Goals as goal

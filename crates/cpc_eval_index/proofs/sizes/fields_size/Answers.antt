@@ -1,6 +1,6 @@
 use Rattle.std.proofs.Common.{◌∙◌, ◌+◌, ℕ, map, drop, option_map, sym, ap, arith}
 use Rattle.cpc_tree.specs.Erase.{field_of}
-use Rattle.cpc_types.specs.Counted.{fields_count}
+use Rattle.cpc_shapes.specs.Counted.{fields_count}
 use Rattle.cpc_eval_index.specs.Sized.{capped}
 use Rattle.cpc_eval_index.proofs.Cells.{field_counted, field_uncounted}
 use Rattle.cpc_eval_index.proofs.sizes.fields_size.Goals as goal

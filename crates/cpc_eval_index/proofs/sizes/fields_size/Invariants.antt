@@ -1,7 +1,7 @@
 use Rattle.std.proofs.Common.{◌≡◌, ◌+◌, ◌<◌, ◌^◌, map, drop, option_map}
 use Rattle.cpc_tree.specs.Erase.{Names, field_of}
 use Rattle.cpc_tree.specs.Syntax.{Program}
-use Rattle.cpc_types.specs.Counted.{fields_count}
+use Rattle.cpc_shapes.specs.Counted.{fields_count}
 use Rattle.cpc_eval_index.specs.Sized.{capped, AreSizes}
 use Rattle.cpc_eval_index.proofs.sizes.fields_size.Given as goal
 

@@ -1,7 +1,7 @@
 use Rattle.std.proofs.Common.{◌≡◌, map, drop}
 use Rattle.cpc_tree.specs.Erase.{Names, field_of}
 use Rattle.cpc_check_rules.specs.Apart.{AreApart}
-use Rattle.cpc_types.specs.Found.{field_place}
+use Rattle.cpc_shapes.specs.Found.{field_place}
 use Rattle.cpc_types.specs.Scoped.{scope_of}
 use Rattle.cpc_types.proofs.fields.field_in.Given as goal
 

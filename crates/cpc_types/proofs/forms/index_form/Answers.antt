@@ -2,7 +2,7 @@ use Rattle.std.proofs.Common.{◌∙◌}
 use Rattle.std.proofs.lemmas.Result.{IfOk-weaker}
 use Rattle.cpc_types.specs.Found.{found_of}
 use Rattle.cpc_types.specs.Scoped.{scope_of}
-use Rattle.cpc_types.proofs.FormParts.{index_used}
+use Rattle.cpc_shapes.proofs.FormParts.{index_used}
 use Rattle.cpc_types.proofs.forms.index_form.Goals as goal
 
 pub returns : goal.returns

@@ -1,7 +1,7 @@
 use Rattle.std.proofs.Common.{◌∙◌, sym, ap, option_map}
 use Rattle.cpc_tree.specs.Typing.{AValue}
 use Rattle.cpc_types.specs.Found.{found_of}
-use Rattle.cpc_types.proofs.FormParts.{choice_tested, choice_untested}
+use Rattle.cpc_shapes.proofs.FormParts.{choice_tested, choice_untested}
 use Rattle.cpc_types.proofs.forms.tested_form.Goals as goal
 
 pub returns-then-tested : goal.returns-then-tested

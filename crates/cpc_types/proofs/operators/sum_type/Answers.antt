@@ -1,8 +1,8 @@
 use Rattle.std.proofs.Common.{◌∙◌, sym, ap}
 use Rattle.std.proofs.lemmas.Result.{IfOk-weaker}
 use Rattle.cpc_tree.specs.Erase.{type_of}
-use Rattle.cpc_types.specs.Found.{is_measured}
-use Rattle.cpc_types.proofs.OperatorParts.{pointed_left, pointed_right, sum_left, sum_right}
+use Rattle.cpc_shapes.specs.Found.{is_measured}
+use Rattle.cpc_shapes.proofs.OperatorParts.{pointed_left, pointed_right, sum_left, sum_right}
 use Rattle.cpc_types.proofs.operators.sum_type.Goals as goal
 
 pub returns-in-Some-kind_of : goal.returns-in-Some-kind_of

@@ -1,7 +1,7 @@
 use Rattle.std.proofs.Common.{arith}
 use Rattle.std.proofs.lemmas.Grind.{common_steps}
 use Rattle.cpc_tree.specs.Erase.{type_of}
-use Rattle.cpc_types.proofs.CellCounts.{measure_array}
+use Rattle.cpc_shapes.proofs.CellCounts.{measure_array}
 use Rattle.cpc_types.proofs.sizes.+measure.Goals as goal
 
 pub returns-in-Some : goal.returns-in-Some

@@ -1,5 +1,5 @@
 use Rattle.std.proofs.Common.{◌∙◌}
-use Rattle.cpc_types.proofs.CellCounts.{field_counted}
+use Rattle.cpc_shapes.proofs.CellCounts.{field_counted}
 use Rattle.cpc_types.proofs.sizes.fields_size.Goals as goal
 
 pub loop-field-preserved : goal.loop-field-preserved

@@ -1,7 +1,8 @@
 use Rattle.std.proofs.Common.{◌≡◌, ◌+◌, ◌≤◌, map, drop, option_map}
 use Rattle.cpc_tree.specs.Erase.{Names, field_of}
 use Rattle.cpc_tree.specs.Syntax.{Program}
-use Rattle.cpc_types.specs.Counted.{capped, fields_count, AreSizes}
+use Rattle.cpc_types.specs.Counted.{AreSizes}
+use Rattle.cpc_shapes.specs.Counted.{capped, fields_count}
 use Rattle.cpc_types.proofs.sizes.fields_size.Given as goal
 
 -- the cells of the fields so far, and of those that are left

@@ -1,5 +1,5 @@
 use Rattle.std.proofs.Common.{◌∙◌, ap}
-use Rattle.cpc_types.specs.Declaring.{item_at, fields_of}
+use Rattle.cpc_shapes.specs.Declaring.{item_at, fields_of}
 use Rattle.cpc_eval_index.proofs.Kept.{known}
 use Rattle.cpc_eval_index.proofs.Known.{fields_known}
 use Rattle.cpc_eval_index.proofs.index.Index.fields.Goals as goal

@@ -2,8 +2,8 @@ use Rattle.std.proofs.Common.{◌≡◌, ◌≤◌, ◌∙◌, ◌+◌, ℕ, if�
 use Rattle.std.specs.List.{sum_by}
 use Rattle.std.proofs.lemmas.List.{length-take-le}
 use Rattle.cpc_base.specs.declared.names.Name.{Name}
-use Rattle.cpc_types.specs.Indexed.{is_name}
-use Rattle.cpc_types.proofs.Declared.{next_item}
+use Rattle.cpc_shapes.specs.Indexed.{is_name}
+use Rattle.cpc_shapes.proofs.Indexes.{next_item}
 use Rattle.cpc_tree.specs.Erase.{item_of}
 use Rattle.cpc_tree.specs.declared.program.Item.{Item}
 use Rattle.cpc_eval_index.specs.declared.tables.Tables.{Tables}

@@ -1,5 +1,5 @@
 use Rattle.std.proofs.Common.{◌≡◌, ◌+◌, ◌-◌, ◌≤◌, length, arith}
-use Rattle.cpc_types.proofs.Indexes.{read_at, back_read}
+use Rattle.cpc_shapes.proofs.Indexes.{read_at, back_read}
 use Rattle.cpc_types.proofs.index.Index.back.Goals as goal
 
 pub returns-in-Some-clause-index : goal.returns-in-Some-clause-index

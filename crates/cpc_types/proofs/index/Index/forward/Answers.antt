@@ -1,7 +1,7 @@
 use Rattle.std.proofs.Common.{◌+◌, subst, sym}
-use Rattle.cpc_types.specs.Indexed.{AreLinked}
+use Rattle.cpc_shapes.specs.Indexed.{AreLinked}
 use Rattle.cpc_types.specs.declared.index.Index.{Index}
-use Rattle.cpc_types.proofs.Indexes.{read_at, forward_none, forward_some}
+use Rattle.cpc_shapes.proofs.Indexes.{read_at, forward_none, forward_some}
 use Rattle.cpc_types.proofs.index.Index.forward.Goals.{in-Some, in_default}
 use Rattle.cpc_types.proofs.index.Index.forward.Goals as goal
 

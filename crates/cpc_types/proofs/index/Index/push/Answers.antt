@@ -1,8 +1,9 @@
 use Rattle.std.proofs.Common.{◌≡◌, ◌∙◌, ℕ, ◌<◌, List, [], ◌∷◌, ◌++◌, length, Option, Some, None, subst, sym, ap}
 use Rattle.cpc_base.specs.declared.names.Name.{Name}
-use Rattle.cpc_types.specs.Indexed.{IsIndex, AreLinked, last_below}
+use Rattle.cpc_types.specs.Indexed.{IsIndex}
+use Rattle.cpc_shapes.specs.Indexed.{AreLinked, last_below}
 use Rattle.cpc_types.specs.declared.index.Index.{Index}
-use Rattle.cpc_types.proofs.Indexes.{pushed}
+use Rattle.cpc_shapes.proofs.Indexes.{pushed}
 use Rattle.cpc_types.proofs.index.Index.push.Goals.{in-Some+in_ok-admit-in-Some, in-None}
 use Rattle.cpc_types.proofs.index.Index.push.Goals as goal
 

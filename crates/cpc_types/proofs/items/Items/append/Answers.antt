@@ -6,7 +6,8 @@ use Rattle.cpc_tree.specs.declared.program.Item.{Item}
 use Rattle.cpc_types.specs.Counted.{AreDeclared, AreSizes}
 use Rattle.cpc_types.specs.declared.items.Items.{Items}
 use Rattle.cpc_types.proofs.Declares.{sizes_known}
-use Rattle.cpc_types.proofs.Declared.{appended, next_item, within_all}
+use Rattle.cpc_types.proofs.Declared.{appended, within_all}
+use Rattle.cpc_shapes.proofs.Indexes.{next_item}
 use Rattle.cpc_types.specs.Integral.{AreTold, AreIntegral}
 use Rattle.cpc_types.proofs.Integrals.{told_more, flags_known}
 use Rattle.cpc_types.proofs.items.Items.append.Goals as goal

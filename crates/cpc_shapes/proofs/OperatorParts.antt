@@ -5,8 +5,8 @@ use Rattle.cpc_num.specs.declared.kinds.Kind.TheVariants.{Int, Long}
 use Rattle.cpc_num.specs.Number as N
 use Rattle.cpc_tree.specs.Syntax.{Ty, TyVoid, TyInt, TyCondvar, TyPointer, TyCode, Tys, Program}
 use Rattle.cpc_tree.specs.Typing as T
-use Rattle.cpc_types.specs.Shapes.{is_void, is_condvar}
-use Rattle.cpc_types.specs.Found.{pointed}
+use Rattle.cpc_shapes.specs.Shapes.{is_void, is_condvar}
+use Rattle.cpc_shapes.specs.Found.{pointed}
 
 -- ---- integers
 

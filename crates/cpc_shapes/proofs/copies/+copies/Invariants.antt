@@ -1,6 +1,6 @@
 use Rattle.std.proofs.Common.{◌≡◌, map, take}
 use Rattle.cpc_tree.specs.Erase.{Names, type_of}
-use Rattle.cpc_types.proofs.copies.+copies.Given as goal
+use Rattle.cpc_shapes.proofs.copies.+copies.Given as goal
 
 -- the copies so far are of the types so far
 abbrev pub invariant-copies_of-loop-of : goal.invariant-copies_of-loop-of

@@ -10,7 +10,7 @@ use Rattle.cpc_tree.specs.Syntax.{Variable}
 use Rattle.std.proofs.Math.Seq.{drop-cons}
 use Rattle.cpc_tree.specs.declared.program.Field.{Field}
 use Rattle.cpc_check_rules.specs.ItemRules.{is_oversized}
-use Rattle.cpc_types.specs.Counted.{capped, capped_size, count, fields_count}
+use Rattle.cpc_shapes.specs.Counted.{capped, capped_size, count, fields_count}
 
 length_times : (n : ℕ) (xs : List Ty) → length (T.times n xs) ≡ n * length xs
 length_times zero xs = omega arith

@@ -6,7 +6,7 @@ use Rattle.std.proofs.lemmas.Option.{get_or_from_slice_get, slice_get_within, sl
 use Rattle.cpc_base.specs.declared.names.Name.{Name}
 use Rattle.std.proofs.lemmas.Bool.Decides.{nat_tests}
 use Rattle.std.proofs.lemmas.Grind.{common_steps}
-use Rattle.cpc_types.specs.Indexed.{is_name, latest, last_below, AreLinked}
+use Rattle.cpc_shapes.specs.Indexed.{is_name, latest, last_below, AreLinked}
 
 -- the first items and one more, the last one first
 pub one_more : {A : Type 0} (xs : List A) (n : ℕ) (x : A) → slice_get xs n ≡ Some x → reverse (take (n + 1) xs) ≡ x ∷ reverse (take n xs)
@@ -139,3 +139,7 @@ module _ (ks : List (Option Name)) (bs ls : List (Option ℕ)) (n : ℕ) where
           get_or_push bs b None j g ∙ (new x e.1).1 ∙ sym (ap (λ i. last_below i ks x.0) m) ∙ sym (below_pushed ks k j x.0 (omega arith))
     ];
   }
+
+-- the first items and the next
+pub next_item : {A : Type 0} (xs : List A) (n : ℕ) (x : A) → n < length xs → x ≡ get_or xs n x → take (n + 1) xs ≡ take n xs ++ x ∷ []
+next_item xs n x h e = take_more xs n x h ∙ ap (λ y. take n xs ++ y ∷ []) (sym e)

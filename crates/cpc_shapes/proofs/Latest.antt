@@ -4,8 +4,8 @@ use Rattle.std.specs.Prelude.{slice_get}
 use Rattle.std.proofs.lemmas.List.{reverse-append, length-reverse, length-take-le, take-map, length-map, map-append}
 use Rattle.cpc_base.specs.declared.names.Name.{Name}
 use Rattle.cpc_base.proofs.Lists.{found_within}
-use Rattle.cpc_types.specs.Indexed.{is_name, latest, last_below}
-use Rattle.cpc_types.proofs.Indexes.{one_more}
+use Rattle.cpc_shapes.specs.Indexed.{is_name, latest, last_below}
+use Rattle.cpc_shapes.proofs.Indexes.{one_more}
 
 pub map_reverse : {A B : Type 0} (f : A → B) (xs : List A) → map f (reverse xs) ≡ reverse (map f xs)
 map_reverse f [] = refl

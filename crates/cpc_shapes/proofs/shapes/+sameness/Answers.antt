@@ -1,9 +1,9 @@
 use Rattle.std.proofs.Common.{sym, arith}
 use Rattle.std.proofs.lemmas.Grind.{common_steps}
 use Rattle.cpc_tree.specs.Erase.{type_of}
-use Rattle.cpc_types.specs.Listed.{listed_of}
-use Rattle.cpc_types.proofs.CodeParts.{code_at, code_same, lengths_differ}
-use Rattle.cpc_types.proofs.shapes.+sameness.Goals as goal
+use Rattle.cpc_shapes.specs.Listed.{listed_of}
+use Rattle.cpc_shapes.proofs.CodeParts.{code_at, code_same, lengths_differ}
+use Rattle.cpc_shapes.proofs.shapes.+sameness.Goals as goal
 
 pub same_type-returns-then-same_type : goal.same_type-returns-then-same_type
 same_type-returns-then-same_type t c = λ names apart.

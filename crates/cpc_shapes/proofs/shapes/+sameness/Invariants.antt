@@ -1,9 +1,9 @@
 use Rattle.std.proofs.Common.{◌≡◌, drop}
 use Rattle.cpc_tree.specs.Erase.{Names}
 use Rattle.cpc_check_rules.specs.Apart.{AreApart}
-use Rattle.cpc_types.specs.Listed.{listed_of}
+use Rattle.cpc_shapes.specs.Listed.{listed_of}
 use Rattle.cpc_tree.specs.Typing as T
-use Rattle.cpc_types.proofs.shapes.+sameness.Given as goal
+use Rattle.cpc_shapes.proofs.shapes.+sameness.Given as goal
 
 -- the types that are left decide
 abbrev pub invariant-same_types-loop-i : goal.invariant-same_types-loop-i

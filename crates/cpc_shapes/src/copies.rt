@@ -53,7 +53,7 @@ fn copies_of(alloc: Global, list: &[CType]) -> Result<Vec<CType>, NoMemory>
 }
 
 /// The type of a pointer to this.
-pub(crate) fn pointer_to(alloc: Global, of: &CType) -> Result<CType, NoMemory>
+pub fn pointer_to(alloc: Global, of: &CType) -> Result<CType, NoMemory>
     ensures { IfOk result (λ pointer. (names : Names) → type_of names pointer ≡ TyPointer (type_of names of.now)) }
 {
     let to = copy_of(alloc, of)?;

@@ -2,10 +2,10 @@
 ghost use Rattle.std.specs.Prelude.{◌≡◌, ◌==◌, option_map};
 ghost use Rattle.cpc_tree.specs.Erase.{Names, type_of};
 ghost use Rattle.cpc_check_rules.specs.Apart.{AreApart};
-ghost use Rattle.cpc_types.specs.Listed.{listed_of};
+ghost use Rattle.cpc_shapes.specs.Listed.{listed_of};
 ghost use Rattle.cpc_num.specs.Number as N;
 ghost use Rattle.cpc_tree.specs.Typing as T;
-ghost use Rattle.cpc_types.specs.Shapes.{is_void, is_condvar, element, code_parts};
+ghost use Rattle.cpc_shapes.specs.Shapes.{is_void, is_condvar, element, code_parts};
 
 use cpc_base::Name;
 use cpc_num::Kind;

@@ -2,14 +2,14 @@
 use Rattle.std.proofs.Common.{◌≡◌, suc, false, ◌&&◌, List, [], ◌∷◌, length, Some, refl, ap, ◌∙◌, Vec, Box, Global, rules}
 use Rattle.cpc_base.proofs.Truth.{and_with_false}
 use Rattle.cpc_tree.specs.Erase.{Names, type_of, types_of}
-use Rattle.cpc_types.specs.Listed.{listed_of}
+use Rattle.cpc_shapes.specs.Listed.{listed_of}
 use Rattle.cpc_tree.specs.declared.program.CType.{CType, Row_of-CType, end_of-CType, more_of-CType}
 use Rattle.cpc_tree.specs.declared.program.CType.TheVariants as C
 use Rattle.cpc_tree.specs.declared.program.CType.TheViews.{the_lemmas}
 use Rattle.cpc_tree.specs.declared.program.CType.TheBlock.{items-the_row-CType}
 use Rattle.cpc_tree.specs.Syntax.{Ty, TyCode, Tys, AndTy}
 use Rattle.cpc_tree.specs.Typing as T
-use Rattle.cpc_types.specs.Shapes.{code_parts}
+use Rattle.cpc_shapes.specs.Shapes.{code_parts}
 
 -- a Vec of types is the list of its types
 types_listed : (names : Names) (n : _) (k : Row_of-CType n) → types_of names k ≡ listed_of names (items-the_row-CType n k)

@@ -6,8 +6,8 @@ use Rattle.cpc_num.specs.declared.kinds.Kind.TheVariants.{Int, ULong}
 use Rattle.cpc_tree.specs.Syntax.{Ty, TyInt, ESizeOf, Program}
 use Rattle.cpc_tree.specs.Typing as T
 use Rattle.cpc_tree.specs.Typing.{◌>>=◌}
-use Rattle.cpc_types.specs.Found.{used_of}
-use Rattle.cpc_types.specs.Forms.{binary_of, choice_of, cast_of, index_of, arrow_of, of_both, element_of}
+use Rattle.cpc_shapes.specs.Found.{used_of}
+use Rattle.cpc_shapes.specs.Forms.{binary_of, choice_of, cast_of, index_of, arrow_of, of_both, element_of}
 
 value_of : (o : Option Ty) → (o >>= (λ (r : Ty). Some (T.AValue r))) ≡ option_map T.AValue o
 value_of None = refl

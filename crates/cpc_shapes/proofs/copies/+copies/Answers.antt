@@ -1,7 +1,7 @@
 use Rattle.std.proofs.Common.{◌∙◌, arith}
 use Rattle.std.proofs.lemmas.Grind.{common_steps}
-use Rattle.cpc_types.proofs.CodeParts.{code_at, code_is}
-use Rattle.cpc_types.proofs.copies.+copies.Goals as goal
+use Rattle.cpc_shapes.proofs.CodeParts.{code_at, code_is}
+use Rattle.cpc_shapes.proofs.copies.+copies.Goals as goal
 
 pub copy_of-returns-in_ok-new-in-Code : goal.copy_of-returns-in_ok-new-in-Code
 copy_of-returns-in_ok-new-in-Code t c = λ names.
