@@ -27,9 +27,9 @@ use Rattle.cpc_meaning_cell_laws.proofs.Going.{going_on_keeps}
 use Rattle.cpc_meaning_pointer_laws.specs.Made.{IsMadeCode}
 use Rattle.cpc_meaning_pointer_laws.specs.Laws.{done_with}
 use Rattle.cpc_meaning_pointer_laws.proofs.Answered.{requests_alike}
-use Rattle.cpc_native_acts.specs.declared.changes.Change.{Change}
-use Rattle.cpc_native_acts.specs.declared.changes.Change.TheVariants as C
-use Rattle.cpc_native_acts.specs.Foreseen.{Foresees, EntersSo, AsksSo, MakesSo, ArrivesSo, FreesSo, IsMaking, IsFreeing, arrival}
+use Rattle.cpc_native_changes.specs.declared.changes.Change.{Change}
+use Rattle.cpc_native_changes.specs.declared.changes.Change.TheVariants as C
+use Rattle.cpc_native_changes.specs.Foreseen.{Foresees, EntersSo, AsksSo, MakesSo, ArrivesSo, FreesSo, IsMaking, IsFreeing, arrival}
 use Rattle.cpc_native.proofs.Leaving.{left_free}
 use Rattle.cpc_native.proofs.Stepping.{step_of_own, slots_no_fault}
 use Rattle.cpc_native.specs.Next.{frees, GoesNowhere, FreesAlone}

@@ -5,14 +5,14 @@ ghost use Rattle.cpc_check_rules.specs.Apart.{AreApart};
 ghost use Rattle.cpc_eval_values.specs.Shown.{store_of};
 ghost use Rattle.cpc_eval_index.specs.Indexed.{items_of, IsOwn};
 ghost use Rattle.cpc_meaning_cell_laws.specs.Cells.{call_cells};
-ghost use Rattle.cpc_native_acts.specs.Foreseen.{EntersOwnly};
+ghost use Rattle.cpc_native_changes.specs.Foreseen.{EntersOwnly};
 ghost use Rattle.cpc_native_frames.specs.Frames.{RiseFrom};
 ghost use Rattle.cpc_native_frames.specs.Made.{slots_of};
 ghost use Rattle.cpc_native.specs.Next.{IsCounted, greatest};
 
 use cpc_eval::Slot;
 use cpc_eval_index::Index;
-use cpc_native_acts::Change;
+use cpc_native_changes::Change;
 use cpc_native_frames::{call_cells, slots_cells};
 use cpc_store::Store;
 use cpc_tree::program::Function;

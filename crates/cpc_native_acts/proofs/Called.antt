@@ -8,7 +8,7 @@ use Rattle.cpc_base.specs.declared.stop.Stop.TheVariants.{Memory, Fault as Fault
 use Rattle.cpc_num.specs.declared.kinds.Fault.{Fault}
 use Rattle.cpc_native_acts.specs.Acts.{called, enters_act}
 use Rattle.cpc_native_acts.specs.Deeds.{enters_deed, takes_call}
-use Rattle.cpc_native_acts.specs.Stops.{wants_memory}
+use Rattle.cpc_native_plans.specs.Stops.{wants_memory}
 use Rattle.cpc_native_acts.specs.declared.act.Act.{Act}
 use Rattle.cpc_native_acts.specs.declared.deeds.Deed.{Deed}
 

@@ -31,7 +31,7 @@ use Rattle.cpc_native_builtins.specs.declared.builtins.Builtin.{Builtin}
 use Rattle.cpc_native_builtins.specs.declared.builtins.Builtin.TheVariants as B
 use Rattle.cpc_native_builtins.specs.Builtins.{primitive_of}
 use Rattle.cpc_native_acts.specs.Taken.{is_taken_as, are_taken, is_detached, IsAskedWith}
-use Rattle.cpc_native_acts.specs.Rows.{by_nth, third_code, detached_with}
+use Rattle.cpc_native_plans.specs.Rows.{by_nth, third_code, detached_with}
 use Rattle.cpc_native_acts.proofs.Fitting.{fitted, taken_shown, asked_so}
 
 -- ---- one argument

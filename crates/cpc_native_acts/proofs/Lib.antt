@@ -1,21 +1,6 @@
-pub mod Stopping
-pub mod Rowing
-pub mod Writing
-pub mod Called
-pub mod Calling
-pub mod Doing
-pub mod Performing
-pub mod Alike
-pub mod Laying
-pub mod Planning
-pub mod Signing
-pub mod Evaluated
-pub mod Aiming
-pub mod Foreseeing
-pub mod Looking
-pub mod Requesting
-pub mod Blocks
-pub mod Foretold
-pub mod Standing
-pub mod Fitting
-pub mod Detaching
+mod Called
+mod Detaching
+mod Fitting
+mod Performing
+mod Planned
+mod Written

@@ -1,13 +1,10 @@
 -- What is done meets what a deed does.
-use Rattle.std.proofs.Common.{◌≡◌, Bool, true, false, List, [], ◌∷◌, Option, Some, Ok, Err, refl, sym, ap, ◌∙◌}
-use Rattle.std.proofs.lemmas.Slice.Eq.{bytes_eq-Decides}
-use Rattle.cpc_base.specs.Bytes.{Text}
+use Rattle.std.proofs.Common.{◌≡◌, Bool, true, List, Option, Ok, Err, refl}
 use Rattle.cpc_base.specs.declared.stop.Stop.{Stop}
 use Rattle.cpc_base.specs.declared.names.Name.{Name}
 use Rattle.cpc_num.specs.declared.kinds.Fault.{Fault}
 use Rattle.cpc_tree.specs.Erase.{Names}
-use Rattle.cpc_tree.specs.Syntax.{Function, FunctionItem, StructItem, GlobalItem, PrototypeItem, Program}
-use Rattle.cpc_tree.specs.Typing.{function_named}
+use Rattle.cpc_tree.specs.Syntax.{Function}
 use Rattle.cpc_store.specs.Store as S
 use Rattle.cpc_store.specs.Store.{Value, StoreOf}
 use Rattle.cpc_meaning.specs.Answer.{Answer, Gives, ◌>>=◌, needed}
@@ -22,10 +19,9 @@ use Rattle.cpc_native_frames.specs.Made.{slots_of}
 use Rattle.cpc_native_acts.specs.declared.act.Act.{Act}
 use Rattle.cpc_native_acts.specs.declared.act.Act.TheVariants as A
 use Rattle.cpc_native_acts.specs.Acts.{Keeps}
-use Rattle.cpc_native_acts.specs.Stops.{MeetsOr}
-use Rattle.cpc_native_acts.specs.Deeds.{goes_on}
-use Rattle.cpc_native_acts.proofs.Stopping.{or_fault}
-use Rattle.std.proofs.Common.{if◌then◌else◌, bytes_eq}
+use Rattle.cpc_native_plans.specs.Stops.{MeetsOr}
+use Rattle.cpc_native_plans.specs.Parts.{goes_on}
+use Rattle.cpc_native_plans.proofs.Stopping.{or_fault}
 
 module _ (names : Names) (c : E.Context) (slots : List Slot) (s : StoreOf Name) (slots_are : c.slots ≡ slots_of names slots) (store_is : c.store ≡ store_of names s) where
   pub passes_done : (h : Bool) → Meets (Ok (M.GoesOn h (store_of names s) (slots_of names slots))) (M.passes c h)
@@ -48,24 +44,3 @@ keeps_same (A.GoesOn h) x = tt
 keeps_same (A.Enters f vs) x = refl
 keeps_same (A.Leaves v) x = tt
 keeps_same (A.Asks b vs) x = refl
-
--- a function that is found has the name
-pub called_is : (p : Program) (x : Text) (f : Function) → function_named p x ≡ Some f → bytes_eq f.called x ≡ true
-called_is [] x f e = absurd cc
-called_is (StructItem tag fs ∷ items) x f e = called_is items x f e
-called_is (GlobalItem g t start ∷ items) x f e = called_is items x f e
-called_is (PrototypeItem mode g r ps ∷ items) x f e = called_is items x f e
-called_is (FunctionItem g ∷ items) x f e = go (bytes_eq g.called x) refl e (λ h. called_is items x f h)
-  where
-    go : (b : Bool) → bytes_eq g.called x ≡ b → (if b then Some g else function_named items x) ≡ Some f → (function_named items x ≡ Some f → bytes_eq f.called x ≡ true) → bytes_eq f.called x ≡ true
-    go true i e h = let is : g ≡ f = some_is g f e in ap (λ (y : Function). bytes_eq y.called x) (sym is) ∙ i
-      where
-        some_is : (a b : Function) → Some a ≡ Some b → a ≡ b
-        some_is a b e = cc
-    go false i e h = h e
-
--- it is the one that is meant by its own name
-pub found_own : (p : Program) (x : Text) (f : Function) → function_named p x ≡ Some f → function_named p f.called ≡ Some f
-found_own p x f e =
-    let same : f.called ≡ x = (bytes_eq-Decides f.called x).0 (called_is p x f e) in
-    ap (function_named p) same ∙ e

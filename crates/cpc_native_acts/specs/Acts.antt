@@ -6,34 +6,25 @@ use Rattle.cpc_base.specs.declared.names.Name.{Name}
 use Rattle.cpc_base.specs.declared.stop.Stop.{Stop}
 use Rattle.cpc_base.specs.declared.stop.Stop.TheVariants.{Memory, Fault as Faulted}
 use Rattle.cpc_num.specs.declared.kinds.Fault.{Fault}
-use Rattle.cpc_tree.specs.Erase.{Names, Table, function_of}
-use Rattle.cpc_tree.specs.Syntax.{Function, Program, Stmt, Call}
-use Rattle.cpc_tree.specs.Points as T
+use Rattle.cpc_tree.specs.Erase.{Names, function_of}
+use Rattle.cpc_tree.specs.Syntax.{Function}
 use Rattle.cpc_tree.specs.declared.program.Function as G
 use Rattle.std.specs.Borrow.{Bor}
-use Rattle.cpc_check_rules.specs.Apart.{Spells}
 use Rattle.cpc_store.specs.Store.{StoreOf}
 use Rattle.cpc_store.specs.declared.values.Value as V
 use Rattle.cpc_store.specs.Seen.{seen, IsLawful}
-use Rattle.cpc_meaning.specs.Eval as E
 use Rattle.cpc_meaning.specs.Act as M
-use Rattle.cpc_meaning.specs.Plain.{context}
-use Rattle.cpc_meaning.specs.Trees.{trees, stood_at}
-use Rattle.cpc_native_points.specs.Seen.{point_of}
 use Rattle.cpc_eval_values.specs.Shown.{value_of, values_of, store_of}
 use Rattle.cpc_eval_index.specs.declared.index.Index.{Index}
-use Rattle.cpc_eval_index.specs.Indexed.{items_of, IsOwn}
-use Rattle.cpc_eval_variables.specs.Told.{IsTold}
+use Rattle.cpc_eval_index.specs.Indexed.{IsOwn}
 use Rattle.cpc_eval.specs.declared.around.Slot.{Slot}
-use Rattle.cpc_eval.specs.Numbers.{FoundNumbers}
 use Rattle.cpc_native_builtins.specs.Builtins.{asked_of}
-use Rattle.cpc_native_builtins.specs.Served.{IsServedCall, is_served_found, is_served_program}
-use Rattle.cpc_native_frames.specs.declared.frame.Frame.{Frame}
-use Rattle.cpc_native_frames.specs.Frames.{frame_of}
+use Rattle.cpc_native_builtins.specs.Served.{IsServedCall}
 use Rattle.cpc_native_frames.specs.Made.{slots_of}
 use Rattle.cpc_native_acts.specs.Taken.{IsCalledWith}
 use Rattle.cpc_native_acts.specs.declared.act.Act.{Act}
 use Rattle.cpc_native_acts.specs.declared.act.Act.TheVariants as A
+use Rattle.cpc_native_plans.specs.Parts.{is_call_found}
 
 -- what a step does that leaves these slots and this store
 abbrev pub act_of : Names → List Slot → StoreOf Name → Act → M.Act
@@ -52,48 +43,9 @@ function_shown names r = result_map_both (λ (f : Bor G.Function). function_of n
 
 -- ---- where a frame stands
 
--- what stands where a frame is
-abbrev pub stood_of : Names → Frame → M.Stood
-stood_of names f = stood_at (Some (function_of names f.function.now)) (point_of f.point)
-
--- what the expressions of a frame are evaluated in
-abbrev pub context_in : Names → Index → Frame → StoreOf Name → E.Context
-context_in names index f s = context (trees (items_of names index)) (store_of names s) (frame_of names f)
-
--- all expressions of what stands there have numbers
-abbrev pub StoodNumbers : Program → M.Stood → Type 0
-StoodNumbers p (M.AtStatement f) = FoundNumbers p f
-StoodNumbers p (M.AtArrival f) = FoundNumbers p f
-StoodNumbers p M.AtEnd = Unit {0}
-
--- what stands there asks only for what is served
-abbrev pub is_served_stood : M.Stood → Bool
-is_served_stood (M.AtStatement f) = is_served_found f
-is_served_stood _ = true
-
--- a call stands there, whose arguments are to be evaluated
-abbrev pub is_call : Stmt → Bool
-is_call (Call e f es) = true
-is_call _ = false
-
-abbrev pub is_call_found : T.Found → Bool
-is_call_found (T.Simple s) = is_call s
-is_call_found _ = false
-
 abbrev pub is_call_stood : M.Stood → Bool
 is_call_stood (M.AtStatement f) = is_call_found f
 is_call_stood _ = false
-
--- texts of the program's table by which the names of a frame are told, where what stands there has numbers
-pub record IsTexts (names : Names) (index : Index) (table : Table) (frame : Frame) : Type 0 where
-  pub told : IsTold names frame.function.now.parameters.items
-  pub spells : Spells table names
-  pub numbers : StoodNumbers (items_of names index) (stood_of names frame)
-
--- where what is asked is served
-pub record IsServing (names : Names) (index : Index) (frame : Frame) : Type 0 where
-  pub program : is_served_program (items_of names index) ≡ true
-  pub stood : is_served_stood (stood_of names frame) ≡ true
 
 -- ---- what is known of an act
 

@@ -12,18 +12,19 @@ ghost use Rattle.cpc_eval.specs.Spots.{AreLawful};
 ghost use Rattle.cpc_native_frames.specs.Frames.{IsWellFrame, RiseFrom};
 ghost use Rattle.cpc_native_frames.specs.Made.{slots_of};
 ghost use Rattle.cpc_native_acts.specs.Deeds.{Plans, did, enters_deed, takes_call, IsLawfulDeed, IsServedDeed, IsTakenDeed};
-ghost use Rattle.cpc_native_acts.specs.Stops.{MeetsOr, wants_memory};
+ghost use Rattle.cpc_native_plans.specs.Stops.{MeetsOr, wants_memory};
 ghost use Rattle.cpc_eval_index.specs.Indexed.{items_of, IsOwn};
-ghost use Rattle.cpc_native_acts.specs.Acts.{acted, called, enters_act, function_shown, is_call_stood, stood_of, context_in, IsTexts, IsServing, IsLawfulAct, IsLawfulIf, EntersOwn, AsksServed, AsksTaken, Keeps};
+ghost use Rattle.cpc_native_acts.specs.Acts.{acted, called, enters_act, function_shown, is_call_stood, IsLawfulAct, IsLawfulIf, EntersOwn, AsksServed, AsksTaken, Keeps};
+ghost use Rattle.cpc_native_stood.specs.Stood.{stood_of, context_in, IsTexts, IsServing};
 
-use crate::below::stopped;
 use crate::deeds::{Deed, arrives, found};
-use crate::places::write;
+use crate::writing::write;
 use cpc_base::{Name, Names, Stop};
 use cpc_eval::{Around, Slot};
 use cpc_eval_index::Index;
 use cpc_native_builtins::Call;
 use cpc_native_frames::{Frame, leave};
+use cpc_native_plans::stopped;
 use cpc_native_points::{Phase, standing};
 use cpc_num::Fault;
 use cpc_store::{Store, Value};
@@ -44,7 +45,7 @@ pub enum Act<'p> {
 }
 
 // What is to be done where a frame stands, where this value is arriving.
-#[tactic(auto, using(crate::proofs::Stopping::never_called))]
+#[tactic(auto, using(cpc_native_plans::proofs::Stopping::never_called))]
 fn planned(
     alloc: Global,
     index: &Index<'_>,
@@ -86,7 +87,7 @@ fn planned(
 }
 
 // The function of a name.
-#[tactic(auto, using(crate::proofs::Stopping::wants_stopped))]
+#[tactic(auto, using(cpc_native_plans::proofs::Stopping::wants_stopped))]
 fn entered<'p>(index: &Index<'p>, name: Name) -> Result<&'p Function, Stop<Fault>>
     ensures value { (names : Texts) → AreApart names → MeetsOr (function_shown names result) (needed (function_named (items_of names index.now) (names name))) }
     ensures own { IfOk result (λ function. IsOwn index.now function.now) }
@@ -99,7 +100,7 @@ fn entered<'p>(index: &Index<'p>, name: Name) -> Result<&'p Function, Stop<Fault
 }
 
 // Does what is to be done.
-#[tactic(auto, using(crate::proofs::Stopping::wants_stopped))]
+#[tactic(auto, using(cpc_native_plans::proofs::Stopping::wants_stopped))]
 fn perform<'p>(
     index: &Index<'p>,
     deed: Deed,
@@ -152,7 +153,7 @@ fn perform<'p>(
 ///
 /// An error leaves the slots and the store as they were. There are as many slots afterwards as there were. A function is
 /// entered at a call alone.
-#[tactic(auto, using(crate::proofs::Stopping::never_called))]
+#[tactic(auto, using(cpc_native_plans::proofs::Stopping::never_called))]
 pub fn step<'p>(
     alloc: Global,
     index: &Index<'p>,

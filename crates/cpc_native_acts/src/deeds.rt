@@ -14,17 +14,16 @@ ghost use Rattle.cpc_eval.specs.Shapes.{shape_of};
 ghost use Rattle.cpc_eval.specs.Spots.{AreLawful};
 ghost use Rattle.cpc_native_builtins.specs.Builtins.{primitive_of};
 ghost use Rattle.cpc_native_builtins.specs.Served.{IsServedCall, is_served_found, is_served_program};
-ghost use Rattle.cpc_native_acts.specs.Calls.{calls_code, calls_host};
-ghost use Rattle.cpc_native_acts.specs.Acts.{is_call_found};
+ghost use Rattle.cpc_native_plans.specs.Calls.{calls_code, calls_host};
+ghost use Rattle.cpc_native_plans.specs.Parts.{is_call_found};
 ghost use Rattle.cpc_native_acts.specs.Deeds.{takes_call, Plans, IsLawfulDeed, IsServedDeed, IsTakenDeed};
-ghost use Rattle.cpc_native_acts.specs.Plans.{planned, asks_for, IsSound, IsLawfulPlan, IsServedPlan, is_call_plan};
+ghost use Rattle.cpc_native_plans.specs.Plans.{planned, asks_for, IsSound, IsLawfulPlan, IsServedPlan, is_call_plan};
 
-use crate::calls::value_called;
-use crate::plan::{self, Plan};
-use crate::rows::{Row, asked_with, longs, passed};
+use crate::taken::{asked_with, longs};
 use cpc_base::{Name, Names, Stop};
 use cpc_eval::{Around, Shape, Spot};
 use cpc_native_builtins::{Builtin, Call};
+use cpc_native_plans::{Plan, Row, passed, value_called};
 use cpc_native_points::Found;
 use cpc_num::Fault;
 use cpc_store::Value;
@@ -146,7 +145,7 @@ fn asks<'a>(
 }
 
 // What a plan comes to, its arguments evaluated and kept.
-#[tactic(auto, using(crate::proofs::Stopping::never_called))]
+#[tactic(auto, using(cpc_native_plans::proofs::Stopping::never_called))]
 fn kept<'a>(alloc: Global, plan: Plan<'a>, around: &Around<'a>) -> Result<Deed, Stop<Fault>>
     requires slots { AreLawful around.now.slots.now }
     requires plan { IsLawfulPlan plan }
@@ -171,9 +170,9 @@ fn kept<'a>(alloc: Global, plan: Plan<'a>, around: &Around<'a>) -> Result<Deed, 
 /// What is to be done at what stands at a point, in a function with this result.
 ///
 /// - `Memory`: want of memory for the arguments of a call.
-/// - The faults of `plan::found`, then those of `cpc_eval` of the arguments, from left to right, and `Unset`, `Null` and `Code`
+/// - The faults of `cpc_native_plans::found`, then those of `cpc_eval` of the arguments, from left to right, and `Unset`, `Null` and `Code`
 ///   of what is called.
-#[tactic(auto, using(crate::proofs::Stopping::never_called))]
+#[tactic(auto, using(cpc_native_plans::proofs::Stopping::never_called))]
 pub(crate) fn found<'a>(
     alloc: Global,
     of: &CType,
@@ -189,7 +188,7 @@ pub(crate) fn found<'a>(
     ensures takes { IfOk result (λ d. IsTakenDeed d) }
     ensures call { (names : Texts) → takes_call result ≡ true → is_call_found (found_of names there.entry) ≡ true }
 {
-    match plan::found(of, there, around, texts) {
+    match cpc_native_plans::found(of, there, around, texts) {
         Ok(plan) => kept(alloc, plan, around),
         Err(fault) => Err(Stop::Fault(fault)),
     }
@@ -198,7 +197,7 @@ pub(crate) fn found<'a>(
 /// What is to be done with a value that arrives at what stands at a point.
 ///
 /// The faults are those of `cpc_eval`. No memory is taken.
-#[tactic(auto, using(crate::proofs::Stopping::never_called))]
+#[tactic(auto, using(cpc_native_plans::proofs::Stopping::never_called))]
 pub(crate) fn arrives<'a>(
     alloc: Global,
     there: Found<'a>,
@@ -214,7 +213,7 @@ pub(crate) fn arrives<'a>(
     ensures takes { IfOk result (λ d. IsTakenDeed d) }
     ensures call { takes_call result ≡ false }
 {
-    match plan::arrives(there, given, around) {
+    match cpc_native_plans::arrives(there, given, around) {
         Ok(plan) => kept(alloc, plan, around),
         Err(fault) => Err(Stop::Fault(fault)),
     }

@@ -2,17 +2,10 @@
 #![tactic(auto)]
 
 mod act;
-mod below;
-mod calls;
-mod changes;
 mod deeds;
 mod detached;
 mod fits;
-mod looked;
-mod places;
-mod plan;
-mod requested;
-mod rows;
+mod taken;
+mod writing;
 
 pub use act::{Act, step};
-pub use changes::{Change, foreseen};

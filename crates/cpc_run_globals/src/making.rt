@@ -1,5 +1,5 @@
 //! The store of the globals.
-ghost use Rattle.std.specs.Prelude.{◌≡◌, List, ◌∷◌, map, reverse, IfOk, OnOk, if◌then◌else◌};
+ghost use Rattle.std.specs.Prelude.{◌≡◌, List, ◌∷◌, map, reverse, IfOk, OnOk, OnErr, if◌then◌else◌};
 ghost use Rattle.std.specs.List.{All};
 ghost use Rattle.cpc_store.specs.declared.values.Class.TheVariants.{Static};
 ghost use Rattle.cpc_store.specs.Store as S;
@@ -24,10 +24,11 @@ const LIMIT: u64 = 0x8000_0000_0000_0000;
 
 /// Makes the next static block, with these cells.
 ///
-/// `NoMemory` is want of memory, or of numbers for so many cells.
+/// `NoMemory` is want of memory, or of numbers for so many cells; the store is as it was then.
 pub fn make_block(alloc: Global, cells: &[Value], store: &mut Store) -> Result<(), NoMemory>
     requires { All (λ v. IsLawful (seen v)) cells.now }
-    ensures { OnOk result ((names : Names) → store_of names store.new ≡ S.alloc Static (values_of names cells.now) (store_of names store.old)) }
+    ensures made { OnOk result ((names : Names) → store_of names store.new ≡ S.alloc Static (values_of names cells.now) (store_of names store.old)) }
+    ensures refused { OnErr result (store.new ≡ store.old) }
 {
     let count = cells.len() as u64;
     if count >= LIMIT - store.live_cells() || store.made(Class::Static) >= LIMIT - 1 {
@@ -64,17 +65,17 @@ fn add(
 }
 
 /// The store of a program at the start: for each global, in order, a static block whose cells hold what is written for it,
-/// and else zeros: the number 0, or no address. Where the type of a global is incomplete no block is there.
+/// and else zeros: the number 0, or no address. Where the type of a global is incomplete no block is there. The layouts are of
+/// the program's items.
 ///
 /// `NoMemory` is want of memory, or of numbers for so many cells.
-pub fn globals(alloc: Global, program: &Program) -> Result<Store, NoMemory>
-    ensures { let items = program.now.items.items in IfOk result (λ store. (names : Names) → AreApart names
+pub fn globals(alloc: Global, program: &Program, layouts: &Layouts<'_>) -> Result<Store, NoMemory>
+    ensures { let items = program.now.items.items in IfOk result (λ store. (names : Names) → AreApart names → AreLayouts layouts.now names (reverse (map (item_of names) items))
         → store_of names store ≡ M.globals (M.make_globals (map (item_of names) items) (map (item_of names) items) S.empty_store)) }
 {
-    let layouts = Layouts::of(alloc, &program.items)?;
     let mut store = Store::new(alloc);
     for item in &program.items {
-        if !add(alloc, item, &layouts, &mut store)? {
+        if !add(alloc, item, layouts, &mut store)? {
             return Ok(Store::new(alloc));
         }
     }

@@ -1,5 +1,5 @@
 //! The sections that were submitted and that no poll has told.
-ghost use Rattle.std.specs.Prelude.{◌≡◌, ℕ, List, [], Some, OnErr, IfOk, map};
+ghost use Rattle.std.specs.Prelude.{◌≡◌, ℕ, List, [], Some, OnErr, IfOk, map, reverse};
 ghost use Rattle.std.specs.List.{All};
 ghost use Rattle.cpc_tree.specs.Erase.{Names, item_of};
 ghost use Rattle.cpc_tree.specs.Syntax as X;
@@ -11,6 +11,7 @@ ghost use Rattle.cpc_meaning.specs.Section as M;
 ghost use Rattle.cpc_meaning.specs.Trees.{trees};
 ghost use Rattle.cpc_eval_values.specs.Shown.{value_of, values_of, store_of};
 ghost use Rattle.cpc_native.specs.Runs.{Runs};
+ghost use Rattle.cpc_run_globals.specs.Layouts.{AreLayouts};
 ghost use Rattle.cpc_sections.specs.Backs.{CollectsAs, collected_of};
 ghost use Rattle.cpc_sections.specs.Jobs.{IsLawfulJob, job_of};
 ghost use Rattle.cpc_run_jobs.specs.Holding.{items_of, Serves, Holds, IsAssigned, KeepsJobs, SubmitsAs, IfAllGave, are_out, left_out};
@@ -59,22 +60,21 @@ pub struct Jobs<'p> {
 }
 
 impl<'p> Jobs<'p> {
-    /// No section of a program was submitted. Each may make so many steps.
-    ///
-    /// `NoMemory` is want of memory.
-    pub fn new(alloc: Global, program: &'p Program, bound: u64) -> Result<Jobs<'p>, NoMemory>
-        ensures items { IfOk result (λ j. (names : Names) → items_of names j ≡ map (item_of names) program.now.items.items) }
-        ensures serves { IfOk result (λ j. (names : Names) → Runs names program.now.names (map (item_of names) program.now.items.items) → Serves names j) }
-        ensures program { IfOk result (λ j. j.program.now ≡ program.now) }
-        ensures bound { IfOk result (λ j. j.bound ≡ bound) }
-        ensures holds { IfOk result (λ j. (names : Names) → Holds names j [] 0 []) }
+    /// No section of a program was submitted. Each may make so many steps. The layouts are of the program's items.
+    pub fn new(alloc: Global, program: &'p Program, layouts: Layouts<'p>, bound: u64) -> Jobs<'p>
+        ensures items { (names : Names) → items_of names result ≡ map (item_of names) program.now.items.items }
+        ensures serves { (names : Names) → Runs names program.now.names (map (item_of names) program.now.items.items)
+            → AreLayouts layouts.entry names (reverse (map (item_of names) program.now.items.items)) → Serves names result }
+        ensures program { result.program.now ≡ program.now }
+        ensures bound { result.bound ≡ bound }
+        ensures holds { (names : Names) → Holds names result [] 0 [] }
     {
-        Ok(Jobs {
+        Jobs {
             program,
-            layouts: Layouts::of(alloc, &program.items)?,
+            layouts,
             bound,
             out: Out::new(alloc),
-        })
+        }
     }
 
     /// The section of a number is submitted: a call of a function with a pointer, whose cells are copied, and other arguments. The

@@ -3,7 +3,7 @@ use Rattle.cpc_eval_values.specs.Shown.{store_of}
 use Rattle.cpc_eval_index.specs.Indexed.{items_of}
 use Rattle.cpc_native_frames.specs.Living.{CanLeave}
 use Rattle.cpc_native_frames.specs.Made.{slots_of}
-use Rattle.cpc_native_acts.specs.Foreseen.{EntersOwnly}
+use Rattle.cpc_native_changes.specs.Foreseen.{EntersOwnly}
 use Rattle.cpc_native.specs.Next.{IsCounted}
 use Rattle.cpc_native.proofs.next.counted.Goals as goal
 

@@ -1,7 +1,7 @@
 use Rattle.std.proofs.Common.{sym}
 use Rattle.cpc_tree.specs.Erase.{function_of}
 use Rattle.cpc_eval_index.specs.Indexed.{items_of}
-use Rattle.cpc_native_acts.proofs.Performing.{found_own}
+use Rattle.cpc_native_plans.proofs.Owning.{found_own}
 use Rattle.cpc_native_acts.proofs.act.entered.Goals as goal
 
 pub returns-in-Some-clause-own : goal.returns-in-Some-clause-own

@@ -1,11 +1,11 @@
 use Rattle.std.proofs.Common.{Ok, Err, sym, subst}
 use Rattle.cpc_eval_values.specs.Shown.{value_of, store_of}
-use Rattle.cpc_native_acts.specs.Stops.{MeetsOr}
+use Rattle.cpc_native_plans.specs.Stops.{MeetsOr}
 use Rattle.cpc_native_acts.specs.Deeds.{did}
 use Rattle.cpc_native_acts.specs.declared.deeds.Deed.{Deed}
 use Rattle.cpc_native_acts.specs.Acts.{act_of, acted}
 use Rattle.cpc_native_acts.specs.declared.act.Act.TheVariants as A
-use Rattle.cpc_native_acts.proofs.Stopping.{or_err, or_stopped}
+use Rattle.cpc_native_plans.proofs.Stopping.{or_err, or_stopped}
 use Rattle.cpc_native_acts.proofs.Performing.{leaves_done, leaves_not}
 use Rattle.cpc_native_acts.proofs.act.perform.Goals as goal
 

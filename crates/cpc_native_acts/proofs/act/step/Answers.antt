@@ -5,10 +5,11 @@ use Rattle.cpc_meaning.specs.Act as M
 use Rattle.cpc_eval_values.specs.Shown.{value_of}
 use Rattle.cpc_eval.specs.declared.around.Slot.{Slot}
 use Rattle.cpc_native_frames.specs.Made.{slots_of}
-use Rattle.cpc_native_acts.specs.Stops.{MeetsOr}
-use Rattle.cpc_native_acts.specs.Acts.{acted, context_in, stood_of}
+use Rattle.cpc_native_plans.specs.Stops.{MeetsOr}
+use Rattle.cpc_native_acts.specs.Acts.{acted}
+use Rattle.cpc_native_stood.specs.Stood.{context_in, stood_of}
 use Rattle.cpc_native_acts.specs.Deeds.{did}
-use Rattle.cpc_native_acts.proofs.Stopping.{or_stands}
+use Rattle.cpc_native_plans.proofs.Stopping.{or_stands}
 use Rattle.cpc_native_acts.proofs.Called.{called_through, called_done}
 use Rattle.cpc_native_acts.proofs.act.step.Goals as goal
 

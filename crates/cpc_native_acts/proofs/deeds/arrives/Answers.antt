@@ -3,8 +3,8 @@ use Rattle.cpc_meaning.specs.Act as M
 use Rattle.cpc_native_points.specs.Finds.{found_of}
 use Rattle.cpc_eval_values.specs.Shown.{value_of}
 use Rattle.cpc_eval.specs.Around.{context_of}
-use Rattle.cpc_native_acts.specs.Plans.{planned}
-use Rattle.cpc_native_acts.proofs.Laying.{plans_stands}
+use Rattle.cpc_native_plans.specs.Plans.{planned}
+use Rattle.cpc_native_acts.proofs.Planned.{plans_stands}
 use Rattle.cpc_native_acts.proofs.deeds.arrives.Goals as goal
 
 pub returns-in-Ok-clause-value : goal.returns-in-Ok-clause-value

@@ -7,10 +7,10 @@ use Rattle.cpc_eval_values.specs.Shown.{values_of}
 use Rattle.cpc_eval.specs.Around.{context_of}
 use Rattle.cpc_native_builtins.specs.Builtins.{primitive_of}
 use Rattle.cpc_native_builtins.specs.declared.call.Call.TheVariants as C
-use Rattle.cpc_native_acts.specs.Rows.{asked_with}
+use Rattle.cpc_native_plans.specs.Rows.{asked_with}
 use Rattle.cpc_native_acts.specs.declared.deeds.Deed.TheVariants as D
-use Rattle.cpc_native_acts.proofs.Stopping.{plans_by, plans_then, plans_through}
-use Rattle.cpc_native_acts.proofs.Doing.{asks_parts}
+use Rattle.cpc_native_acts.proofs.Planned.{plans_by, plans_then, plans_through}
+use Rattle.cpc_native_plans.proofs.Doing.{asks_parts}
 use Rattle.cpc_native_acts.proofs.deeds.asks_builtin.Goals as goal
 
 pub returns-in_err-row-clause-value : goal.returns-in_err-row-clause-value

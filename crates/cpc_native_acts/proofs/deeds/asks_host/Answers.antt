@@ -5,9 +5,9 @@ use Rattle.cpc_meaning.specs.Act as M
 use Rattle.cpc_eval_values.specs.Shown.{values_of}
 use Rattle.cpc_eval.specs.Around.{context_of}
 use Rattle.cpc_native_builtins.specs.declared.call.Call.TheVariants as C
-use Rattle.cpc_native_acts.specs.Rows.{longs}
+use Rattle.cpc_native_plans.specs.Rows.{longs}
 use Rattle.cpc_native_acts.specs.declared.deeds.Deed.TheVariants as D
-use Rattle.cpc_native_acts.proofs.Stopping.{plans_then, plans_through}
+use Rattle.cpc_native_acts.proofs.Planned.{plans_then, plans_through}
 use Rattle.cpc_native_acts.proofs.deeds.asks_host.Goals as goal
 
 pub returns-in_err-row-clause-value : goal.returns-in_err-row-clause-value

@@ -3,9 +3,9 @@ use Rattle.cpc_tree.specs.Erase.{exprs_of}
 use Rattle.cpc_eval_values.specs.Shown.{value_of, values_of}
 use Rattle.cpc_eval.specs.Around.{context_of}
 use Rattle.cpc_eval.specs.Shapes.{shape_of}
-use Rattle.cpc_native_acts.specs.Calls.{called_with, entering}
+use Rattle.cpc_native_plans.specs.Calls.{called_with, entering}
 use Rattle.cpc_native_acts.specs.declared.deeds.Deed.TheVariants as D
-use Rattle.cpc_native_acts.proofs.Stopping.{plans_then, plans_through}
+use Rattle.cpc_native_acts.proofs.Planned.{plans_then, plans_through}
 use Rattle.cpc_native_acts.proofs.deeds.calls.Goals as goal
 
 pub returns-in_err-name-clause-value : goal.returns-in_err-name-clause-value

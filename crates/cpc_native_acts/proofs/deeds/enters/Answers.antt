@@ -8,11 +8,11 @@ use Rattle.cpc_meaning.specs.Answer.{Gives, ◌>>=◌, needed}
 use Rattle.cpc_meaning.specs.Act as M
 use Rattle.cpc_eval_values.specs.Shown.{values_of}
 use Rattle.cpc_eval.specs.Around.{context_of}
-use Rattle.cpc_native_acts.specs.Stops.{MeetsOr}
-use Rattle.cpc_native_acts.specs.Rows.{parameter_list, passed}
+use Rattle.cpc_native_plans.specs.Stops.{MeetsOr}
+use Rattle.cpc_native_plans.specs.Rows.{parameter_list, passed}
 use Rattle.cpc_native_acts.specs.declared.deeds.Deed.TheVariants as D
-use Rattle.cpc_native_acts.proofs.Stopping.{plans_by, plans_then, plans_through}
-use Rattle.cpc_native_acts.proofs.Calling.{function_calls}
+use Rattle.cpc_native_acts.proofs.Planned.{plans_by, plans_then, plans_through}
+use Rattle.cpc_native_plans.proofs.Calling.{function_calls}
 use Rattle.cpc_native_acts.proofs.deeds.enters.Goals as goal
 
 pub returns-in_err-row-clause-value : goal.returns-in_err-row-clause-value

@@ -14,8 +14,8 @@ use Rattle.cpc_eval.specs.Around.{context_of}
 use Rattle.cpc_eval_values.specs.Meets.{Meets}
 use Rattle.cpc_eval_values.specs.Shown.{values_of}
 use Rattle.cpc_eval_values.proofs.Meeting.{meets_then}
-use Rattle.cpc_native_acts.specs.Stops.{MeetsOr, seen_as}
-use Rattle.cpc_native_acts.proofs.Stopping.{or_stopped}
+use Rattle.cpc_native_plans.specs.Stops.{MeetsOr, seen_as}
+use Rattle.cpc_native_plans.proofs.Stopping.{or_stopped}
 use Rattle.cpc_native_acts.proofs.detached.detached.Goals as goal
 
 pub returns-clause-value : goal.returns-clause-value

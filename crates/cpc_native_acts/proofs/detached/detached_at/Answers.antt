@@ -7,7 +7,7 @@ use Rattle.cpc_tree.specs.declared.program.Function as G
 use Rattle.cpc_meaning.specs.Requests as R
 use Rattle.cpc_eval_values.specs.Meets.{Meets}
 use Rattle.cpc_eval_values.specs.Shown.{value_of, shown}
-use Rattle.cpc_native_acts.specs.Rows.{by_nth}
+use Rattle.cpc_native_plans.specs.Rows.{by_nth}
 use Rattle.cpc_native_acts.proofs.Detaching.{first_taken, then_taken}
 use Rattle.cpc_native_acts.proofs.detached.detached_at.Goals as goal
 

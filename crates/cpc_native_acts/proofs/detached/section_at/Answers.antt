@@ -2,7 +2,7 @@ use Rattle.std.proofs.Common.{◌-◌, ap, ◌∙◌}
 use Rattle.std.specs.Prelude.{slice_get}
 use Rattle.cpc_tree.specs.Erase.{function_of, type_of}
 use Rattle.cpc_eval_values.specs.Shown.{value_of, shown}
-use Rattle.cpc_native_acts.specs.Rows.{parameter_list}
+use Rattle.cpc_native_plans.specs.Rows.{parameter_list}
 use Rattle.cpc_native_acts.proofs.Detaching.{function_taken, value_taken, not_taken}
 use Rattle.cpc_native_acts.proofs.detached.section_at.Goals as goal
 

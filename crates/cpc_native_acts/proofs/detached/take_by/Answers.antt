@@ -11,8 +11,8 @@ use Rattle.cpc_meaning.specs.Requests.{taken_as}
 use Rattle.cpc_eval_values.specs.Meets.{Meets}
 use Rattle.cpc_eval_values.specs.Shown.{values_of}
 use Rattle.cpc_eval_values.proofs.Meeting.{meets_err}
-use Rattle.cpc_native_acts.specs.Rows.{detached_with}
-use Rattle.cpc_native_acts.proofs.Rowing.{each_step, each_stop, each_end, taken_each}
+use Rattle.cpc_native_plans.specs.Rows.{detached_with}
+use Rattle.cpc_native_plans.proofs.Rowing.{each_step, each_stop, each_end, taken_each}
 use Rattle.cpc_native_acts.proofs.detached.take_by.Goals as goal
 
 -- what is taken, by the function

@@ -6,9 +6,9 @@ use Rattle.cpc_tree.specs.declared.program.Function as G
 use Rattle.cpc_store.specs.Seen.{seen, IsLawful}
 use Rattle.cpc_meaning.specs.Requests.{taken_as}
 use Rattle.cpc_eval_values.specs.Shown.{values_of}
-use Rattle.cpc_native_acts.specs.Rows.{detached_with}
-use Rattle.cpc_native_acts.specs.Deeds.{Stands}
-use Rattle.cpc_native_acts.proofs.Rowing.{each, so_far}
+use Rattle.cpc_native_plans.specs.Rows.{detached_with}
+use Rattle.cpc_native_plans.specs.Parts.{Stands}
+use Rattle.cpc_native_plans.proofs.Rowing.{each, so_far}
 use Rattle.cpc_native_acts.proofs.detached.take_by.Given as goal
 
 -- the values that are left decide

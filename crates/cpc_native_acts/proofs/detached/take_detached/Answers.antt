@@ -11,7 +11,7 @@ use Rattle.cpc_eval_index.specs.Indexed.{items_of}
 use Rattle.cpc_eval_values.specs.Meets.{Meets}
 use Rattle.cpc_eval_values.specs.Shown.{values_of}
 use Rattle.cpc_eval_values.proofs.Meeting.{meets_err}
-use Rattle.cpc_native_acts.specs.Rows.{detached_with}
+use Rattle.cpc_native_plans.specs.Rows.{detached_with}
 use Rattle.cpc_native_acts.proofs.Detaching.{takes_third, none_detached}
 use Rattle.cpc_native_acts.proofs.detached.take_detached.Goals as goal
 

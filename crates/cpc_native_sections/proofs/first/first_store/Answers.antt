@@ -7,5 +7,5 @@ use Rattle.cpc_native_sections.proofs.first.first_store.Goals as goal
 
 pub returns : goal.returns
 returns c = λ names.
-    c.in_ok-make_block.ensures names ∙ ap (λ s. alloc Static (values_of names c.args.cells.now) (store_of names s)) c.new-store.ensures
+    c.in_ok-make_block.ensures.made names ∙ ap (λ s. alloc Static (values_of names c.args.cells.now) (store_of names s)) c.new-store.ensures
     ∙ store_made names c.args.cells.now c.if-is_empty.ensures

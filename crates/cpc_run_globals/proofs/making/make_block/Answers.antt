@@ -9,5 +9,5 @@ loop-k-preserved c = record {
   written = saved c.args.store.now c.args.cells.now c.loop-k.k _ _ c.in_ok-block.block c.save.result c.loop-k.store c.save.new.self c.loop-k-test.true refl c.loop-k.invariant.class c.loop-k.invariant.number c.loop-k.invariant.written c.save.ensures.value;
 }
 
-pub returns : goal.returns
-returns c = λ names. all_saved c.args.store.now c.args.cells.now names c.loop-k.k c.loop-k.store c.loop-k-test.false c.loop-k.invariant.written
+pub returns-clause-made : goal.returns-clause-made
+returns-clause-made c = λ names. all_saved c.args.store.now c.args.cells.now names c.loop-k.k c.loop-k.store c.loop-k-test.false c.loop-k.invariant.written

@@ -1,0 +1,7 @@
+mod Blocks
+mod Foreseeing
+mod Foretold
+mod Given
+mod Looking
+mod Requesting
+mod Standing

@@ -1,0 +1,11 @@
+pub mod Aiming
+pub mod Alike
+pub mod Calling
+pub mod Doing
+pub mod Evaluated
+pub mod Laying
+pub mod Owning
+pub mod Planning
+pub mod Rowing
+pub mod Signing
+pub mod Stopping

@@ -1,0 +1,26 @@
+use Rattle.std.proofs.Common.{ap, option_map}
+use Rattle.cpc_tree.specs.Erase.{expr_of}
+use Rattle.cpc_eval_values.specs.Shown.{value_of}
+use Rattle.cpc_eval_index.specs.Indexed.{items_of}
+use Rattle.cpc_eval.specs.Around.{context_of}
+use Rattle.cpc_eval.specs.Spots.{spot_of}
+use Rattle.cpc_native_plans.proofs.Planning.{delivers_stands, delivers_not, numbers_there}
+use Rattle.cpc_native_plans.proofs.plan.delivers.Goals as goal
+
+pub returns-in_err-spot-in-Some-clause-value : goal.returns-in_err-spot-in-Some-clause-value
+returns-in_err-spot-in-Some-clause-value c = λ names told h.
+    let k = context_of names c.args.around.now in
+    let o = option_map (expr_of names) c.args.target.now in
+    let i = ap (option_map (expr_of names)) c.in-Some.is in
+    delivers_not k names o _ (value_of names c.args.given) c.from_residual.result _ i c.from_residual.ensures.1
+    (c.in_err-spot-in-Some.ensures.value names told (numbers_there (items_of names c.args.around.now.index.now) o _ i h))
+
+pub returns-in_ok-spot-in-Some-clause-value : goal.returns-in_ok-spot-in-Some-clause-value
+returns-in_ok-spot-in-Some-clause-value c = λ names told h.
+    let k = context_of names c.args.around.now in
+    let o = option_map (expr_of names) c.args.target.now in
+    let i = ap (option_map (expr_of names)) c.in-Some.is in (
+      tt,
+      delivers_stands k o _ (value_of names c.args.given) (spot_of c.in_ok-spot-in-Some.spot, value_of names c.in_ok-spot-in-Some.written) i
+          (c.in_ok-spot-in-Some.ensures.value names told (numbers_there (items_of names c.args.around.now.index.now) o _ i h)),
+    )
