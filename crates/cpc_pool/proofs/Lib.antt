@@ -1,3 +1,4 @@
 mod Coming
 mod Lists
 mod Taking
+mod Working

@@ -16,9 +16,26 @@ ran j e = record { worker = 0; job = j; end = e }
 abbrev pub Ran : {J E : Type 0} → (J → E → Type 0) → J → List (Done J E) → List (Done J E) → Type 0
 Ran {J} {E} ends j own left = (e : E) × (left ≡ own ++ ran j e ∷ []) × ends j e
 
+-- the completion of a job that this worker ran
+abbrev pub ran_by : {J E : Type 0} → ℕ → J → E → Done J E
+ran_by n j e = record { worker = n; job = j; end = e }
+
 -- a worker pushed the completion of a job that it ran, with an end that is the job's own
 abbrev pub Brought : {J E : Type 0} → (J → E → Type 0) → ℕ → J → DoneView J E → DoneView J E → Type 0
-Brought {J} {E} ends n j v w = (e : E) × ends j e × (w ≡ after_push v (record { worker = n; job = j; end = e }))
+Brought {J} {E} ends n j v w = (e : E) × ends j e × (w ≡ after_push v (ran_by n j e))
+
+-- what a worker took, by the numbers, and what it pushed, each in order: a job that it took was run, and its completion pushed with an end that is the job's
+-- own; or it was not run
+pub data Works {J E : Type 0} (number : J → ℕ) (ends : J → E → Type 0) (n : ℕ) : List ℕ → List (Done J E) → Type 0 where
+  none : Works number ends n [] []
+  run : {took : List ℕ} {pushed : List (Done J E)} (j : J) (e : E) → Works number ends n took pushed → ends j e
+      → Works number ends n (took ++ number j ∷ []) (pushed ++ ran_by n j e ∷ [])
+  unrun : {took : List ℕ} {pushed : List (Done J E)} (k : ℕ) → Works number ends n took pushed → Works number ends n (took ++ k ∷ []) pushed
+
+-- a worker took so and pushed so, between these views of its passes
+abbrev pub Worked : {J E : Type 0} → (J → ℕ) → (J → E → Type 0) → ℕ → View → View → DoneView J E → DoneView J E → Type 0
+Worked {J} {E} number ends n v w p q =
+    (took : List ℕ) × (pushed : List (Done J E)) × Works number ends n took pushed × (w.taken ≡ v.taken ++ took) × (q.pushed ≡ p.pushed ++ pushed)
 
 -- A job was submitted. It was sent, or the pool ran it
 abbrev pub Submitted : {J E : Type 0} → (J → ℕ) → (J → E → Type 0) → J → List (Done J E) → List (Done J E) → View → View → Type 0

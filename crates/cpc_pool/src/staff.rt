@@ -9,7 +9,7 @@ ghost use Rattle.cpc_pool_ends.specs.Views.{loops, hiring as done_hiring};
 ghost use Rattle.cpc_pool.specs.Passes.{Submits, Pops, WorksAt, PushesAt};
 
 use super::gate::Gate;
-use super::worker::{Crew, Gives, work};
+use super::worker::{Crew, Gives, Left, work};
 use cpc_pool_ends::DonePass;
 use cpc_pool_jobs::{JobPass, Receiver, Runner, Sender};
 use std::alloc::{AllocError, Global};
@@ -20,7 +20,7 @@ use std::thread;
 use std::thread::{PromisedHandle, Threads};
 
 /// A worker that was started.
-pub type Worker<W> = PromisedHandle<(JobPass<W>, DonePass<W>), Gives<W>>;
+pub type Worker<W> = PromisedHandle<Left<W>, Gives<W>>;
 
 // Starts one worker. `None` where no thread can be made. An error is want of memory.
 fn start_one<W, G, R>(
@@ -59,9 +59,9 @@ where
     match thread::spawn_with(
         rt,
         promise,
-        move || -> (JobPass<W>, DonePass<W>)
+        move || -> Left<W>
             requires { WorksAt (receives_on theirs) taking × PushesAt (arc_value crew.dones) number bringing }
-            ensures { WorksAt (receives_on theirs) result.0 × PushesAt (arc_value crew.dones) number result.1 }
+            ensures { WorksAt (receives_on theirs) result.0 × PushesAt (arc_value crew.dones) number result.1 × OnOk result.2 ((job_view result.0).stopped ≡ true) }
         { work(&handle, &crew, &theirs, number, taking, bringing) },
     ) {
         Ok(worker) => Ok(Some(worker)),
@@ -198,7 +198,7 @@ fn join_last<W: Runner, G: Gate, R: Threads>(
     let Some(worker) = last(sender, crew, started) else {
         unreachable!()
     };
-    let (taking, bringing) = worker.join(rt);
+    let (taking, bringing, _) = worker.join(rt);
     cpc_pool_jobs::retire(sender, jobs, taking);
     cpc_pool_ends::retire(&crew.dones, dones, bringing);
 }

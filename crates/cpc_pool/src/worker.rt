@@ -1,17 +1,17 @@
 //! What a worker does in its thread.
-ghost use Rattle.std.specs.Prelude.{◌≡◌, ◌⊎◌, ℕ, true, IfOk};
+ghost use Rattle.std.specs.Prelude.{◌≡◌, ◌⊎◌, ℕ, true, IfOk, OnOk};
 ghost use Rattle.std.specs.Arc.{arc_value};
 ghost use Rattle.crossbeam_channel.specs.Claims.{view as job_view, IsSeatAt};
 ghost use Rattle.crossbeam_channel.specs.Ends.{receives_on};
 ghost use Rattle.crossbeam_queue.specs.Passes.{view as done_view, IsPassOf};
 ghost use Rattle.cpc_pool_ends.specs.Views.{after_push};
-ghost use Rattle.cpc_pool.specs.Acts.{Brought};
+ghost use Rattle.cpc_pool.specs.Acts.{Brought, Worked};
 ghost use Rattle.cpc_pool.specs.Passes.{WorksAt, PushesAt};
 
 use super::bell::Bell;
 use super::gate::Gate;
 use cpc_pool_ends::{Done, DoneOf, DonePass, Dones, push};
-use cpc_pool_jobs::{JobPass, Message, Receiver, Runner, take};
+use cpc_pool_jobs::{Closed, JobPass, Message, Receiver, Runner, take};
 use std::alloc::{AllocError, Global};
 use std::marker::PhantomData;
 use std::snapshot::Snapshot;
@@ -121,8 +121,11 @@ fn work_on<W: Runner, G: Gate, R: Wait>(
     run_one(rt, crew, number, bringing, job);
 }
 
-/// Takes jobs and brings completions, each with the end of its own job, until it is told to stop. Once the pool stops, jobs are taken
-/// and not run.
+/// What a worker gives back when it ends: its two passes, and whether it was told to stop or nobody sends any more.
+pub type Left<W> = (JobPass<W>, DonePass<W>, Result<(), Closed>);
+
+/// Takes jobs and brings completions, each with the end of its own job, until it is told to stop or nobody sends any more. Once the
+/// pool stops, jobs are taken and not run.
 pub fn work<W: Runner, G: Gate, R: Wait>(
     rt: &R,
     crew: &Crew<W, G>,
@@ -130,22 +133,25 @@ pub fn work<W: Runner, G: Gate, R: Wait>(
     number: u64,
     mut taking: JobPass<W>,
     mut bringing: DonePass<W>,
-) -> (JobPass<W>, DonePass<W>)
+) -> Left<W>
     requires jobs { WorksAt (receives_on jobs.now) taking }
     requires dones { PushesAt (arc_value crew.now.dones) number bringing }
     ensures jobs { WorksAt (receives_on jobs.now) result.0 }
     ensures dones { PushesAt (arc_value crew.now.dones) number result.1 }
+    ensures worked { Worked W.number W.ends number (job_view taking) (job_view result.0) (done_view bringing) (done_view result.1) }
+    ensures stopped { OnOk result.2 ((job_view result.0).stopped ≡ true) }
 {
     for _ in rt.forever() {
         match take(rt, jobs, &mut taking) {
             Ok(Message::Work(job)) => work_on(rt, crew, number, &mut bringing, job),
-            _ => return (taking, bringing),
+            Ok(Message::Stop) => return (taking, bringing, Ok(())),
+            Err(closed) => return (taking, bringing, Err(closed)),
         }
     }
     unreachable!()
 }
 
-/// What a worker's thread gives back: its two passes.
+/// What is known of what a worker's thread gives back.
 #[derive(Drop)]
 pub struct Gives<W: Runner> {
     /// The channel.
@@ -158,10 +164,12 @@ pub struct Gives<W: Runner> {
     pub of: PhantomData<W>,
 }
 
-impl<W: Runner> Promise<(JobPass<W>, DonePass<W>)> for Gives<W> {
+impl<W: Runner> Promise<Left<W>> for Gives<W> {
+    ghost use Rattle.std.specs.Prelude.{◌≡◌, true, OnOk};
     ghost use Rattle.std.specs.Arc.{arc_value};
+    ghost use Rattle.crossbeam_channel.specs.Claims.{view as job_view};
     ghost use Rattle.crossbeam_channel.specs.Ends.{receives_on};
     ghost use Rattle.cpc_pool.specs.Passes.{WorksAt, PushesAt};
 
-    ghost kept_by = { λ p r. WorksAt (receives_on p.jobs.value) r.0 × PushesAt (arc_value p.dones.value) p.number r.1 };
+    ghost kept_by = { λ p r. WorksAt (receives_on p.jobs.value) r.0 × PushesAt (arc_value p.dones.value) p.number r.1 × OnOk r.2 ((job_view r.0).stopped ≡ true) };
 }

@@ -1,5 +1,5 @@
 -- A pass that is split off, a pass that is joined, and what the submitter learns.
-use Rattle.std.proofs.Common.{◌≡◌, ◌≢◌, ℕ, ◌+◌, ◌<◌, Bool, true, false, cond, eqb, List, [], ◌∷◌, ◌++◌, length, set, sym, refl, ap, ◌∙◌, subst, ⊎_elim, eq-eqb, ne_eqb, arith}
+use Rattle.std.proofs.Common.{◌≡◌, ◌≢◌, ℕ, ◌+◌, ◌<◌, Bool, true, false, cond, eqb, List, [], ◌∷◌, ◌++◌, length, map, set, sym, refl, ap, ◌∙◌, subst, ⊎_elim, eq-eqb, ne_eqb, arith}
 use Rattle.std.specs.List.{AllByRecursion}
 use mathlib.Core.Option.{Option, some, none, some-injective, some-ne-none}
 use lib.ListN.{get_elem?}
@@ -8,7 +8,7 @@ use Rattle.crossbeam_queue.proofs.Lists.{at_set}
 use Rattle.cpc_pool_jobs.specs.declared.views.Kept.{Kept}
 use Rattle.cpc_pool_jobs.specs.declared.views.Taken.{Taken}
 use Rattle.cpc_pool_jobs.specs.declared.views.View.{View}
-use Rattle.cpc_pool_jobs.specs.Views.{spent, kept_of, hiring, hired, keeping, Rises, numbers, of, jobs_in, Settled}
+use Rattle.cpc_pool_jobs.specs.Views.{spent, kept_of, hiring, hired, keeping, Rises, numbers, of, jobs_in, Sees, Settled}
 use Rattle.cpc_pool_jobs.specs.Rule.{State, Contains, IsKept, Fits, Ruled}
 use Rattle.cpc_pool_jobs.proofs.Lists.{differ_kept, each_of, each_weaker, of_none, jobs_are, at_end, All, all_set}
 use Rattle.cpc_pool_jobs.proofs.Steps.{never, fits_spent}
@@ -114,3 +114,11 @@ module _ {J : Type 0} (number : J → ℕ) (meets : J → Type 0) where
         each_weaker (IsKept s) (λ (k : Kept). (k.worker < v.workers) × (k.taken ≡ of k.worker s.log)) (λ k is. (subst (λ (n : ℕ). k.worker < n) (sym mine.3) is.0, is.2)) v.kept mine.4,
         mine.5,
       )
+
+  pub sees : (pass : ℕ) (v : View) → v.works ≡ true → Learns (Ruled number meets) pass v (Sees number v)
+  sees pass v works items views h at =
+      let s = h.0 in
+      let c = h.1 in
+      let mine = (h.2 pass v at).1 works in
+      let held : jobs_in number items ≡ map number c.jobs = ap (jobs_in number) c.channel ∙ jobs_are number c.jobs c.left in
+      (s.log, mine.3, mine.2, subst Rises (sym (ap (λ (l : List ℕ). numbers s.log ++ l) held ∙ c.order)) c.rises)

@@ -87,6 +87,11 @@ module _ {J : Type 0} (number : J → ℕ) where
       × AllByRecursion (λ (k : Kept). (k.worker < v.workers) × (k.taken ≡ of k.worker log)) v.kept
       × Differ (ended v.kept)
 
+  -- what a worker sees: the log of all that was taken begins with what the worker had seen, the worker's own list is what it has of the worker, and the
+  -- numbers in it and then in what the channel holds rise
+  abbrev pub Sees : View → List (Message J) → Type 0
+  Sees v items = (log : List Taken) × StartsWith log v.seen × (v.taken ≡ of v.number log) × Rises (numbers log ++ jobs_in items)
+
 module _ {J : Type 0} (number : J → ℕ) (meets : J → Type 0) where
   -- The log of all that was taken begins with what the worker had seen and ends with the job. Its numbers rise, and the worker's own list
   -- is what it has of the worker: so no other worker has the job

@@ -3,15 +3,16 @@ ghost use Rattle.std.specs.Prelude.{◌≡◌, ◌<◌, ◌+◌, true, [], ◌�
 ghost use Rattle.std.specs.List.{AllByRecursion};
 ghost use Rattle.crossbeam_channel.specs.Claims.{view, IsSeatAt};
 ghost use Rattle.crossbeam_channel.specs.Ends.{sends_on, receives_on};
+ghost use Rattle.crossbeam_channel.specs.Fifo.{Held};
 ghost use Rattle.cpc_pool_jobs.specs.declared.message.Message.{Message};
 ghost use Rattle.cpc_pool_jobs.specs.declared.message.Message.TheVariants.{Work, Stop as Stops};
-ghost use Rattle.cpc_pool_jobs.specs.Views.{submitter, after_send, hiring, hired, keeping, Takes as Took, Settled};
+ghost use Rattle.cpc_pool_jobs.specs.Views.{submitter, after_send, hiring, hired, keeping, Sees, Takes as Took, Settled};
 
 use super::message::Message;
 use super::rule::{Rule, Sends, Settles, Takes, Workers};
 use super::runner::Runner;
 use super::views::View;
-use crossbeam_channel::{Pass, RecvError, RuledReceiver, RuledSender, bounded_with};
+use crossbeam_channel::{Pass, RuledReceiver, RuledSender, bounded_with};
 use std::alloc::{AllocError, Global};
 use std::sync::Wait;
 
@@ -75,18 +76,26 @@ pub fn send_stop<W: Runner, R: Wait>(
     }
 }
 
-/// Takes the next message, and waits until there is one. At an error nobody sends any more, and nothing was taken.
+/// Nobody sends any more. It is made by `take` alone, where the channel failed, so that whoever has one has seen that.
+#[derive(Debug, PartialEq, Eq, Drop)]
+pub struct Closed(());
+
+/// Takes the next message, and waits until there is one. At an error nobody sends any more, nothing was taken, and the channel was empty
+/// at a moment of the call.
 pub fn take<W: Runner, R: Wait>(
     rt: &R,
     receiver: &Receiver<W>,
     pass: &mut JobPass<W>,
-) -> Result<Message<W::Job>, RecvError>
+) -> Result<Message<W::Job>, Closed>
     requires seat { IsSeatAt (receives_on receiver.now) pass.old }
     requires role { (view pass.old).works ≡ true }
     ensures seat { IsSeatAt (receives_on receiver.now) pass.new × (pass.new.id ≡ pass.old.id) }
-    ensures took { MatchResult result (λ x. Took W.number W.meets (view pass.old) x (view pass.new)) (λ _. view pass.new ≡ view pass.old) }
+    ensures took { MatchResult result (λ x. Took W.number W.meets (view pass.old) x (view pass.new)) (λ _. (view pass.new ≡ view pass.old) × Held 0 (Sees W.number (view pass.old))) }
 {
-    receiver.recv_as::<Takes<W>, R>(rt, pass)
+    match receiver.recv_as::<Takes<W>, R>(rt, pass) {
+        Ok(message) => Ok(message),
+        Err(_) => Err(Closed(())),
+    }
 }
 
 /// A pass for one more worker.

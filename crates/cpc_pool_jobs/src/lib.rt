@@ -8,7 +8,9 @@ mod rule;
 mod runner;
 mod views;
 
-pub use calls::{JobPass, Receiver, Sender, begin, hire, retire, send, send_stop, settle, take};
+pub use calls::{
+    Closed, JobPass, Receiver, Sender, begin, hire, retire, send, send_stop, settle, take,
+};
 pub use laws::only_one;
 pub use message::Message;
 pub use rule::Rule;

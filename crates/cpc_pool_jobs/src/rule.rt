@@ -44,9 +44,9 @@ impl<W: Runner> Outcome<Message<W::Job>, View> for Takes<W> {
 }
 
 impl<W: Runner> Lesson<Message<W::Job>, View> for Takes<W> {
-    ghost use Rattle.std.specs.Prelude.{⊤};
+    ghost use Rattle.cpc_pool_jobs.specs.Views.{Sees};
 
-    ghost fact = { λ v items. ⊤ };
+    ghost fact = { Sees W.number };
 }
 
 /// A worker is made, and ends.
