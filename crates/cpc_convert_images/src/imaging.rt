@@ -7,8 +7,8 @@ ghost use Rattle.cpc_convert_images.specs.Readings.{Reads, readings_by};
 
 use crate::readings::{Readings, read_name};
 use cpc_base::NoMemory;
+use cpc_shapes::copy_of;
 use cpc_tree::program::Expr;
-use cpc_types::copy_of;
 use std::alloc::Global;
 
 /// An expression with each name as it is read. `NoMemory` is want of memory.

@@ -4,8 +4,8 @@ ghost use Rattle.cpc_tree.specs.Erase as E;
 ghost use Rattle.cpc_tree.specs.Erase.{field_of, parameter_of};
 
 use cpc_base::NoMemory;
+use cpc_shapes::copy_of;
 use cpc_tree::program::{Field, Parameter};
-use cpc_types::copy_of;
 use std::alloc::Global;
 
 // A field once more. `NoMemory` is want of memory.

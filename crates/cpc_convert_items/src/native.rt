@@ -14,8 +14,8 @@ use crate::respawning::respawn;
 use cpc_base::NoMemory;
 use cpc_convert_images::copy_if;
 use cpc_convert_names::Book;
+use cpc_shapes::copy_of;
 use cpc_tree::program::{Function, Item, Mode};
-use cpc_types::copy_of;
 use std::alloc::Global;
 
 // Whether the functions of a mode may give up the processor.

@@ -13,8 +13,8 @@ ghost use Rattle.cpc_convert_names.specs.Book.{IsBook};
 use cpc_base::{Name, NoMemory, Place};
 use cpc_convert_lines::any_pointer;
 use cpc_convert_names::Book;
+use cpc_shapes::copy_of;
 use cpc_tree::program::{CType, Field, Parameter, Word};
-use cpc_types::copy_of;
 use std::alloc::Global;
 
 /// Whether a type is scalar.

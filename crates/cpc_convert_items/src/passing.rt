@@ -14,8 +14,8 @@ use crate::parts::{field, is_scalar};
 use cpc_base::NoMemory;
 use cpc_convert_lines::{Around, local};
 use cpc_forms_code::Variable;
+use cpc_shapes::copy_of;
 use cpc_tree::program::Field;
-use cpc_types::copy_of;
 use std::alloc::Global;
 
 // A parameter of a scalar type behind others. `NoMemory` is want of memory.

@@ -10,8 +10,8 @@ use cpc_base::{NoMemory, Place};
 use cpc_convert_images::{copies, copy, copy_if};
 use cpc_convert_names::Book;
 use cpc_num::Op;
+use cpc_shapes::copy_of;
 use cpc_tree::program::{CType, Expr, Statement, Word};
-use cpc_types::copy_of;
 use std::alloc::Global;
 
 // A declaration once more. `NoMemory` is want of memory.

@@ -22,8 +22,8 @@ use cpc_convert_lines::{Around, arriving_at, closure, local, local_type, piece, 
 use cpc_convert_names::Book;
 use cpc_forms_code::Variable;
 use cpc_num::Kind;
+use cpc_shapes::copy_of;
 use cpc_tree::program::{CType, Field};
-use cpc_types::copy_of;
 use std::alloc::Global;
 
 // The local of a variable as a field behind others. `NoMemory` is want of memory.

@@ -14,8 +14,8 @@ use crate::trees::to_struct;
 use cpc_base::{Name, Names, NoMemory, Place};
 use cpc_convert_images::Readings;
 use cpc_convert_names::{Book, Called};
+use cpc_shapes::copy_of;
 use cpc_tree::program::CType;
-use cpc_types::copy_of;
 use std::alloc::Global;
 
 /// The table of the source, all names of the conversion, and those of the function whose lines are written; each of its lines has the place

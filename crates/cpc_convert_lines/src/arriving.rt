@@ -25,11 +25,12 @@ use crate::around::Around;
 use crate::out::Out;
 use crate::trees::{field, is_scalar, named};
 use cpc_base::{Name, NoMemory};
+use cpc_convert_images::both;
 use cpc_convert_names::Called;
 use cpc_forms_code::{Manner, Node, Stood};
 use cpc_num::Kind;
+use cpc_shapes::copy_of;
 use cpc_tree::program::{CType, Expr, Statement};
-use cpc_types::copy_of;
 use std::alloc::Global;
 
 /// The place for the value that arrives at a statement.
@@ -116,7 +117,7 @@ pub fn load(
         → written to out.new ≡ puts (written to out.old) (loads_one frame_name (record { variable = to name; type = type_of to of; field = to from_field }) ∷ [])) }
 {
     let frame = named(around.place, around.book.own.frame);
-    let start = field(alloc, around.place, frame, from_field)?;
+    let (of, start) = both(of, field(alloc, around.place, frame, from_field))?;
     out.declare(alloc, around.place, name, of, Some(start))?;
     Ok(())
 }

@@ -13,10 +13,9 @@ ghost use Rattle.cpc_convert_lines.specs.Around.{Stands, reads, IsVariable};
 
 use crate::around::{Around, local, readings};
 use crate::out::Out;
-use crate::trees::{field, named, zero};
+use crate::trees::{field, is_there, named, zero};
 use cpc_base::{Name, NoMemory};
-use cpc_convert_images::image;
-use cpc_num::Op;
+use cpc_convert_images::{both, image};
 use cpc_tree::program::Expr;
 use std::alloc::Global;
 
@@ -80,13 +79,8 @@ fn patch(alloc: Global, out: &mut Out, around: Around<'_>) -> Result<(), NoMemor
 {
     let own = &around.book.own;
     let place = around.place;
-    let test = Expr::Binary {
-        place,
-        op: Op::Ne,
-        left: Box::new(alloc, named(place, own.next))?,
-        right: Box::new(alloc, zero(place))?,
-    };
-    let target = field(alloc, place, named(place, own.next), own.value)?;
+    let test = is_there(alloc, place, own.next)?;
+    let (test, target) = both(test, field(alloc, place, named(place, own.next), own.value))?;
     out.assign_if(alloc, place, test, target, named(place, own.returned))?;
     Ok(())
 }

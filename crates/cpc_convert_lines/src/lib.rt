@@ -20,5 +20,7 @@ pub use opening::{
     load_variables, take_frame,
 };
 pub use out::Out;
-pub use trees::{any_pointer, field, frame_through, is_scalar, named, size_of, to_struct, zero};
+pub use trees::{
+    any_pointer, field, frame_through, is_scalar, is_there, named, size_of, to_struct, zero,
+};
 pub use ways::{go_on, goto_where, pass};

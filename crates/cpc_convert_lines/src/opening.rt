@@ -21,8 +21,8 @@ use crate::out::Out;
 use crate::trees::{any_pointer, field, is_scalar, named, size_of, to_struct};
 use cpc_base::{Name, NoMemory};
 use cpc_forms_code::Owner;
+use cpc_shapes::copy_of;
 use cpc_tree::program::CType;
-use cpc_types::copy_of;
 use std::alloc::Global;
 
 /// The frame of a tag is taken. `NoMemory` is want of memory.

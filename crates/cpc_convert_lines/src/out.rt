@@ -1,5 +1,5 @@
 //! Statements that are written one after the other.
-ghost use Rattle.std.specs.Prelude.{◌≡◌, [], None, option_map, map, OnOk, IfOk};
+ghost use Rattle.std.specs.Prelude.{◌≡◌, ◌++◌, ◌∷◌, [], None, option_map, map, OnOk, IfOk};
 ghost use Rattle.cpc_tree.specs.Erase as E;
 ghost use Rattle.cpc_tree.specs.Erase.{stmt_of};
 ghost use Rattle.cpc_tree.specs.Syntax as S;
@@ -8,6 +8,7 @@ ghost use Rattle.cpc_convert_lines.specs.Written.{Written, written, put};
 ghost use Rattle.cpc_tree.specs.declared.program.Word as W;
 
 use cpc_base::{NoMemory, Place};
+use cpc_convert_images::{boxed, pushed};
 use cpc_tree::program::{Statement, Word};
 use std::alloc::Global;
 use std::mem;
@@ -27,6 +28,21 @@ impl Drop for Out {
             label: _,
         } = self;
         drop(statements);
+    }
+}
+
+// A statement with its label, behind others. `NoMemory` is want of memory.
+fn push_labelled(
+    alloc: Global,
+    statements: &mut Vec<Statement>,
+    label: Word,
+    statement: Statement,
+) -> Result<(), NoMemory>
+    ensures { OnOk result ((to : E.Names) → map (stmt_of to) statements.new.items ≡ map (stmt_of to) statements.old.items ++ S.Label (to label.name) (stmt_of to statement) ∷ []) }
+{
+    match boxed(alloc, statement) {
+        Ok(inner) => pushed(statements, Statement::Label { label, inner }),
+        Err(e) => Err(e),
     }
 }
 
@@ -55,16 +71,9 @@ impl Out {
         match self.label {
             Some(label) => {
                 self.label = None;
-                self.statements.push(Statement::Label {
-                    label,
-                    inner: Box::new(alloc, statement)?,
-                })?;
-                Ok(())
+                push_labelled(alloc, &mut self.statements, label, statement)
             }
-            None => {
-                self.statements.push(statement)?;
-                Ok(())
-            }
+            None => pushed(&mut self.statements, statement),
         }
     }
 

@@ -8,6 +8,7 @@ ghost use Rattle.cpc_convert_lines.specs.Written.{written, puts};
 use crate::out::Out;
 use crate::trees::named;
 use cpc_base::{Name, NoMemory, Place};
+use cpc_convert_images::{both, boxed};
 use cpc_num::Op;
 use cpc_tree::program::{CType, Expr, Statement, Word};
 use std::alloc::Global;
@@ -162,16 +163,18 @@ impl Out {
     ) -> Result<(), NoMemory>
         ensures { OnOk result ((to : E.Names) → written to self.new ≡ puts (written to self.old) (S.If (expr_of to test) (E.stmt_of to then) S.Absent ∷ [])) }
     {
-        let yes = Box::new(alloc, then)?;
-        self.put(
-            alloc,
-            Statement::If {
-                place,
-                test,
-                yes,
-                no: None,
-            },
-        )
+        match both(test, boxed(alloc, then)) {
+            Ok((test, yes)) => self.put(
+                alloc,
+                Statement::If {
+                    place,
+                    test,
+                    yes,
+                    no: None,
+                },
+            ),
+            Err(e) => Err(e),
+        }
     }
 
     /// A way to a label where a test holds. `NoMemory` is want of memory.
@@ -211,5 +214,30 @@ impl Out {
                 value,
             },
         )
+    }
+
+    /// A call, whose value goes to a place, made again while a test holds. `NoMemory` is want of memory.
+    pub fn call_while(
+        &mut self,
+        alloc: Global,
+        place: Place,
+        test: Expr,
+        target: Expr,
+        function: Expr,
+        arguments: Vec<Expr>,
+    ) -> Result<(), NoMemory>
+        ensures { OnOk result ((to : E.Names) → written to self.new ≡ puts (written to self.old) (S.While (expr_of to test) (S.Call (Some (expr_of to target)) (expr_of to function) (exprs_of to arguments.items)) ∷ [])) }
+    {
+        let call = Statement::Call {
+            place,
+            operator: place,
+            target: Some(target),
+            function,
+            arguments,
+        };
+        match both(test, boxed(alloc, call)) {
+            Ok((test, body)) => self.put(alloc, Statement::While { place, test, body }),
+            Err(e) => Err(e),
+        }
     }
 }

@@ -1,5 +1,5 @@
 //! The words that a conversion uses.
-ghost use Rattle.std.specs.Prelude.{IfOk, OnOk};
+ghost use Rattle.std.specs.Prelude.{◌≡◌, IfOk, OnOk};
 ghost use Rattle.cpc_tree.specs.Erase as E;
 ghost use Rattle.cpc_convert_names.specs.Tables.{HasGrown, Spells};
 ghost use Rattle.cpc_convert_names.specs.Words.{AreOwn, AreOfLoop};
@@ -51,24 +51,35 @@ pub struct LoopWords {
     pub detach: Name,
 }
 
+// The names of three texts, which the table then has. `NoMemory` is want of memory.
+fn three(
+    alloc: Global,
+    names: &mut Names,
+    one: &[u8],
+    two: &[u8],
+    more: &[u8],
+) -> Result<(Name, Name, Name), NoMemory>
+    ensures grown { OnOk result (HasGrown names.old names.new) }
+    ensures first { IfOk result (λ w. (to : E.Names) → Spells names.new to → to w.0 ≡ one.now) }
+    ensures second { IfOk result (λ w. (to : E.Names) → Spells names.new to → to w.1 ≡ two.now) }
+    ensures third { IfOk result (λ w. (to : E.Names) → Spells names.new to → to w.2 ≡ more.now) }
+{
+    let first = interned(alloc, names, one)?;
+    let second = interned(alloc, names, two)?;
+    let third = interned(alloc, names, more)?;
+    Ok((first, second, third))
+}
+
 impl OwnWords {
     /// The words, which the table then has. `NoMemory` is want of memory.
     pub(crate) fn of(alloc: Global, names: &mut Names) -> Result<OwnWords, NoMemory>
         ensures grown { OnOk result (HasGrown names.old names.new) }
         ensures are { IfOk result (λ words. (to : E.Names) → Spells names.new to → AreOwn to words) }
     {
-        let pointer = interned(alloc, names, b"k__")?;
-        let frame = interned(alloc, names, b"e__")?;
-        let next = interned(alloc, names, b"next__")?;
-        let value = interned(alloc, names, b"value__")?;
-        let given = interned(alloc, names, b"to__")?;
-        let under = interned(alloc, names, b"under__")?;
-        let returned = interned(alloc, names, b"result__")?;
-        let code = interned(alloc, names, b"code__")?;
-        let any_frame = interned(alloc, names, b"frame__")?;
-        let drive = interned(alloc, names, b"drive__")?;
-        let taken = interned(alloc, names, b"f__")?;
-        let answer = interned(alloc, names, b"r__")?;
+        let (pointer, frame, next) = three(alloc, names, b"k__", b"e__", b"next__")?;
+        let (value, given, under) = three(alloc, names, b"value__", b"to__", b"under__")?;
+        let (returned, code, any_frame) = three(alloc, names, b"result__", b"code__", b"frame__")?;
+        let (drive, taken, answer) = three(alloc, names, b"drive__", b"f__", b"r__")?;
         Ok(OwnWords {
             pointer,
             frame,
@@ -92,15 +103,15 @@ impl LoopWords {
         ensures grown { OnOk result (HasGrown names.old names.new) }
         ensures are { IfOk result (λ words. (to : E.Names) → Spells names.new to → AreOfLoop to words) }
     {
-        let frame = interned(alloc, names, b"rt_frame")?;
-        let frame_free = interned(alloc, names, b"rt_frame_free")?;
-        let put_in_box = interned(alloc, names, b"rt_box")?;
-        let unbox = interned(alloc, names, b"rt_unbox")?;
-        let ready = interned(alloc, names, b"rt_ready")?;
-        let sleep = interned(alloc, names, b"rt_sleep")?;
-        let io = interned(alloc, names, b"rt_io")?;
-        let wait = interned(alloc, names, b"rt_wait")?;
-        let detach = interned(alloc, names, b"rt_detach")?;
+        let (frame, frame_free, put_in_box) = three(
+            alloc,
+            names,
+            b"rt_frame",
+            b"rt_frame_free",
+            b"rt_box",
+        )?;
+        let (unbox, ready, sleep) = three(alloc, names, b"rt_unbox", b"rt_ready", b"rt_sleep")?;
+        let (io, wait, detach) = three(alloc, names, b"rt_io", b"rt_wait", b"rt_detach")?;
         Ok(LoopWords {
             frame,
             frame_free,

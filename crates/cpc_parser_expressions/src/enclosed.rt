@@ -8,7 +8,9 @@ ghost use Rattle.cpc_parser_expressions.specs.ShapeViews.{shape_of};
 
 use crate::shape::Shape;
 use crate::tokens::next_behind;
-use cpc_parser_types::{Refusal, begins_base, begins_mark, expect_mark, fault, type_name};
+use cpc_parser_types::{
+    Refusal, begins_base, begins_mark, expect_mark, fault, fault_behind, refused, type_name,
+};
 use cpc_tree::program::{CType, Expr};
 use cpc_tree::token::{Punctuator, Token};
 use std::alloc::Global;
@@ -24,7 +26,10 @@ pub fn enclosed_type(
     ensures shorter { IfOk result (λ x. length x.2.now < length tokens.now) }
 {
     let (of, nest, rest) = type_name(alloc, depth, tokens)?;
-    let (_, rest) = expect_mark(rest, Punctuator::RightParen)?;
+    let (_, rest) = match expect_mark(rest, Punctuator::RightParen) {
+        Ok(read) => read,
+        Err(refusal) => return refused(of, refusal),
+    };
     Ok((of, nest, rest))
 }
 
@@ -56,7 +61,7 @@ pub fn size(
     let (_, rest) = expect_mark(rest, Punctuator::LeftParen)?;
     let (target, nest, rest) = enclosed_type(alloc, room, rest)?;
     if next_behind(rest).is_some() {
-        return fault(rest);
+        return fault_behind(target, rest);
     }
     Ok((Shape::Other(Expr::SizeOf { place, target }), nest + 1, rest))
 }

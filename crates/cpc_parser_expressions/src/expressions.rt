@@ -17,7 +17,10 @@ use crate::nodes;
 use crate::parts::{element, field, literal, part_count, through};
 use crate::shape::{Apart, Shape, inside, opened};
 use crate::tokens::{Behind, Prefix, begins_expr, first_prefix, next_behind, operator_of};
-use cpc_parser_types::{Operator, Refusal, begins_mark, deep, deeper, expect_mark, fault};
+use cpc_parser_types::{
+    Operator, Refusal, added, begins_mark, deep, deep_behind, deeper, expect_mark, fault,
+    fault_behind, refused,
+};
 use cpc_tree::program::Expr;
 use cpc_tree::token::{Punctuator, Token};
 use std::alloc::Global;
@@ -57,16 +60,32 @@ pub fn whole_shape(
     if !begins_mark(rest, Punctuator::Question) {
         return Ok((test, nest, rest));
     }
-    let (place, arms) = expect_mark(rest, Punctuator::Question)?;
+    let (place, arms) = match expect_mark(rest, Punctuator::Question) {
+        Ok(read) => read,
+        Err(refusal) => return refused(test, refusal),
+    };
     let extra = test.extra();
     if extra >= depth - nest {
-        return deep(rest);
+        return deep_behind(test, rest);
     }
     let outer = nest + extra;
-    let (yes, first, rest) = expr(alloc, depth - 1, arms)?;
-    let (_, rest) = expect_mark(rest, Punctuator::Colon)?;
-    let (no, second, rest) = expr(alloc, depth - 1, rest)?;
-    let whole = nodes::chosen(alloc, place, test.whole(alloc)?, yes, no)?;
+    let (yes, first, rest) = match expr(alloc, depth - 1, arms) {
+        Ok(read) => read,
+        Err(refusal) => return refused(test, refusal),
+    };
+    let (_, rest) = match expect_mark(rest, Punctuator::Colon) {
+        Ok(read) => read,
+        Err(refusal) => return refused((test, yes), refusal),
+    };
+    let (no, second, rest) = match expr(alloc, depth - 1, rest) {
+        Ok(read) => read,
+        Err(refusal) => return refused((test, yes), refusal),
+    };
+    let test = match test.whole(alloc) {
+        Ok(read) => read,
+        Err(refusal) => return refused((yes, no), refusal),
+    };
+    let whole = nodes::chosen(alloc, place, test, yes, no)?;
     let nest = deeper(outer, deeper(first, second)) + 1;
     Ok((Shape::Other(whole), nest, rest))
 }
@@ -115,17 +134,27 @@ fn applied(
     ensures shorter { IfOk result (λ x. length x.2.now < length tokens.now) }
 {
     let Some((token, rest)) = tokens.split_first() else {
-        return fault(tokens);
+        return fault_behind(left, tokens);
     };
     let extra = left.extra();
     if extra >= depth - nest {
-        return deep(tokens);
+        return deep_behind(left, tokens);
     }
     let place = token.place;
     let outer = nest + extra;
-    let (right, other, rest) = tier(alloc, depth - 1, t - 1, Apart::Never, rest)?;
-    let left = left.whole(alloc)?;
-    let whole = nodes::operated(alloc, op, place, left, right.whole(alloc)?)?;
+    let (right, other, rest) = match tier(alloc, depth - 1, t - 1, Apart::Never, rest) {
+        Ok(read) => read,
+        Err(refusal) => return refused(left, refusal),
+    };
+    let left = match left.whole(alloc) {
+        Ok(read) => read,
+        Err(refusal) => return refused(right, refusal),
+    };
+    let right = match right.whole(alloc) {
+        Ok(read) => read,
+        Err(refusal) => return refused(left, refusal),
+    };
+    let whole = nodes::operated(alloc, op, place, left, right)?;
     Ok((Shape::Other(whole), deeper(outer, other) + 1, rest))
 }
 
@@ -150,8 +179,15 @@ fn cast(
     }
     let (place, rest) = expect_mark(tokens, Punctuator::LeftParen)?;
     let (target, outer, rest) = enclosed_type(alloc, depth - 1, rest)?;
-    let (operand, inner, rest) = tier(alloc, depth - 1, 0, Apart::Never, rest)?;
-    let whole = nodes::cast(alloc, place, target, operand.whole(alloc)?)?;
+    let (operand, inner, rest) = match tier(alloc, depth - 1, 0, Apart::Never, rest) {
+        Ok(read) => read,
+        Err(refusal) => return refused(target, refusal),
+    };
+    let operand = match operand.whole(alloc) {
+        Ok(read) => read,
+        Err(refusal) => return refused(target, refusal),
+    };
+    let whole = nodes::cast(alloc, place, target, operand)?;
     Ok((Shape::Other(whole), deeper(outer, inner) + 1, rest))
 }
 
@@ -228,23 +264,29 @@ fn part(
     ensures shorter { IfOk result (λ x. length x.2.now < length tokens.now) }
 {
     let Some((token, rest)) = tokens.split_first() else {
-        return fault(tokens);
+        return fault_behind(shape, tokens);
     };
     let own = part_count(apart, class);
     let extra = shape.extra();
     if depth - nest < extra + own {
-        return deep(tokens);
+        return deep_behind(shape, tokens);
     }
     let outer = nest + extra;
     let whole = shape.whole(alloc)?;
     match class {
         Behind::Args => {
-            let (all, other, rest) = arguments(alloc, depth - own, rest)?;
+            let (all, other, rest) = match arguments(alloc, depth - own, rest) {
+                Ok(read) => read,
+                Err(refusal) => return refused(whole, refusal),
+            };
             let shape = nodes::call(alloc, apart, token.place, whole, all)?;
             Ok((shape, deeper(outer + own, other + own), rest))
         }
         Behind::Index => {
-            let (index, other, rest) = expr(alloc, depth - 1, rest)?;
+            let (index, other, rest) = match expr(alloc, depth - 1, rest) {
+                Ok(read) => read,
+                Err(refusal) => return refused(whole, refusal),
+            };
             element(alloc, token.place, whole, index, deeper(outer, other), rest)
         }
         Behind::Field => field(alloc, token.place, whole, outer, rest),
@@ -271,18 +313,26 @@ pub fn arguments(
         return deep(tokens);
     }
     let (first, other, behind) = expr(alloc, depth, tokens)?;
-    let mut all = Vec::new(alloc);
-    all.push(first)?;
+    let mut all = added(Vec::new(alloc), first)?;
     let mut nest = other;
     let mut rest = behind;
     'more: while begins_mark(rest, Punctuator::Comma) {
-        let (_, behind) = expect_mark(rest, Punctuator::Comma)?;
-        let (next, other, behind) = expr(alloc, depth, behind)?;
-        all.push(next)?;
+        let (_, behind) = match expect_mark(rest, Punctuator::Comma) {
+            Ok(read) => read,
+            Err(refusal) => return refused(all, refusal),
+        };
+        let (next, other, behind) = match expr(alloc, depth, behind) {
+            Ok(read) => read,
+            Err(refusal) => return refused(all, refusal),
+        };
+        all = added(all, next)?;
         nest = deeper(nest, other);
         rest = behind;
     }
-    let (_, rest) = expect_mark(rest, Punctuator::RightParen)?;
+    let (_, rest) = match expect_mark(rest, Punctuator::RightParen) {
+        Ok(read) => read,
+        Err(refusal) => return refused(all, refusal),
+    };
     Ok((all, nest, rest))
 }
 
@@ -307,6 +357,9 @@ fn primary(
     }
     let (_, rest) = expect_mark(tokens, Punctuator::LeftParen)?;
     let (inner, nest, rest) = whole_shape(alloc, depth - 1, inside(apart), rest)?;
-    let (_, rest) = expect_mark(rest, Punctuator::RightParen)?;
+    let (_, rest) = match expect_mark(rest, Punctuator::RightParen) {
+        Ok(read) => read,
+        Err(refusal) => return refused(inner, refusal),
+    };
     Ok((opened(inner), nest + 1, rest))
 }

@@ -11,7 +11,7 @@ ghost use Rattle.cpc_parser_expressions.specs.ShapeViews.{shape_of, apart_of};
 
 use crate::shape::{Apart, Shape};
 use cpc_base::Place;
-use cpc_parser_types::{Operator, Refusal};
+use cpc_parser_types::{Operator, Refusal, boxed, refused};
 use cpc_tree::program::{CType, Expr, UnaryOp, Word};
 use std::alloc::Global;
 
@@ -26,8 +26,14 @@ pub fn operated(
     ensures is { IfOk result (λ e. (names : Names) → located_expr names e ≡ operated place (operator_of op) (located_expr names left) (located_expr names right)) }
     ensures out { IfErr result (λ e. e ≡ Memory) }
 {
-    let left = Box::new(alloc, left)?;
-    let right = Box::new(alloc, right)?;
+    let left = match boxed(alloc, left) {
+        Ok(read) => read,
+        Err(refusal) => return refused(right, refusal),
+    };
+    let right = match boxed(alloc, right) {
+        Ok(read) => read,
+        Err(refusal) => return refused(left, refusal),
+    };
     Ok(match op {
         Operator::Binary(op) => Expr::Binary {
             place,
@@ -54,7 +60,10 @@ pub fn cast(alloc: Global, place: Place, target: CType, operand: Expr) -> Result
     ensures is { IfOk result (λ e. (names : Names) → located_expr names e ≡ LCast place (type_of names target) (located_expr names operand)) }
     ensures out { IfErr result (λ e. e ≡ Memory) }
 {
-    let operand = Box::new(alloc, operand)?;
+    let operand = match boxed(alloc, operand) {
+        Ok(read) => read,
+        Err(refusal) => return refused(target, refusal),
+    };
     Ok(Expr::Cast {
         place,
         target,
@@ -67,9 +76,18 @@ pub fn chosen(alloc: Global, place: Place, test: Expr, yes: Expr, no: Expr) -> R
     ensures is { IfOk result (λ e. (names : Names) → located_expr names e ≡ LChoose place (located_expr names test) (located_expr names yes) (located_expr names no)) }
     ensures out { IfErr result (λ e. e ≡ Memory) }
 {
-    let test = Box::new(alloc, test)?;
-    let yes = Box::new(alloc, yes)?;
-    let no = Box::new(alloc, no)?;
+    let test = match boxed(alloc, test) {
+        Ok(read) => read,
+        Err(refusal) => return refused((yes, no), refusal),
+    };
+    let yes = match boxed(alloc, yes) {
+        Ok(read) => read,
+        Err(refusal) => return refused((test, no), refusal),
+    };
+    let no = match boxed(alloc, no) {
+        Ok(read) => read,
+        Err(refusal) => return refused((test, yes), refusal),
+    };
     Ok(Expr::Choose {
         place,
         test,
@@ -90,11 +108,17 @@ pub fn call(
     ensures out { IfErr result (λ e. e ≡ Memory) }
 {
     match apart {
-        Apart::Never => Ok(Shape::Postfix(Expr::CallIn {
-            place,
-            function: Box::new(alloc, function)?,
-            arguments,
-        })),
+        Apart::Never => {
+            let function = match boxed(alloc, function) {
+                Ok(read) => read,
+                Err(refusal) => return refused(arguments, refusal),
+            };
+            Ok(Shape::Postfix(Expr::CallIn {
+                place,
+                function,
+                arguments,
+            }))
+        }
         Apart::Bare => Ok(Shape::Call {
             place,
             function,
@@ -113,8 +137,14 @@ pub fn indexed(alloc: Global, place: Place, operand: Expr, index: Expr) -> Resul
     ensures is { IfOk result (λ e. (names : Names) → located_expr names e ≡ LIndex place (located_expr names operand) (located_expr names index)) }
     ensures out { IfErr result (λ e. e ≡ Memory) }
 {
-    let operand = Box::new(alloc, operand)?;
-    let index = Box::new(alloc, index)?;
+    let operand = match boxed(alloc, operand) {
+        Ok(read) => read,
+        Err(refusal) => return refused(index, refusal),
+    };
+    let index = match boxed(alloc, index) {
+        Ok(read) => read,
+        Err(refusal) => return refused(operand, refusal),
+    };
     Ok(Expr::Index {
         place,
         operand,

@@ -15,7 +15,7 @@ use crate::nodes;
 use crate::shape::{Apart, Shape, call_count};
 use crate::tokens::Behind;
 use cpc_base::Place;
-use cpc_parser_types::{Refusal, expect_mark, fault, name};
+use cpc_parser_types::{Refusal, expect_mark, fault, name, refused};
 use cpc_tree::program::{Expr, Word};
 use cpc_tree::token::{Punctuator, Token, TokenKind};
 use std::alloc::Global;
@@ -33,7 +33,10 @@ pub fn field(
     ensures nest { IfOk result (λ x. x.1 ≡ nest + 1) }
     ensures shorter { IfOk result (λ x. length x.2.now < length tokens.now) }
 {
-    let (word, rest) = name(tokens)?;
+    let (word, rest) = match name(tokens) {
+        Ok(read) => read,
+        Err(refusal) => return refused(operand, refusal),
+    };
     let whole = nodes::member(alloc, place, operand, word)?;
     Ok((Shape::Postfix(whole), nest + 1, rest))
 }
@@ -51,7 +54,10 @@ pub fn through(
     ensures nest { IfOk result (λ x. x.1 ≡ nest + 1) }
     ensures shorter { IfOk result (λ x. length x.2.now < length tokens.now) }
 {
-    let (word, rest) = name(tokens)?;
+    let (word, rest) = match name(tokens) {
+        Ok(read) => read,
+        Err(refusal) => return refused(operand, refusal),
+    };
     let whole = nodes::arrow(alloc, place, operand, word)?;
     Ok((Shape::Postfix(whole), nest + 1, rest))
 }
@@ -70,7 +76,10 @@ pub fn element(
     ensures nest { IfOk result (λ x. x.1 ≡ nest + 1) }
     ensures shorter { IfOk result (λ x. length x.2.now < length tokens.now) }
 {
-    let (_, rest) = expect_mark(tokens, Punctuator::RightBracket)?;
+    let (_, rest) = match expect_mark(tokens, Punctuator::RightBracket) {
+        Ok(read) => read,
+        Err(refusal) => return refused((operand, index), refusal),
+    };
     let whole = nodes::indexed(alloc, place, operand, index)?;
     Ok((Shape::Postfix(whole), nest + 1, rest))
 }

@@ -8,7 +8,7 @@ ghost use Rattle.cpc_parser_expressions.specs.ShapeViews.{shape_of, apart_of};
 ghost use Rattle.cpc_parser_expressions.specs.ExprReaders.{inside, opened, call_count};
 
 use cpc_base::Place;
-use cpc_parser_types::Refusal;
+use cpc_parser_types::{Refusal, boxed, refused};
 use cpc_tree::program::Expr;
 use std::alloc::Global;
 
@@ -59,11 +59,17 @@ impl Shape {
                 place,
                 function,
                 arguments,
-            } => Ok(Expr::CallIn {
-                place,
-                function: Box::new(alloc, function)?,
-                arguments,
-            }),
+            } => {
+                let function = match boxed(alloc, function) {
+                    Ok(read) => read,
+                    Err(refusal) => return refused(arguments, refusal),
+                };
+                Ok(Expr::CallIn {
+                    place,
+                    function,
+                    arguments,
+                })
+            }
             Shape::Postfix(expr) => Ok(expr),
             Shape::Other(expr) => Ok(expr),
         }

@@ -9,6 +9,7 @@ pub mod Declarators
 pub mod SameMarks
 pub mod BaseSteps
 pub mod Giving
+pub mod Refusing
 pub mod BracketSteps
 pub mod CodeTypes
 pub mod Seen

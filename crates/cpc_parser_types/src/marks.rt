@@ -1,7 +1,7 @@
 //! Single tokens.
 ghost use Rattle.std.specs.Prelude.{◌≡◌, ◌<◌, List, [], ◌∷◌, length, IfOk, Err, max};
 ghost use Rattle.std.specs.Option.{option_map};
-ghost use Rattle.cpc_tree.specs.ExprGrammar.{operator, unary_operator};
+ghost use Rattle.cpc_tree.specs.ExprGrammar.{operator};
 ghost use Rattle.cpc_tree.specs.StmtGrammar.{assigning, stepping};
 ghost use Rattle.cpc_tree.specs.Erase.{Names};
 ghost use Rattle.cpc_tree.specs.Locate.{ident};
@@ -16,7 +16,7 @@ ghost use Rattle.cpc_parser_types.specs.declared.refusal.Refusal.TheVariants as 
 use crate::refusal::Refusal;
 use cpc_base::Place;
 use cpc_num::{Kind, Op};
-use cpc_tree::program::{UnaryOp, Word};
+use cpc_tree::program::Word;
 use cpc_tree::token::{Keyword, Punctuator, Token, TokenKind};
 
 /// The refusal of the first of the tokens, where no program is left.
@@ -156,21 +156,6 @@ pub fn stepping(mark: Punctuator) -> Option<Op>
     match mark {
         Punctuator::Increment => Some(Op::Add),
         Punctuator::Decrement => Some(Op::Sub),
-        _ => None,
-    }
-}
-
-/// The operator of a mark before an operand (C11 6.5.3).
-pub fn unary_operator(mark: Punctuator) -> Option<UnaryOp>
-    ensures { result ≡ unary_operator mark }
-{
-    match mark {
-        Punctuator::Minus => Some(UnaryOp::Minus),
-        Punctuator::Plus => Some(UnaryOp::Plus),
-        Punctuator::Exclamation => Some(UnaryOp::Not),
-        Punctuator::Tilde => Some(UnaryOp::Complement),
-        Punctuator::Star => Some(UnaryOp::Dereference),
-        Punctuator::Ampersand => Some(UnaryOp::AddressOf),
         _ => None,
     }
 }

@@ -3,6 +3,7 @@ use Rattle.cpc_tree.specs.ExprGrammar.{Whole, operated}
 use Rattle.cpc_parser_reading.specs.Reading.{Read, ◌>>=◌, expect}
 use Rattle.cpc_parser_types.proofs.SameMarks.{unnamed}
 use Rattle.cpc_parser_types.specs.Views.{placed, tiered_of, operator_of}
+use Rattle.cpc_parser_types.proofs.Refusing.{refused_is}
 use Rattle.cpc_parser_types.proofs.Giving.{err_through, deep_here, fault_here}
 use Rattle.cpc_parser_expressions.proofs.Follow.{rank_start, whole_plain, cast_not, cast_deep, cast_so, unary_none, unary_plain, unary_size, unary_deep, args_none, args_deep, listed_is, row_links, atom_lit, atom_deep}
 use Rattle.cpc_parser_expressions.proofs.Stages.{on_read, counted, tier_low, applied_deep, typed_left, part_deep, extra_least, part_least, round_go}
@@ -40,43 +41,43 @@ whole_shape-returns-then-not-begins_mark-clause-gives t c =
     λ names. whole_plain (apart_of c.args.apart) c.args.depth (placed names c.args.tokens.now) (placed names c.in_ok-test.rest.now) (shape_of names c.in_ok-test.test) c.in_ok-test.nest c.requires
     (c.in_ok-test.ensures.gives names) (sym (c.begins_mark.ensures names) ∙ c.if-not-begins_mark.true)
 
-pub whole_shape-returns-in_err-place-clause-gives : goal.whole_shape-returns-in_err-place-clause-gives
-whole_shape-returns-in_err-place-clause-gives t c =
-    λ names. begun_err _ P.Question (placed names c.in_ok-test.rest.now) _ _ _ (sym (c.begins_mark.ensures names) ∙ c.if-not-begins_mark.false) c.from_residual-in_err-place.ensures.1 (c.in_err-place.ensures.gives names)
+pub whole_shape-returns-in-Err-clause-gives : goal.whole_shape-returns-in-Err-clause-gives
+whole_shape-returns-in-Err-clause-gives t c =
+    λ names. begun_err _ P.Question (placed names c.in_ok-test.rest.now) _ _ _ (sym (c.begins_mark.ensures names) ∙ c.if-not-begins_mark.false) (refused_is c.refused.ensures) (c.in-Err.ensures.gives names)
 
 pub whole_shape-returns-then-extra-depth-clause-gives : goal.whole_shape-returns-then-extra-depth-clause-gives
 whole_shape-returns-then-extra-depth-clause-gives t c =
-    λ names. deep_here _ names c.in_ok-test.rest.now c.deep.result _ c.deep.ensures
+    λ names. deep_here _ names c.in_ok-test.rest.now c.deep_behind.result _ c.deep_behind.ensures
     (arms_deep (apart_of c.args.apart) c.args.depth (placed names c.args.tokens.now) (placed names c.in_ok-test.rest.now) (shape_of names c.in_ok-test.test) c.in_ok-test.nest c.requires c.in_ok-test.ensures.nest.0 c.in_ok-test.ensures.nest.1 (c.in_ok-test.ensures.gives names)
-    c.in_ok-place.place (placed names c.in_ok-place.arms.now) (ap (placed names) c.in_ok-place.ensures.first) (omega (arith, c.if-extra-depth.true, c.extra-extra.ensures names)))
+    c.in-Ok.read.0 (placed names c.in-Ok.read.1.now) (ap (placed names) c.in-Ok.ensures.first) (omega (arith, c.if-extra-depth.true, c.extra-extra.ensures names)))
 
-pub whole_shape-returns-in_err-yes-clause-gives : goal.whole_shape-returns-in_err-yes-clause-gives
-whole_shape-returns-in_err-yes-clause-gives t c =
-    λ names. err_through _ _ _ _ _ _ c.from_residual-in_err-yes.ensures.1 (c.in_err-yes.ensures.gives names)
+pub whole_shape-returns-in-Err-expr-clause-gives : goal.whole_shape-returns-in-Err-expr-clause-gives
+whole_shape-returns-in-Err-expr-clause-gives t c =
+    λ names. err_through _ _ _ _ _ _ (refused_is c.refused-in-Err-expr.ensures) (c.in-Err-expr.ensures.gives names)
     (arms_go (apart_of c.args.apart) c.args.depth (placed names c.args.tokens.now) (placed names c.in_ok-test.rest.now) (shape_of names c.in_ok-test.test) c.in_ok-test.nest c.requires c.in_ok-test.ensures.nest.0 c.in_ok-test.ensures.nest.1 (c.in_ok-test.ensures.gives names)
-    c.in_ok-place.place (placed names c.in_ok-place.arms.now) (ap (placed names) c.in_ok-place.ensures.first) (omega (arith, c.if-extra-depth.false, c.extra-extra.ensures names)))
+    c.in-Ok.read.0 (placed names c.in-Ok.read.1.now) (ap (placed names) c.in-Ok.ensures.first) (omega (arith, c.if-extra-depth.false, c.extra-extra.ensures names)))
 
-pub whole_shape-returns-in_err-rest-clause-gives : goal.whole_shape-returns-in_err-rest-clause-gives
-whole_shape-returns-in_err-rest-clause-gives t c =
-    λ names. err_through _ _ _ _ _ _ c.from_residual-in_err-rest.ensures.1 (c.in_err-rest.ensures.gives names)
+pub whole_shape-returns-in-Err-expect_mark-clause-gives : goal.whole_shape-returns-in-Err-expect_mark-clause-gives
+whole_shape-returns-in-Err-expect_mark-clause-gives t c =
+    λ names. err_through _ _ _ _ _ _ (refused_is c.refused-in-Err-expect_mark.ensures) (c.in-Err-expect_mark.ensures.gives names)
     (on_read _ _ _ _ (arms_go (apart_of c.args.apart) c.args.depth (placed names c.args.tokens.now) (placed names c.in_ok-test.rest.now) (shape_of names c.in_ok-test.test) c.in_ok-test.nest c.requires c.in_ok-test.ensures.nest.0 c.in_ok-test.ensures.nest.1 (c.in_ok-test.ensures.gives names)
-    c.in_ok-place.place (placed names c.in_ok-place.arms.now) (ap (placed names) c.in_ok-place.ensures.first) (omega (arith, c.if-extra-depth.false, c.extra-extra.ensures names))) (c.in_ok-yes.ensures.gives names))
+    c.in-Ok.read.0 (placed names c.in-Ok.read.1.now) (ap (placed names) c.in-Ok.ensures.first) (omega (arith, c.if-extra-depth.false, c.extra-extra.ensures names))) (c.in-Ok-expr.ensures.gives names))
 
-pub whole_shape-returns-in_err-no-clause-gives : goal.whole_shape-returns-in_err-no-clause-gives
-whole_shape-returns-in_err-no-clause-gives t c =
-    λ names. err_through _ _ _ _ _ _ c.from_residual-in_err-no.ensures.1 (c.in_err-no.ensures.gives names)
+pub whole_shape-returns-in-Err-expr-2-clause-gives : goal.whole_shape-returns-in-Err-expr-2-clause-gives
+whole_shape-returns-in-Err-expr-2-clause-gives t c =
+    λ names. err_through _ _ _ _ _ _ (refused_is c.refused-in-Err-expr-2.ensures) (c.in-Err-expr-2.ensures.gives names)
     (on_read _ _ _ _ (on_read _ _ _ _ (arms_go (apart_of c.args.apart) c.args.depth (placed names c.args.tokens.now) (placed names c.in_ok-test.rest.now) (shape_of names c.in_ok-test.test) c.in_ok-test.nest c.requires c.in_ok-test.ensures.nest.0 c.in_ok-test.ensures.nest.1 (c.in_ok-test.ensures.gives names)
-    c.in_ok-place.place (placed names c.in_ok-place.arms.now) (ap (placed names) c.in_ok-place.ensures.first) (omega (arith, c.if-extra-depth.false, c.extra-extra.ensures names))) (c.in_ok-yes.ensures.gives names)) (c.in_ok-rest.ensures.gives names))
+    c.in-Ok.read.0 (placed names c.in-Ok.read.1.now) (ap (placed names) c.in-Ok.ensures.first) (omega (arith, c.if-extra-depth.false, c.extra-extra.ensures names))) (c.in-Ok-expr.ensures.gives names)) (c.in-Ok-expect_mark.ensures.gives names))
 
 pub whole_shape-returns-clause-gives : goal.whole_shape-returns-clause-gives
 whole_shape-returns-clause-gives t c =
     λ names. let s = shape_of names c.in_ok-test.test in
-    let h = max (c.in_ok-test.nest + (count (was_call s) + 1)) (max c.in_ok-yes.first c.in_ok-no.second + 1) in
+    let h = max (c.in_ok-test.nest + (count (was_call s) + 1)) (max c.in-Ok-expr.read.1 c.in-Ok-expr-2.read.1 + 1) in
     on_read _ _ _ _ (on_read _ _ _ _ (on_read _ _ _ _ (arms_go (apart_of c.args.apart) c.args.depth (placed names c.args.tokens.now) (placed names c.in_ok-test.rest.now) s c.in_ok-test.nest c.requires c.in_ok-test.ensures.nest.0 c.in_ok-test.ensures.nest.1 (c.in_ok-test.ensures.gives names)
-    c.in_ok-place.place (placed names c.in_ok-place.arms.now) (ap (placed names) c.in_ok-place.ensures.first) (omega (arith, c.if-extra-depth.false, c.extra-extra.ensures names))) (c.in_ok-yes.ensures.gives names)) (c.in_ok-rest.ensures.gives names)) (c.in_ok-no.ensures.gives names)
-    ∙ (ap (λ w. Read (Other (LChoose c.in_ok-place.place w (located_expr names c.in_ok-yes.yes) (located_expr names c.in_ok-no.no)), h, placed names c.in_ok-no.rest.now)) (sym (c.in_ok-whole.ensures.is names))
-    ∙ (ap (λ e. Read (Other e, h, placed names c.in_ok-no.rest.now)) (sym (c.in_ok-whole-2.ensures.is names))
-    ∙ ap (λ k. Read (Other (located_expr names c.in_ok-whole-2.whole), k, placed names c.in_ok-no.rest.now)) (omega (arith, c.deeper.ensures, c.deeper-nest.ensures, c.extra-extra.ensures names, counted s))))
+    c.in-Ok.read.0 (placed names c.in-Ok.read.1.now) (ap (placed names) c.in-Ok.ensures.first) (omega (arith, c.if-extra-depth.false, c.extra-extra.ensures names))) (c.in-Ok-expr.ensures.gives names)) (c.in-Ok-expect_mark.ensures.gives names)) (c.in-Ok-expr-2.ensures.gives names)
+    ∙ (ap (λ w. Read (Other (LChoose c.in-Ok.read.0 w (located_expr names c.in-Ok-expr.read.0) (located_expr names c.in-Ok-expr-2.read.0)), h, placed names c.in-Ok-expr-2.read.2.now)) (sym (c.in-Ok-whole.ensures.is names))
+    ∙ (ap (λ e. Read (Other e, h, placed names c.in-Ok-expr-2.read.2.now)) (sym (c.in_ok-whole.ensures.is names))
+    ∙ ap (λ k. Read (Other (located_expr names c.in_ok-whole.whole), k, placed names c.in-Ok-expr-2.read.2.now)) (omega (arith, c.deeper.ensures, c.deeper-nest.ensures, c.extra-extra.ensures names, counted s))))
 
 pub tier-returns-in_err-left-clause-gives : goal.tier-returns-in_err-left-clause-gives
 tier-returns-in_err-left-clause-gives t c = λ names. err_through _ _ _ _ _ _ c.from_residual.ensures.1 (c.in_err-left.ensures.gives names) (tier_start (apart_of c.args.apart) c.args.depth c.args.n (placed names c.args.tokens.now) c.requires)
@@ -113,30 +114,30 @@ tier-returns-clause-gives t c =
 
 pub applied-returns-then-extra-depth-clause-gives : goal.applied-returns-then-extra-depth-clause-gives
 applied-returns-then-extra-depth-clause-gives t c =
-    λ names n. deep_here _ names c.args.tokens.now c.deep.result _ c.deep.ensures
+    λ names n. deep_here _ names c.args.tokens.now c.deep_behind.result _ c.deep_behind.ensures
     (applied_deep c.args.depth n (c.args.t, operator_of c.args.op) (shape_of names c.args.left) c.args.nest (placed_of names c.in-Some.token.now) (placed names c.in-Some.rest.now) (placed names c.args.tokens.now) (ap (placed names) c.in-Some.ensures.cases.0)
     (omega (arith, c.if-extra-depth.true, c.extra-extra.ensures names)))
 
-pub applied-returns-in_err-right-clause-gives : goal.applied-returns-in_err-right-clause-gives
-applied-returns-in_err-right-clause-gives t c =
-    λ names n. err_through _ _ _ _ _ _ c.from_residual.ensures.1 (c.in_err-right.ensures.gives names)
+pub applied-returns-in-Err-clause-gives : goal.applied-returns-in-Err-clause-gives
+applied-returns-in-Err-clause-gives t c =
+    λ names n. err_through _ _ _ _ _ _ (refused_is c.refused.ensures) (c.in-Err.ensures.gives names)
     (second_go c.args.depth n (c.args.t, operator_of c.args.op) (shape_of names c.args.left) c.args.nest (placed_of names c.in-Some.token.now) (placed names c.in-Some.rest.now) (placed names c.args.tokens.now) (ap (placed names) c.in-Some.ensures.cases.0)
     (omega (arith, c.if-extra-depth.false, c.extra-extra.ensures names)))
 
 pub applied-returns-clause-gives : goal.applied-returns-clause-gives
 applied-returns-clause-gives t c =
     λ names n. let s = shape_of names c.args.left in
-    let r = shape_of names c.in_ok-right.right in
-    let h = max (c.args.nest + (count (was_call s) + 1)) (c.in_ok-right.other + 1) in
+    let r = shape_of names c.in-Ok.read.0 in
+    let h = max (c.args.nest + (count (was_call s) + 1)) (c.in-Ok.read.1 + 1) in
     let op = operator_of c.args.op in
     let q = c.in-Some.token.now.place in
-    let us = placed names c.in_ok-right.rest.now in
+    let us = placed names c.in-Ok.read.2.now in
     on_read _ _ _ _ (second_go c.args.depth n (c.args.t, op) s c.args.nest (placed_of names c.in-Some.token.now) (placed names c.in-Some.rest.now) (placed names c.args.tokens.now) (ap (placed names) c.in-Some.ensures.cases.0)
-    (omega (arith, c.if-extra-depth.false, c.extra-extra.ensures names))) (c.in_ok-right.ensures.gives names)
-    ∙ (ap (λ w. Read (Other (operated q op w (whole r)), h, us)) (sym (c.in_ok-left.ensures.is names))
-    ∙ (ap (λ w. Read (Other (operated q op (located_expr names c.in_ok-left.left) w), h, us)) (sym (c.in_ok-whole.ensures.is names))
-    ∙ (ap (λ e. Read (Other e, h, us)) (sym (c.in_ok-whole-2.ensures.is names))
-    ∙ ap (λ k. Read (Other (located_expr names c.in_ok-whole-2.whole), k, us)) (omega (arith, c.deeper.ensures, c.extra-extra.ensures names, counted s)))))
+    (omega (arith, c.if-extra-depth.false, c.extra-extra.ensures names))) (c.in-Ok.ensures.gives names)
+    ∙ (ap (λ w. Read (Other (operated q op w (whole r)), h, us)) (sym (c.in-Ok-whole.ensures.is names))
+    ∙ (ap (λ w. Read (Other (operated q op (located_expr names c.in-Ok-whole.read) w), h, us)) (sym (c.in-Ok-whole-2.ensures.is names))
+    ∙ (ap (λ e. Read (Other e, h, us)) (sym (c.in_ok-whole.ensures.is names))
+    ∙ ap (λ k. Read (Other (located_expr names c.in_ok-whole.whole), k, us)) (omega (arith, c.deeper.ensures, c.extra-extra.ensures names, counted s)))))
 
 pub cast-returns-then-not-begins_cast-clause-gives : goal.cast-returns-then-not-begins_cast-clause-gives
 cast-returns-then-not-begins_cast-clause-gives t c =
@@ -159,25 +160,25 @@ cast-returns-in_err-target-clause-gives t c =
     (cast_go (apart_of c.args.apart) c.args.depth c.requires (placed names c.args.tokens.now) (omega (arith, c.if-depth-lt2.false)) (sym (c.begins_cast.ensures names) ∙ c.if-not-begins_cast.false)
     c.in_ok-place.place (placed names c.in_ok-place.rest.now) (ap (placed names) c.in_ok-place.ensures.first))
 
-pub cast-returns-in_err-operand-clause-gives : goal.cast-returns-in_err-operand-clause-gives
-cast-returns-in_err-operand-clause-gives t c =
-    λ names. err_through _ _ _ _ _ _ c.from_residual-in_err-operand.ensures.1 (c.in_err-operand.ensures.gives names)
+pub cast-returns-in-Err-clause-gives : goal.cast-returns-in-Err-clause-gives
+cast-returns-in-Err-clause-gives t c =
+    λ names. err_through _ _ _ _ _ _ (refused_is c.refused.ensures) (c.in-Err.ensures.gives names)
     (on_read _ _ _ _ (cast_go (apart_of c.args.apart) c.args.depth c.requires (placed names c.args.tokens.now) (omega (arith, c.if-depth-lt2.false)) (sym (c.begins_cast.ensures names) ∙ c.if-not-begins_cast.false)
     c.in_ok-place.place (placed names c.in_ok-place.rest.now) (ap (placed names) c.in_ok-place.ensures.first)) (c.in_ok-target.ensures.gives names)
     ∙ cast_operand c.in_ok-place.place (type_of names c.in_ok-target.target) c.in_ok-target.outer c.args.depth (placed names c.in_ok-target.rest.now))
 
 pub cast-returns-clause-gives : goal.cast-returns-clause-gives
 cast-returns-clause-gives t c =
-    λ names. let h = max 0 (max c.in_ok-target.outer c.in_ok-operand.inner) + 1 in
-    let us = placed names c.in_ok-operand.rest.now in
+    λ names. let h = max 0 (max c.in_ok-target.outer c.in-Ok.read.1) + 1 in
+    let us = placed names c.in-Ok.read.2.now in
     on_read _ _ _ _
     (on_read _ _ _ _ (cast_go (apart_of c.args.apart) c.args.depth c.requires (placed names c.args.tokens.now) (omega (arith, c.if-depth-lt2.false)) (sym (c.begins_cast.ensures names) ∙ c.if-not-begins_cast.false)
     c.in_ok-place.place (placed names c.in_ok-place.rest.now) (ap (placed names) c.in_ok-place.ensures.first)) (c.in_ok-target.ensures.gives names)
     ∙ cast_operand c.in_ok-place.place (type_of names c.in_ok-target.target) c.in_ok-target.outer c.args.depth (placed names c.in_ok-target.rest.now))
-    (c.in_ok-operand.ensures.gives names)
-    ∙ (ap (λ w. Read (Other (LCast c.in_ok-place.place (type_of names c.in_ok-target.target) w), h, us)) (sym (c.in_ok-whole.ensures.is names))
-    ∙ (ap (λ e. Read (Other e, h, us)) (sym (c.in_ok-whole-2.ensures.is names))
-    ∙ ap (λ k. Read (Other (located_expr names c.in_ok-whole-2.whole), k, us)) (omega (arith, c.deeper.ensures))))
+    (c.in-Ok.ensures.gives names)
+    ∙ (ap (λ w. Read (Other (LCast c.in_ok-place.place (type_of names c.in_ok-target.target) w), h, us)) (sym (c.in-Ok-whole.ensures.is names))
+    ∙ (ap (λ e. Read (Other e, h, us)) (sym (c.in_ok-whole.ensures.is names))
+    ∙ ap (λ k. Read (Other (located_expr names c.in_ok-whole.whole), k, us)) (omega (arith, c.deeper.ensures))))
 
 pub unary-returns-in-None-clause-gives : goal.unary-returns-in-None-clause-gives
 unary-returns-in-None-clause-gives t c =
@@ -241,7 +242,7 @@ postfix-returns-clause-gives t c =
 
 pub part-returns-then-depth-nest-clause-gives : goal.part-returns-then-depth-nest-clause-gives
 part-returns-then-depth-nest-clause-gives t c =
-    λ names. deep_here _ names c.args.tokens.now c.deep.result _ c.deep.ensures
+    λ names. deep_here _ names c.args.tokens.now c.deep_behind.result _ c.deep_behind.ensures
     (part_deep (apart_of c.args.apart) c.args.depth (shape_of names c.args.shape) c.args.nest (placed_of names c.in-Some.token.now) (placed names c.in-Some.rest.now) (placed names c.args.tokens.now) (ap (placed names) c.in-Some.ensures.cases.0) c.requires.high (behind_of c.args.class)
     (omega (arith, c.if-depth-nest.true, c.extra-extra.ensures names, c.part_count-own.ensures)))
 
@@ -253,31 +254,31 @@ part-overflow_add-extra t c =
     let p = part_least (apart_of c.args.apart) (behind_of c.args.class) in
     omega (arith, e, m, o, p)
 
-pub part-returns-in_err-all-in-Args-clause-gives : goal.part-returns-in_err-all-in-Args-clause-gives
-part-returns-in_err-all-in-Args-clause-gives t c =
-    λ names. err_through _ _ _ _ _ _ c.from_residual-in_err-all-in-Args.ensures.1 (c.in_err-all-in-Args.ensures.gives names)
+pub part-returns-in-Err-clause-gives : goal.part-returns-in-Err-clause-gives
+part-returns-in-Err-clause-gives t c =
+    λ names. err_through _ _ _ _ _ _ (refused_is c.refused.ensures) (c.in-Err.ensures.gives names)
     (call_go (apart_of c.args.apart) c.args.depth (shape_of names c.args.shape) c.args.nest (placed_of names c.in-Some.token.now) (placed names c.in-Some.rest.now) (placed names c.args.tokens.now) (ap (placed names) c.in-Some.ensures.cases.0) c.requires.high
     (behind_of c.args.class) c.extra-extra.result c.part_count-own.result (located_expr names c.in_ok-whole.whole) (c.extra-extra.ensures names) c.part_count-own.ensures (c.in_ok-whole.ensures.is names) (omega (arith, c.if-depth-nest.false)) (ap behind_of c.in-Args.is))
 
 pub part-returns-in_ok-shape-in-Args-clause-gives : goal.part-returns-in_ok-shape-in-Args-clause-gives
 part-returns-in_ok-shape-in-Args-clause-gives t c =
     λ names. on_read _ _ _ _ (call_go (apart_of c.args.apart) c.args.depth (shape_of names c.args.shape) c.args.nest (placed_of names c.in-Some.token.now) (placed names c.in-Some.rest.now) (placed names c.args.tokens.now) (ap (placed names) c.in-Some.ensures.cases.0) c.requires.high
-    (behind_of c.args.class) c.extra-extra.result c.part_count-own.result (located_expr names c.in_ok-whole.whole) (c.extra-extra.ensures names) c.part_count-own.ensures (c.in_ok-whole.ensures.is names) (omega (arith, c.if-depth-nest.false)) (ap behind_of c.in-Args.is)) (c.in_ok-all-in-Args.ensures.gives names)
-    ∙ (ap (λ s. Read (s, max (c.args.nest + c.extra-extra.result + c.part_count-own.result) (c.in_ok-all-in-Args.other + c.part_count-own.result), placed names c.in_ok-all-in-Args.rest.now)) (sym (c.in_ok-shape-in-Args.ensures.is names))
-    ∙ ap (λ k. Read (shape_of names c.in_ok-shape-in-Args.shape, k, placed names c.in_ok-all-in-Args.rest.now)) (sym c.deeper.ensures))
+    (behind_of c.args.class) c.extra-extra.result c.part_count-own.result (located_expr names c.in_ok-whole.whole) (c.extra-extra.ensures names) c.part_count-own.ensures (c.in_ok-whole.ensures.is names) (omega (arith, c.if-depth-nest.false)) (ap behind_of c.in-Args.is)) (c.in-Ok.ensures.gives names)
+    ∙ (ap (λ s. Read (s, max (c.args.nest + c.extra-extra.result + c.part_count-own.result) (c.in-Ok.read.1 + c.part_count-own.result), placed names c.in-Ok.read.2.now)) (sym (c.in_ok-shape-in-Args.ensures.is names))
+    ∙ ap (λ k. Read (shape_of names c.in_ok-shape-in-Args.shape, k, placed names c.in-Ok.read.2.now)) (sym c.deeper.ensures))
 
-pub part-returns-in_err-index-in-Index-clause-gives : goal.part-returns-in_err-index-in-Index-clause-gives
-part-returns-in_err-index-in-Index-clause-gives t c =
-    λ names. err_through _ _ _ _ _ _ c.from_residual-in_err-index-in-Index.ensures.1 (c.in_err-index-in-Index.ensures.gives names)
+pub part-returns-in-Err-expr-clause-gives : goal.part-returns-in-Err-expr-clause-gives
+part-returns-in-Err-expr-clause-gives t c =
+    λ names. err_through _ _ _ _ _ _ (refused_is c.refused-in-Err-expr.ensures) (c.in-Err-expr.ensures.gives names)
     (element_go (apart_of c.args.apart) c.args.depth (shape_of names c.args.shape) c.args.nest (placed_of names c.in-Some.token.now) (placed names c.in-Some.rest.now) (placed names c.args.tokens.now) (ap (placed names) c.in-Some.ensures.cases.0) c.requires.high
     (behind_of c.args.class) c.extra-extra.result c.part_count-own.result (located_expr names c.in_ok-whole.whole) (c.extra-extra.ensures names) c.part_count-own.ensures (c.in_ok-whole.ensures.is names) (omega (arith, c.if-depth-nest.false)) (ap behind_of c.in-Index.is))
 
-pub part-returns-in_ok-index-in-Index-clause-gives : goal.part-returns-in_ok-index-in-Index-clause-gives
-part-returns-in_ok-index-in-Index-clause-gives t c =
+pub part-returns-in-Ok-expr-clause-gives : goal.part-returns-in-Ok-expr-clause-gives
+part-returns-in-Ok-expr-clause-gives t c =
     λ names. gives_as _ _ _ _
     (on_read _ _ _ _ (element_go (apart_of c.args.apart) c.args.depth (shape_of names c.args.shape) c.args.nest (placed_of names c.in-Some.token.now) (placed names c.in-Some.rest.now) (placed names c.args.tokens.now) (ap (placed names) c.in-Some.ensures.cases.0) c.requires.high
-    (behind_of c.args.class) c.extra-extra.result c.part_count-own.result (located_expr names c.in_ok-whole.whole) (c.extra-extra.ensures names) c.part_count-own.ensures (c.in_ok-whole.ensures.is names) (omega (arith, c.if-depth-nest.false)) (ap behind_of c.in-Index.is)) (c.in_ok-index-in-Index.ensures.gives names)
-    ∙ ap (λ k. expect (λ u. is_unbracket u.lexeme) (placed names c.in_ok-index-in-Index.rest.now) >>= λ y. Read (Postfixed (LIndex c.in-Some.token.now.place (located_expr names c.in_ok-whole.whole) (located_expr names c.in_ok-index-in-Index.index)), k, y.2)) (omega (arith, c.deeper-in-Index.ensures)))
+    (behind_of c.args.class) c.extra-extra.result c.part_count-own.result (located_expr names c.in_ok-whole.whole) (c.extra-extra.ensures names) c.part_count-own.ensures (c.in_ok-whole.ensures.is names) (omega (arith, c.if-depth-nest.false)) (ap behind_of c.in-Index.is)) (c.in-Ok-expr.ensures.gives names)
+    ∙ ap (λ k. expect (λ u. is_unbracket u.lexeme) (placed names c.in-Ok-expr.read.2.now) >>= λ y. Read (Postfixed (LIndex c.in-Some.token.now.place (located_expr names c.in_ok-whole.whole) (located_expr names c.in-Ok-expr.read.0)), k, y.2)) (omega (arith, c.deeper-in-Index.ensures)))
     (c.element.ensures.gives names)
 
 pub arguments-returns-in_err-rest-clause-gives : goal.arguments-returns-in_err-rest-clause-gives
@@ -299,43 +300,43 @@ pub arguments-returns-in_err-first-clause-gives : goal.arguments-returns-in_err-
 arguments-returns-in_err-first-clause-gives t c = λ names. err_through _ _ _ _ _ _ c.from_residual-in_err-first.ensures.1 (c.in_err-first.ensures.gives names)
     (args_start c.args.depth (placed names c.args.tokens.now) (omega (arith, c.if-depth-eq0.false)) (sym (c.begins_expr.ensures names) ∙ c.if-not-begins_expr.false))
 
-pub arguments-returns-in_err-behind-clause-gives : goal.arguments-returns-in_err-behind-clause-gives
-arguments-returns-in_err-behind-clause-gives t c =
-    λ names. begun_err _ P.Comma (placed names c.more.rest.now) _ _ _ (sym (c.begins_mark.ensures names) ∙ c.more-test.true) c.from_residual-in_err-behind.ensures.1 (c.in_err-behind.ensures.gives names)
+pub arguments-returns-in-Err-clause-gives : goal.arguments-returns-in-Err-clause-gives
+arguments-returns-in-Err-clause-gives t c =
+    λ names. begun_err _ P.Comma (placed names c.more.rest.now) _ _ _ (sym (c.begins_mark.ensures names) ∙ c.more-test.true) (refused_is c.refused.ensures) (c.in-Err.ensures.gives names)
 
 pub arguments-more-init : goal.arguments-more-init
 arguments-more-init t c = (
   λ names. on_read _ _ _ _ (args_start c.args.depth (placed names c.args.tokens.now) (omega (arith, c.if-depth-eq0.false)) (sym (c.begins_expr.ensures names) ∙ c.if-not-begins_expr.false)) (c.in_ok-first.ensures.gives names)
-      ∙ ap (λ l. links (row_links c.args.depth) (map (located_expr names) l) c.in_ok-first.other (placed names c.in_ok-first.behind.now) >>= row_end) (sym (c.in_ok-push.ensures.items ∙ ap (λ l. l ++ c.in_ok-first.first ∷ []) c.new-all.ensures.items)),
+      ∙ ap (λ l. links (row_links c.args.depth) (map (located_expr names) l) c.in_ok-first.other (placed names c.in_ok-first.behind.now) >>= row_end) (sym (c.in_ok-all.ensures.is ∙ ap (λ l. l ++ c.in_ok-first.first ∷ []) c.new-2.ensures.items)),
   c.in_ok-first.ensures.nest.0,
   c.in_ok-first.ensures.nest.1,
   c.in_ok-first.ensures.shorter,
 )
 
-pub arguments-returns-in_err-next-clause-gives : goal.arguments-returns-in_err-next-clause-gives
-arguments-returns-in_err-next-clause-gives t c =
-    λ names. err_through _ _ _ _ _ _ c.from_residual-in_err-next.ensures.1 (c.in_err-next.ensures.gives names)
-    (c.more.invariant.0 names ∙ args_next c.args.depth (map (located_expr names) c.more.all.items) c.more.nest c.in_ok-behind.field-0-0 (placed names c.in_ok-behind.behind.now) (placed names c.more.rest.now) c.more.invariant.1 c.more.invariant.2 (ap (placed names) c.in_ok-behind.ensures.first))
+pub arguments-returns-in-Err-expr-clause-gives : goal.arguments-returns-in-Err-expr-clause-gives
+arguments-returns-in-Err-expr-clause-gives t c =
+    λ names. err_through _ _ _ _ _ _ (refused_is c.refused-in-Err-expr.ensures) (c.in-Err-expr.ensures.gives names)
+    (c.more.invariant.0 names ∙ args_next c.args.depth (map (located_expr names) c.more.all.items) c.more.nest c.in-Ok.read.0 (placed names c.in-Ok.read.1.now) (placed names c.more.rest.now) c.more.invariant.1 c.more.invariant.2 (ap (placed names) c.in-Ok.ensures.first))
 
 pub arguments-more-preserved : goal.arguments-more-preserved
 arguments-more-preserved t c = (
-  λ names. on_read _ _ _ _ (c.more.invariant.0 names ∙ args_next c.args.depth (map (located_expr names) c.more.all.items) c.more.nest c.in_ok-behind.field-0-0 (placed names c.in_ok-behind.behind.now) (placed names c.more.rest.now) c.more.invariant.1 c.more.invariant.2 (ap (placed names) c.in_ok-behind.ensures.first)) (c.in_ok-next.ensures.gives names)
-      ∙ (ap (λ l. links (row_links c.args.depth) l (max c.more.nest c.in_ok-next.other) (placed names c.in_ok-next.behind.now) >>= row_end) (sym (ap (map (located_expr names)) c.in_ok-push-2.ensures.items ∙ map_of_push (located_expr names) c.more.all.items c.in_ok-next.next))
-      ∙ ap (λ k. links (row_links c.args.depth) (map (located_expr names) c.push-in-more.new.self.items) k (placed names c.in_ok-next.behind.now) >>= row_end) (sym c.deeper-nest.ensures)),
-  omega (arith, c.deeper-nest.ensures, c.more.invariant.1, c.in_ok-next.ensures.nest),
-  omega (arith, c.deeper-nest.ensures, c.more.invariant.2, c.in_ok-next.ensures.nest),
-  omega (arith, c.in_ok-behind.ensures.shorter, c.in_ok-next.ensures.shorter, c.more.invariant.3),
+  λ names. on_read _ _ _ _ (c.more.invariant.0 names ∙ args_next c.args.depth (map (located_expr names) c.more.all.items) c.more.nest c.in-Ok.read.0 (placed names c.in-Ok.read.1.now) (placed names c.more.rest.now) c.more.invariant.1 c.more.invariant.2 (ap (placed names) c.in-Ok.ensures.first)) (c.in-Ok-expr.ensures.gives names)
+      ∙ (ap (λ l. links (row_links c.args.depth) l (max c.more.nest c.in-Ok-expr.read.1) (placed names c.in-Ok-expr.read.2.now) >>= row_end) (sym (ap (map (located_expr names)) c.in_ok-all-2.ensures.is ∙ map_of_push (located_expr names) c.more.all.items c.in-Ok-expr.read.0))
+      ∙ ap (λ k. links (row_links c.args.depth) (map (located_expr names) c.in_ok-all-2.all.items) k (placed names c.in-Ok-expr.read.2.now) >>= row_end) (sym c.deeper-nest.ensures)),
+  omega (arith, c.deeper-nest.ensures, c.more.invariant.1, c.in-Ok-expr.ensures.nest),
+  omega (arith, c.deeper-nest.ensures, c.more.invariant.2, c.in-Ok-expr.ensures.nest),
+  omega (arith, c.in-Ok.ensures.shorter, c.in-Ok-expr.ensures.shorter, c.more.invariant.3),
 )
 
-pub arguments-returns-in_err-rest-2-clause-gives : goal.arguments-returns-in_err-rest-2-clause-gives
-arguments-returns-in_err-rest-2-clause-gives t c =
-    λ names. err_through _ _ _ _ _ _ c.from_residual-in_err-rest-2.ensures.1 (c.in_err-rest-2.ensures.gives names)
+pub arguments-returns-in-Err-expect_mark-clause-gives : goal.arguments-returns-in-Err-expect_mark-clause-gives
+arguments-returns-in-Err-expect_mark-clause-gives t c =
+    λ names. err_through _ _ _ _ _ _ (refused_is c.refused-in-Err-expect_mark.ensures) (c.in-Err-expect_mark.ensures.gives names)
     (c.more.invariant.0 names ∙ args_stop c.args.depth (map (located_expr names) c.more.all.items) c.more.nest (placed names c.more.rest.now) (sym (c.begins_mark.ensures names) ∙ c.more-test.false))
 
 pub arguments-returns-clause-gives : goal.arguments-returns-clause-gives
 arguments-returns-clause-gives t c =
-    λ names. on_read _ _ _ _ (c.more.invariant.0 names ∙ args_stop c.args.depth (map (located_expr names) c.more.all.items) c.more.nest (placed names c.more.rest.now) (sym (c.begins_mark.ensures names) ∙ c.more-test.false)) (c.in_ok-rest-2.ensures.gives names)
-    ∙ ap (λ l. Read (l, c.more.nest, placed names c.in_ok-rest-2.rest.now)) (listed_is names c.more.all.items)
+    λ names. on_read _ _ _ _ (c.more.invariant.0 names ∙ args_stop c.args.depth (map (located_expr names) c.more.all.items) c.more.nest (placed names c.more.rest.now) (sym (c.begins_mark.ensures names) ∙ c.more-test.false)) (c.in-Ok-expect_mark.ensures.gives names)
+    ∙ ap (λ l. Read (l, c.more.nest, placed names c.in-Ok-expect_mark.read.1.now)) (listed_is names c.more.all.items)
 
 pub primary-returns-then-not-begins_mark-clause-gives : goal.primary-returns-then-not-begins_mark-clause-gives
 primary-returns-then-not-begins_mark-clause-gives t c =
@@ -355,9 +356,9 @@ primary-returns-in_err-inner-clause-gives t c =
     λ names. err_through _ _ _ _ _ _ c.from_residual-in_err-inner.ensures.1 (c.in_err-inner.ensures.gives names)
     (round_go (apart_of c.args.apart) (apart_of c.inside.result) c.args.depth c.requires (omega (arith, c.if-depth-lt2.false)) c.inside.ensures c.in_ok-rest.field-0-0 (placed names c.in_ok-rest.rest.now) (placed names c.args.tokens.now) (ap (placed names) c.in_ok-rest.ensures.first))
 
-pub primary-returns-in_err-rest-2-clause-gives : goal.primary-returns-in_err-rest-2-clause-gives
-primary-returns-in_err-rest-2-clause-gives t c =
-    λ names. err_through _ _ _ _ _ _ c.from_residual-in_err-rest-2.ensures.1 (c.in_err-rest-2.ensures.gives names)
+pub primary-returns-in-Err-clause-gives : goal.primary-returns-in-Err-clause-gives
+primary-returns-in-Err-clause-gives t c =
+    λ names. err_through _ _ _ _ _ _ (refused_is c.refused.ensures) (c.in-Err.ensures.gives names)
     (on_read _ _ _ _ (round_go (apart_of c.args.apart) (apart_of c.inside.result) c.args.depth c.requires (omega (arith, c.if-depth-lt2.false)) c.inside.ensures c.in_ok-rest.field-0-0 (placed names c.in_ok-rest.rest.now) (placed names c.args.tokens.now) (ap (placed names) c.in_ok-rest.ensures.first))
     (c.in_ok-inner.ensures.gives names))
 
@@ -365,5 +366,5 @@ pub primary-returns-clause-gives : goal.primary-returns-clause-gives
 primary-returns-clause-gives t c =
     λ names. on_read _ _ _ _
     (on_read _ _ _ _ (round_go (apart_of c.args.apart) (apart_of c.inside.result) c.args.depth c.requires (omega (arith, c.if-depth-lt2.false)) c.inside.ensures c.in_ok-rest.field-0-0 (placed names c.in_ok-rest.rest.now) (placed names c.args.tokens.now) (ap (placed names) c.in_ok-rest.ensures.first))
-    (c.in_ok-inner.ensures.gives names)) (c.in_ok-rest-2.ensures.gives names)
-    ∙ ap (λ s. Read (s, c.in_ok-inner.nest + 1, placed names c.in_ok-rest-2.rest.now)) (sym (c.opened.ensures names))
+    (c.in_ok-inner.ensures.gives names)) (c.in-Ok.ensures.gives names)
+    ∙ ap (λ s. Read (s, c.in_ok-inner.nest + 1, placed names c.in-Ok.read.1.now)) (sym (c.opened.ensures names))

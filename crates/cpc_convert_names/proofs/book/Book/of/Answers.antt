@@ -2,6 +2,9 @@ use Rattle.cpc_convert.specs.Converted.{spawner_name}
 use Rattle.cpc_convert_names.proofs.Growing.{grown_more, spells_before}
 use Rattle.cpc_convert_names.proofs.book.Book.of.Goals as goal
 
+pub returns-clause-grown : goal.returns-clause-grown
+returns-clause-grown c = grown_more _ _ _ (grown_more _ _ _ (grown_more _ _ _ (grown_more _ _ _ c.in_ok-own.ensures.grown c.in_ok-of_loop.ensures.grown) c.in_ok-spawners.ensures.grown) c.in_ok-of_none.ensures.grown) c.in_ok-functions.ensures.grown
+
 pub returns-clause-is : goal.returns-clause-is
 unfolding spawner_name
 returns-clause-is c = λ to g s named.

@@ -6,6 +6,9 @@ use Rattle.cpc_convert_names.specs.Counted.{counted, called_of, locals_from}
 use Rattle.cpc_convert_names.specs.Called.{name_in}
 use Rattle.cpc_convert_names.proofs.called.Called.of.Goals as goal
 
+pub returns-clause-grown : goal.returns-clause-grown
+returns-clause-grown c = grown_more _ _ _ (grown_more _ _ _ (grown_more _ _ _ (grown_more _ _ _ (grown_more _ _ _ (grown_more _ _ _ c.in_ok-spawner.ensures.grown c.in_ok-start.ensures.grown) c.in_ok-value.ensures.grown) c.in_ok-pieces.ensures.grown) c.in_ok-labels.ensures.grown) c.in_ok-locals.ensures.grown) c.in_ok-tags.ensures.grown
+
 pub returns-clause-are : goal.returns-clause-are
 returns-clause-are c = λ source to g s named.
     let s6 = spells_before _ _ to c.in_ok-tags.ensures.grown s in
