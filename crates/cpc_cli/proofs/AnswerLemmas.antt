@@ -14,7 +14,7 @@ use Rattle.cpc_meaning.specs.Runs.{live_cells}
 use Rattle.cpc_cli_command.specs.Commands.{Command, Check, Exec, Options, Sample, Translate, Run, command_of}
 use Rattle.cpc_check.specs.Accepted.{Accepts}
 use Rattle.cpc_cli.specs.Command.{Asks, Host, bytes_line, history_named, named, sample_options, source_of}
-use Rattle.cpc_cli.specs.Ran.{HasCells, IsAnswered, LacksHost, MayHaveCells, NoSteps, NotTold, RanInPart, RanWhole, StandsSo, StaysWithin, IsFull, IsLeftBy, StartsFull, shown, stop_in}
+use Rattle.cpc_cli.specs.Ran.{FirstFits, HasCells, IsAnswered, IsPartOf, IsUnbegun, LacksHost, MayHaveCells, NoSteps, NotTold, RanInPart, RanWhole, StandsSo, StaysWithin, IsFull, IsLeftBy, StartsFull, heading, shown, stop_in}
 use Rattle.cpc_cli.specs.Answer.{Answer, Rises, status_of, Does, DoesInPart, NotAccepted, EndedIn, did, not_begun, lacks_host, not_told, unwritten_in, starved_in, IsEnd, misused, starved, performed, NoRun, Nothing, Printed, Runs, RunsInPart, Takes}
 use Rattle.cpc_run.specs.Reports.{IsPrefix}
 use Rattle.cpc_cli.specs.declared.answer.Role.{Role}
@@ -62,18 +62,27 @@ stands_fit q h bound cap n (Full c m) s some = full_fits q h bound cap n m s.1 s
 stands_fit q h bound cap n Accepted s some = absurd s
 stands_fit q h bound cap n Translated s some = absurd s
 
--- a run that ended is one that may be told in part
+-- a run that ended is one that may be told in part, where memory is wanting
 pub whole_in_part : (q : Program) (h : History) (options : Options) (text : Bool) (report : Report) (out : Text) (outcome : Outcome)
-    → RanWhole q h options text report out outcome → RanInPart q h options text report out
+    → RanWhole q h options text report out outcome → RanInPart q h options text report out Memory
 whole_in_part q h options text report out outcome r = record {
   cells = inl r.cells;
   fits = stands_fit q h options.steps options.cells report.steps outcome r.stands;
   last = stop_in outcome;
   left = left_so q h options.steps options.cells report.steps outcome r.stands;
+  first = tt;
   part = subst (IsPrefix out) r.whole (whole_prefix out);
 }
 
 module _ (host : Host) (told : Option Files) (unread : Text → Type 0) (unwritten : Type 0) (old new : Report) (out : Text) (same : SameRun old new) where
+  -- where no run was begun by the one end, none was by the other; and so with what was written, and with the first state
+  abbrev pub Turns : (was now : End) → Type 0
+  Turns was now = ((before : Text) → IsUnbegun was before out → IsUnbegun now before out) × ((text : Text) → IsPartOf was out text → IsPartOf now out text)
+      × ((q : Program) (h : History) (cap : ℕ) (last : Option Stop) (before : Text) → FirstFits q h cap was last before out → FirstFits q h cap now last before out)
+
+  stays : (end : End) → Turns end end
+  stays end = (λ before unbegun. unbegun, λ text part. part, λ q h cap last before fits. fits)
+
   no_run : NoRun old → NoRun new
   no_run h = record { printed = same.printed ∙ h.printed; steps = same.steps ∙ h.steps; cells = same.cells ∙ h.cells }
 
@@ -86,9 +95,9 @@ module _ (host : Host) (told : Option Files) (unread : Text → Type 0) (unwritt
   has_cells : (q : Program) (h : History) → HasCells q h old → HasCells q h new
   has_cells q h c = same.cells ∙ c ∙ ap (λ n. live_cells (event q h n)) (sym same.steps)
 
-  may_have_cells : (q : Program) (h : History) → MayHaveCells q h old → MayHaveCells q h new
-  may_have_cells q h (inl c) = inl (has_cells q h c)
-  may_have_cells q h (inr c) = inr (same.steps ∙ c.0, same.cells ∙ c.1)
+  may_have_cells : (q : Program) (h : History) (a b : Type 0) → (a → b) → MayHaveCells q h old a → MayHaveCells q h new b
+  may_have_cells q h a b moves (inl c) = inl (has_cells q h c)
+  may_have_cells q h a b moves (inr (none, unbegun)) = inr (no_steps none, moves unbegun)
 
   accepts : (q : LProgram) → Accepts Event old.printed.items q → Accepts Event new.printed.items q
   accepts q h = subst (λ t. Accepts Event t q) (sym same.printed) h
@@ -113,13 +122,14 @@ module _ (host : Host) (told : Option Files) (unread : Text → Type 0) (unwritt
     whole = r.whole ∙ same_shown options.trace text q h (stop_in outcome);
   }
 
-  ran_in_part : (q : Program) (h : History) (options : Options) (text : Bool) → RanInPart q h options text old out → RanInPart q h options text new out
-  ran_in_part q h options text r = record {
-    cells = may_have_cells q h r.cells;
+  ran_in_part : (was now : End) → Turns was now → (q : Program) (h : History) (options : Options) (text : Bool) → RanInPart q h options text old out was → RanInPart q h options text new out now
+  ran_in_part was now turns q h options text r = record {
+    cells = may_have_cells q h _ _ (λ unbegun. subst (λ t. IsUnbegun now (heading text t) out) (sym same.printed) (turns.0 (heading text old.printed.items) unbegun)) r.cells;
     fits = subst (λ n. 0 < n → StaysWithin q h options.cells n) (sym same.steps) r.fits;
     last = r.last;
     left = subst (λ n. IsLeftBy q h options.steps options.cells n r.last) (sym same.steps) r.left;
-    part = subst (IsPrefix out) (same_shown options.trace text q h r.last) r.part;
+    first = subst (λ t. FirstFits q h options.cells now r.last (heading text t) out) (sym same.printed) (turns.2 q h options.cells r.last (heading text old.printed.items) r.first);
+    part = subst (IsPartOf now out) (same_shown options.trace text q h r.last) (turns.1 _ r.part);
   }
 
   answered : (q : Program) (h : History) → IsAnswered host q h old.steps → IsAnswered host q h new.steps
@@ -137,8 +147,9 @@ module _ (host : Host) (told : Option Files) (unread : Text → Type 0) (unwritt
     ran = ran_whole out (bare r.program) _ options text outcome r.ran;
   }
 
-  runs_in_part : (command : Command) (options : Options) (text : Bool) → RunsInPart host told command options text old out → RunsInPart host told command options text new out
-  runs_in_part command options text r = record {
+  runs_in_part : (was now : End) → Turns was now → (command : Command) (options : Options) (text : Bool) → RunsInPart host told command options text old out was
+      → RunsInPart host told command options text new out now
+  runs_in_part was now turns command options text r = record {
     program = r.program;
     takes = takes command r.program r.takes;
     hosts = r.hosts;
@@ -146,10 +157,10 @@ module _ (host : Host) (told : Option Files) (unread : Text → Type 0) (unwritt
     tells = r.tells;
     answers = r.answers;
     answered = answered (bare r.program) _ r.answered;
-    ran = ran_in_part (bare r.program) _ options text r.ran;
+    ran = ran_in_part was now turns (bare r.program) _ options text r.ran;
   }
 
-  part_of_runs : (command : Command) (options : Options) (text : Bool) (outcome : Outcome) → Runs host told command options text old out outcome → RunsInPart host told command options text new out
+  part_of_runs : (command : Command) (options : Options) (text : Bool) (outcome : Outcome) → Runs host told command options text old out outcome → RunsInPart host told command options text new out Memory
   part_of_runs command options text outcome r = record {
     program = r.program;
     takes = takes command r.program r.takes;
@@ -158,7 +169,7 @@ module _ (host : Host) (told : Option Files) (unread : Text → Type 0) (unwritt
     tells = r.tells;
     answers = r.answers;
     answered = answered (bare r.program) _ r.answered;
-    ran = ran_in_part (bare r.program) _ options text (whole_in_part (bare r.program) _ options text old out outcome r.ran);
+    ran = whole_in_part (bare r.program) _ options text new out outcome (ran_whole out (bare r.program) _ options text outcome r.ran);
   }
 
   does : (command : Command) (outcome : Outcome) → Does host told command old out outcome → Does host told command new out outcome
@@ -184,15 +195,15 @@ module _ (host : Host) (told : Option Files) (unread : Text → Type 0) (unwritt
   does (Check file) (Stopped n) h = absurd h
   does (Check file) (Full c m) h = absurd h
 
-  in_part : (command : Command) → DoesInPart host told command old out → DoesInPart host told command new out
-  in_part (Run file options text) h = runs_in_part (Run file options text) options text h
-  in_part (Exec file options) h = runs_in_part (Exec file options) options false h
-  in_part (Sample number) (inl h) = inl (runs_in_part (Sample number) sample_options false h)
-  in_part (Sample number) (inr (outcome, front, h, p)) = inr (outcome, front, runs front (Sample number) sample_options false outcome h, p)
-  in_part (Translate file) h = (h.0, printed h.0 h.1, subst (IsPrefix out) (sym same.printed) h.2, h.3)
-  in_part (Check file) h = (no_run h.0, h.1, h.2)
+  in_part : (was now : End) → Turns was now → (command : Command) → DoesInPart host told command old out was → DoesInPart host told command new out now
+  in_part was now turns (Run file options text) h = runs_in_part was now turns (Run file options text) options text h
+  in_part was now turns (Exec file options) h = runs_in_part was now turns (Exec file options) options false h
+  in_part was now turns (Sample number) (inl h) = inl (runs_in_part was now turns (Sample number) sample_options false h)
+  in_part was now turns (Sample number) (inr (outcome, front, h, p)) = inr (outcome, front, runs front (Sample number) sample_options false outcome h, turns.1 _ p)
+  in_part was now turns (Translate file) h = (h.0, printed h.0 h.1, subst (IsPartOf now out) (sym same.printed) (turns.1 _ h.2), h.3)
+  in_part was now turns (Check file) h = (no_run h.0, turns.1 _ h.1, h.2)
 
-  in_part_from_whole : (command : Command) (outcome : Outcome) → Does host told command old out outcome → DoesInPart host told command new out
+  in_part_from_whole : (command : Command) (outcome : Outcome) → Does host told command old out outcome → DoesInPart host told command new out Memory
   in_part_from_whole (Run file options text) outcome h = part_of_runs (Run file options text) options text outcome h
   in_part_from_whole (Exec file options) outcome h = part_of_runs (Exec file options) options false outcome h
   in_part_from_whole (Sample number) outcome h =
@@ -221,8 +232,8 @@ module _ (host : Host) (told : Option Files) (unread : Text → Type 0) (unwritt
   ended_as command _ (not_begun end h none) = not_begun end h (nothing none)
   ended_as command _ (lacks_host end q t h none silent) = lacks_host end q (takes command q t) h (no_steps none) silent
   ended_as command _ (not_told end q t has h none silent) = not_told end q (takes command q t) has h (no_steps none) silent
-  ended_as command _ (unwritten_in u h) = unwritten_in u (in_part command h)
-  ended_as command _ (starved_in h) = starved_in (in_part command h)
+  ended_as command _ (unwritten_in u h) = unwritten_in u (in_part Unwritten Unwritten (stays Unwritten) command h)
+  ended_as command _ (starved_in h) = starved_in (in_part Memory Memory (stays Memory) command h)
 
   -- nothing is claimed of the cause of want of memory
   ended_by_memory : (command : Command) (end : End) → EndedIn host told command unread unwritten old out end → EndedIn host told command unread unwritten new out Memory
@@ -230,8 +241,8 @@ module _ (host : Host) (told : Option Files) (unread : Text → Type 0) (unwritt
   ended_by_memory command _ (not_begun end h none) = not_begun Memory tt (nothing none)
   ended_by_memory command _ (lacks_host end q t h none silent) = lacks_host Memory q (takes command q t) tt (no_steps none) silent
   ended_by_memory command _ (not_told end q t has h none silent) = not_told Memory q (takes command q t) has tt (no_steps none) silent
-  ended_by_memory command _ (unwritten_in u h) = starved_in (in_part command h)
-  ended_by_memory command _ (starved_in h) = starved_in (in_part command h)
+  ended_by_memory command _ (unwritten_in u h) = starved_in (in_part Unwritten Memory (λ before cut. cut.part, λ text cut. cut.part, λ q h cap last before fits. tt) command h)
+  ended_by_memory command _ (starved_in h) = starved_in (in_part Memory Memory (stays Memory) command h)
 
   is_end_as : {words : List Text} {end : End} → IsEnd words host told unread unwritten old out end → IsEnd words host told unread unwritten new out end
   is_end_as (misused none h) = misused none (nothing h)

@@ -1,4 +1,5 @@
 pub mod AnswerLemmas
+pub mod AskedLemmas
 pub mod CauseLemmas
 pub mod ExactLemmas
 pub mod HostLemmas

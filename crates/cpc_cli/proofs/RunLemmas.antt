@@ -1,5 +1,5 @@
 -- How a call ends by what is told of its run.
-use Rattle.std.proofs.Common.{◌≡◌, ◌<◌, ◌≤◌, ◌∙◌, ℕ, zero, suc, Bool, true, false, List, arith, Option, None, Some, ap, refl, sym, subst, inl, inr, ◌⊎◌}
+use Rattle.std.proofs.Common.{◌≡◌, ◌<◌, ◌≤◌, ◌∙◌, ℕ, zero, suc, Bool, true, false, List, [], arith, Option, None, Some, ap, refl, sym, subst, inl, inr, ◌⊎◌}
 use Rattle.cpc_base.specs.Bytes.{Text}
 use Rattle.cpc_tree.specs.Erase.{Names}
 use Rattle.cpc_tree.specs.Syntax.{Program}
@@ -8,21 +8,22 @@ use Rattle.cpc_tree.specs.Trace as T
 use Rattle.cpc_meaning.specs.Events.{event}
 use Rattle.cpc_meaning.specs.History.{History}
 use Rattle.cpc_meaning.specs.Runs.{live_cells}
-use Rattle.cpc_run.specs.Outcomes.{outcome_of}
-use Rattle.cpc_run.specs.Reports.{IsPrefix, Tells, IsLeft, WentOut, IsBrokenOff as RunIsBrokenOff, IsFull as RunIsFull}
-use Rattle.cpc_run.specs.Shown.{all_shown, shown as run_shown, stop_of}
-use Rattle.cpc_run.specs.declared.outcome.Limits.{Limits}
-use Rattle.cpc_run.specs.declared.outcome.Ended.{Ended as RunEnded}
-use Rattle.cpc_run.specs.declared.outcome.Ended.TheVariants as E
-use Rattle.cpc_run.specs.declared.outcome.Outcome.{Outcome as RunOutcome}
-use Rattle.cpc_run.specs.declared.outcome.Outcome.TheVariants as O
-use Rattle.cpc_run.specs.declared.outcome.RunReport.{RunReport}
+use Rattle.cpc_run_shown.specs.Outcomes.{outcome_of}
+use Rattle.cpc_run.specs.Reports.{IsCutShort, IsPrefix, KeepsFirst, Tells, IsLeft, WentOut, IsBrokenOff as RunIsBrokenOff, IsFull as RunIsFull}
+use Rattle.cpc_run_shown.specs.Shown.{all_shown, shown as run_shown, stop_of}
+use Rattle.cpc_run_shown.specs.declared.outcome.Limits.{Limits}
+use Rattle.cpc_run_shown.specs.declared.outcome.Ended.{Ended as RunEnded}
+use Rattle.cpc_run_shown.specs.declared.outcome.Ended.TheVariants as E
+use Rattle.cpc_run_shown.specs.declared.outcome.Outcome.{Outcome as RunOutcome}
+use Rattle.cpc_run_shown.specs.declared.outcome.Outcome.TheVariants as O
+use Rattle.cpc_run_shown.specs.declared.outcome.RunReport.{RunReport}
 use Rattle.cpc_cli_command.specs.Commands.{Options}
 use Rattle.cpc_cli.specs.Counted.{IsCounted}
-use Rattle.cpc_cli.specs.Ran.{IsBrokenOff, IsFull, IsLeftBy, IsOver, IsStopped, MayHaveCells, RanInPart, RanWhole, StandsSo, StartsFull, StaysWithin, TookPolls, outcome_in, run_text, stop_in}
+use Rattle.cpc_cli.specs.Ran.{FirstFits, HasCells, IsBrokenOff, IsFull, IsLeftBy, IsOver, IsStopped, MayHaveCells, RanInPart, RanWhole, StandsSo, StartsFull, StaysWithin, TookPolls, outcome_in, run_text, stop_in}
 use Rattle.cpc_cli.specs.declared.answer.Report.{Report}
 use Rattle.cpc_cli.specs.declared.answer.Outcome.{Outcome}
 use Rattle.cpc_cli.specs.declared.answer.Outcome.TheVariants.{Ended, Exited, Failed, HistoryEnded, BadHistory, Stopped, Full, Accepted, Translated}
+use Rattle.cpc_cli.specs.declared.answer.End.TheVariants.{Unwritten, Memory}
 use Rattle.cpc_cli.proofs.AnswerLemmas.{whole_prefix}
 
 not_going : (names : Names) (outcome : RunOutcome) → T.Going ≡ outcome_of names outcome → ⊥
@@ -67,6 +68,11 @@ over_stands q h bound cap n taken Translated outcome e c t s = cc
 
 -- ---- texts
 
+-- at the start a run has nothing to show
+none_shown : (trace : Bool) (q : Program) (h : History) → run_shown trace (event q h 0).trace ≡ []
+none_shown true q h = refl
+none_shown false q h = refl
+
 all_is : (names : Names) (trace : Bool) (ended : RunEnded) (marks : List T.Mark) → all_shown names trace ended marks ≡ run_text trace (stop_of names ended) marks
 all_is names true ended marks = refl
 all_is names false ended marks = refl
@@ -86,19 +92,23 @@ module _ (names : Names) (q : Program) (h : History) (options : Options) (limits
   fits : 0 < r.steps → StaysWithin q h options.cells r.steps
   fits more m le = subst (λ c. live_cells (event q h m) ≤ c) cap_is (t.bounded m more le)
 
-  may_cells : MayHaveCells q h report
-  may_cells = go t.cells
-    where
-      go : (r.cells ≡ live_cells (event q h r.steps)) ⊎ ((r.ended ≡ E.Memory) × (r.steps ≡ 0) × (r.cells ≡ 0)) → MayHaveCells q h report
-      go (inl c) = inl c
-      go (inr c) = inr (c.1, c.2)
-
-  sure_cells : ¬ r.ended ≡ E.Memory → r.cells ≡ live_cells (event q h r.steps)
+  sure_cells : ¬ r.ended ≡ E.Memory → HasCells q h report
   sure_cells other = go t.cells
     where
-      go : (r.cells ≡ live_cells (event q h r.steps)) ⊎ ((r.ended ≡ E.Memory) × (r.steps ≡ 0) × (r.cells ≡ 0)) → r.cells ≡ live_cells (event q h r.steps)
+      go : (r.cells ≡ live_cells (event q h r.steps)) ⊎ ((r.ended ≡ E.Memory) × (r.steps ≡ 0) × (r.cells ≡ 0)) → HasCells q h report
       go (inl c) = c
       go (inr c) = absurd (other c.0)
+
+  -- memory was wanting before the first state, and nothing was written
+  unshown : r.steps ≡ 0 → IsPrefix out (run_shown options.trace marks) → IsPrefix out []
+  unshown none part = subst (IsPrefix out) (none_shown options.trace q h) (subst (λ n. IsPrefix out (run_shown options.trace (event q h n).trace)) none part)
+
+  may_cells : IsPrefix out (run_shown options.trace marks) → MayHaveCells q h report (IsPrefix out [])
+  may_cells part = go t.cells
+    where
+      go : (r.cells ≡ live_cells (event q h r.steps)) ⊎ ((r.ended ≡ E.Memory) × (r.steps ≡ 0) × (r.cells ≡ 0)) → MayHaveCells q h report (IsPrefix out [])
+      go (inl c) = inl c
+      go (inr c) = inr (record { steps = c.1; cells = c.2 }, unshown c.1 part)
 
   -- ---- how it was left
 
@@ -127,6 +137,9 @@ module _ (names : Names) (q : Program) (h : History) (options : Options) (limits
   })
   full_left asked (inr (start, above, is)) = inr (record { at_start = start; above = subst (λ c. c < asked) cap_is above; asked = is })
 
+  first_in : live_cells (event q h 0) ≤ limits.cells → live_cells (event q h 0) ≤ options.cells
+  first_in keeps = subst (λ c. live_cells (event q h 0) ≤ c) cap_is keeps
+
   broken_left : RunIsBrokenOff q h limits.steps r.steps → IsBrokenOff q h options.steps r.steps
   broken_left s = record { within = subst (λ b. r.steps ≤ b) bound_is s.within; going = s.going }
 
@@ -137,6 +150,15 @@ module _ (names : Names) (q : Program) (h : History) (options : Options) (limits
   left_by E.WriteFault s = broken_left s
   left_by E.Memory s = broken_left s
   left_by (E.NoHost x) s = absurd s
+
+  -- the first state keeps to the cap, unless the run was left for its cells
+  first_by : (ended : RunEnded) → KeepsFirst q h limits.cells ended → FirstFits q h options.cells Unwritten (stop_of names ended) [] out
+  first_by (E.Full asked) keeps = inr (inl refl)
+  first_by (E.Over outcome) keeps = inl (first_in keeps)
+  first_by E.Steps keeps = inl (first_in keeps)
+  first_by E.WriteFault keeps = inl (first_in keeps)
+  first_by E.Memory keeps = inl (first_in keeps)
+  first_by (E.NoHost x) keeps = inl (first_in keeps)
 
   -- ---- what the call tells
 
@@ -171,22 +193,24 @@ module _ (names : Names) (q : Program) (h : History) (options : Options) (limits
     whole = went (E.Full asked) e ∙ all_is names options.trace (E.Full asked) marks;
   }
 
-  pub ended_unwritten : r.ended ≡ E.WriteFault → RanInPart q h options false report out
+  pub ended_unwritten : r.ended ≡ E.WriteFault → RanInPart q h options false report out Unwritten
   ended_unwritten e =
       let w = went E.WriteFault e in record {
-        cells = may_cells;
+        cells = inl (sure_cells (λ m. cc));
         fits = fits;
         last = stop_of names w.0;
         left = left_by w.0 w.1;
-        part = subst (IsPrefix out) (all_is names options.trace w.0 marks) w.2;
+        first = first_by w.0 w.2;
+        part = subst (IsCutShort out) (all_is names options.trace w.0 marks) w.3;
       }
 
-  pub ended_starved : r.ended ≡ E.Memory → RanInPart q h options false report out
+  pub ended_starved : r.ended ≡ E.Memory → RanInPart q h options false report out Memory
   ended_starved e = record {
-    cells = may_cells;
+    cells = may_cells (went E.Memory e);
     fits = fits;
     last = None;
     left = broken_left (left_as E.Memory e);
+    first = tt;
     part = subst (IsPrefix out) (shown_is options.trace marks) (went E.Memory e);
   }
 
@@ -195,12 +219,13 @@ module _ (names : Names) (q : Program) (h : History) (options : Options) (limits
   ended_hosted x e = left_as (E.NoHost x) e
 
   -- the run is over, and memory was wanting for the name of its function
-  pub over_starved : (outcome : RunOutcome) → r.ended ≡ E.Over outcome → RanInPart q h options false report out
+  pub over_starved : (outcome : RunOutcome) → r.ended ≡ E.Over outcome → RanInPart q h options false report out Memory
   over_starved outcome e = record {
-    cells = may_cells;
+    cells = inl (sure_cells (λ m. cc));
     fits = fits;
     last = Some (Over (outcome_of names outcome));
     left = over_left outcome (left_as (E.Over outcome) e);
+    first = tt;
     part = subst (IsPrefix out) (over_whole outcome e) (whole_prefix out);
   }
 

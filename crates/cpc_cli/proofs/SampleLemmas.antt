@@ -4,7 +4,6 @@ use Rattle.cpc_base.specs.Bytes.{Text}
 use Rattle.cpc_base.specs.Outside.{Files}
 use Rattle.cpc_tree.specs.Located.{LProgram, bare}
 use Rattle.cpc_tree.specs.Syntax.{Program}
-use Rattle.cpc_run.specs.Reports.{IsPrefix}
 use Rattle.cpc_base.specs.declared.stop.Dialect.TheVariants.{Cpc, Event}
 use Rattle.cpc_check.specs.Accepted.{Accepts}
 use Rattle.cpc_sample.specs.Sample.{sample_text}
@@ -17,7 +16,7 @@ use Rattle.cpc_cli.specs.declared.answer.Outcome.{Outcome}
 use Rattle.cpc_cli.specs.declared.answer.Role.TheVariants as R
 use Rattle.cpc_cli.specs.declared.answer.End.{End}
 use Rattle.cpc_cli.specs.declared.answer.End.TheVariants.{Done, Usage, Refused, Unread, Unwritten, Memory, TooLong, BadLine, NoHost}
-use Rattle.cpc_cli.proofs.TopLemmas.{behind_heading}
+use Rattle.cpc_cli.proofs.TopLemmas.{behind_heading, cut_behind}
 
 -- what `sample` runs, once the run has left the printed text as it was
 pub sample_takes : (told : Option Files) (number : ℕ) (text : Text) (q : LProgram) (old new : Report) → Printed q old → new.printed ≡ old.printed → text ≡ sample_text number
@@ -64,14 +63,14 @@ module _ (host : Host) (told : Option Files) (number : ℕ) (q : LProgram) (unre
   sample_unfinished out end un (inr (has, inl (h, none, silent))) = not_told end q takes has h none silent
   sample_unfinished out end un (inr (has, inr (polls, tells, by))) = go end un by.ran
     where
-      in_part : RanInPart (bare q) (history_with sample_options polls by.answers) sample_options false report out → RunsInPart host told (Sample number) sample_options false report out
-      in_part r = record { program = q; takes = takes; hosts = has; polls = polls; tells = tells; answers = by.answers; answered = by.answered; ran = r }
+      in_part : (end : End) → RanInPart (bare q) (history_with sample_options polls by.answers) sample_options false report out end → RunsInPart host told (Sample number) sample_options false report out end
+      in_part end r = record { program = q; takes = takes; hosts = has; polls = polls; tells = tells; answers = by.answers; answered = by.answered; ran = r }
 
       go : (end : End) → IsUnfinished end → RanTo (bare q) (history_with sample_options polls by.answers) sample_options false report unwritten out end
           → EndedIn host told (Sample number) unread unwritten report out end
       go (Done outcome) un r = absurd un
-      go Unwritten un (cause, r) = unwritten_in cause (inl (in_part r))
-      go Memory un r = starved_in (inl (in_part r))
+      go Unwritten un (cause, r) = unwritten_in cause (inl (in_part Unwritten r))
+      go Memory un r = starved_in (inl (in_part Memory r))
       go Usage un h = absurd h
       go (Refused fault) un h = absurd h
       go (Unread role) un h = absurd h
@@ -84,7 +83,7 @@ module _ (host : Host) (told : Option Files) (number : ℕ) (q : LProgram) (unre
       → ClosedBy (bytes_line number) outcome late line end → EndedIn host told (Sample number) unread unwritten report (front ++ line) end
   sample_closed late front line outcome (Done last) cause r (is, e) =
       did last (front, subst (Runs host told (Sample number) sample_options false report front) (sym is) r, ap (λ t. front ++ t) e)
-  sample_closed late front line outcome Unwritten cause r (u, p) = unwritten_in (cause u) (inr (outcome, front, r, behind_heading front line (bytes_line number) p))
+  sample_closed late front line outcome Unwritten cause r (u, p) = unwritten_in (cause u) (inr (outcome, front, r, cut_behind front line (bytes_line number) p))
   sample_closed late front line outcome Memory cause r e =
       starved_in (inr (outcome, front, r, behind_heading front line (bytes_line number) (record { rest = bytes_line number; whole = ap (λ t. t ++ bytes_line number) (sym e) })))
   sample_closed late front line outcome Usage cause r h = absurd h

@@ -1,5 +1,5 @@
 -- How a command ended.
-use Rattle.std.proofs.Common.{◌≡◌, ◌<◌, ◌≤◌, ◌++◌, ℕ, Bool, true, false, arith, List, [], length, map, take, drop, Option, Some, None, refl, ap, sym, ◌∙◌, subst, append_assoc, inl, inr, ◌⊎◌}
+use Rattle.std.proofs.Common.{◌≡◌, ◌<◌, ◌≤◌, ◌++◌, ℕ, Bool, true, false, arith, List, [], length, map, take, drop, Option, Some, None, refl, ap, sym, ◌∙◌, subst, append_assoc, append-nil, length-append, length-take-le, inl, inr, ◌⊎◌}
 use Rattle.std.proofs.lemmas.List.{take-append-drop}
 use Rattle.cpc_base.specs.Bytes.{Text}
 use Rattle.cpc_base.specs.Outside.{Files, Rose}
@@ -22,15 +22,13 @@ use Rattle.cpc_meaning.specs.History.{History}
 use Rattle.cpc_meaning.specs.Runs.{SameRuns, Within}
 use Rattle.cpc_cli_command.specs.Commands.{Command, Check, Exec, Options, Run, Sample, Translate, command_of}
 use Rattle.cpc_check.specs.Accepted.{Accepts}
-use Rattle.cpc_convert_shape_laws.specs.Shape.{Shape}
-use Rattle.cpc_convert_leak_laws.specs.Laws.{NoLeak}
-use Rattle.cpc_convert_event.specs.Converted.{converted}
+use Rattle.cpc_translate.specs.Promised.{NoLeak, Shape, converted}
 use Rattle.cpc_translate.specs.Refusals.{IsTextFault}
 use Rattle.cpc_sample.specs.Sample.{sample_text}
 use Rattle.cpc_cli.specs.Command.{Host, InFile, IsRun, Labels, Source, by_exec, by_run, events_source, file_source, history_named, labels_in, labels_of, made_source, no_labels, source_of, threads_source}
-use Rattle.cpc_cli.specs.Ran.{HasHosts, IsAnswered, LacksHost, NoSteps, NotTold, RanAnswered, RanInPart, RanTo, RanTold, RanWhole, TellsPolls, heading, history_with, run_text, shown, stop_in}
+use Rattle.cpc_cli.specs.Ran.{FirstFits, HasHosts, IsAnswered, IsPartOf, IsUnbegun, LacksHost, MayHaveCells, NoSteps, NotTold, RanAnswered, RanInPart, RanTo, RanTold, RanWhole, TellsPolls, heading, history_with, run_text, shown, stop_in}
 use Rattle.cpc_cli.specs.Answer.{AcceptedAs, TextHas, IsTranslated, NotAccepted, Does, DoesInPart, EndedIn, did, not_begun, lacks_host, not_told, unwritten_in, starved_in, Nothing, NoRun, Printed, RefusesText, Runs, RunsInPart, Takes, line_of}
-use Rattle.cpc_run.specs.Reports.{IsPrefix}
+use Rattle.cpc_run.specs.Reports.{IsCutShort, IsPrefix}
 use Rattle.cpc_cli.specs.declared.answer.Role.TheVariants as R
 use Rattle.cpc_cli.specs.declared.answer.Report.{Report}
 use Rattle.cpc_cli.specs.declared.answer.Outcome.{Outcome}
@@ -84,6 +82,10 @@ last_line words labels end last (inr e) line = subst (λ x. line_of labels x ≡
 pub is_front : (n : _) (text : Text) → IsPrefix (take n text) text
 is_front n text = record { rest = drop n text; whole = sym (take-append-drop n text) }
 
+-- fewer bytes of a text than it has
+pub is_cut : (n : ℕ) (text : Text) → n < length text → IsCutShort (take n text) text
+is_cut n text less = record { part = is_front n text; short = let taken = length-take-le n text (omega (arith, less)) in omega (arith, taken, less) }
+
 -- ---- a run
 
 -- a count that rose from a later one on rose, also for a history
@@ -125,10 +127,10 @@ does_so : (host : Host) (told : Option Files) (report : Report) (out : Text) (ou
 does_so host told report out outcome (by_run file options text) r = r
 does_so host told report out outcome (by_exec file options) r = r
 
-part_so : (host : Host) (told : Option Files) (report : Report) (out : Text) {command : Command} {options : Options} {text : Bool} → IsRun command options text
-    → RunsInPart host told command options text report out → DoesInPart host told command report out
-part_so host told report out (by_run file options text) r = r
-part_so host told report out (by_exec file options) r = r
+part_so : (host : Host) (told : Option Files) (report : Report) (out : Text) (end : End) {command : Command} {options : Options} {text : Bool} → IsRun command options text
+    → RunsInPart host told command options text report out end → DoesInPart host told command report out end
+part_so host told report out end (by_run file options text) r = r
+part_so host told report out end (by_exec file options) r = r
 
 untold_so : (told : Option Files) (unread : Text → Type 0) (end : End) {command : Command} {options : Options} {text : Bool} → IsRun command options text
     → NotTold told options.history unread end → NotTold told (history_named command) unread end
@@ -143,14 +145,14 @@ run_ended host told command options text is q unread unwritten report out takes 
     not_told end q takes has (untold_so told unread end is h) none silent
 run_ended host told command options text is q unread unwritten report out takes end (inr (has, inr (polls, tells, by))) = go end by.ran
   where
-    in_part : RanInPart (bare q) (history_with options polls by.answers) options text report out → DoesInPart host told command report out
-    in_part r = part_so host told report out is (record { program = q; takes = takes; hosts = has; polls = polls; tells = tells; answers = by.answers; answered = by.answered; ran = r })
+    in_part : (end : End) → RanInPart (bare q) (history_with options polls by.answers) options text report out end → DoesInPart host told command report out end
+    in_part end r = part_so host told report out end is (record { program = q; takes = takes; hosts = has; polls = polls; tells = tells; answers = by.answers; answered = by.answered; ran = r })
 
     go : (end : End) → RanTo (bare q) (history_with options polls by.answers) options text report unwritten out end → EndedIn host told command unread unwritten report out end
     go (Done outcome) r = did outcome (does_so host told report out outcome is
         (record { program = q; takes = takes; hosts = has; polls = polls; tells = tells; answers = by.answers; answered = by.answered; ran = r }))
-    go Unwritten (cause, r) = unwritten_in cause (in_part r)
-    go Memory r = starved_in (in_part r)
+    go Unwritten (cause, r) = unwritten_in cause (in_part Unwritten r)
+    go Memory r = starved_in (in_part Memory r)
     go Usage h = absurd h
     go (Refused fault) h = absurd h
     go (Unread role) h = absurd h
@@ -183,9 +185,53 @@ behind_heading h a b p = record { rest = p.rest; whole = ap (λ t. h ++ t) p.who
 pub front_heading : (a h b : Text) → IsPrefix a h → IsPrefix a (h ++ b)
 front_heading a h b p = record { rest = p.rest ++ b; whole = ap (λ t. t ++ b) p.whole ∙ append_assoc a p.rest b }
 
+-- the same of what is cut short
+pub cut_behind : (h a b : Text) → IsCutShort a b → IsCutShort (h ++ a) (h ++ b)
+cut_behind h a b cut = record {
+  part = behind_heading h a b cut.part;
+  short = let less = cut.short in let one = length-append h a in let two = length-append h b in omega (arith, less, one, two);
+}
+
+cut_heading : (a h b : Text) → IsCutShort a h → IsCutShort a (h ++ b)
+cut_heading a h b cut = record {
+  part = front_heading a h b cut.part;
+  short = let less = cut.short in let both = length-append h b in omega (arith, less, both);
+}
+
+-- and of a part
+part_behind : (end : End) (h a b : Text) → IsPartOf end a b → IsPartOf end (h ++ a) (h ++ b)
+part_behind Unwritten h a b p = cut_behind h a b p
+part_behind (Done outcome) h a b p = behind_heading h a b p
+part_behind Usage h a b p = behind_heading h a b p
+part_behind (Refused fault) h a b p = behind_heading h a b p
+part_behind (Unread role) h a b p = behind_heading h a b p
+part_behind Memory h a b p = behind_heading h a b p
+part_behind (TooLong role) h a b p = behind_heading h a b p
+part_behind (BadLine fault) h a b p = behind_heading h a b p
+part_behind (NoHost name) h a b p = behind_heading h a b p
+
+-- what is told of the first state of a run is told of it behind what goes before its text, since no bytes are not cut short
+first_behind : (q : Program) (h : History) (cap : ℕ) (end : End) (last : Option Stop) (out before front : Text) → FirstFits q h cap end last [] out → FirstFits q h cap end last before (front ++ out)
+first_behind q h cap Unwritten last out before front (inl fits) = inl fits
+first_behind q h cap Unwritten last out before front (inr (inl at_cells)) = inr (inl at_cells)
+first_behind q h cap Unwritten last out before front (inr (inr cut)) = absurd (let less = cut.short in omega (arith, less))
+first_behind q h cap (Done outcome) last out before front fits = tt
+first_behind q h cap Usage last out before front fits = tt
+first_behind q h cap (Refused fault) last out before front fits = tt
+first_behind q h cap (Unread role) last out before front fits = tt
+first_behind q h cap Memory last out before front fits = tt
+first_behind q h cap (TooLong role) last out before front fits = tt
+first_behind q h cap (BadLine fault) last out before front fits = tt
+first_behind q h cap (NoHost name) last out before front fits = tt
+
 -- a count that rose from a later one on rose
 pub rose_earlier : (a b c : ℕ) → a ≤ b → Rose b c → Rose a c
 rose_earlier a b c le rose = omega (arith, le, rose)
+
+-- what is told of no state of a run is so for a further reason
+told_for : (q : Program) (h : History) (report : Report) (a b : Type 0) → (a → b) → MayHaveCells q h report a → MayHaveCells q h report b
+told_for q h report a b moves (inl c) = inl c
+told_for q h report a b moves (inr (none, unbegun)) = inr (none, moves unbegun)
 
 -- a run behind what goes before its text
 pub behind : (q : Program) (h : History) (options : Options) (text : Bool) (report : Report) (early late : Type 0) (front out : Text) → (early → late) → front ≡ heading text report.printed.items
@@ -196,19 +242,33 @@ behind q h options text report early late front out cause is end = go end
         → front ++ out ≡ shown options.trace text report.printed.items q h report.steps last
     whole last e = ap (λ t. front ++ t) e ∙ ap (λ t. t ++ run_text options.trace last (event q h report.steps).trace) is
 
-    moved : RanInPart q h options false report out → RanInPart q h options text report (front ++ out)
-    moved r = record {
-      cells = r.cells;
+    -- no bytes are not cut short; and where memory was wanting before the first state, what goes before it is all that was written
+    begun : (end : End) → IsUnbegun end [] out → IsUnbegun end (heading text report.printed.items) (front ++ out)
+    begun Unwritten cut = absurd (let less = cut.short in omega (arith, less))
+    begun Memory part = subst (λ t. IsPrefix (t ++ out) (heading text report.printed.items)) (sym is)
+        (subst (IsPrefix (heading text report.printed.items ++ out)) (append-nil (heading text report.printed.items)) (behind_heading (heading text report.printed.items) out [] part))
+    begun (Done outcome) h = h
+    begun Usage h = h
+    begun (Refused fault) h = h
+    begun (Unread role) h = h
+    begun (TooLong role) h = h
+    begun (BadLine fault) h = h
+    begun (NoHost name) h = h
+
+    moved : (end : End) → RanInPart q h options false report out end → RanInPart q h options text report (front ++ out) end
+    moved end r = record {
+      cells = told_for q h report _ _ (begun end) r.cells;
       fits = r.fits;
       last = r.last;
       left = r.left;
-      part = subst (λ t. IsPrefix (t ++ out) (shown options.trace text report.printed.items q h report.steps r.last)) (sym is) (behind_heading (heading text report.printed.items) out _ r.part);
+      first = first_behind q h options.cells end r.last out (heading text report.printed.items) front r.first;
+      part = subst (λ t. IsPartOf end (t ++ out) (shown options.trace text report.printed.items q h report.steps r.last)) (sym is) (part_behind end (heading text report.printed.items) out _ r.part);
     }
 
     go : (end : End) → RanTo q h options false report early out end → RanTo q h options text report late (front ++ out) end
     go (Done outcome) r = record { cells = r.cells; stands = r.stands; whole = whole (stop_in outcome) r.whole }
-    go Unwritten (u, r) = (cause u, moved r)
-    go Memory r = moved r
+    go Unwritten (u, r) = (cause u, moved Unwritten r)
+    go Memory r = moved Memory r
     go Usage h = h
     go (Refused fault) h = h
     go (Unread role) h = h
@@ -229,25 +289,26 @@ answered_behind host q polls options text report early late front out cause is e
 pub unasked : (host : Host) (q : Program) (options : Options) (polls : List T.Told) (report : Report) → NoSteps report → IsAnswered host q (history_with options polls []) report.steps
 unasked host q options polls report none = subst (IsAnswered host q (history_with options polls [])) (sym none.steps) (record { answered = refl; meets = tt })
 
--- a run of which no state was made shows no more than a part of what goes before it
-pub unbegun : (q : Program) (h : History) (options : Options) (text : Bool) (report : Report) (out : Text) → NoSteps report → IsPrefix out (heading text report.printed.items)
-    → RanInPart q h options text report out
-unbegun q h options text report out none part = record {
-  cells = inr (none.steps, none.cells);
+-- a run of which no state was made, since the sink failed in what goes before it, shows no more than a part of that
+pub unbegun : (q : Program) (h : History) (options : Options) (text : Bool) (report : Report) (out : Text) → NoSteps report → IsCutShort out (heading text report.printed.items)
+    → RanInPart q h options text report out Unwritten
+unbegun q h options text report out none cut = record {
+  cells = inr (none, cut);
   fits = λ some. absurd (let z = none.steps in omega (arith, z, some));
   last = None;
   left = record { within = let z = none.steps in omega (arith, z); going = λ m less. absurd (let z = none.steps in omega (arith, z, less)) };
-  part = front_heading out _ _ part;
+  first = inr (inr cut);
+  part = cut_heading out _ _ cut;
 }
 
 -- a part of the printed text, or of the line behind it, where they are wanted
-pub in_printed : (text : Bool) (printed : Text) (n : ℕ) → text ≡ true → IsPrefix (take n printed) (heading text printed)
-in_printed true printed n e = front_heading (take n printed) printed (codes "/* run */\n") (is_front n printed)
-in_printed false printed n e = absurd cc
+pub in_printed : (text : Bool) (printed : Text) (n : ℕ) → text ≡ true → n < length printed → IsCutShort (take n printed) (heading text printed)
+in_printed true printed n e less = cut_heading (take n printed) printed (codes "/* run */\n") (is_cut n printed less)
+in_printed false printed n e less = absurd cc
 
-pub in_line : (text : Bool) (printed : Text) (n : ℕ) → text ≡ true → IsPrefix (printed ++ take n (codes "/* run */\n")) (heading text printed)
-in_line true printed n e = behind_heading printed (take n (codes "/* run */\n")) (codes "/* run */\n") (is_front n (codes "/* run */\n"))
-in_line false printed n e = absurd cc
+pub in_line : (text : Bool) (printed : Text) (n : ℕ) → text ≡ true → n < length (codes "/* run */\n") → IsCutShort (printed ++ take n (codes "/* run */\n")) (heading text printed)
+in_line true printed n e less = cut_behind printed (take n (codes "/* run */\n")) (codes "/* run */\n") (is_cut n (codes "/* run */\n") less)
+in_line false printed n e less = absurd cc
 
 -- a program that is translated, by the trees with places
 pub translated_so : (p q : GProgram.Program) → program_of q ≡ converted (program_of p) → SameRuns (program_of p) (program_of q)

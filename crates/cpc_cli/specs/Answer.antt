@@ -9,8 +9,6 @@ use Rattle.cpc_tree.specs.Located.{LProgram, bare}
 use Rattle.cpc_tree.specs.Texts.{fault_text}
 use Rattle.cpc_tree.specs.Trace as T
 use Rattle.cpc_meaning.specs.Runs.{SameRuns, Within}
-use Rattle.cpc_convert_shape_laws.specs.Shape.{Shape}
-use Rattle.cpc_convert_leak_laws.specs.Laws.{NoLeak}
 use Rattle.cpc_base.specs.declared.stop.Stop.{Stop}
 use Rattle.cpc_base.specs.declared.stop.Stop.TheVariants as W
 use Rattle.cpc_history.specs.declared.read.HistoryFault.{HistoryFault}
@@ -18,12 +16,12 @@ use Rattle.cpc_translate.specs.declared.fault.TextFault.{TextFault}
 use Rattle.cpc_cli_command.specs.Commands.{Command, Check, Exec, Options, Sample, Translate, Run, command_of}
 use Rattle.cpc_check.specs.Accepted.{Accepts}
 use Rattle.cpc_translate.specs.Refusals.{IsTextFault}
-use Rattle.cpc_convert_event.specs.Converted.{converted}
+use Rattle.cpc_translate.specs.Promised.{NoLeak, Shape, converted}
 use Rattle.cpc_translate.specs.Faults as F
 use Rattle.cpc_sample.specs.Sample.{sample_text}
-use Rattle.cpc_run.specs.Reports.{IsPrefix}
+use Rattle.cpc_run.specs.Reports.{IsCutShort}
 use Rattle.cpc_cli.specs.Command.{Host, InFile, IsMade, IsRun, Labels, Origin, Source, bytes_line, events_source, history_named, labels_in, limit_of, made_source, name_of, sample_options, source_of, text_limit, threads_source}
-use Rattle.cpc_cli.specs.Ran.{FileHas, HasHosts, IsAnswered, LacksHost, NoSteps, NotTold, RanInPart, RanWhole, TellsPolls, history_with}
+use Rattle.cpc_cli.specs.Ran.{FileHas, HasHosts, IsAnswered, IsPartOf, LacksHost, NoSteps, NotTold, RanInPart, RanWhole, TellsPolls, history_with}
 use Rattle.cpc_cli.specs.declared.answer.Role.{Role}
 use Rattle.cpc_cli.specs.declared.answer.Role.TheVariants as R
 use Rattle.cpc_cli.specs.declared.answer.Report.{Report}
@@ -139,7 +137,7 @@ pub record Runs (host : Host) (told : Option Files) (command : Command) (options
   pub ran : RanWhole (bare program) (history_with options polls answers) options text report out outcome
 
 -- the same, broken off by a sink or by want of memory
-pub record RunsInPart (host : Host) (told : Option Files) (command : Command) (options : Options) (text : Bool) (report : Report) (out : Text) : Type 0 where
+pub record RunsInPart (host : Host) (told : Option Files) (command : Command) (options : Options) (text : Bool) (report : Report) (out : Text) (end : End) : Type 0 where
   pub program : LProgram
   pub takes : Takes told command report program
   pub hosts : HasHosts host.there (bare program)
@@ -147,7 +145,7 @@ pub record RunsInPart (host : Host) (told : Option Files) (command : Command) (o
   pub tells : TellsPolls told options.history polls
   pub answers : List ℤ
   pub answered : IsAnswered host (bare program) (history_with options polls answers) report.steps
-  pub ran : RanInPart (bare program) (history_with options polls answers) options text report out
+  pub ran : RanInPart (bare program) (history_with options polls answers) options text report out end
 
 -- the command's work, done: `run` and `exec` run a program, `sample` one that it makes, and tells the length of its text, `translate` writes the printed text, `check` says that the text is accepted
 abbrev pub Does : Host → Option Files → Command → Report → Text → Outcome → Type 0
@@ -161,13 +159,13 @@ Does host told (Check file) report out Accepted = NoRun report × (out ≡ codes
 Does host told (Check file) report out _ = ⊥
 
 -- the command's work, broken off by a sink or by want of memory
-abbrev pub DoesInPart : Host → Option Files → Command → Report → Text → Type 0
-DoesInPart host told (Run file options text) report out = RunsInPart host told (Run file options text) options text report out
-DoesInPart host told (Exec file options) report out = RunsInPart host told (Exec file options) options false report out
-DoesInPart host told (Sample number) report out = RunsInPart host told (Sample number) sample_options false report out
-    ⊎ ((outcome : Outcome) × (front : Text) × Runs host told (Sample number) sample_options false report front outcome × IsPrefix out (front ++ bytes_line number))
-DoesInPart host told (Translate file) report out = (q : LProgram) × Printed q report × IsPrefix out report.printed.items × AcceptedAs told (threads_source file) (λ p. IsTranslated p q)
-DoesInPart host told (Check file) report out = NoRun report × IsPrefix out (codes "accepted\n") × AcceptedAs told (threads_source file) (λ p. Unit {0})
+abbrev pub DoesInPart : Host → Option Files → Command → Report → Text → End → Type 0
+DoesInPart host told (Run file options text) report out end = RunsInPart host told (Run file options text) options text report out end
+DoesInPart host told (Exec file options) report out end = RunsInPart host told (Exec file options) options false report out end
+DoesInPart host told (Sample number) report out end = RunsInPart host told (Sample number) sample_options false report out end
+    ⊎ ((outcome : Outcome) × (front : Text) × Runs host told (Sample number) sample_options false report front outcome × IsPartOf end out (front ++ bytes_line number))
+DoesInPart host told (Translate file) report out end = (q : LProgram) × Printed q report × IsPartOf end out report.printed.items × AcceptedAs told (threads_source file) (λ p. IsTranslated p q)
+DoesInPart host told (Check file) report out end = NoRun report × IsPartOf end out (codes "accepted\n") × AcceptedAs told (threads_source file) (λ p. Unit {0})
 
 -- ---- why a call ended
 
@@ -185,8 +183,8 @@ pub data EndedIn (host : Host) (told : Option Files) (command : Command) (unread
       → EndedIn host told command unread unwritten report out end
   not_told : (end : End) (q : LProgram) → Takes told command report q → HasHosts host.there (bare q) → NotTold told (history_named command) unread end → NoSteps report → out ≡ []
       → EndedIn host told command unread unwritten report out end
-  unwritten_in : unwritten → DoesInPart host told command report out → EndedIn host told command unread unwritten report out Unwritten
-  starved_in : DoesInPart host told command report out → EndedIn host told command unread unwritten report out Memory
+  unwritten_in : unwritten → DoesInPart host told command report out Unwritten → EndedIn host told command unread unwritten report out Unwritten
+  starved_in : DoesInPart host told command report out Memory → EndedIn host told command unread unwritten report out Memory
 
 -- the words are refused, or there was no memory to read them, or they ask for a command, which ended so
 pub data IsEnd (words : List Text) (host : Host) (told : Option Files) (unread : Text → Type 0) (unwritten : Type 0) (report : Report) (out : Text) : End → Type 0 where
@@ -245,9 +243,9 @@ line_of labels (TooLong role) = codes "too long: " ++ (name_of labels role ++ (c
 line_of labels (BadLine fault) = codes "history line " ++ (decimal fault.line ++ (codes " " ++ (wrong_text fault.number ++ codes "\n")))
 line_of labels (NoHost name) = codes "no host " ++ (name.items ++ codes "\n")
 
--- the line went out with its status, or `err` failed in it
+-- the line went out with its status, or `err` failed in it and has not taken all of it
 abbrev pub Said : (line : Text) → (due : ℕ) → (failed : Type 0) → (status : ℕ) → (err : Text) → Type 0
-Said line due failed status err = ((status ≡ due) × (err ≡ line)) ⊎ ((status ≡ 9) × IsPrefix err line × failed)
+Said line due failed status err = ((status ≡ due) × (err ≡ line)) ⊎ ((status ≡ 9) × IsCutShort err line × failed)
 
 -- ---- the answer
 

@@ -3,4 +3,5 @@ pub mod Inputs
 pub mod Counted
 pub mod Ran
 pub mod Answer
+pub mod Asked
 pub mod Exact

@@ -10,8 +10,8 @@ use Rattle.cpc_meaning.specs.History.{History}
 use Rattle.cpc_meaning.specs.Runs.{Full as IsAbove, live_cells}
 use Rattle.cpc_history.specs.Reading.{IsFaultOf}
 use Rattle.cpc_run.specs.Hosts.{HostsMeet, answers_of, missing_of}
-use Rattle.cpc_run.specs.Reports.{IsPrefix}
-use Rattle.cpc_run.specs.Shown.{traced}
+use Rattle.cpc_run.specs.Reports.{IsCutShort, IsPrefix}
+use Rattle.cpc_run_shown.specs.Shown.{traced}
 use Rattle.cpc_cli_command.specs.Commands.{Options}
 use Rattle.cpc_cli.specs.Command.{Host, history_limit}
 use Rattle.cpc_cli.specs.declared.answer.Role.TheVariants as R
@@ -169,9 +169,30 @@ shown trace text printed q h n last = heading text printed ++ run_text trace las
 abbrev pub HasCells : (q : Program) → History → Report → Type 0
 HasCells q h report = report.cells ≡ live_cells (event q h report.steps)
 
--- the same, or no state of the run was made
-abbrev pub MayHaveCells : (q : Program) → History → Report → Type 0
-MayHaveCells q h report = HasCells q h report ⊎ ((report.steps ≡ 0) × (report.cells ≡ 0))
+-- no state of a run was made
+pub record NoSteps (report : Report) : Type 0 where
+  pub steps : report.steps ≡ 0
+  pub cells : report.cells ≡ 0
+
+-- the bytes are the first of the text; where the sink failed, not all of it
+abbrev pub IsPartOf : End → (out text : Text) → Type 0
+IsPartOf Unwritten out text = IsCutShort out text
+IsPartOf _ out text = IsPrefix out text
+
+-- no run was begun: the sink failed in what goes before it, or memory was wanting and no more than that was written
+abbrev pub IsUnbegun : End → (before out : Text) → Type 0
+IsUnbegun Unwritten before out = IsCutShort out before
+IsUnbegun Memory before out = IsPrefix out before
+IsUnbegun _ before out = ⊥
+
+-- the report tells the live cells of q's event run after its steps; or it tells none, which is so where no run was begun
+abbrev pub MayHaveCells : (q : Program) → History → Report → (unbegun : Type 0) → Type 0
+MayHaveCells q h report unbegun = HasCells q h report ⊎ (NoSteps report × unbegun)
+
+-- the first state of a run that the sink broke off keeps to the cap, unless the run was left there for its cells, or none was begun
+abbrev pub FirstFits : (q : Program) → History → (cap : ℕ) → End → (last : Option Stop) → (before out : Text) → Type 0
+FirstFits q h cap Unwritten last before out = (live_cells (event q h 0) ≤ cap) ⊎ ((last ≡ Some AtCells) ⊎ IsCutShort out before)
+FirstFits q h cap _ last before out = Unit {0}
 
 -- q's event run stands so after the report's steps, and the bytes are what it shows
 pub record RanWhole (q : Program) (h : History) (options : Options) (text : Bool) (report : Report) (out : Text) (outcome : Outcome) : Type 0 where
@@ -179,32 +200,28 @@ pub record RanWhole (q : Program) (h : History) (options : Options) (text : Bool
   pub stands : StandsSo q h options.steps options.cells report.steps outcome
   pub whole : out ≡ shown options.trace text report.printed.items q h report.steps (stop_in outcome)
 
--- the bytes are a prefix of what q's event run shows after the report's steps, whose states keep to the cap
-pub record RanInPart (q : Program) (h : History) (options : Options) (text : Bool) (report : Report) (out : Text) : Type 0 where
-  pub cells : MayHaveCells q h report
+-- the bytes are a prefix of what q's event run shows after the report's steps; where a step was made, its states keep to the cap
+pub record RanInPart (q : Program) (h : History) (options : Options) (text : Bool) (report : Report) (out : Text) (end : End) : Type 0 where
+  pub cells : MayHaveCells q h report (IsUnbegun end (heading text report.printed.items) out)
   pub fits : 0 < report.steps → StaysWithin q h options.cells report.steps
   pub last : Option Stop
   pub left : IsLeftBy q h options.steps options.cells report.steps last
-  pub part : IsPrefix out (shown options.trace text report.printed.items q h report.steps last)
+  pub first : FirstFits q h options.cells end last (heading text report.printed.items) out
+  pub part : IsPartOf end out (shown options.trace text report.printed.items q h report.steps last)
 
 -- how a run ended: it stands so, and the bytes are what it shows; or a sink or memory failed, and they are a prefix of that
 abbrev pub RanTo : (q : Program) → History → Options → (text : Bool) → Report → (unwritten : Type 0) → (out : Text) → End → Type 0
 RanTo q h options text report unwritten out (Done outcome) = RanWhole q h options text report out outcome
-RanTo q h options text report unwritten out Unwritten = unwritten × RanInPart q h options text report out
-RanTo q h options text report unwritten out Memory = RanInPart q h options text report out
+RanTo q h options text report unwritten out Unwritten = unwritten × RanInPart q h options text report out Unwritten
+RanTo q h options text report unwritten out Memory = RanInPart q h options text report out Memory
 RanTo q h options text report unwritten out _ = ⊥
 
 -- a line was put behind a run that ended so: all of it, or the sink failed in it, or memory was wanting for it
 abbrev pub ClosedBy : (line : Text) → Outcome → (unwritten : Type 0) → (out : Text) → End → Type 0
 ClosedBy line outcome unwritten out (Done last) = (last ≡ outcome) × (out ≡ line)
-ClosedBy line outcome unwritten out Unwritten = unwritten × IsPrefix out line
+ClosedBy line outcome unwritten out Unwritten = unwritten × IsCutShort out line
 ClosedBy line outcome unwritten out Memory = out ≡ []
 ClosedBy line outcome unwritten out _ = ⊥
-
--- no state of a run was made
-pub record NoSteps (report : Report) : Type 0 where
-  pub steps : report.steps ≡ 0
-  pub cells : report.cells ≡ 0
 
 -- a run that was told these polls ended so, with answers of the host
 pub record RanAnswered (host : Host) (q : Program) (polls : List T.Told) (options : Options) (text : Bool) (report : Report) (unwritten : Type 0) (out : Text) (end : End) : Type 0 where

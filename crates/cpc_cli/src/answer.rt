@@ -93,7 +93,7 @@ pub struct Report {
     pub printed: Vec<u8>,
     /// The event steps made.
     pub steps: u64,
-    /// The live cells after them.
+    /// The live cells after them, or 0 where no run was begun.
     pub cells: u64,
 }
 

@@ -1,7 +1,7 @@
 //! The files of a command: its text, and the program that it is.
-ghost use Rattle.std.specs.Prelude.{◌≡◌, ◌≤◌, IfOk, IsErrOf, []};
+ghost use Rattle.std.specs.Prelude.{◌≡◌, ◌≤◌, ◌+◌, IfOk, IsErrOf, []};
 ghost use Rattle.cpc_base.specs.Bytes.{Text};
-ghost use Rattle.cpc_base.specs.Outside.{Rose};
+ghost use Rattle.cpc_base.specs.Outside.{AskedTo, Rose};
 ghost use Rattle.cpc_base.specs.declared.stop.Dialect.TheVariants as D;
 ghost use Rattle.cpc_check.specs.Accepted.{Accepts};
 ghost use Rattle.cpc_tree.specs.Locate.{located};
@@ -47,6 +47,7 @@ fn read_text<F: Shelf>(
         (λ name. Rose (F.faults shelf.old name) (F.faults shelf.new name)) end }
     ensures later { (name : Text) → F.faults shelf.old name ≤ F.faults shelf.new name }
     ensures stays { F.files shelf.new ≡ F.files shelf.old }
+    ensures asked { AskedTo (F.asked shelf.old) (F.asked shelf.new) file.now (limit_in dialect + 1) }
 {
     match read_file(alloc, shelf, file, text_limit(dialect)) {
         Ok(text) => Ok(text),
@@ -79,6 +80,7 @@ pub(crate) fn checked<F: Shelf>(
         (λ name. Rose (F.faults shelf.old name) (F.faults shelf.new name)) end }
     ensures later { (name : Text) → F.faults shelf.old name ≤ F.faults shelf.new name }
     ensures stays { F.files shelf.new ≡ F.files shelf.old }
+    ensures asked { AskedTo (F.asked shelf.old) (F.asked shelf.new) file.now (limit_in dialect + 1) }
 {
     let text = match read_text(alloc, file, dialect, shelf) {
         Ok(text) => text,
@@ -128,6 +130,7 @@ pub(crate) fn translated<F: Shelf>(
     ensures none { (end : End) → IsErrOf result end → Nothing report.new [] }
     ensures later { (name : Text) → F.faults shelf.old name ≤ F.faults shelf.new name }
     ensures stays { F.files shelf.new ≡ F.files shelf.old }
+    ensures asked { AskedTo (F.asked shelf.old) (F.asked shelf.new) file.now (limit_in D.Cpc + 1) }
 {
     let text = match read_text(alloc, file, Dialect::Cpc, shelf) {
         Ok(text) => text,
@@ -144,6 +147,7 @@ pub(crate) fn taken<F: Shelf>(alloc: Global, file: &str, shelf: &mut F) -> Resul
         (λ name. Rose (F.faults shelf.old name) (F.faults shelf.new name)) end }
     ensures later { (name : Text) → F.faults shelf.old name ≤ F.faults shelf.new name }
     ensures stays { F.files shelf.new ≡ F.files shelf.old }
+    ensures asked { AskedTo (F.asked shelf.old) (F.asked shelf.new) file.now (limit_in D.Event + 1) }
 {
     checked(alloc, file, Dialect::Event, shelf)
 }

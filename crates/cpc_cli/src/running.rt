@@ -1,19 +1,20 @@
 //! A run of an event program, by the history that the words name, with the functions of a host.
 ghost use Rattle.std.specs.Arc.{arc_value};
-ghost use Rattle.std.specs.Prelude.{◌≡◌, ◌≤◌, ◌<◌, ◌^◌, IfOk, IsErrOf, MatchResult, Option, None, Some, [], map, option_map, false, true};
+ghost use Rattle.std.specs.Prelude.{◌≡◌, ◌≤◌, ◌<◌, ◌+◌, ◌^◌, IfOk, IsErrOf, MatchResult, Option, None, Some, [], map, option_map, false, true};
 ghost use Rattle.cpc_base.specs.Bytes.{Text};
-ghost use Rattle.cpc_base.specs.Outside.{Rose};
+ghost use Rattle.cpc_base.specs.Outside.{AskedTo, Rose};
 ghost use Rattle.cpc_base.specs.declared.stop.Dialect.TheVariants as D;
 ghost use Rattle.cpc_tree.specs.Erase.{in_table, program_of};
 ghost use Rattle.cpc_meaning.specs.History.{polls_fit};
 ghost use Rattle.cpc_history_marks.specs.Views.{told_of};
-ghost use Rattle.cpc_run.specs.Outcomes.{outcome_of as run_outcome_of};
+ghost use Rattle.cpc_run_shown.specs.Outcomes.{outcome_of as run_outcome_of};
 ghost use Rattle.cpc_run.specs.Hosts.{missing_of};
-ghost use Rattle.cpc_run.specs.Reports.{IsPrefix, Wrote};
+ghost use Rattle.cpc_run.specs.Reports.{IsCutShort, Wrote};
 ghost use Rattle.cpc_cli_command.specs.Commands.{asked_options};
 ghost use Rattle.cpc_cli_command.specs.Number.{most_cells, most_workers};
 ghost use Rattle.cpc_cli.specs.declared.answer.End.{End};
-ghost use Rattle.cpc_cli.specs.Command.{host_of, length_line};
+ghost use Rattle.cpc_cli.specs.Asked.{AsksUpTo, file_end, history_end, is_early};
+ghost use Rattle.cpc_cli.specs.Command.{history_limit, host_of, length_line};
 ghost use Rattle.cpc_cli.specs.Counted.{IsCounted};
 ghost use Rattle.cpc_cli.specs.Ran.{ClosedBy, HasHosts, Lacks, NoSteps, NotTold, RanAnswered, RanTold, TellsPolls, heading, outcome_in};
 
@@ -39,6 +40,7 @@ fn read_polls<F: Shelf>(alloc: Global, name: &str, shelf: &mut F) -> Result<Vec<
     ensures refused { (end : End) → IsErrOf result end → NotTold (F.files shelf.old) (Some name.now)
         (λ file. Rose (F.faults shelf.old file) (F.faults shelf.new file)) end }
     ensures stays { F.files shelf.new ≡ F.files shelf.old }
+    ensures asked { AskedTo (F.asked shelf.old) (F.asked shelf.new) name.now (history_limit + 1) }
 {
     let text = match read_file(alloc, shelf, name, HISTORY_LIMIT) {
         Ok(text) => text,
@@ -60,6 +62,7 @@ fn polls_of<F: Shelf>(alloc: Global, history: Option<&str>, shelf: &mut F) -> Re
     ensures refused { (end : End) → IsErrOf result end → NotTold (F.files shelf.old) (option_map (λ name. name.now) history.entry)
         (λ file. Rose (F.faults shelf.old file) (F.faults shelf.new file)) end }
     ensures stays { F.files shelf.new ≡ F.files shelf.old }
+    ensures asked { AsksUpTo (F.asked shelf.old) (F.asked shelf.new) (file_end (option_map (λ name. name.now) history.entry) history_limit) }
 {
     match history {
         Some(name) => read_polls(alloc, name, shelf),
@@ -69,7 +72,7 @@ fn polls_of<F: Shelf>(alloc: Global, history: Option<&str>, shelf: &mut F) -> Re
 
 // Writes what goes before the text of a run: the printed text and a line, where the text is wanted.
 fn write_heading<O: Sink>(text: bool, printed: &[u8], out: &mut O) -> Result<(), Failed>
-    ensures wrote { Wrote (O.taken out.old) (O.taken out.new) (λ o. MatchResult result (λ _. o ≡ heading text printed.now) (λ _. IsPrefix o (heading text printed.now))) }
+    ensures wrote { Wrote (O.taken out.old) (O.taken out.new) (λ o. MatchResult result (λ _. o ≡ heading text printed.now) (λ _. IsCutShort o (heading text printed.now))) }
     ensures cause { (fault : _) → IsErrOf result fault → Rose (O.faults out.old) (O.faults out.new) }
     ensures later { O.faults out.old ≤ O.faults out.new }
 {
@@ -247,6 +250,7 @@ where
     ensures kept { report.new.printed ≡ report.old.printed }
     ensures later { O.faults out.old ≤ O.faults out.new }
     ensures stays { F.files shelf.new ≡ F.files shelf.old }
+    ensures asked { AsksUpTo (F.asked shelf.old) (F.asked shelf.new) (history_end (is_early result) (asked_options options.entry).history) }
 {
     if let Some(name) = missing_host(&program.program, hosts) {
         return lacks(alloc, &program.program.names, name);

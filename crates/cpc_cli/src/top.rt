@@ -7,6 +7,7 @@ ghost use Rattle.cpc_cli_command.specs.Commands.{Check, Exec, Run, Sample, Trans
 ghost use Rattle.cpc_cli_command.specs.Number.{most_cells, most_workers};
 ghost use Rattle.cpc_cli_command.specs.Usage.{IsBounded};
 ghost use Rattle.cpc_cli.specs.Answer.{Answer, EndedIn, IsEnd, Nothing, line_of, rises};
+ghost use Rattle.cpc_cli.specs.Asked.{AsksUpTo, command_end, is_early, tells_early, words_end};
 ghost use Rattle.cpc_cli.specs.Command.{Asks, host_of, labels_in, labels_of, named, no_host, sample_options as options_of_samples};
 ghost use Rattle.cpc_cli.specs.Exact.{Gives, NoneRose};
 ghost use Rattle.cpc_cli.specs.Inputs.{labels};
@@ -49,6 +50,7 @@ where
     ensures ended { Wrote (O.taken out.old) (O.taken out.new) (λ o. EndedIn (host_of (⟦<HostTable<R> as Kept>⟧.names hosts.now) R.answers) (F.files shelf.old) (Run file.now (asked_options options.entry) text)
         (λ name. Rose (F.faults shelf.old name) (F.faults shelf.new name)) (Rose (O.faults out.old) (O.faults out.new)) report.new o result) }
     ensures stays { F.files shelf.new ≡ F.files shelf.old }
+    ensures asked { AsksUpTo (F.asked shelf.old) (F.asked shelf.new) (command_end (Run file.now (asked_options options.entry) text) (is_early result)) }
 {
     match translated(alloc, file, shelf, report) {
         Ok(program) => run_told(
@@ -81,6 +83,7 @@ where
     ensures ended { Wrote (O.taken out.old) (O.taken out.new) (λ o. EndedIn (host_of (⟦<HostTable<R> as Kept>⟧.names hosts.now) R.answers) (F.files shelf.old) (Exec file.now (asked_options options.entry))
         (λ name. Rose (F.faults shelf.old name) (F.faults shelf.new name)) (Rose (O.faults out.old) (O.faults out.new)) report.new o result) }
     ensures stays { F.files shelf.new ≡ F.files shelf.old }
+    ensures asked { AsksUpTo (F.asked shelf.old) (F.asked shelf.new) (command_end (Exec file.now (asked_options options.entry)) (is_early result)) }
 {
     match taken(alloc, file, shelf) {
         Ok(program) => run_told(
@@ -102,6 +105,7 @@ fn translate_file<F: Shelf, O: Sink>(
     ensures ended { Wrote (O.taken out.old) (O.taken out.new) (λ o. EndedIn no_host (F.files shelf.old) (Translate file.now)
         (λ name. Rose (F.faults shelf.old name) (F.faults shelf.new name)) (Rose (O.faults out.old) (O.faults out.new)) report.new o result) }
     ensures stays { F.files shelf.new ≡ F.files shelf.old }
+    ensures asked { AsksUpTo (F.asked shelf.old) (F.asked shelf.new) (command_end (Translate file.now) (is_early result)) }
 {
     if let Err(end) = translated(alloc, file, shelf, report) {
         return end;
@@ -124,6 +128,7 @@ fn check_file<F: Shelf, O: Sink>(
     ensures ended { Wrote (O.taken out.old) (O.taken out.new) (λ o. EndedIn no_host (F.files shelf.old) (Check file.now)
         (λ name. Rose (F.faults shelf.old name) (F.faults shelf.new name)) (Rose (O.faults out.old) (O.faults out.new)) report.now o result) }
     ensures stays { F.files shelf.new ≡ F.files shelf.old }
+    ensures asked { AsksUpTo (F.asked shelf.old) (F.asked shelf.new) (command_end (Check file.now) (is_early result)) }
 {
     if let Err(end) = checked(alloc, file, Dialect::Cpc, shelf) {
         return end;
@@ -167,6 +172,7 @@ where
     ensures ended { Wrote (O.taken out.old) (O.taken out.new) (λ o. EndedIn (host_of (⟦<HostTable<R> as Kept>⟧.names hosts.now) R.answers) (F.files shelf.old) (Sample number)
         (λ name. Rose (F.faults shelf.old name) (F.faults shelf.new name)) (Rose (O.faults out.old) (O.faults out.new)) report.new o result) }
     ensures stays { F.files shelf.new ≡ F.files shelf.old }
+    ensures asked { AsksUpTo (F.asked shelf.old) (F.asked shelf.new) (command_end (Sample number) (is_early result)) }
 {
     let text = match sample(alloc, number) {
         Ok(text) => text,
@@ -214,6 +220,7 @@ where
     ensures ended { Wrote (O.taken out.old) (O.taken out.new) (λ o. EndedIn (host_of (⟦<HostTable<R> as Kept>⟧.names hosts.now) R.answers) (F.files shelf.old) (asked command.entry)
         (λ name. Rose (F.faults shelf.old name) (F.faults shelf.new name)) (Rose (O.faults out.old) (O.faults out.new)) report.new o result) }
     ensures stays { F.files shelf.new ≡ F.files shelf.old }
+    ensures asked { AsksUpTo (F.asked shelf.old) (F.asked shelf.new) (command_end (asked command.entry) (is_early result)) }
 {
     match command {
         Command::Check { file } => check_file(alloc, file, shelf, out, report),
@@ -301,6 +308,7 @@ where
         (λ name. Rose (F.faults shelf.old name) (F.faults shelf.new name)) (Rose (O.faults out.old) (O.faults out.new)) report.new o result.1) }
     ensures line { line_of (labels result.0) result.1 ≡ line_of (labels_in (map string_bytes words.now)) result.1 }
     ensures stays { F.files shelf.new ≡ F.files shelf.old }
+    ensures asked { AsksUpTo (F.asked shelf.old) (F.asked shelf.new) (words_end (map string_bytes words.now) (is_early result.1)) }
 {
     match read_words(alloc, words) {
         Ok(command) => (
@@ -357,6 +365,8 @@ where
         × Rose (F.faults shelf.old name) (F.faults shelf.new name)) }
     ensures write { result.status ≡ 9 → Rose (O.faults out.old) (O.faults out.new) ⊎ Rose (E.faults err.old) (E.faults err.new) }
     ensures stays { F.files shelf.new ≡ F.files shelf.old }
+    // No other file is asked for, and of these none beyond one byte past its limit; and no history at the statuses that come before it.
+    ensures asked { AsksUpTo (F.asked shelf.old) (F.asked shelf.new) (words_end (map string_bytes words.now) (tells_early result.status)) }
 {
     let mut report = Report {
         status: 0,

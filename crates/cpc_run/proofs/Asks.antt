@@ -27,21 +27,21 @@ use Rattle.cpc_meaning.specs.Start.{before_bars}
 use Rattle.cpc_meaning.specs.Trees.{trees}
 use Rattle.cpc_meaning.proofs.Agendas.{SameAgenda, SameResult, made as cond_same}
 use Rattle.cpc_history_marks.specs.Views.{told_of}
-use Rattle.cpc_run.specs.declared.items.Item.{Item}
+use Rattle.cpc_run_code.specs.declared.items.Item.{Item}
 use Rattle.cpc_run.specs.declared.looped.Loop.{Loop}
 use Rattle.cpc_meaning_pointer_laws.specs.Made.{IsMadeCode}
 use Rattle.cpc_meaning_pointer_laws.specs.Laws.{done_with}
 use Rattle.cpc_meaning_pointer_laws.proofs.Answered.{answered_alike}
-use Rattle.cpc_run.specs.declared.outcome.Outcome.{Outcome}
-use Rattle.cpc_run.specs.declared.outcome.Outcome.TheVariants as O
-use Rattle.cpc_run.specs.Code.{items_in, store_in, stack_in}
-use Rattle.cpc_run.specs.Outcomes.{outcome_of}
-use Rattle.cpc_run.specs.Shown.{shown, shown_of}
+use Rattle.cpc_run_shown.specs.declared.outcome.Outcome.{Outcome}
+use Rattle.cpc_run_shown.specs.declared.outcome.Outcome.TheVariants as O
+use Rattle.cpc_run_code.specs.Code.{items_in, store_in, stack_in}
+use Rattle.cpc_run_shown.specs.Outcomes.{outcome_of}
+use Rattle.cpc_run_shown.specs.Shown.{shown, shown_of}
 use Rattle.cpc_run.specs.States.{States, IsCallback, SameLists, HasLists, Stands, Did, Acted, lists_in, settles, program_in}
 use Rattle.cpc_run_jobs.specs.declared.jobs.Jobs.{Jobs}
 use Rattle.cpc_run_jobs.specs.Holding.{Holds}
 use Rattle.cpc_run.proofs.Alike.{KeepsSections, ok_same, err_same}
-use Rattle.cpc_run.proofs.Marks.{shown_more}
+use Rattle.cpc_run_shown.proofs.Marks.{shown_more}
 
 -- a mark goes out behind what went out
 pub marked : (names : Names) (l : Loop) (f : Name) (sent old new : Text) (s t : States) (m : Mark) → new ≡ old ++ shown_of l.trace m → Acted names l f (sent ++ old) s t → Acted names l f (sent ++ new) s (marks m t)

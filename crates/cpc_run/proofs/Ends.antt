@@ -43,17 +43,17 @@ use Rattle.cpc_agenda.specs.Lists.{lists_of}
 use Rattle.cpc_agenda_turns.specs.declared.turns.Turns.{Turns}
 use Rattle.cpc_run_jobs.specs.declared.jobs.Jobs.{Jobs}
 use Rattle.cpc_run_jobs.specs.Holding.{Holds}
-use Rattle.cpc_run.specs.declared.items.Item.{Item}
-use Rattle.cpc_run.specs.declared.items.Item.TheVariants as I
+use Rattle.cpc_run_code.specs.declared.items.Item.{Item}
+use Rattle.cpc_run_code.specs.declared.items.Item.TheVariants as I
 use Rattle.cpc_run.specs.declared.looped.Loop.{Loop}
-use Rattle.cpc_run.specs.declared.outcome.Ended.TheVariants as E
-use Rattle.cpc_run.specs.declared.outcome.Limits.{Limits}
-use Rattle.cpc_run.specs.declared.outcome.RunReport.{RunReport}
-use Rattle.cpc_run.specs.Shown.{shown}
+use Rattle.cpc_run_shown.specs.declared.outcome.Ended.TheVariants as E
+use Rattle.cpc_run_shown.specs.declared.outcome.Limits.{Limits}
+use Rattle.cpc_run_shown.specs.declared.outcome.RunReport.{RunReport}
+use Rattle.cpc_run_shown.specs.Shown.{shown}
 use Rattle.cpc_run.specs.States.{IsCallback, SameLists, Stands}
-use Rattle.cpc_run.specs.Reports.{NeverStuck, Begins, Opened, EndsSo, IsBrokenOff, IsLeft, Tells, Wrote, run_of}
-use Rattle.cpc_run.proofs.Making.{first_made}
-use Rattle.cpc_run.proofs.Marks.{nothing_shown}
+use Rattle.cpc_run.specs.Reports.{NeverStuck, Begins, Opened, EndsSo, IsBrokenOff, IsLeft, KeepsFirst, Tells, Wrote, run_of}
+use Rattle.cpc_run_code.proofs.Making.{first_made}
+use Rattle.cpc_run_shown.proofs.Marks.{nothing_shown}
 use Rattle.cpc_run.proofs.Runs.{AtEnd, ends_told}
 use Rattle.cpc_run.proofs.Weighed.{uncapped}
 
@@ -112,7 +112,8 @@ pub full_first : (table : Table) (q : Program) (h : History) (limits : Limits) (
 full_first table q h limits trace first due result pending told now is e lt none same wrote =
     let at : AtEnd q h limits trace due.steps due.cells due.polls pending = subst (λ d. AtEnd q h limits trace d.steps d.cells d.polls pending) (sym is) (at_first q h limits trace first pending none e) in
     let left : IsLeft (in_table table) q h limits due.steps due.ended = subst (λ d. IsLeft (in_table table) q h limits d.steps d.ended) (sym is) (inr (refl, lt, e)) in
-    ends_told table q h limits trace due result pending told now (λ i. left) at same wrote
+    let first = subst (λ d. KeepsFirst q h limits.cells d.ended) (sym is) tt in
+    ends_told table q h limits trace due result pending told now (λ i. left) first at same wrote
 
 -- ---- never stuck
 

@@ -11,9 +11,9 @@ use Rattle.cpc_meaning.specs.History.{History}
 use Rattle.cpc_meaning.specs.Machine.{try_step}
 use Rattle.cpc_meaning.specs.Runs.{live_cells}
 use Rattle.cpc_run.specs.declared.looped.Loop.{Loop}
-use Rattle.cpc_run.specs.declared.outcome.Ended.TheVariants as E
-use Rattle.cpc_run.specs.declared.outcome.Limits.{Limits}
-use Rattle.cpc_run.specs.declared.outcome.RunReport.{RunReport}
+use Rattle.cpc_run_shown.specs.declared.outcome.Ended.TheVariants as E
+use Rattle.cpc_run_shown.specs.declared.outcome.Limits.{Limits}
+use Rattle.cpc_run_shown.specs.declared.outcome.RunReport.{RunReport}
 use Rattle.cpc_run.specs.Answers.{Allows, Answered, HasAnswers, HasSaid}
 use Rattle.cpc_run.specs.Hosts.{with_answers}
 use Rattle.cpc_run.specs.Reports.{Begins, NeverStuck, Opened, Ran, Reached, Tells, Wrote, run_of}

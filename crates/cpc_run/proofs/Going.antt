@@ -31,16 +31,16 @@ use Rattle.cpc_native_builtins.specs.Builtins.{asked_of, primitive_of}
 use Rattle.cpc_native_builtins.specs.declared.call.Call.{Call}
 use Rattle.cpc_native_builtins.specs.declared.call.Call.TheVariants as C
 use Rattle.cpc_native_laws.specs.Laws.{AreOthers}
-use Rattle.cpc_run.specs.declared.code.Code.{Code}
+use Rattle.cpc_run_code.specs.declared.code.Code.{Code}
 use Rattle.cpc_run.specs.declared.looped.Loop.{Loop}
-use Rattle.cpc_run.specs.declared.outcome.Ended.TheVariants as E
-use Rattle.cpc_run.specs.declared.outcome.Outcome.{Outcome}
-use Rattle.cpc_run.specs.declared.outcome.Outcome.TheVariants as O
-use Rattle.cpc_run.specs.Code.{AskedIn, Runs, Same, items_in, store_in, stack_in}
+use Rattle.cpc_run_shown.specs.declared.outcome.Ended.TheVariants as E
+use Rattle.cpc_run_shown.specs.declared.outcome.Outcome.{Outcome}
+use Rattle.cpc_run_shown.specs.declared.outcome.Outcome.TheVariants as O
+use Rattle.cpc_run_code.specs.Code.{AskedIn, Runs, Same, items_in, store_in, stack_in}
 use Rattle.cpc_run.specs.Hosts.{HasHosts}
 use Rattle.cpc_run.specs.Going.{Goes, HasCallback, CallsBack, CallsThere, IsKnownCode, KnowsSection, KnowsNames, HasBlock, CallHasBlock}
-use Rattle.cpc_run.specs.Outcomes.{outcome_of}
-use Rattle.cpc_run.specs.Reports.{IsInTable}
+use Rattle.cpc_run_shown.specs.Outcomes.{outcome_of}
+use Rattle.cpc_run_shown.specs.Known.{IsInTable}
 use Rattle.cpc_run.specs.States.{States, Fits, Acted, settles, program_in, where_running}
 
 -- ---- answers

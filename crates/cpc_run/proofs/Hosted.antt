@@ -21,11 +21,11 @@ use Rattle.cpc_meaning.specs.Plain.{Asks, Done, Returned, Stack, Went, answered,
 use Rattle.cpc_meaning.specs.Requests.{Request}
 use Rattle.cpc_meaning.specs.Trees.{trees}
 use Rattle.cpc_run.specs.declared.looped.Loop.{Loop}
-use Rattle.cpc_run.specs.declared.outcome.Outcome.{Outcome}
+use Rattle.cpc_run_shown.specs.declared.outcome.Outcome.{Outcome}
 use Rattle.cpc_run.specs.Answers.{Allows, Answered, CameAnswered, HasAnswers}
-use Rattle.cpc_run.specs.Code.{Same, store_in, stack_in}
+use Rattle.cpc_run_code.specs.Code.{Same, store_in, stack_in}
 use Rattle.cpc_run.specs.Hosts.{HostsMeet, answers_of}
-use Rattle.cpc_run.specs.Shown.{shown_of}
+use Rattle.cpc_run_shown.specs.Shown.{shown_of}
 use Rattle.cpc_run.specs.States.{States, Acted, Came, settles, program_in}
 use Rattle.cpc_run.proofs.Asks.{marked, not_going}
 use Rattle.cpc_run.proofs.Ends.{text_is}

@@ -5,10 +5,10 @@ use Rattle.cpc_tree.specs.declared.program.Program.{Program}
 use Rattle.cpc_run_jobs.specs.declared.jobs.Jobs.{Jobs}
 use Rattle.cpc_run_jobs.specs.Holding.{KeepsJobs, IsAssigned}
 use Rattle.cpc_agenda_turns.specs.declared.turns.Turns.{Turns}
-use Rattle.cpc_run.specs.declared.code.Code.{Code}
-use Rattle.cpc_run.specs.declared.items.Item.{Item}
+use Rattle.cpc_run_code.specs.declared.code.Code.{Code}
+use Rattle.cpc_run_code.specs.declared.items.Item.{Item}
 use Rattle.cpc_run.specs.declared.looped.Loop.{Loop}
-use Rattle.cpc_run.specs.Code.{items_in, Runs}
+use Rattle.cpc_run_code.specs.Code.{items_in, Runs}
 use Rattle.cpc_run.specs.States.{Keeps}
 
 -- what two steps keep

@@ -1,19 +1,14 @@
 pub mod Alike
 pub mod Kept
-pub mod Written
-pub mod Making
-pub mod Marks
 pub mod Asks
 pub mod Turns
 pub mod Polls
 pub mod Steps
 pub mod Submits
-pub mod Coded
 pub mod Weighed
 pub mod Runs
 pub mod Silent
 pub mod Hosting
-pub mod Numbers
 pub mod Hosted
 pub mod Given
 pub mod Going
@@ -21,7 +16,5 @@ pub mod Twice
 pub mod Pieces
 pub mod Ends
 pub mod Missing
-pub mod Bars
 pub mod Shorts
-pub mod Lawful
 pub mod Takes

@@ -23,7 +23,7 @@ use Rattle.cpc_check_rules.specs.Rules.{breaks}
 use Rattle.cpc_check.specs.Accepted.{IsRead}
 use Rattle.cpc_check_served_laws.specs.Laws.{AcceptedAskDeclared, AsksDeclared, DeclaresHost, IsHost}
 use Rattle.cpc_run.specs.Hosts.{HasHosts, missing_item, missing_of, or_else}
-use Rattle.cpc_run.proofs.Numbers.{ints_many}
+use Rattle.cpc_run_code.proofs.Numbers.{ints_many}
 
 module _ (there : List (Text × ℕ)) where
   neither : (a b : Option Text) → or_else a b ≡ None → (a ≡ None) × (b ≡ None)

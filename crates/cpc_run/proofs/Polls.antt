@@ -24,12 +24,12 @@ use Rattle.cpc_agenda_turns.specs.Turns as N
 use Rattle.cpc_run_jobs.specs.Holding.{Holds, left_out, items_of}
 use Rattle.cpc_run.specs.declared.looped.Loop.{Loop}
 use Rattle.cpc_run.specs.declared.step.Step.TheVariants as X
-use Rattle.cpc_run.specs.Code.{store_in, stack_in}
-use Rattle.cpc_run.specs.Shown.{shown, shown_of}
+use Rattle.cpc_run_code.specs.Code.{store_in, stack_in}
+use Rattle.cpc_run_shown.specs.Shown.{shown, shown_of}
 use Rattle.cpc_run.specs.States.{States, IsCallback, Stands, Fits, CameTo, lists_in, polls_in, settles, where_running, program_in}
 use Rattle.cpc_run.proofs.Alike.{poll_same, polled_out, polled_made}
-use Rattle.cpc_run.proofs.Marks.{shown_more}
-use Rattle.cpc_run.proofs.Written.{gave_all}
+use Rattle.cpc_run_shown.proofs.Marks.{shown_more}
+use Rattle.cpc_run_code.proofs.Written.{gave_all}
 
 -- as many sections are out as the loop has
 pub outs_so : (names : Names) (l : Loop) (s : States) → SameAgenda (IsCallback names) (lists_in names l) s.agenda → A.out (lists_in names l) ≡ A.out s.agenda

@@ -20,18 +20,19 @@ use Rattle.cpc_history_marks.specs.Views.{told_of}
 use Rattle.cpc_run.specs.declared.looped.Loop.{Loop}
 use Rattle.cpc_run.specs.declared.made.Made.{Made}
 use Rattle.cpc_run.specs.declared.made.Made.TheVariants as M
-use Rattle.cpc_run.specs.declared.outcome.Ended.{Ended}
-use Rattle.cpc_run.specs.declared.outcome.Ended.TheVariants as E
-use Rattle.cpc_run.specs.declared.outcome.Limits.{Limits}
-use Rattle.cpc_run.specs.declared.outcome.Outcome.{Outcome}
-use Rattle.cpc_run.specs.declared.outcome.Outcome.TheVariants as O
-use Rattle.cpc_run.specs.declared.outcome.RunReport.{RunReport}
-use Rattle.cpc_run.specs.Outcomes.{outcome_of}
-use Rattle.cpc_run.specs.Shown.{shown, all_shown, last_of}
+use Rattle.cpc_run_shown.specs.declared.outcome.Ended.{Ended}
+use Rattle.cpc_run_shown.specs.declared.outcome.Ended.TheVariants as E
+use Rattle.cpc_run_shown.specs.declared.outcome.Limits.{Limits}
+use Rattle.cpc_run_shown.specs.declared.outcome.Outcome.{Outcome}
+use Rattle.cpc_run_shown.specs.declared.outcome.Outcome.TheVariants as O
+use Rattle.cpc_run_shown.specs.declared.outcome.RunReport.{RunReport}
+use Rattle.cpc_run_shown.specs.Outcomes.{outcome_of}
+use Rattle.cpc_run_shown.specs.Shown.{shown, all_shown, last_of}
 use Rattle.cpc_run.specs.States.{States, Breaks, Within, Keeps, program_in}
-use Rattle.cpc_run.specs.Reports.{MadeSo, Reached, NeverStuck, IsInTable, IsLeft, IsBrokenOff, IsPrefix, WentOut, EndsSo, Tells, Wrote, run_of}
-use Rattle.cpc_run.proofs.Making.{step_made}
-use Rattle.cpc_run.proofs.Marks.{all_is, no_last, none_last}
+use Rattle.cpc_run.specs.Reports.{MadeSo, Reached, NeverStuck, IsLeft, IsBrokenOff, IsCutShort, IsPrefix, KeepsFirst, WentOut, EndsSo, Tells, Wrote, run_of}
+use Rattle.cpc_run_shown.specs.Known.{IsInTable}
+use Rattle.cpc_run_code.proofs.Making.{step_made}
+use Rattle.cpc_run_shown.proofs.Marks.{all_is, no_last, none_last}
 
 -- ---- the next state
 
@@ -105,6 +106,10 @@ module _ (names : Names) (q : Program) (h : History) (cap : ℕ) (trace : Bool) 
 pub within_cap : (names : Names) (q : Program) (h : History) (cap : ℕ) (trace : Bool) (l : Loop) (printed : Text) (n cells : ℕ) → Reached names q h cap trace l printed n cells → Within cap (run_of q h n)
 within_cap names q h cap trace l printed n cells r = record { made = r.made; live = r.bounded n (omega arith) }
 
+-- nor has the first state
+pub first_within : (names : Names) (q : Program) (h : History) (cap : ℕ) (trace : Bool) (l : Loop) (printed : Text) (n cells : ℕ) → Reached names q h cap trace l printed n cells → live_cells (run_of q h 0) ≤ cap
+first_within names q h cap trace l printed n cells r = r.bounded 0 (omega arith)
+
 -- ---- names in what is told
 
 module _ (names : Names) (table : Table) (spells : Spells table names) (q : Program) (h : History) (limits : Limits) where
@@ -139,43 +144,43 @@ pub record AtEnd (q : Program) (h : History) (limits : Limits) (trace : Bool) (n
 
 module _ (names : Names) (q : Program) (h : History) (limits : Limits) (trace : Bool) (n cells polls : ℕ) where
   -- all that was put out is what went out, whatever the end
-  went_all : (e : Ended) (out whole : Text) → whole ≡ shown trace (run_of q h n).trace → out ≡ whole ++ last_of names trace e → IsLeft names q h limits n e → WentOut names q h limits trace n e out
-  went_all e out whole wrote is left = go e (is ∙ ap (λ w. w ++ last_of names trace e) wrote ∙ sym (all_is names trace e (run_of q h n).trace)) left
+  went_all : (table : Table) (e : Ended) → IsInTable table e → (out whole : Text) → whole ≡ shown trace (run_of q h n).trace → out ≡ whole ++ last_of names trace e → IsLeft names q h limits n e → WentOut names q h limits trace n e out
+  went_all table e known out whole wrote is left = go e known (is ∙ ap (λ w. w ++ last_of names trace e) wrote ∙ sym (all_is names trace e (run_of q h n).trace)) left
     where
-      go : (e : Ended) → out ≡ all_shown names trace e (run_of q h n).trace → IsLeft names q h limits n e → WentOut names q h limits trace n e out
-      go (E.Over outcome) is left = is
-      go E.Steps is left = is
-      go (E.Full cells) is left = is
-      go E.WriteFault is left = (E.WriteFault, left, subst (IsPrefix out) is (whole_prefix out))
-      go E.Memory is left = subst (IsPrefix out) (is ∙ none_last names trace (run_of q h n).trace) (whole_prefix out)
-      go (E.NoHost x) is left = absurd left
+      go : (e : Ended) → IsInTable table e → out ≡ all_shown names trace e (run_of q h n).trace → IsLeft names q h limits n e → WentOut names q h limits trace n e out
+      go (E.Over outcome) known is left = is
+      go E.Steps known is left = is
+      go (E.Full cells) known is left = is
+      go E.WriteFault known is left = absurd known
+      go E.Memory known is left = subst (IsPrefix out) (is ∙ none_last names trace (run_of q h n).trace) (whole_prefix out)
+      go (E.NoHost x) known is left = absurd left
 
-  pub tells_all : (e : Ended) (out whole : Text) → IsLeft names q h limits n e → AtEnd q h limits trace n cells polls whole → out ≡ whole ++ last_of names trace e
+  pub tells_all : (table : Table) (e : Ended) → IsInTable table e → (out whole : Text) → IsLeft names q h limits n e → AtEnd q h limits trace n cells polls whole → out ≡ whole ++ last_of names trace e
       → Tells names q h limits trace (record { ended = e; steps = n; cells = cells; polls = polls }) out
-  tells_all e out whole left at is = record {
+  tells_all table e known out whole left at is = record {
     left = left;
-    wrote = went_all e out whole at.wrote is left;
+    wrote = went_all table e known out whole at.wrote is left;
     cells = inl at.cells_are;
     bounded = at.bounded;
     polls = at.polls_are;
   }
 
   -- the sink failed where this end was due
-  pub tells_part : (due : Ended) (out whole : Text) → IsLeft names q h limits n due → AtEnd q h limits trace n cells polls whole → IsPrefix out (whole ++ last_of names trace due)
+  pub tells_part : (due : Ended) (out whole : Text) → IsLeft names q h limits n due → KeepsFirst q h limits.cells due → AtEnd q h limits trace n cells polls whole → IsCutShort out (whole ++ last_of names trace due)
       → Tells names q h limits trace (record { ended = E.WriteFault; steps = n; cells = cells; polls = polls }) out
-  tells_part due out whole left at part = record {
+  tells_part due out whole left first at part = record {
     left = at.broken_off;
-    wrote = (due, left, subst (IsPrefix out) (ap (λ w. w ++ last_of names trace due) at.wrote ∙ sym (all_is names trace due (run_of q h n).trace)) part);
+    wrote = (due, left, first, subst (IsCutShort out) (ap (λ w. w ++ last_of names trace due) at.wrote ∙ sym (all_is names trace due (run_of q h n).trace)) part);
     cells = inl at.cells_are;
     bounded = at.bounded;
     polls = at.polls_are;
   }
 
   -- the sink failed on the way
-  pub tells_cut : (out whole : Text) → AtEnd q h limits trace n cells polls whole → IsPrefix out whole → Tells names q h limits trace (record { ended = E.WriteFault; steps = n; cells = cells; polls = polls }) out
-  tells_cut out whole at part = record {
+  pub tells_cut : (out whole : Text) → live_cells (run_of q h 0) ≤ limits.cells → AtEnd q h limits trace n cells polls whole → IsCutShort out whole → Tells names q h limits trace (record { ended = E.WriteFault; steps = n; cells = cells; polls = polls }) out
+  tells_cut out whole first at part = record {
     left = at.broken_off;
-    wrote = (E.WriteFault, at.broken_off, subst (IsPrefix out) (at.wrote ∙ sym (no_last names trace (run_of q h n).trace)) part);
+    wrote = (E.WriteFault, at.broken_off, first, subst (IsCutShort out) (at.wrote ∙ sym (no_last names trace (run_of q h n).trace)) part);
     cells = inl at.cells_are;
     bounded = at.bounded;
     polls = at.polls_are;
@@ -192,20 +197,20 @@ module _ (names : Names) (q : Program) (h : History) (limits : Limits) (trace : 
 
 -- the report that was due, or that the sink failed or memory was wanting
 pub tells_end : (table : Table) (q : Program) (h : History) (limits : Limits) (trace : Bool) (due : RunReport) (ended : Ended) (out whole : Text) → (IsInTable table due.ended → IsLeft (in_table table) q h limits due.steps due.ended)
-    → AtEnd q h limits trace due.steps due.cells due.polls whole → EndsSo table trace due.ended ended out whole → Tells (in_table table) q h limits trace (record due { ended = ended }) out
-tells_end table q h limits trace due ended out whole left at (inl e) =
-    subst (λ x. Tells (in_table table) q h limits trace (record due { ended = x }) out) (sym e.1) (tells_all (in_table table) q h limits trace due.steps due.cells due.polls due.ended out whole (left e.0) at e.2)
-tells_end table q h limits trace due ended out whole left at (inr (inl e)) =
-    subst (λ x. Tells (in_table table) q h limits trace (record due { ended = x }) out) (sym e.1) (tells_part (in_table table) q h limits trace due.steps due.cells due.polls due.ended out whole (left e.0) at e.2)
-tells_end table q h limits trace due ended out whole left at (inr (inr e)) =
+    → KeepsFirst q h limits.cells due.ended → AtEnd q h limits trace due.steps due.cells due.polls whole → EndsSo table trace due.ended ended out whole → Tells (in_table table) q h limits trace (record due { ended = ended }) out
+tells_end table q h limits trace due ended out whole left first at (inl e) =
+    subst (λ x. Tells (in_table table) q h limits trace (record due { ended = x }) out) (sym e.1) (tells_all (in_table table) q h limits trace due.steps due.cells due.polls table due.ended e.0 out whole (left e.0) at e.2)
+tells_end table q h limits trace due ended out whole left first at (inr (inl e)) =
+    subst (λ x. Tells (in_table table) q h limits trace (record due { ended = x }) out) (sym e.1) (tells_part (in_table table) q h limits trace due.steps due.cells due.polls due.ended out whole (left e.0) first at e.2)
+tells_end table q h limits trace due ended out whole left first at (inr (inr e)) =
     subst (λ x. Tells (in_table table) q h limits trace (record due { ended = x }) out) (sym e.0) (tells_memory (in_table table) q h limits trace due.steps due.cells due.polls out whole at e.1)
 
 -- what was due is told, or that the sink failed or memory was wanting
 pub ends_told : (table : Table) (q : Program) (h : History) (limits : Limits) (trace : Bool) (due result : RunReport) (whole : Text) (told now : Option Text) → (IsInTable table due.ended → IsLeft (in_table table) q h limits due.steps due.ended)
-    → AtEnd q h limits trace due.steps due.cells due.polls whole → result ≡ record due { ended = result.ended } → Wrote told now (λ o. EndsSo table trace due.ended result.ended o whole)
+    → KeepsFirst q h limits.cells due.ended → AtEnd q h limits trace due.steps due.cells due.polls whole → result ≡ record due { ended = result.ended } → Wrote told now (λ o. EndsSo table trace due.ended result.ended o whole)
     → Wrote told now (Tells (in_table table) q h limits trace result)
-ends_told table q h limits trace due result whole told now left at same w =
-    (w.0, w.1, subst (λ r. Tells (in_table table) q h limits trace r w.0) (sym same) (tells_end table q h limits trace due result.ended w.0 whole left at w.2))
+ends_told table q h limits trace due result whole told now left first at same w =
+    (w.0, w.1, subst (λ r. Tells (in_table table) q h limits trace r w.0) (sym same) (tells_end table q h limits trace due result.ended w.0 whole left first at w.2))
 
 -- ---- what is known at each end
 

@@ -24,14 +24,15 @@ use Rattle.cpc_meaning.specs.Trees.{trees}
 use Rattle.cpc_meaning_cell_laws.specs.Cells.{call_cells}
 use Rattle.cpc_meaning_cell_laws.proofs.Steps.{taking_adds}
 use Rattle.cpc_run.specs.declared.looped.Loop.{Loop}
-use Rattle.cpc_run.specs.declared.short.Short.{Short}
-use Rattle.cpc_run.specs.declared.short.Short.TheVariants as W
-use Rattle.cpc_run.specs.Code.{store_in, stack_in}
-use Rattle.cpc_run.specs.Shorts.{Counts, IsAbove, IsBeyond}
+use Rattle.cpc_run_code.specs.declared.short.Short.{Short}
+use Rattle.cpc_run_code.specs.declared.short.Short.TheVariants as W
+use Rattle.cpc_run_code.specs.Code.{store_in, stack_in}
+use Rattle.cpc_run.specs.Shorts.{Counts, IsBeyond}
+use Rattle.cpc_run_code.specs.Shorts.{IsAbove}
 use Rattle.cpc_run.specs.States.{States, Within, settles, program_in}
 use Rattle.cpc_meaning_pointer_laws.specs.Made.{IsMadeStore}
 use Rattle.cpc_run.proofs.Turns.{frame_never_fails}
-use Rattle.cpc_run.proofs.Written.{Collects, collects}
+use Rattle.cpc_run_code.proofs.Written.{Collects, collects}
 
 -- ---- numbers
 

@@ -25,14 +25,14 @@ use Rattle.cpc_meaning.proofs.Agendas.{SameAgenda, SameDue}
 use Rattle.cpc_meaning.proofs.Both.{Both, Ends, Goes}
 use Rattle.cpc_agenda.specs.Lists.{due_of}
 use Rattle.cpc_eval_values.specs.Shown.{value_of}
-use Rattle.cpc_run.specs.declared.items.Item.{Item}
+use Rattle.cpc_run_code.specs.declared.items.Item.{Item}
 use Rattle.cpc_run.specs.declared.looped.Loop.{Loop}
-use Rattle.cpc_run.specs.declared.outcome.Outcome.{Outcome}
-use Rattle.cpc_run.specs.declared.outcome.Outcome.TheVariants as O
+use Rattle.cpc_run_shown.specs.declared.outcome.Outcome.{Outcome}
+use Rattle.cpc_run_shown.specs.declared.outcome.Outcome.TheVariants as O
 use Rattle.cpc_run.specs.declared.step.Step.TheVariants as X
 use Rattle.cpc_run.specs.Shorts.{Counts}
-use Rattle.cpc_run.specs.Code.{items_in, store_in, stack_in, Same}
-use Rattle.cpc_run.specs.Shown.{shown}
+use Rattle.cpc_run_code.specs.Code.{items_in, store_in, stack_in, Same}
+use Rattle.cpc_run_shown.specs.Shown.{shown}
 use Rattle.cpc_run.specs.States.{States, IsCallback, HasLists, Stands, Came, Did, CameTo, callback_of, lists_in, settles, where_running, program_in}
 use Rattle.cpc_run.proofs.Asks.{same_agenda}
 

@@ -27,13 +27,13 @@ use Rattle.cpc_meaning.specs.Trees.{trees}
 use Rattle.cpc_meaning.proofs.Agendas.{SameAgenda, SameResult, sectioned}
 use Rattle.cpc_history_marks.specs.Views.{told_of}
 use Rattle.cpc_run_jobs.specs.Holding.{Holds, SubmitsAs, items_of}
-use Rattle.cpc_run.specs.declared.items.Item.{Item}
+use Rattle.cpc_run_code.specs.declared.items.Item.{Item}
 use Rattle.cpc_run.specs.declared.looped.Loop.{Loop}
-use Rattle.cpc_run.specs.declared.outcome.Outcome.{Outcome}
-use Rattle.cpc_run.specs.declared.outcome.Outcome.TheVariants as O
-use Rattle.cpc_run.specs.Code.{items_in, store_in, stack_in}
+use Rattle.cpc_run_shown.specs.declared.outcome.Outcome.{Outcome}
+use Rattle.cpc_run_shown.specs.declared.outcome.Outcome.TheVariants as O
+use Rattle.cpc_run_code.specs.Code.{items_in, store_in, stack_in}
 use Rattle.cpc_run.specs.Sections.{submitted}
-use Rattle.cpc_run.specs.Shown.{shown}
+use Rattle.cpc_run_shown.specs.Shown.{shown}
 use Rattle.cpc_run.specs.States.{States, IsCallback, Fits, HasLists, Did, Acted, callback_of, lists_in, settles, program_in}
 use Rattle.cpc_run.proofs.Alike.{ok_same, err_same}
 use Rattle.cpc_run.proofs.Asks.{carried}

@@ -7,8 +7,8 @@ use Rattle.cpc_store.specs.declared.values.Value as V
 use Rattle.cpc_meaning.specs.Events.{CallWith}
 use Rattle.cpc_eval_values.specs.Shown.{value_of}
 use Rattle.cpc_run.specs.Going.{HasCallback}
-use Rattle.cpc_run.specs.declared.items.Callback.{Callback}
-use Rattle.cpc_run.specs.declared.items.Item.TheVariants as I
+use Rattle.cpc_run_code.specs.declared.items.Callback.{Callback}
+use Rattle.cpc_run_code.specs.declared.items.Item.TheVariants as I
 use Rattle.cpc_run.specs.States.{callback_of}
 
 -- the callback of a function with a pointer

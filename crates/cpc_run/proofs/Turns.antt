@@ -27,12 +27,12 @@ use Rattle.cpc_agenda_turns.specs.declared.turns.Turns.{Turns}
 use Rattle.cpc_agenda_turns.specs.Laws.{turned}
 use Rattle.cpc_agenda_turns.specs.Turns as N
 use Rattle.cpc_agenda_turns.proofs.Follow.{turns_follow}
-use Rattle.cpc_run.specs.declared.items.Item.{Item}
+use Rattle.cpc_run_code.specs.declared.items.Item.{Item}
 use Rattle.cpc_run.specs.declared.looped.Loop.{Loop}
-use Rattle.cpc_run.specs.declared.outcome.Outcome.TheVariants as O
-use Rattle.cpc_run.specs.declared.short.Short.{Short}
-use Rattle.cpc_run.specs.Code.{store_in, stack_in}
-use Rattle.cpc_run.specs.Shown.{shown}
+use Rattle.cpc_run_shown.specs.declared.outcome.Outcome.TheVariants as O
+use Rattle.cpc_run_code.specs.declared.short.Short.{Short}
+use Rattle.cpc_run_code.specs.Code.{store_in, stack_in}
+use Rattle.cpc_run_shown.specs.Shown.{shown}
 use Rattle.cpc_run.specs.declared.step.Step.{Step}
 use Rattle.cpc_run.specs.declared.step.Step.TheVariants as X
 use Rattle.cpc_run.specs.States.{States, IsCallback, Stands, DidTurn, CameTo, IsSteady, CountsPolls, lists_in, polls_in, settles, where_running, program_in}

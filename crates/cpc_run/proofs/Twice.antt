@@ -18,13 +18,14 @@ use Rattle.cpc_native_laws.specs.Laws.{AreOthers}
 use Rattle.cpc_run.specs.declared.looped.Loop.{Loop}
 use Rattle.cpc_run.specs.declared.made.Made as D
 use Rattle.cpc_run.specs.declared.made.Made.TheVariants as M
-use Rattle.cpc_run.specs.declared.outcome.Ended.TheVariants as E
-use Rattle.cpc_run.specs.declared.outcome.Outcome.{Outcome}
-use Rattle.cpc_run.specs.declared.outcome.Outcome.TheVariants as O
+use Rattle.cpc_run_shown.specs.declared.outcome.Ended.TheVariants as E
+use Rattle.cpc_run_shown.specs.declared.outcome.Outcome.{Outcome}
+use Rattle.cpc_run_shown.specs.declared.outcome.Outcome.TheVariants as O
 use Rattle.cpc_run.specs.Going.{Goes}
 use Rattle.cpc_run.specs.Hosts.{HasHosts}
-use Rattle.cpc_run.specs.Outcomes.{outcome_of}
-use Rattle.cpc_run.specs.Reports.{IsInTable, MadeSo, NeverStuck, Reached, run_of}
+use Rattle.cpc_run_shown.specs.Outcomes.{outcome_of}
+use Rattle.cpc_run_shown.specs.Known.{IsInTable}
+use Rattle.cpc_run.specs.Reports.{MadeSo, NeverStuck, Reached, run_of}
 use Rattle.cpc_run.specs.States.{States, program_in}
 use Rattle.cpc_run.proofs.Going.{end_known}
 use Rattle.cpc_run.proofs.Runs.{made_next, next_is, over_next, within_cap}

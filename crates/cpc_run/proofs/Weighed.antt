@@ -10,14 +10,14 @@ use Rattle.cpc_meaning.specs.Runs.{live_cells, registers, frames_registers}
 use Rattle.cpc_tree.specs.Points.{Point}
 use Rattle.cpc_run.specs.declared.looped.Loop.{Loop}
 use Rattle.cpc_run.specs.declared.made.Made.TheVariants as M
-use Rattle.cpc_run.specs.declared.outcome.Outcome.{Outcome}
-use Rattle.cpc_run.specs.declared.short.Short.TheVariants as W
+use Rattle.cpc_run_shown.specs.declared.outcome.Outcome.{Outcome}
+use Rattle.cpc_run_code.specs.declared.short.Short.TheVariants as W
 use Rattle.cpc_run.specs.Shorts.{Counts, IsBeyond}
-use Rattle.cpc_run.specs.Code.{store_in, stack_in, IsIdle}
+use Rattle.cpc_run_code.specs.Code.{store_in, stack_in, IsIdle}
 use Rattle.cpc_run.specs.declared.step.Step.TheVariants as X
 use Rattle.cpc_run.specs.States.{States, Stands, Breaks, Came, CameTo, IsSteady, where_running}
 use Rattle.cpc_run.specs.Reports.{MadeSo}
-use Rattle.cpc_run.proofs.Coded.{idle_frames}
+use Rattle.cpc_run_code.proofs.Coded.{idle_frames}
 
 -- a number below the greatest is not capped
 pub uncapped : (cells live greatest : ℕ) → cells ≡ min live greatest → cells ≢ greatest → cells ≡ live

@@ -5,7 +5,7 @@ use Rattle.cpc_tree.specs.Erase.{Names}
 use Rattle.cpc_run.specs.declared.looped.Loop.{Loop}
 use Rattle.cpc_run.specs.declared.made.Made.{Made}
 use Rattle.cpc_run.specs.declared.made.Made.TheVariants as M
-use Rattle.cpc_run.specs.declared.outcome.Outcome.{Outcome}
+use Rattle.cpc_run_shown.specs.declared.outcome.Outcome.{Outcome}
 use Rattle.cpc_run.specs.Hosts.{answers_of, HostsMeet}
 use Rattle.cpc_run.specs.States.{States, Came}
 

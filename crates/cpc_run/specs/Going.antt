@@ -23,10 +23,10 @@ use Rattle.cpc_native_builtins.specs.declared.call.Call.{Call}
 use Rattle.cpc_native_builtins.specs.declared.call.Call.TheVariants as C
 use Rattle.cpc_native_laws.specs.Laws.{AreOthers}
 use Rattle.cpc_run.specs.declared.looped.Loop.{Loop}
-use Rattle.cpc_run.specs.Code.{stack_in}
+use Rattle.cpc_run_code.specs.Code.{stack_in}
 use Rattle.cpc_run.specs.Hosts.{HasHosts}
 use Rattle.cpc_run.specs.States.{States, Stands, Within, Fits, Acted, settles, program_in}
-use Rattle.cpc_run.specs.Taken.{IsCode}
+use Rattle.cpc_run_code.specs.Taken.{IsCode}
 
 -- By two spellings that differ at each name which the table does not have, the loop stands as one state. It has no more live cells than the cap, and goes on.
 -- The functions of the host that its code asks for are there.

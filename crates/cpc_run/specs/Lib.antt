@@ -1,12 +1,7 @@
 pub mod Answers
-pub mod Code
 pub mod Going
 pub mod Hosts
-pub mod Outcomes
-pub mod Made
 pub mod Sections
-pub mod Shown
 pub mod States
 pub mod Reports
 pub mod Shorts
-pub mod Taken

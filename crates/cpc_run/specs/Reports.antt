@@ -18,19 +18,19 @@ use Rattle.cpc_native_laws.specs.Laws.{AreOthers}
 use Rattle.cpc_history_marks.specs.declared.marks.Told.{Told}
 use Rattle.cpc_history_marks.specs.Views.{told_of}
 use Rattle.cpc_run.specs.declared.looped.Loop.{Loop}
-use Rattle.cpc_run.specs.declared.outcome.Ended.{Ended}
-use Rattle.cpc_run.specs.declared.outcome.Ended.TheVariants as E
-use Rattle.cpc_run.specs.declared.outcome.Limits.{Limits}
-use Rattle.cpc_run.specs.declared.outcome.Outcome.{Outcome}
-use Rattle.cpc_run.specs.declared.outcome.Outcome.TheVariants as O
-use Rattle.cpc_run.specs.declared.outcome.RunReport.{RunReport}
+use Rattle.cpc_run_shown.specs.declared.outcome.Ended.{Ended}
+use Rattle.cpc_run_shown.specs.declared.outcome.Ended.TheVariants as E
+use Rattle.cpc_run_shown.specs.declared.outcome.Limits.{Limits}
+use Rattle.cpc_run_shown.specs.declared.outcome.Outcome.{Outcome}
+use Rattle.cpc_run_shown.specs.declared.outcome.RunReport.{RunReport}
 use Rattle.cpc_run.specs.declared.made.Made.{Made}
 use Rattle.cpc_run.specs.declared.made.Made.TheVariants as M
-use Rattle.cpc_run.specs.Made.{IsMadeRun}
+use Rattle.cpc_run_code.specs.Made.{IsMadeRun}
 use Rattle.cpc_run.specs.Hosts.{answers_of, HasHosts, HostsMeet, with_answers}
-use Rattle.cpc_run.specs.Outcomes.{outcome_of}
-use Rattle.cpc_run.specs.Shown.{shown, all_shown, last_of}
+use Rattle.cpc_run_shown.specs.Outcomes.{outcome_of}
+use Rattle.cpc_run_shown.specs.Shown.{shown, all_shown, last_of}
 use Rattle.cpc_run.specs.States.{States, Stands, Breaks, Fits, IsSteady, program_in}
+use Rattle.cpc_run_shown.specs.Known.{IsInTable}
 
 -- a sink took some bytes that have P
 abbrev pub Wrote : (old new : Option Text) → (Text → Type 0) → Type 0
@@ -40,6 +40,11 @@ Wrote old new P = (bytes : Text) × (new ≡ append_known old bytes) × P bytes
 pub record IsPrefix (front all : Text) : Type 0 where
   pub rest : Text
   pub whole : all ≡ front ++ rest
+
+-- the bytes are the first of these, and not all of them
+pub record IsCutShort (front all : Text) : Type 0 where
+  pub part : IsPrefix front all
+  pub short : length front < length all
 
 -- the history of a run that is told these polls, before a host has answered, where a section may make so many steps
 abbrev pub history_of : List Told → (section_bound : ℕ) → History
@@ -80,10 +85,15 @@ IsLeft names q h limits n E.WriteFault = IsBrokenOff q h limits.steps n
 IsLeft names q h limits n E.Memory = IsBrokenOff q h limits.steps n
 IsLeft names q h limits n (E.NoHost x) = ⊥
 
--- what went out: all, with the last line of a trace; or the first part of it, where memory was wanting, or the sink failed, which
--- may have been at the last line of a run that was left so
+-- where a run is left for another reason than its cells, its first state has no more of them than the cap
+abbrev pub KeepsFirst : (q : Program) → (h : History) → (cap : ℕ) → Ended → Type 0
+KeepsFirst q h cap (E.Full cells) = Unit {0}
+KeepsFirst q h cap ended = live_cells (run_of q h 0) ≤ cap
+
+-- what went out: all, with the last line of a trace; or the first part of it, where memory was wanting, or the sink failed, which then has not
+-- taken all of it, and which may have been at the last line of a run that was left so
 abbrev pub WentOut : Names → (q : Program) → (h : History) → Limits → (trace : Bool) → (n : ℕ) → Ended → (out : Text) → Type 0
-WentOut names q h limits trace n E.WriteFault out = (due : Ended) × IsLeft names q h limits n due × IsPrefix out (all_shown names trace due (run_of q h n).trace)
+WentOut names q h limits trace n E.WriteFault out = (due : Ended) × IsLeft names q h limits n due × KeepsFirst q h limits.cells due × IsCutShort out (all_shown names trace due (run_of q h n).trace)
 WentOut names q h limits trace n E.Memory out = IsPrefix out (shown trace (run_of q h n).trace)
 WentOut names q h limits trace n (E.Over outcome) out = out ≡ all_shown names trace (E.Over outcome) (run_of q h n).trace
 WentOut names q h limits trace n E.Steps out = out ≡ all_shown names trace E.Steps (run_of q h n).trace
@@ -153,11 +163,6 @@ MadeSteady _ l = Unit {0}
 abbrev pub Drained : (told now : Option Text) → (sent old new : Text) → Type 0
 Drained told now sent old new = (front : Text) × (now ≡ append_known told front) × (front ++ new ≡ sent ++ old)
 
--- a name that an end tells is in the table
-abbrev pub IsInTable : Table → Ended → Type 0
-IsInTable table (E.Over (O.Failed fault f)) = f.0 < length table
-IsInTable table e = Unit {0}
-
 -- what goes out behind this where the end is due
 abbrev pub with_last : Table → (trace : Bool) → (due : Ended) → (whole : Text) → Text
 with_last table trace due whole = whole ++ last_of (in_table table) trace due
@@ -165,7 +170,7 @@ with_last table trace due whole = whole ++ last_of (in_table table) trace due
 -- all was written and the end is the one that was due, or the sink failed; or memory was wanting
 abbrev pub EndsSo : Table → (trace : Bool) → (due ended : Ended) → (out whole : Text) → Type 0
 EndsSo table trace due ended out whole =
-    (IsInTable table due × (ended ≡ due) × (out ≡ with_last table trace due whole)) ⊎ ((IsInTable table due × (ended ≡ E.WriteFault) × IsPrefix out (with_last table trace due whole)) ⊎ ((ended ≡ E.Memory) × IsPrefix out whole))
+    (IsInTable table due × (ended ≡ due) × (out ≡ with_last table trace due whole)) ⊎ ((IsInTable table due × (ended ≡ E.WriteFault) × IsCutShort out (with_last table trace due whole)) ⊎ ((ended ≡ E.Memory) × IsPrefix out whole))
 
 -- the loop stands as the first state of q's run, which is never stuck
 pub record Begins (names : Names) (q : Program) (h : History) (l : Loop) (cells : ℕ) : Type 0 where

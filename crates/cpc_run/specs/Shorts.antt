@@ -1,14 +1,9 @@
 -- Steps and the cap on live cells: those that are not made, since they would leave more, and those that are.
-use Rattle.std.specs.Prelude.{◌≡◌, ◌≢◌, ℕ, ◌<◌, ◌-◌, ◌^◌, Option, Some, None}
+use Rattle.std.specs.Prelude.{◌≡◌, ℕ, ◌<◌, ◌-◌, Option, Some, None}
 use Rattle.cpc_meaning.specs.Runs.{live_cells}
-use Rattle.cpc_run.specs.declared.short.Short.{Short}
-use Rattle.cpc_run.specs.declared.short.Short.TheVariants as W
+use Rattle.cpc_run_code.specs.declared.short.Short.{Short}
+use Rattle.cpc_run_code.specs.declared.short.Short.TheVariants as W
 use Rattle.cpc_run.specs.States.{States}
-
--- so many cells are above the cap, and told, where the number is known
-abbrev pub IsAbove : (cap cells : ℕ) → Short → Type 0
-IsAbove cap cells W.Memory = Unit {0}
-IsAbove cap cells (W.Beyond told) = (told ≡ cells) × (cap < cells) × (cells ≢ 2 ^ 64 - 1)
 
 -- what holds of the live cells of the next state; where no rule fits nothing is said
 abbrev pub Counts : (ℕ → Type 0) → Option States → Type 0

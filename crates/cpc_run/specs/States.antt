@@ -24,17 +24,17 @@ use Rattle.cpc_agenda_turns.specs.declared.turns.Turns.{Turns}
 use Rattle.cpc_num.specs.declared.kinds.Fault.{Fault}
 use Rattle.cpc_run_jobs.specs.declared.jobs.Jobs.{Jobs}
 use Rattle.cpc_run_jobs.specs.Holding.{Holds, Serves, IsAssigned, items_of as items_of_jobs}
-use Rattle.cpc_run.specs.declared.items.Item.{Item}
-use Rattle.cpc_run.specs.declared.items.Item.TheVariants as I
+use Rattle.cpc_run_code.specs.declared.items.Item.{Item}
+use Rattle.cpc_run_code.specs.declared.items.Item.TheVariants as I
 use Rattle.cpc_run.specs.declared.looped.Loop.{Loop}
-use Rattle.cpc_run.specs.declared.outcome.Outcome.{Outcome}
-use Rattle.cpc_run.specs.declared.outcome.Outcome.TheVariants as O
+use Rattle.cpc_run_shown.specs.declared.outcome.Outcome.{Outcome}
+use Rattle.cpc_run_shown.specs.declared.outcome.Outcome.TheVariants as O
 use Rattle.cpc_run.specs.declared.step.Step.{Step}
 use Rattle.cpc_run.specs.declared.step.Step.TheVariants as X
-use Rattle.cpc_run.specs.Code.{items_in, store_in, stack_in, IsIdle, IsWell, Runs}
-use Rattle.cpc_run.specs.Made.{IsMadeRun}
-use Rattle.cpc_run.specs.Outcomes.{outcome_of}
-use Rattle.cpc_run.specs.Shown.{shown}
+use Rattle.cpc_run_code.specs.Code.{items_in, store_in, stack_in, IsIdle, IsWell, Runs}
+use Rattle.cpc_run_code.specs.Made.{IsMadeRun}
+use Rattle.cpc_run_shown.specs.Outcomes.{outcome_of}
+use Rattle.cpc_run_shown.specs.Shown.{shown}
 
 -- what the loop takes up
 abbrev pub callback_of : Names → Item → Callback

@@ -14,20 +14,19 @@ ghost use Rattle.cpc_meaning.specs.Machine.{asked_by, primitive, prints, byte_of
 ghost use Rattle.cpc_meaning.specs.Trees.{trees};
 ghost use Rattle.cpc_eval_values.specs.Shown.{value_of, values_of};
 ghost use Rattle.cpc_meaning_pointer_laws.specs.Made.{IsMadeCode};
-ghost use Rattle.cpc_run.specs.Code.{stack_in};
+ghost use Rattle.cpc_run_code.specs.Code.{stack_in};
 ghost use Rattle.cpc_run.specs.Going.{CallHasBlock, CallsBack, CallsThere, HasBlock, HasCallback, KnowsNames, KnowsSection};
 ghost use Rattle.cpc_native.specs.Stacks.{request_of};
 ghost use Rattle.cpc_run.specs.States.{States, Came, Fits, IsSteady, GoesSteady, Keeps, Did, Acted, settles, program_in};
 ghost use Rattle.cpc_run.specs.Answers.{CameAnswered};
 
 use crate::looped::Loop;
-use crate::outcome::Outcome;
-use crate::shown::put_output;
 use cpc_base::{Name, Names, NoMemory};
 use cpc_hosts::{HostRule, HostTable, Kept};
 use cpc_native::Request;
 use cpc_native_builtins::{Builtin, Call};
 use cpc_run_sections::Sections;
+use cpc_run_shown::{Outcome, put_output};
 use cpc_store::{Class, Value};
 use std::alloc::{AllocError, Global};
 

@@ -11,23 +11,21 @@ ghost use Rattle.cpc_meaning.specs.Trees.{trees};
 ghost use Rattle.cpc_eval_values.specs.Shown.{value_of, values_of};
 ghost use Rattle.cpc_run_jobs.specs.Holding.{IsAssigned};
 ghost use Rattle.cpc_run.specs.Answers.{CameAnswered};
-ghost use Rattle.cpc_run.specs.Code.{stack_in};
+ghost use Rattle.cpc_run_code.specs.Code.{stack_in};
 ghost use Rattle.cpc_run.specs.Going.{Goes};
 ghost use Rattle.cpc_run.specs.Shorts.{Counts, IsBeyond};
 ghost use Rattle.cpc_run.specs.declared.step.Step.TheVariants.{On};
 ghost use Rattle.cpc_run.specs.States.{States, Stands, Within, Fits, IsSteady, GoesSteady, TurnsSteady, CountsPolls, Keeps, Did, CameTo, DidTurn, Acted, settles, program_in, callback_of, lists_in};
 
-use crate::code::Code;
-use crate::items::{Item, waited_for};
-use crate::outcome::Outcome;
-use crate::short::{Short, above};
 use crate::step::Step;
 use cpc_agenda_turns::{Turned, Turns};
 use cpc_base::{Name, Names, NoMemory};
 use cpc_hosts::{HostRule, HostTable, Kept};
 use cpc_native::Stepped;
+use cpc_run_code::{Code, Item, Short, above, waited_for};
 use cpc_run_jobs::Jobs;
 use cpc_run_sections::Sections;
+use cpc_run_shown::Outcome;
 use cpc_store::Value;
 use std::alloc::Global;
 
@@ -102,7 +100,7 @@ impl<'p> Loop<'p> {
     }
 
     // Nothing runs: an item that was the first of the round is taken.
-    #[tactic(auto, using(crate::proofs::Lawful::passed_lawful))]
+    #[tactic(auto, using(cpc_run_code::proofs::Lawful::passed_lawful))]
     fn take(&mut self, alloc: Global, item: Item, waited: Value, cap: u64) -> Result<(), Short>
         requires steady { IsSteady self.old }
         requires idle { self.old.running ≡ false }

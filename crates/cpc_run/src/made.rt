@@ -14,13 +14,13 @@ ghost use Rattle.cpc_run.specs.States.{States, Stands, Within, Fits, IsSteady, K
 ghost use Rattle.cpc_run.specs.Reports.{MadeSo, MadePolls, MadeSteady};
 
 use crate::looped::Loop;
-use crate::outcome::Outcome;
-use crate::short::Short;
 use crate::step::Step;
 use cpc_base::{Name, Names, NoMemory};
 use cpc_hosts::{HostRule, HostTable, Kept};
 use cpc_num::Fault;
+use cpc_run_code::Short;
 use cpc_run_sections::Sections;
+use cpc_run_shown::Outcome;
 use std::alloc::Global;
 
 // How many bytes wait before they are written, where no poll is taken.

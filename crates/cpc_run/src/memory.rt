@@ -13,16 +13,16 @@ ghost use Rattle.cpc_meaning.specs.Trees.{trees};
 ghost use Rattle.cpc_eval_values.specs.Shown.{value_of, values_of};
 ghost use Rattle.cpc_meaning_pointer_laws.specs.Made.{IsMadeCode};
 ghost use Rattle.cpc_native_acts.specs.Taken.{IsTaken};
-ghost use Rattle.cpc_run.specs.Code.{store_in, stack_in};
+ghost use Rattle.cpc_run_code.specs.Code.{store_in, stack_in};
 ghost use Rattle.cpc_run.specs.Going.{HasRoom, HasRoomFor};
-ghost use Rattle.cpc_run.specs.Taken.{IsNumber};
+ghost use Rattle.cpc_run_code.specs.Taken.{IsNumber};
 ghost use Rattle.cpc_run.specs.States.{States, Stands, Fits, IsSteady, GoesSteady, Keeps, Did, Acted, settles, program_in};
 
 use crate::looped::Loop;
-use crate::outcome::Outcome;
 use cpc_base::{Name, NoMemory};
 use cpc_native::Request;
 use cpc_num::Fault;
+use cpc_run_shown::Outcome;
 use cpc_store::{Block, Class, Value};
 use std::alloc::Global;
 

@@ -8,19 +8,18 @@ ghost use Rattle.cpc_history_marks.specs.Views.{told_of};
 ghost use Rattle.cpc_meaning.specs.Start.{main_name};
 ghost use Rattle.cpc_eval_index.specs.Indexed.{program_items};
 ghost use Rattle.cpc_run_jobs.specs.Holding.{IsAssigned};
-ghost use Rattle.cpc_run.specs.Code.{Given};
+ghost use Rattle.cpc_run_code.specs.Code.{Given};
 ghost use Rattle.cpc_run.specs.States.{IsSteady};
 ghost use Rattle.cpc_run.specs.Reports.{Opened, history_of};
 
-use crate::code::Code;
-use crate::items::Item;
 use crate::looped::Loop;
 use cpc_agenda::Agenda;
 use cpc_agenda_turns::Turns;
 use cpc_base::{Name, Names, NoMemory};
 use cpc_eval_index::Index;
 use cpc_history_marks::Told;
-use cpc_run_globals::globals;
+use cpc_run_code::{Code, Item};
+use cpc_run_globals::{Layouts, globals};
 use cpc_run_jobs::Jobs;
 use cpc_tree::program::{Item as Declared, Program};
 use std::alloc::Global;
@@ -89,9 +88,10 @@ impl<'p> Loop<'p> {
         let Some(main) = main_of(program) else {
             unreachable!();
         };
-        let store = globals(alloc, program)?;
+        let layouts = Layouts::of(alloc, &program.items)?;
+        let store = globals(alloc, program, &layouts)?;
         let machine = Code::new(alloc, program, index, store);
-        let jobs = Jobs::new(alloc, program, section_steps)?;
+        let jobs = Jobs::new(alloc, program, layouts, section_steps);
         let mut agenda = Agenda::new(alloc);
         match agenda.ready(Item::Main) {
             Ok(()) => Ok(Loop {

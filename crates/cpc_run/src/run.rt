@@ -14,16 +14,15 @@ ghost use Rattle.cpc_tree.specs.Syntax.{Program as Bare};
 ghost use Rattle.cpc_run_jobs.specs.Holding.{IsAssigned};
 ghost use Rattle.cpc_run.specs.Hosts.{HasHosts, missing_of, with_answers};
 ghost use Rattle.cpc_run.specs.States.{IsSteady};
-ghost use Rattle.cpc_run.specs.Reports.{Wrote, IsPrefix, Tells, Ran, IsMissing, Drained, EndsSo, IsInTable, Begins, BeginsTwice, NeverStuck, history_of, run_of};
-ghost use Rattle.cpc_run.specs.Code.{Given, GivenTwice};
-ghost use Rattle.cpc_run.specs.declared.outcome.Ended.TheVariants.{WriteFault as IsWriteFault};
-ghost use Rattle.cpc_run.specs.declared.outcome.Limits.{Limits as Bounds};
+ghost use Rattle.cpc_run.specs.Reports.{Wrote, IsCutShort, Tells, Ran, IsMissing, Drained, EndsSo, Begins, BeginsTwice, NeverStuck, history_of, run_of};
+ghost use Rattle.cpc_run_shown.specs.Known.{IsInTable};
+ghost use Rattle.cpc_run_code.specs.Code.{Given, GivenTwice};
+ghost use Rattle.cpc_run_shown.specs.declared.outcome.Ended.TheVariants.{WriteFault as IsWriteFault};
+ghost use Rattle.cpc_run_shown.specs.declared.outcome.Limits.{Limits as Bounds};
 
 use crate::hosts::missing_host;
 use crate::looped::Loop;
 use crate::made::Made;
-use crate::outcome::{Ended, Limits, Outcome, RunReport};
-use crate::shown::put_last;
 use cpc_base::{Failed, Names, NoMemory, Sink, write_all};
 use cpc_check::Checked;
 use cpc_check_served_laws::{accepted_are_served, accepted_ask_declared};
@@ -34,6 +33,7 @@ use cpc_hosts::{HostRule, HostTable, Kept};
 use cpc_native_laws::{checked_has_numbers, is_spelled_twice};
 use cpc_run_globals::global_cells;
 use cpc_run_sections::Sections;
+use cpc_run_shown::{Ended, Limits, Outcome, RunReport, put_last};
 use cpc_tree::program::Program;
 use std::alloc::Global;
 
@@ -50,7 +50,7 @@ fn drain<O: Sink>(out: &mut O, pending: &mut Vec<u8>, least: usize) -> Result<()
     ensures all { OnOk result ((told : Option Text) (sent : Text) → O.taken out.old ≡ append_known told sent → Drained told (O.taken out.new) sent pending.old.items pending.new.items) }
     ensures emptied { least ≡ 0 → OnOk result (pending.new.items ≡ []) }
     ensures few { OnOk result ((pending.new.items ≡ []) ⊎ (length pending.new.items < least)) }
-    ensures part { OnErr result ((told : Option Text) (sent : Text) → O.taken out.old ≡ append_known told sent → Wrote told (O.taken out.new) (λ o. IsPrefix o (sent ++ pending.old.items))) }
+    ensures part { OnErr result ((told : Option Text) (sent : Text) → O.taken out.old ≡ append_known told sent → Wrote told (O.taken out.new) (λ o. IsCutShort o (sent ++ pending.old.items))) }
     ensures cause { OnErr result (Rose (O.faults out.old) (O.faults out.new)) }
     ensures later { O.faults out.old ≤ O.faults out.new }
 {

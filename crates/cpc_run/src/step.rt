@@ -1,7 +1,7 @@
 //! What a step comes to.
-use crate::outcome::Outcome;
 use cpc_base::Name;
 use cpc_num::Fault;
+use cpc_run_shown::Outcome;
 
 /// What a step comes to where nothing ran before it.
 #[derive(Clone, Copy, Debug)]

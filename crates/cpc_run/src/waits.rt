@@ -14,18 +14,17 @@ ghost use Rattle.cpc_meaning.specs.Machine as M;
 ghost use Rattle.cpc_meaning.specs.Trees.{trees};
 ghost use Rattle.cpc_eval_values.specs.Shown.{value_of, values_of};
 ghost use Rattle.cpc_native_acts.specs.Taken.{IsAskedWith};
-ghost use Rattle.cpc_run.specs.Code.{stack_in};
+ghost use Rattle.cpc_run_code.specs.Code.{stack_in};
 ghost use Rattle.cpc_run.specs.Going.{HasCallback};
-ghost use Rattle.cpc_run.specs.Taken.{IsCode, IsNumber};
+ghost use Rattle.cpc_run_code.specs.Taken.{IsCode, IsNumber};
 ghost use Rattle.cpc_run.specs.States.{States, Fits, IsSteady, GoesSteady, Keeps, Did, Acted, settles, program_in};
 
-use crate::items::{Callback, Item};
 use crate::looped::Loop;
-use crate::outcome::Outcome;
-use crate::shown::put_wait;
 use cpc_base::{Direction, Name, NoMemory, Stop};
 use cpc_history_marks::Mark;
 use cpc_native::Request;
+use cpc_run_code::{Callback, Item};
+use cpc_run_shown::{Outcome, put_wait};
 use cpc_store::Value;
 use std::alloc::Global;
 

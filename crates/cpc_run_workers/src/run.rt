@@ -9,7 +9,7 @@ ghost use Rattle.cpc_meaning.specs.History.{polls_fit};
 ghost use Rattle.cpc_history_marks.specs.Views.{told_of};
 ghost use Rattle.cpc_run.specs.Hosts.{missing_of};
 ghost use Rattle.cpc_run.specs.Reports.{IsMissing, Ran, Wrote, history_of};
-ghost use Rattle.cpc_run.specs.declared.outcome.Ended.TheVariants.{WriteFault as IsWriteFault};
+ghost use Rattle.cpc_run_shown.specs.declared.outcome.Ended.TheVariants.{WriteFault as IsWriteFault};
 
 use cpc_base::{NoMemory, Sink};
 use cpc_check::Checked;

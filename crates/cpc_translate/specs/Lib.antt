@@ -1,3 +1,4 @@
 pub mod Faults
 pub mod Refusals
 pub mod Passes
+pub mod Promised

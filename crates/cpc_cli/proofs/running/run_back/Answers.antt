@@ -4,8 +4,8 @@ use Rattle.std.specs.Io.KnownBytes.{append_known}
 use Rattle.cpc_base.proofs.Pieces.{append_known-append}
 use Rattle.cpc_tree.specs.Erase.{program_of}
 use Rattle.cpc_cli_command.specs.Commands.{asked_options}
+use Rattle.cpc_run.specs.Reports.{IsCutShort}
 use Rattle.cpc_cli.specs.Ran.{heading}
-use Rattle.cpc_run.specs.Reports.{IsPrefix}
 use Rattle.cpc_cli.proofs.TopLemmas.{answered_behind, rose_earlier, unasked, unbegun}
 use Rattle.cpc_cli.proofs.running.run_back.Goals as goal
 
@@ -17,7 +17,7 @@ returns-in-Err-clause-ended g c =
       record {
         answers = [];
         answered = unasked _ _ (asked_options c.args.options) _ c.args.report.now c.requires.fresh;
-        ran = (c.in-Err.ensures.cause _ refl, unbegun _ _ _ c.args.text c.args.report.now h.0 c.requires.fresh (subst (λ t. IsPrefix h.0 (heading c.args.text t)) c.as_slice.ensures.value h.2));
+        ran = (c.in-Err.ensures.cause _ refl, unbegun _ _ _ c.args.text c.args.report.now h.0 c.requires.fresh (subst (λ t. IsCutShort h.0 (heading c.args.text t)) c.as_slice.ensures.value h.2));
       },
     )
 

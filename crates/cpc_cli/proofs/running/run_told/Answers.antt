@@ -8,6 +8,8 @@ use Rattle.cpc_run.specs.Hosts.{missing_of}
 use Rattle.cpc_cli_command.specs.Commands.{asked_options}
 use Rattle.cpc_cli.specs.Command.{host_of}
 use Rattle.cpc_cli.proofs.TopLemmas.{told_polls}
+use Rattle.cpc_cli.specs.Asked.{is_early}
+use Rattle.cpc_cli.proofs.AskedLemmas.{asks_nothing, late_history, ran_late, untold_late}
 use Rattle.cpc_cli.proofs.running.run_told.Goals as goal
 
 pub run_back-requires-clause-hosts : goal.run_back-requires-clause-hosts
@@ -37,3 +39,16 @@ pub returns-in-Err-clause-ended : goal.returns-in-Err-clause-ended
 returns-in-Err-clause-ended g c =
     let has = sym c.missing_host.ensures ∙ ap (option_map (in_table c.args.program.program.names)) c.in_default.is in
     ([], sym (append_known-nil (g.O.Sink.taken c.args.out.now)), inr (has, inl (c.in-Err.ensures.refused c.in-Err.end refl, c.requires.fresh, refl)))
+
+pub returns-in-Some-clause-asked : goal.returns-in-Some-clause-asked
+returns-in-Some-clause-asked g c = asks_nothing (g.F.Shelf.asked c.args.shelf.now) _
+
+pub returns-in-Ok-new-clause-asked : goal.returns-in-Ok-new-clause-asked
+returns-in-Ok-new-clause-asked g c =
+    late_history (g.F.Shelf.asked c.args.shelf.now) (g.F.Shelf.asked c.polls_of.new.shelf) (asked_options c.args.options).history (is_early c.run_back.result)
+    (ran_late _ _ _ _ _ _ _ c.run_back.result c.run_back.ensures.ended.2.ran) c.polls_of.ensures.asked
+
+pub returns-in-Err-clause-asked : goal.returns-in-Err-clause-asked
+returns-in-Err-clause-asked g c =
+    late_history (g.F.Shelf.asked c.args.shelf.now) (g.F.Shelf.asked c.polls_of.new.shelf) (asked_options c.args.options).history (is_early c.in-Err.end)
+    (untold_late _ _ _ c.in-Err.end (c.in-Err.ensures.refused c.in-Err.end refl)) c.polls_of.ensures.asked

@@ -6,6 +6,7 @@ use Rattle.cpc_cli.specs.Inputs.{labels}
 use Rattle.cpc_cli.specs.Answer.{Counts, Said, rises, status_of}
 use Rattle.cpc_cli.proofs.TopLemmas.{last_line}
 use Rattle.cpc_cli.proofs.ExactLemmas.{exact_where_told}
+use Rattle.cpc_cli.proofs.AskedLemmas.{asks_said}
 use Rattle.cpc_cli.proofs.top.cpc_main.Goals as goal
 
 pub returns-clause-answer : goal.returns-clause-answer
@@ -44,3 +45,8 @@ returns-clause-read g c = λ is.
     let now : Counts = record { shelf = g.F.Shelf.faults c.follow-end.new.shelf; out = g.O.Sink.faults c.follow-end.new.out; err = g.E.Sink.faults c.conclude.new.err } in
     let new = record c.follow-end.new.report { status = c.conclude.result } in
     read_cause words _ (g.F.Shelf.files c.args.shelf.now) (rises before now) new answer.0 answer.2.0 answer.2.2 is
+
+pub returns-clause-asked : goal.returns-clause-asked
+returns-clause-asked g c =
+    let last = c.conclude.ensures.said.2 in
+    asks_said (g.F.Shelf.asked c.args.shelf.now) (g.F.Shelf.asked c.follow-end.new.shelf) (map string_bytes c.args.words.now) c.follow-end.result.1 last.0 _ _ _ c.conclude.result last.1 last.2 c.follow-end.ensures.asked

@@ -9,6 +9,8 @@ use Rattle.cpc_cli.specs.Answer.{not_begun}
 use Rattle.cpc_cli.specs.Command.{by_exec}
 use Rattle.cpc_cli.specs.Ran.{RanTold}
 use Rattle.cpc_cli.proofs.TopLemmas.{exec_takes, no_steps_in, rose_earlier, run_ended, told_as, told_earlier}
+use Rattle.cpc_cli.specs.Asked.{is_early}
+use Rattle.cpc_cli.proofs.AskedLemmas.{asks_both, asks_text}
 use Rattle.cpc_cli.proofs.top.exec_file.Goals as goal
 
 pub run_told-requires-clause-fresh : goal.run_told-requires-clause-fresh
@@ -31,3 +33,12 @@ returns-in-Ok-clause-ended g c =
 pub returns-in-Err-clause-ended : goal.returns-in-Err-clause-ended
 returns-in-Err-clause-ended g c =
     ([], sym (append_known-nil (g.O.Sink.taken c.args.out.now)), not_begun c.in-Err.end (c.in-Err.ensures.refused c.in-Err.end refl) c.requires.none)
+
+pub returns-in-Ok-clause-asked : goal.returns-in-Ok-clause-asked
+returns-in-Ok-clause-asked g c =
+    asks_both (g.F.Shelf.asked c.args.shelf.now) (g.F.Shelf.asked c.taken.new.shelf) (g.F.Shelf.asked c.run_told.new.shelf) (Exec c.args.file.now (asked_options c.args.options)) c.args.file.now (is_early c.run_told.result) refl
+    c.taken.ensures.asked c.run_told.ensures.asked
+
+pub returns-in-Err-clause-asked : goal.returns-in-Err-clause-asked
+returns-in-Err-clause-asked g c =
+    asks_text (g.F.Shelf.asked c.args.shelf.now) (g.F.Shelf.asked c.taken.new.shelf) (Exec c.args.file.now (asked_options c.args.options)) c.args.file.now (is_early c.in-Err.end) refl c.taken.ensures.asked

@@ -5,6 +5,8 @@ use Rattle.cpc_cli_command.proofs.BoundLemmas.{bounded_is}
 use Rattle.cpc_cli.specs.Answer.{misused, starved, performed}
 use Rattle.cpc_cli.specs.Inputs.{labels}
 use Rattle.cpc_cli.proofs.TopLemmas.{line_named}
+use Rattle.cpc_cli.specs.Asked.{is_early}
+use Rattle.cpc_cli.proofs.AskedLemmas.{asks_named, asks_nothing}
 use Rattle.cpc_cli.proofs.top.follow.Goals as goal
 
 pub returns-in-Ok-clause-ended : goal.returns-in-Ok-clause-ended
@@ -24,3 +26,13 @@ returns-in-Err-Fault-clause-ended g c =
 
 pub perform-requires-clause-bounded : goal.perform-requires-clause-bounded
 perform-requires-clause-bounded g c = λ κs within. bounded_is (map string_bytes c.args.words.now) (asked c.in-Ok.command) c.in-Ok.ensures.command
+
+pub returns-in-Ok-clause-asked : goal.returns-in-Ok-clause-asked
+returns-in-Ok-clause-asked g c =
+    asks_named (g.F.Shelf.asked c.args.shelf.now) (g.F.Shelf.asked c.perform.new.shelf) (map string_bytes c.args.words.now) (asked c.in-Ok.command) (is_early c.perform.result) c.in-Ok.ensures.command c.perform.ensures.asked
+
+pub returns-in-Err-Memory-clause-asked : goal.returns-in-Err-Memory-clause-asked
+returns-in-Err-Memory-clause-asked g c = asks_nothing (g.F.Shelf.asked c.args.shelf.now) _
+
+pub returns-in-Err-Fault-clause-asked : goal.returns-in-Err-Fault-clause-asked
+returns-in-Err-Fault-clause-asked g c = asks_nothing (g.F.Shelf.asked c.args.shelf.now) _

@@ -15,3 +15,18 @@ returns-in-Exec-clause-ended g c = rw c.in-Exec.is c.exec_file.ensures.ended
 
 pub returns-in-Sample-clause-ended : goal.returns-in-Sample-clause-ended
 returns-in-Sample-clause-ended g c = rw c.in-Sample.is c.run_sample.ensures.ended
+
+pub returns-in-Check-clause-asked : goal.returns-in-Check-clause-asked
+returns-in-Check-clause-asked g c = rw c.in-Check.is c.check_file.ensures.asked
+
+pub returns-in-Translate-clause-asked : goal.returns-in-Translate-clause-asked
+returns-in-Translate-clause-asked g c = rw c.in-Translate.is c.translate_file.ensures.asked
+
+pub returns-in-Run-clause-asked : goal.returns-in-Run-clause-asked
+returns-in-Run-clause-asked g c = rw c.in-Run.is c.run_file.ensures.asked
+
+pub returns-in-Exec-clause-asked : goal.returns-in-Exec-clause-asked
+returns-in-Exec-clause-asked g c = rw c.in-Exec.is c.exec_file.ensures.asked
+
+pub returns-in-Sample-clause-asked : goal.returns-in-Sample-clause-asked
+returns-in-Sample-clause-asked g c = rw c.in-Sample.is c.run_sample.ensures.asked

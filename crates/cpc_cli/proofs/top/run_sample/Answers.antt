@@ -14,6 +14,8 @@ use Rattle.cpc_cli.specs.Ran.{ClosedBy, RanTold}
 use Rattle.cpc_cli.specs.declared.answer.End.TheVariants.{Done, Memory}
 use Rattle.cpc_cli.proofs.SampleLemmas.{sample_closed, sample_ran, sample_takes, sample_told, sample_unfinished, unfinished}
 use Rattle.cpc_cli.proofs.TopLemmas.{no_steps_printed, rose_earlier, sample_refused}
+use Rattle.cpc_cli.specs.Asked.{is_early}
+use Rattle.cpc_cli.proofs.AskedLemmas.{asks_none, asks_nothing}
 use Rattle.cpc_cli.proofs.top.run_sample.Goals as goal
 
 pub run_told-requires-clause-fresh : goal.run_told-requires-clause-fresh
@@ -65,3 +67,19 @@ returns-clause-ended g c =
     let takes = sample_takes (g.F.Shelf.files c.args.shelf.now) c.args.number c.as_slice-bytes.result.now q c.translated_text.new.report report c.in-Ok-translated_text.ensures.printed c.run_told.ensures.kept is
     c.in-Ok-translated_text.ensures.same in
     (ran.0, ran.1, sample_unfinished _ (g.F.Shelf.files c.args.shelf.now) c.args.number q unread unwritten report takes ran.0 c.run_told.result (unfinished c.run_told.result c.in_default.not-Done) told)
+
+pub returns-in-Err-clause-asked : goal.returns-in-Err-clause-asked
+returns-in-Err-clause-asked g c = asks_nothing (g.F.Shelf.asked c.args.shelf.now) _
+
+pub returns-in-Err-translated_text-clause-asked : goal.returns-in-Err-translated_text-clause-asked
+returns-in-Err-translated_text-clause-asked g c = asks_nothing (g.F.Shelf.asked c.args.shelf.now) _
+
+pub returns-in-Done-clause-asked : goal.returns-in-Done-clause-asked
+returns-in-Done-clause-asked g c =
+    asks_none (g.F.Shelf.asked c.args.shelf.now) (g.F.Shelf.asked c.run_told.new.shelf) (asked_options c.sample_options.result).history (is_early c.run_told.result) (is_early c.close_sample.result) (Sample c.args.number)
+    (ap (λ o. o.history) c.sample_options.ensures) c.run_told.ensures.asked
+
+pub returns-clause-asked : goal.returns-clause-asked
+returns-clause-asked g c =
+    asks_none (g.F.Shelf.asked c.args.shelf.now) (g.F.Shelf.asked c.run_told.new.shelf) (asked_options c.sample_options.result).history (is_early c.run_told.result) (is_early c.run_told.result) (Sample c.args.number)
+    (ap (λ o. o.history) c.sample_options.ensures) c.run_told.ensures.asked

@@ -6,7 +6,7 @@ use Rattle.std.proofs.lemmas.List.{take_more}
 use Rattle.cpc_meaning.specs.Answer.{Gives}
 use Rattle.cpc_meaning.specs.Machine.{ints_of}
 use Rattle.cpc_eval_values.specs.Shown.{values_of}
-use Rattle.cpc_run.proofs.Numbers.{ints_more}
+use Rattle.cpc_run_code.proofs.Numbers.{ints_more}
 use Rattle.cpc_run.proofs.hosts.longs.Goals as goal
 
 pub loop-value-preserved : goal.loop-value-preserved

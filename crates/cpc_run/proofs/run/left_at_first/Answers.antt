@@ -1,8 +1,8 @@
 use Rattle.std.proofs.Common.{[], sym, ap, subst, ◌∙◌}
 use Rattle.cpc_base.proofs.Pieces.{append_known-nil}
 use Rattle.cpc_tree.specs.Erase.{program_of}
-use Rattle.cpc_run.specs.declared.outcome.RunReport.{RunReport}
-use Rattle.cpc_run.specs.Reports.{IsInTable}
+use Rattle.cpc_run_shown.specs.declared.outcome.RunReport.{RunReport}
+use Rattle.cpc_run_shown.specs.Known.{IsInTable}
 use Rattle.cpc_run.proofs.Ends.{full_first}
 use Rattle.cpc_run.proofs.run.left_at_first.Goals as goal
 

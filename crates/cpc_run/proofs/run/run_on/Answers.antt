@@ -7,10 +7,11 @@ use Rattle.cpc_tree.specs.Erase.{in_table}
 use Rattle.cpc_run.specs.Answers.{HasSaid, MadeAnswered}
 use Rattle.cpc_run.specs.Hosts.{with_answers}
 use Rattle.cpc_run.specs.States.{program_in}
-use Rattle.cpc_run.specs.declared.outcome.RunReport.{RunReport}
-use Rattle.cpc_run.specs.Reports.{IsInTable, MadeSo, MadePolls, MadeSteady, Reached, IsLeft, Tells, run_of}
+use Rattle.cpc_run_shown.specs.declared.outcome.RunReport.{RunReport}
+use Rattle.cpc_run_shown.specs.Known.{IsInTable}
+use Rattle.cpc_run.specs.Reports.{MadeSo, MadePolls, MadeSteady, Reached, IsLeft, KeepsFirst, Tells, run_of}
 use Rattle.cpc_run.proofs.Given.{has_next, has_same, none_given, ran_with, reached_first}
-use Rattle.cpc_run.proofs.Runs.{AtEnd, within_cap, ends_told, left_in, left_over, left_broke, left_full, reached_more, at_end, tells_cut, tells_memory}
+use Rattle.cpc_run.proofs.Runs.{AtEnd, first_within, within_cap, ends_told, left_in, left_over, left_broke, left_full, reached_more, at_end, tells_cut, tells_memory}
 use Rattle.cpc_run.proofs.Twice.{goes_twice, over_known, broke_known}
 use Rattle.cpc_run.proofs.run.run_on.Goals as goal
 
@@ -40,7 +41,8 @@ returns-in-Ok-Over-clause-told g c = λ names q hist spells begins.
     (left_over names q h limits trace l old n c.steps.cells c.steps.polls stuck reached c.steps.invariant.counted c.steps-test.true c.make.new.self new c.in-Ok-Over.outcome both.0) in
     ran_with allows (in_table table) q hist limits trace c.told.result answers (n + 1) (g.O.Sink.taken c.args.out.now) (g.O.Sink.taken c.told.new.out) (ap (λ r. r.steps) c.told.ensures.same ∙ ap (λ r. r.steps) c.report-due.ensures) said_so
     (ends_told table q h limits trace c.report-due.result c.told.result new (g.O.Sink.taken c.args.out.now) (g.O.Sink.taken c.told.new.out)
-    (λ i. left_in names table spells q h limits c.report-due.result.steps c.report-due.result.ended i left) at c.told.ensures.same (c.told.ensures.told (g.O.Sink.taken c.args.out.now) sent taken))
+    (λ i. left_in names table spells q h limits c.report-due.result.steps c.report-due.result.ended i left)
+    (subst (λ d. KeepsFirst q h limits.cells d.ended) (sym c.report-due.ensures) (first_within names q h limits.cells trace l old n c.steps.cells reached)) at c.told.ensures.same (c.told.ensures.told (g.O.Sink.taken c.args.out.now) sent taken))
 
 pub returns-in-Ok-Broke-clause-told : goal.returns-in-Ok-Broke-clause-told
 returns-in-Ok-Broke-clause-told g c = λ names q hist spells begins.
@@ -68,7 +70,8 @@ returns-in-Ok-Broke-clause-told g c = λ names q hist spells begins.
     (left_broke names q h limits trace l old n c.steps.cells c.steps.polls stuck reached c.steps.invariant.counted c.steps-test.true c.make.new.self new c.in-Ok-Broke.fault c.in-Ok-Broke.function c.in-Ok-Broke.ensures.keeps.trace both.0) in
     ran_with allows (in_table table) q hist limits trace c.told-in-Ok-Broke.result answers (n + 1) (g.O.Sink.taken c.args.out.now) (g.O.Sink.taken c.told-in-Ok-Broke.new.out) (ap (λ r. r.steps) c.told-in-Ok-Broke.ensures.same ∙ ap (λ r. r.steps) c.report-due-in-Ok-Broke.ensures) said_so
     (ends_told table q h limits trace c.report-due-in-Ok-Broke.result c.told-in-Ok-Broke.result new (g.O.Sink.taken c.args.out.now) (g.O.Sink.taken c.told-in-Ok-Broke.new.out)
-    (λ i. left_in names table spells q h limits c.report-due-in-Ok-Broke.result.steps c.report-due-in-Ok-Broke.result.ended i left) at c.told-in-Ok-Broke.ensures.same (c.told-in-Ok-Broke.ensures.told (g.O.Sink.taken c.args.out.now) sent taken))
+    (λ i. left_in names table spells q h limits c.report-due-in-Ok-Broke.result.steps c.report-due-in-Ok-Broke.result.ended i left)
+    (subst (λ d. KeepsFirst q h limits.cells d.ended) (sym c.report-due-in-Ok-Broke.ensures) (first_within names q h limits.cells trace l old n c.steps.cells reached)) at c.told-in-Ok-Broke.ensures.same (c.told-in-Ok-Broke.ensures.told (g.O.Sink.taken c.args.out.now) sent taken))
 
 pub returns-in-Ok-Full-clause-told : goal.returns-in-Ok-Full-clause-told
 returns-in-Ok-Full-clause-told g c = λ names q hist spells begins.
@@ -96,7 +99,8 @@ returns-in-Ok-Full-clause-told g c = λ names q hist spells begins.
     (left_full names q h limits trace l old n c.steps.cells c.steps.polls stuck reached c.steps.invariant.counted c.steps-test.true c.make.new.self new c.in-Ok-Full.left both.0) in
     ran_with allows (in_table table) q hist limits trace c.told-in-Ok-Full.result answers n (g.O.Sink.taken c.args.out.now) (g.O.Sink.taken c.told-in-Ok-Full.new.out) (ap (λ r. r.steps) c.told-in-Ok-Full.ensures.same ∙ ap (λ r. r.steps) c.report-due-in-Ok-Full.ensures) said_so
     (ends_told table q h limits trace c.report-due-in-Ok-Full.result c.told-in-Ok-Full.result new (g.O.Sink.taken c.args.out.now) (g.O.Sink.taken c.told-in-Ok-Full.new.out)
-    (λ i. left_in names table spells q h limits c.report-due-in-Ok-Full.result.steps c.report-due-in-Ok-Full.result.ended i left) at c.told-in-Ok-Full.ensures.same (c.told-in-Ok-Full.ensures.told (g.O.Sink.taken c.args.out.now) sent taken))
+    (λ i. left_in names table spells q h limits c.report-due-in-Ok-Full.result.steps c.report-due-in-Ok-Full.result.ended i left)
+    (subst (λ d. KeepsFirst q h limits.cells d.ended) (sym c.report-due-in-Ok-Full.ensures) tt) at c.told-in-Ok-Full.ensures.same (c.told-in-Ok-Full.ensures.told (g.O.Sink.taken c.args.out.now) sent taken))
 
 pub returns-in-Err-clause-told : goal.returns-in-Err-clause-told
 returns-in-Err-clause-told g c = λ names q hist spells begins.
@@ -140,6 +144,7 @@ returns-in-Err-drain-clause-told g c = λ names q hist spells begins.
     let next = reached_more names q h limits.cells trace l old n c.steps.cells stuck reached c.make.new.self new c.in-Ok-On.left c.in-Ok-On.ensures.keeps both.0 in
     let part = c.in-Err-drain.ensures.part (g.O.Sink.taken c.args.out.now) sent taken in
     let tells = tells_cut (in_table c.args.table.now) q h limits trace (n + 1) c.in-Ok-On.left c.taken-polls-in-steps.result part.0 new
+    (first_within names q h limits.cells trace l old n c.steps.cells reached)
     (at_end names q h limits trace c.make.new.self new (n + 1) c.in-Ok-On.left c.taken-polls-in-steps.result next c.taken-polls-in-steps.ensures (omega (arith, c.steps-test.true))) part.2 in
     ran_with allows (in_table c.args.table.now) q hist limits trace c.report-in-Err-drain.result answers (n + 1) (g.O.Sink.taken c.args.out.now) (g.O.Sink.taken c.drain.new.out) (ap (λ r. r.steps) c.report-in-Err-drain.ensures) said_so
     (part.0, part.1, subst (λ r. Tells (in_table c.args.table.now) q h limits trace r part.0) (sym c.report-in-Err-drain.ensures) tells)
@@ -222,7 +227,8 @@ returns-clause-told g c = λ names q hist spells begins.
     ran_with allows (in_table table) q hist limits trace c.told-2.result answers n (g.O.Sink.taken c.args.out.now) (g.O.Sink.taken c.told-2.new.out) (ap (λ r. r.steps) c.told-2.ensures.same ∙ ap (λ r. r.steps) c.report-due-2.ensures)
     (has_same allows given [] [] (run_of q h n) refl has)
     (ends_told table q h limits trace c.report-due-2.result c.told-2.result whole (g.O.Sink.taken c.args.out.now) (g.O.Sink.taken c.told-2.new.out)
-    (λ i. left_in names table spells q h limits c.report-due-2.result.steps c.report-due-2.result.ended i left) at c.told-2.ensures.same (c.told-2.ensures.told (g.O.Sink.taken c.args.out.now) sent taken))
+    (λ i. left_in names table spells q h limits c.report-due-2.result.steps c.report-due-2.result.ended i left)
+    (subst (λ d. KeepsFirst q h limits.cells d.ended) (sym c.report-due-2.ensures) (first_within names q h limits.cells trace l whole n c.steps.cells reached)) at c.told-2.ensures.same (c.told-2.ensures.told (g.O.Sink.taken c.args.out.now) sent taken))
 
 pub overflow_add-polls : goal.overflow_add-polls
 overflow_add-polls g c =

@@ -9,7 +9,7 @@ use Rattle.cpc_meaning.specs.Section.{allocated}
 use Rattle.cpc_meaning.specs.Trees.{trees}
 use Rattle.cpc_store.specs.Store.{At, next_block}
 use Rattle.cpc_eval_values.specs.Shown.{value_of}
-use Rattle.cpc_run.specs.Code.{stack_in}
+use Rattle.cpc_run_code.specs.Code.{stack_in}
 use Rattle.cpc_run.specs.States.{Came, settles, program_in}
 use Rattle.cpc_run.proofs.Asks.{made_on, made_not, room_left}
 use Rattle.cpc_run.proofs.Kept.{kept_then}

@@ -4,7 +4,7 @@ use Rattle.cpc_meaning.specs.Machine.{asked_by, primitive}
 use Rattle.cpc_native_builtins.specs.Builtins.{asked_of, primitive_of}
 use Rattle.cpc_eval_values.specs.Shown.{values_of}
 use Rattle.cpc_run.specs.Answers.{Answered, CameAnswered}
-use Rattle.cpc_run.specs.Code.{stack_in}
+use Rattle.cpc_run_code.specs.Code.{stack_in}
 use Rattle.cpc_run.specs.States.{Did, settles, program_in}
 use Rattle.cpc_run.proofs.Hosted.{ok_is, ok_answers}
 use Rattle.cpc_run.proofs.Silent.{primitive_silent}

@@ -3,7 +3,7 @@ use Rattle.std.proofs.lemmas.Int.{ints, to_z-of_z}
 use mir.Val.{to_z, of_z}
 use mir.Syntax.{w64}
 use Rattle.cpc_num.specs.declared.kinds.Fault.{Fault}
-use Rattle.cpc_run.specs.declared.items.Item.{Item}
+use Rattle.cpc_run_code.specs.declared.items.Item.{Item}
 use Rattle.cpc_tree.specs.Primitives.{RtIo}
 use Rattle.cpc_tree.specs.Trace.{Awaiting}
 use Rattle.cpc_store.specs.Store.{Unset}
@@ -14,9 +14,9 @@ use Rattle.cpc_meaning.specs.Machine.{acts, marks, int_of, direction_of, reply}
 use Rattle.cpc_meaning.specs.Trees.{trees}
 use Rattle.cpc_meaning.proofs.Agendas.{BothOk, ios}
 use Rattle.cpc_eval_values.specs.Shown.{value_of}
-use Rattle.cpc_run.specs.Code.{stack_in}
+use Rattle.cpc_run_code.specs.Code.{stack_in}
 use Rattle.cpc_run.specs.States.{IsCallback, Did, lists_in, settles, program_in}
-use Rattle.cpc_run.specs.declared.items.Item.TheVariants as I
+use Rattle.cpc_run_code.specs.declared.items.Item.TheVariants as I
 use Rattle.cpc_run.proofs.Asks.{acts_marked}
 use Rattle.cpc_run.proofs.Takes.{callback_is}
 use Rattle.cpc_run.proofs.looped.Loop.awaits_at.Goals as goal

@@ -9,8 +9,8 @@ use Rattle.cpc_meaning.specs.Answer.{Gives}
 use Rattle.cpc_meaning.specs.Machine.{ints_of, reply}
 use Rattle.cpc_meaning.specs.Trees.{trees}
 use Rattle.cpc_eval_values.specs.Shown.{values_of}
-use Rattle.cpc_run.specs.Code.{stack_in}
-use Rattle.cpc_run.specs.Shown.{shown_of}
+use Rattle.cpc_run_code.specs.Code.{stack_in}
+use Rattle.cpc_run_shown.specs.Shown.{shown_of}
 use Rattle.cpc_run.specs.States.{Came, Did, settles, program_in}
 use Rattle.cpc_tree.specs.Erase.{in_table}
 use Rattle.cpc_run.proofs.Missing.{not_missing}

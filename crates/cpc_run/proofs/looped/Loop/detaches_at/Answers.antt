@@ -4,7 +4,7 @@ use Rattle.cpc_meaning.specs.Events.{event_primitive}
 use Rattle.cpc_meaning.specs.Trees.{trees}
 use Rattle.cpc_eval_values.specs.Shown.{value_of, values_of}
 use Rattle.cpc_store.specs.declared.values.Value.TheVariants as V
-use Rattle.cpc_run.specs.Code.{stack_in}
+use Rattle.cpc_run_code.specs.Code.{stack_in}
 use Rattle.cpc_run.specs.Going.{IsKnownCode}
 use Rattle.cpc_run.specs.Sections.{submitted}
 use Rattle.cpc_run.specs.States.{Did, settles, program_in}

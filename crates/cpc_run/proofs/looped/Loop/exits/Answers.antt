@@ -4,7 +4,7 @@ use Rattle.cpc_store.specs.declared.values.Value.TheVariants.{Unset}
 use Rattle.cpc_meaning.specs.Events.{callbacks}
 use Rattle.cpc_meaning.specs.Machine.{primitive}
 use Rattle.cpc_eval_values.specs.Shown.{values_of}
-use Rattle.cpc_run.specs.Code.{stack_in}
+use Rattle.cpc_run_code.specs.Code.{stack_in}
 use Rattle.cpc_run.specs.States.{Came, settles, program_in}
 use Rattle.cpc_run.proofs.Takes.{one_is}
 use Rattle.cpc_run.proofs.looped.Loop.exits.Goals as goal

@@ -5,8 +5,8 @@ use Rattle.cpc_meaning.specs.Events.{callbacks}
 use Rattle.cpc_meaning.specs.Machine.{primitive}
 use Rattle.cpc_meaning.proofs.Agendas.{freed}
 use Rattle.cpc_eval_values.specs.Shown.{value_of}
-use Rattle.cpc_run.specs.Code.{stack_in}
-use Rattle.cpc_run.specs.declared.outcome.Outcome.TheVariants as O
+use Rattle.cpc_run_code.specs.Code.{stack_in}
+use Rattle.cpc_run_shown.specs.declared.outcome.Outcome.TheVariants as O
 use Rattle.cpc_run.specs.States.{IsCallback, Came, Did, lists_in, settles, program_in}
 use Rattle.cpc_run.proofs.Alike.{cond_free_keeps}
 use Rattle.cpc_run.proofs.Asks.{acts_so, refused_so}

@@ -3,7 +3,7 @@ use Rattle.cpc_meaning.specs.Plain.{plain, running_function, Asks, Returned, Wen
 use Rattle.cpc_meaning.specs.Trees.{trees}
 use Rattle.cpc_eval_values.specs.Shown.{value_of}
 use Rattle.cpc_run.specs.Answers.{CameAnswered}
-use Rattle.cpc_run.specs.Code.{AskedIn, EndsIdle, Same, done_of, store_in, stack_in}
+use Rattle.cpc_run_code.specs.Code.{AskedIn, EndsIdle, Same, done_of, store_in, stack_in}
 use Rattle.cpc_native.specs.Stacks.{request_of}
 use Rattle.cpc_native.specs.Well.{AsksServed}
 use Rattle.cpc_meaning_pointer_laws.specs.Made.{IsMadeCode}
@@ -12,7 +12,7 @@ use Rattle.cpc_meaning.specs.Events.{callbacks}
 use Rattle.cpc_meaning.specs.Machine.{code_step}
 use Rattle.cpc_meaning.specs.Runs.{live_cells}
 use Rattle.cpc_run.specs.Shorts.{IsBeyond}
-use Rattle.cpc_run.specs.declared.short.Short.TheVariants as W
+use Rattle.cpc_run_code.specs.declared.short.Short.TheVariants as W
 use Rattle.cpc_run.proofs.Shorts.{goes_count, by_more, err_is, memory_counts}
 use Rattle.cpc_run.proofs.Hosted.{asked_by_mid, code_by, faulted_says, none_said}
 use Rattle.cpc_run.proofs.Steps.{faulted_so}

@@ -1,5 +1,5 @@
 use Rattle.std.proofs.Common.{[], ap, ◌∙◌}
-use Rattle.cpc_run.specs.Code.{stack_in}
+use Rattle.cpc_run_code.specs.Code.{stack_in}
 use Rattle.cpc_run.specs.States.{where_running, program_in}
 use Rattle.cpc_run.proofs.Hosted.{ok_answers}
 use Rattle.cpc_run.proofs.Silent.{made_silent}

@@ -10,7 +10,7 @@ use Rattle.cpc_sections.specs.Backs.{CollectsAs, collected_of}
 use Rattle.cpc_agenda_turns.specs.Turns.{TakesPoll}
 use Rattle.cpc_run_jobs.specs.Holding.{Holds, IfAllGave, are_out, items_of, left_out}
 use Rattle.cpc_run_jobs.proofs.AreOut.{all_are_out}
-use Rattle.cpc_run.specs.Shown.{shown_of}
+use Rattle.cpc_run_shown.specs.Shown.{shown_of}
 use Rattle.cpc_run.specs.States.{lists_in, polls_in}
 use Rattle.cpc_run.proofs.Kept.{moved_keeps}
 use Rattle.cpc_run.proofs.Polls.{collected_so, poll_broke, poll_taken, fewer_polls, some_left, outs_so}

@@ -1,7 +1,7 @@
 use Rattle.std.proofs.Common.{[], ◌∷◌, ◌++◌, subst}
 use Rattle.cpc_meaning.specs.Machine.{prints}
 use Rattle.cpc_meaning.specs.Trees.{trees}
-use Rattle.cpc_run.specs.Code.{stack_in}
+use Rattle.cpc_run_code.specs.Code.{stack_in}
 use Rattle.cpc_run.specs.States.{Did, settles, program_in}
 use Rattle.cpc_run.proofs.looped.Loop.puts_byte.Goals as goal
 

@@ -6,9 +6,9 @@ use Rattle.cpc_meaning.specs.Trees.{trees}
 use Rattle.cpc_meaning.proofs.Agendas.{BothOk, readies_all}
 use Rattle.cpc_meaning.proofs.Both.{Ends, Goes}
 use Rattle.cpc_eval_values.specs.Shown.{value_of}
-use Rattle.cpc_run.specs.Code.{stack_in}
+use Rattle.cpc_run_code.specs.Code.{stack_in}
 use Rattle.cpc_run.specs.States.{IsCallback, Did, lists_in, settles, program_in}
-use Rattle.cpc_run.specs.declared.items.Item.TheVariants as I
+use Rattle.cpc_run_code.specs.declared.items.Item.TheVariants as I
 use Rattle.cpc_run.proofs.Asks.{acts_so}
 use Rattle.cpc_run.proofs.Takes.{callback_is}
 use Rattle.cpc_run.proofs.looped.Loop.readies_callback.Goals as goal

@@ -3,7 +3,7 @@ use Rattle.cpc_store.specs.Store.{Cond}
 use Rattle.cpc_meaning.specs.Agenda as A
 use Rattle.cpc_meaning.specs.Machine.{reply, with_agenda}
 use Rattle.cpc_meaning.specs.Trees.{trees}
-use Rattle.cpc_run.specs.Code.{stack_in}
+use Rattle.cpc_run_code.specs.Code.{stack_in}
 use Rattle.cpc_run.specs.States.{Did, settles, program_in}
 use Rattle.cpc_run.proofs.Asks.{condition_made}
 use Rattle.cpc_run.proofs.looped.Loop.replies_condition.Goals as goal

@@ -6,7 +6,7 @@ use Rattle.cpc_num.specs.declared.kinds.Kind.TheVariants.{Long}
 use Rattle.cpc_store.specs.Store.{Whole}
 use Rattle.cpc_meaning.specs.Machine.{reply}
 use Rattle.cpc_meaning.specs.Trees.{trees}
-use Rattle.cpc_run.specs.Code.{stack_in}
+use Rattle.cpc_run_code.specs.Code.{stack_in}
 use Rattle.cpc_run.specs.States.{Did, settles, program_in}
 use Rattle.cpc_run.proofs.looped.Loop.replies_time.Goals as goal
 

@@ -3,7 +3,7 @@ use Rattle.std.proofs.lemmas.List.{append-nil}
 use Rattle.cpc_meaning.specs.Events.{callbacks}
 use Rattle.cpc_meaning.specs.Machine.{try_step}
 use Rattle.cpc_run.specs.Answers.{CameAnswered}
-use Rattle.cpc_run.specs.Code.{stack_in}
+use Rattle.cpc_run_code.specs.Code.{stack_in}
 use Rattle.cpc_run.specs.States.{Came, Stands, program_in, where_running}
 use Rattle.cpc_run.proofs.Steps.{code_step_is}
 use Rattle.cpc_run.specs.Shorts.{Counts, IsBeyond}

@@ -5,7 +5,7 @@ use Rattle.cpc_meaning.specs.Events.{callbacks}
 use Rattle.cpc_meaning.specs.Machine.{primitive}
 use Rattle.cpc_meaning.proofs.Agendas.{signals_all}
 use Rattle.cpc_eval_values.specs.Shown.{value_of}
-use Rattle.cpc_run.specs.Code.{stack_in}
+use Rattle.cpc_run_code.specs.Code.{stack_in}
 use Rattle.cpc_run.specs.States.{IsCallback, Did, lists_in, settles, program_in}
 use Rattle.cpc_run.proofs.Alike.{signal_all_keeps}
 use Rattle.cpc_run.proofs.Asks.{acts_so}

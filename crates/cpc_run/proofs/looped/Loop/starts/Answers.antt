@@ -1,7 +1,7 @@
 use Rattle.std.proofs.Common.{refl, ap}
 use Rattle.cpc_meaning.specs.Runs.{frames_registers}
 use Rattle.cpc_eval_values.specs.Shown.{values_of}
-use Rattle.cpc_run.proofs.Coded.{idle_frames}
+use Rattle.cpc_run_code.proofs.Coded.{idle_frames}
 use Rattle.cpc_run.proofs.Shorts.{starts_short, starts_capped}
 use Rattle.cpc_run.proofs.Turns.{called}
 use Rattle.cpc_run.proofs.looped.Loop.starts.Goals as goal

@@ -3,14 +3,14 @@ use Rattle.cpc_base.specs.declared.stop.NoMemory.{NoMemory}
 use Rattle.cpc_tree.specs.Erase.{Names}
 use Rattle.cpc_meaning.specs.Trees.{trees}
 use Rattle.cpc_agenda.specs.Acts.{IfFault}
-use Rattle.cpc_run.specs.Code.{stack_in}
+use Rattle.cpc_run_code.specs.Code.{stack_in}
 use Rattle.cpc_run.specs.Sections.{submitted}
-use Rattle.cpc_run.specs.declared.outcome.Outcome.TheVariants.{Failed}
+use Rattle.cpc_run_shown.specs.declared.outcome.Outcome.TheVariants.{Failed}
 use Rattle.cpc_tree.specs.Trace.{Submitted}
 use Rattle.cpc_eval_values.specs.Shown.{value_of, values_of, store_of}
 use Rattle.cpc_meaning.specs.Agenda as A
 use Rattle.cpc_run_jobs.specs.Holding.{Holds}
-use Rattle.cpc_run.specs.Shown.{shown_of}
+use Rattle.cpc_run_shown.specs.Shown.{shown_of}
 use Rattle.cpc_run.specs.States.{Did, Fits, callback_of, lists_in, program_in, settles}
 use Rattle.cpc_run.proofs.Asks.{marked}
 use Rattle.cpc_run.proofs.Ends.{text_is}

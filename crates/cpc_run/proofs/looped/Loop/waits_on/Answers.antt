@@ -7,9 +7,9 @@ use Rattle.cpc_meaning.specs.Trees.{trees}
 use Rattle.cpc_meaning.proofs.Agendas.{waits}
 use Rattle.cpc_eval_values.specs.Shown.{value_of}
 use Rattle.cpc_store.specs.declared.values.Value.TheVariants as V
-use Rattle.cpc_run.specs.Code.{stack_in}
+use Rattle.cpc_run_code.specs.Code.{stack_in}
 use Rattle.cpc_run.specs.States.{IsCallback, Did, lists_in, settles, program_in}
-use Rattle.cpc_run.specs.declared.items.Item.TheVariants as I
+use Rattle.cpc_run_code.specs.declared.items.Item.TheVariants as I
 use Rattle.cpc_run.proofs.Alike.{wait_keeps}
 use Rattle.cpc_run.proofs.Asks.{acts_marked}
 use Rattle.cpc_run.proofs.Takes.{callback_is}

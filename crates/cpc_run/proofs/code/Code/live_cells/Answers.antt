@@ -1,6 +1,0 @@
-use Rattle.cpc_run.specs.Code.{store_in, stack_in}
-use Rattle.cpc_run.proofs.code.Code.live_cells.Goals as goal
-
-pub returns : goal.returns
-unfolding store_in stack_in
-returns c = c.live_cells.ensures

@@ -1,0 +1,5 @@
+pub mod Coded
+pub mod Lawful
+pub mod Making
+pub mod Numbers
+pub mod Written

@@ -1,0 +1,4 @@
+pub mod Code
+pub mod Made
+pub mod Shorts
+pub mod Taken
