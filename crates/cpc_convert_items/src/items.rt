@@ -101,6 +101,7 @@ impl Items {
     pub fn into_program(self, alloc: Global, names: Names, end: Place) -> Program
         ensures names { result.names ≡ names }
         ensures items { result.items.items ≡ self.items.items }
+        ensures end { result.end ≡ end }
     {
         let mut all = self;
         let mut items = Vec::new(alloc);
