@@ -92,8 +92,9 @@ fn write<'a>(
 /// The event program of a lifted program: its native and detached functions and its globals, and of each cps function the structs of its
 /// frames and boxes, its spawner, and a function for each owner. `NoMemory` is want of memory.
 pub fn convert(alloc: Global, lifted: &LiftedProgram<'_>) -> Result<Program, NoMemory>
-    ensures { IfOk result (λ q. IsSpeakable lifted.now.source.now → AreWithin lifted.now.source.now → AreOf lifted.now → HasNames (program_of lifted.now.source.now)
+    ensures is { IfOk result (λ q. IsSpeakable lifted.now.source.now → AreWithin lifted.now.source.now → AreOf lifted.now → HasNames (program_of lifted.now.source.now)
         → program_of q ≡ converted (program_of lifted.now.source.now)) }
+    ensures end { IfOk result (λ q. q.end ≡ lifted.now.source.now.end) }
 {
     let source = lifted.source;
     let mut names = table_of(alloc, &source.names)?;

@@ -6,8 +6,8 @@ use Rattle.cpc_convert_items.specs.Listed.{listed}
 use Rattle.cpc_convert_code.proofs.Meant.{grown_none, after_none, converts}
 use Rattle.cpc_convert_code.proofs.converting.convert.Goals as goal
 
-pub returns : goal.returns
-returns c = λ speakable within of has.
+pub returns-clause-is : goal.returns-clause-is
+returns-clause-is c = λ speakable within of has.
     let source : Table = c.args.lifted.now.source.now.names in
     let before : HasGrown source c.in_ok-names.names = subst (HasGrown source) (sym c.in_ok-names.ensures) (grown_none source) in
     let after : HasGrown source c.of.new.names = subst (λ (t : Table). HasGrown t c.of.new.names) c.in_ok-names.ensures c.in_ok-book.ensures.grown in
