@@ -62,10 +62,11 @@ pub record IsOver (names : Names) (q : Program) (h : History) (bound n : ℕ) (o
   pub over : (run_of q h n).outcome ≡ outcome_of names outcome
   pub before : (m : ℕ) → m < n → (run_of q h m).outcome ≡ T.Going
 
--- it made as many steps as it may, and is not over
-pub record IsStopped (q : Program) (h : History) (bound n : ℕ) : Type 0 where
+-- it made as many steps as it may, and is not over; its first state has no more live cells than the cap
+pub record IsStopped (q : Program) (h : History) (bound cap n : ℕ) : Type 0 where
   pub at_bound : n ≡ bound
   pub going : (run_of q h n).outcome ≡ T.Going
+  pub first : live_cells (run_of q h 0) ≤ cap
 
 -- the next step, which the bound allows, would leave these live cells, more than the cap; or the first state has them
 abbrev pub IsFull : (q : Program) → (h : History) → (bound cap n cells : ℕ) → Type 0
@@ -79,7 +80,7 @@ pub record IsBrokenOff (q : Program) (h : History) (bound n : ℕ) : Type 0 wher
 -- why it was left; no run begins where a function of the host is missing
 abbrev pub IsLeft : Names → (q : Program) → (h : History) → Limits → (n : ℕ) → Ended → Type 0
 IsLeft names q h limits n (E.Over outcome) = IsOver names q h limits.steps n outcome
-IsLeft names q h limits n E.Steps = IsStopped q h limits.steps n
+IsLeft names q h limits n E.Steps = IsStopped q h limits.steps limits.cells n
 IsLeft names q h limits n (E.Full cells) = IsFull q h limits.steps limits.cells n cells
 IsLeft names q h limits n E.WriteFault = IsBrokenOff q h limits.steps n
 IsLeft names q h limits n E.Memory = IsBrokenOff q h limits.steps n

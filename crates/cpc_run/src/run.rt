@@ -285,7 +285,7 @@ fn run_program<O: Sink, R: HostRule, S: Sections>(
 /// writes what it puts out; with a trace it writes the lines of the trace in place of
 /// that, and the last line. The bound on steps is looked at before each step, and so is the cap, at what the step would leave:
 /// one that would leave more live cells is not made, and nothing of it goes out. The cells of the first state are counted
-/// before it is made.
+/// before it is made, and looked at before the bound on steps is.
 ///
 /// The answers that the run takes in are those that the table's functions gave, in order, and each is allowed by the rule of
 /// the table. Where a function of the host is declared that the table has not, with its arity, no run is begun: the report is

@@ -223,7 +223,7 @@ returns-clause-told g c = λ names q hist spells begins.
     let whole = sent ++ c.steps.pending.items in
     let here = at_end names q h limits trace l whole n c.steps.cells c.steps.polls reached c.steps.invariant.counted c.steps.invariant.within in
     let (left, at) = subst (λ d. IsLeft names q h limits d.steps d.ended × AtEnd q h limits trace d.steps d.cells d.polls whole) (sym c.report-due-2.ensures)
-    (record { at_bound = omega (arith, c.steps-test.false, c.steps.invariant.within); going = reached.going n (omega arith) }, here) in
+    (record { at_bound = omega (arith, c.steps-test.false, c.steps.invariant.within); going = reached.going n (omega arith); first = first_within names q h limits.cells trace l whole n c.steps.cells reached }, here) in
     ran_with allows (in_table table) q hist limits trace c.told-2.result answers n (g.O.Sink.taken c.args.out.now) (g.O.Sink.taken c.told-2.new.out) (ap (λ r. r.steps) c.told-2.ensures.same ∙ ap (λ r. r.steps) c.report-due-2.ensures)
     (has_same allows given [] [] (run_of q h n) refl has)
     (ends_told table q h limits trace c.report-due-2.result c.told-2.result whole (g.O.Sink.taken c.args.out.now) (g.O.Sink.taken c.told-2.new.out)
