@@ -38,7 +38,8 @@ pub struct Crew<W: Runner, G: Gate> {
 impl<W: Runner, G: Gate> Crew<W, G> {
     /// The same once more, for another thread. An error is want of memory.
     pub fn again(&self) -> Result<Crew<W, G>, AllocError>
-        ensures { IfOk result (λ c. arc_value c.dones ≡ arc_value self.now.dones) }
+        ensures dones { IfOk result (λ c. arc_value c.dones ≡ arc_value self.now.dones) }
+        ensures others { IfOk result (λ c. (arc_value c.runner ≡ arc_value self.now.runner) × (arc_value c.gate ≡ arc_value self.now.gate) × (arc_value c.bell ≡ arc_value self.now.bell) × (arc_value c.over ≡ arc_value self.now.over)) }
     {
         Ok(Crew {
             runner: Arc::try_clone(&self.runner)?,
