@@ -77,6 +77,7 @@ where
         ensures jobs { IfOk result (λ r. IsSeatAt (sends_on r.0.jobs) r.1 × (job_view r.1 ≡ submitter [] 0 workers [])) }
         ensures dones { IfOk result (λ r. IsPassOf (arc_value r.0.crew.dones) r.2 × (done_view r.2 ≡ loops [] workers [])) }
         ensures none { IfOk result (λ r. (r.0.own.0 ≡ []) × (vec_len r.0.workers ≤ workers)) }
+        ensures shared { IfOk result (λ r. (arc_value r.0.crew.runner ≡ arc_value runner) × (arc_value r.0.crew.gate ≡ arc_value gate)) }
     {
         let (sender, receiver, mut jobs) = cpc_pool_jobs::begin::<W>(alloc, MESSAGES)?;
         let (queue, mut dones) = cpc_pool_ends::begin::<W>(alloc, MOST_OUT)?;
