@@ -78,6 +78,7 @@ where
         ensures dones { IfOk result (λ r. IsPassOf (arc_value r.0.crew.dones) r.2 × (done_view r.2 ≡ loops [] workers [])) }
         ensures none { IfOk result (λ r. (r.0.own.0 ≡ []) × (vec_len r.0.workers ≤ workers)) }
         ensures shared { IfOk result (λ r. (arc_value r.0.crew.runner ≡ arc_value runner) × (arc_value r.0.crew.gate ≡ arc_value gate)) }
+        ensures idle { IfOk result (λ r. (r.0.out ≡ 0) × (r.0.heard ≡ 0)) }
     {
         let (sender, receiver, mut jobs) = cpc_pool_jobs::begin::<W>(alloc, MESSAGES)?;
         let (queue, mut dones) = cpc_pool_ends::begin::<W>(alloc, MOST_OUT)?;
@@ -145,6 +146,7 @@ impl<W: Runner, G: Gate> Pool<W, G> {
         requires meets { W.meets job }
         ensures same { (self.new.jobs ≡ self.old.jobs) × (self.new.crew ≡ self.old.crew) × (vec_len self.new.workers ≡ vec_len self.old.workers) }
         ensures ran { MatchResult result (λ _. Ran W.ends job self.old.own.0 self.new.own.0) (λ e. (e.0 ≡ job) × (self.new.own.0 ≡ self.old.own.0)) }
+        ensures rest { (self.new.out ≡ self.old.out) × (self.new.heard ≡ self.old.heard) }
     {
         if self.own.reserve().is_err() {
             return Err((job, AllocError));
