@@ -10,7 +10,7 @@ ghost use Rattle.cpc_pool_jobs.specs.Views.{submitter, Settled as JobsSettled};
 ghost use Rattle.cpc_pool_ends.specs.declared.done.Done.{Done};
 ghost use Rattle.cpc_pool_ends.specs.Views.{loops, Settled as DonesSettled};
 ghost use Rattle.cpc_pool.specs.Passes.{Submits, Pops};
-ghost use Rattle.cpc_pool.specs.Acts.{Ran, Submitted, Accepted};
+ghost use Rattle.cpc_pool.specs.Acts.{Ran, Submitted, SubmittedOut, Accepted};
 
 use super::bell::Bell;
 use super::completions::Completions;
@@ -120,6 +120,8 @@ impl<W: Runner, G: Gate> Pool<W, G> {
         ensures same { (self.new.jobs ≡ self.old.jobs) × (self.new.crew ≡ self.old.crew) × (vec_len self.new.workers ≡ vec_len self.old.workers) }
         ensures here { vec_len self.old.workers ≡ 0 → job_view pass.new ≡ job_view pass.old }
         ensures submitted { MatchResult result (λ _. Submitted W.number W.ends job self.old.own.0 self.new.own.0 (job_view pass.old) (job_view pass.new)) (λ e. (e.0 ≡ job) × (self.new.own.0 ≡ self.old.own.0) × (job_view pass.new ≡ job_view pass.old)) }
+        ensures out { MatchResult result (λ _. SubmittedOut W.number job (job_view pass.old) (job_view pass.new) self.old.out self.new.out) (λ _. self.new.out ≡ self.old.out) }
+        ensures heard { self.new.heard ≡ self.old.heard }
     {
         if self.own.reserve().is_err() {
             return Err((job, AllocError));
