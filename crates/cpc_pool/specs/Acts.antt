@@ -1,5 +1,5 @@
 -- What the acts of a pool come to.
-use Rattle.std.specs.Prelude.{◌≡◌, ◌⊎◌, ℕ, ◌<◌, ◌+◌, List, [], ◌∷◌, ◌++◌, suc, length, take, drop, slice_get, slice_index_or, Option, Some, None, MatchOption}
+use Rattle.std.specs.Prelude.{◌≡◌, ◌⊎◌, ℕ, ◌<◌, ◌+◌, ◌-◌, List, [], ◌∷◌, ◌++◌, suc, length, take, drop, slice_get, slice_index_or, Option, Some, None, MatchOption}
 use Rattle.crossbeam_queue.specs.Fifo.{Held}
 use Rattle.cpc_pool_jobs.specs.declared.message.Message.TheVariants as M
 use Rattle.cpc_pool_jobs.specs.declared.views.View.{View}
@@ -52,6 +52,12 @@ Accepted ends [] left v w r = (left ≡ []) × MatchOption r ((w ≡ v) × Held 
 -- how many jobs are out once one was submitted: one more where it was sent, and as many where the pool ran it
 abbrev pub SubmittedOut : {J : Type 0} → (J → ℕ) → J → View → View → (out left : ℕ) → Type 0
 SubmittedOut number j v w out left = ((w ≡ after_send number v (M.Work j)) × (left ≡ out + 1)) ⊎ ((w ≡ v) × (left ≡ out))
+
+-- how many jobs are out once something was accepted: one fewer where a worker brought it, and as many where it is of the pool's own list, or nothing came
+abbrev pub AcceptedOut : {X : Type 0} → List X → Option X → (out left : ℕ) → Type 0
+AcceptedOut (d ∷ ds) r out left = left ≡ out
+AcceptedOut [] None out left = left ≡ out
+AcceptedOut [] (Some d) out left = left ≡ out - 1
 
 -- among these completions, that at this place is of a job each of whose ends is an end of this one
 abbrev pub IsOf : {J E : Type 0} → (J → E → Type 0) → List (Done J E) → ℕ → J → Type 0

@@ -10,7 +10,7 @@ ghost use Rattle.cpc_pool_jobs.specs.Views.{submitter, Settled as JobsSettled};
 ghost use Rattle.cpc_pool_ends.specs.declared.done.Done.{Done};
 ghost use Rattle.cpc_pool_ends.specs.Views.{loops, Settled as DonesSettled};
 ghost use Rattle.cpc_pool.specs.Passes.{Submits, Pops};
-ghost use Rattle.cpc_pool.specs.Acts.{Ran, Submitted, SubmittedOut, Accepted};
+ghost use Rattle.cpc_pool.specs.Acts.{Ran, Submitted, SubmittedOut, Accepted, AcceptedOut};
 
 use super::bell::Bell;
 use super::completions::Completions;
@@ -164,6 +164,7 @@ impl<W: Runner, G: Gate> Pool<W, G> {
         ensures seat { Pops (arc_value self.new.crew.dones) pass.new }
         ensures same { (self.new.jobs ≡ self.old.jobs) × (self.new.crew ≡ self.old.crew) × (vec_len self.new.workers ≡ vec_len self.old.workers) }
         ensures accepted { Accepted W.ends self.old.own.0 self.new.own.0 (done_view pass.old) (done_view pass.new) result }
+        ensures out { AcceptedOut self.old.own.0 result self.old.out self.new.out }
         ensures ends { IfSome result (λ d. W.ends d.job d.end) }
     {
         self.heard = self.crew.bell.heard(rt);
