@@ -119,6 +119,7 @@ impl<W: Runner, G: Gate> Pool<W, G> {
         ensures seat { Submits (sends_on self.new.jobs) pass.new × ((job_view pass.new).stops ≡ 0) }
         ensures same { (self.new.jobs ≡ self.old.jobs) × (self.new.crew ≡ self.old.crew) × (vec_len self.new.workers ≡ vec_len self.old.workers) }
         ensures here { vec_len self.old.workers ≡ 0 → job_view pass.new ≡ job_view pass.old }
+        ensures full { 1024 ≤ self.old.out → job_view pass.new ≡ job_view pass.old }
         ensures submitted { MatchResult result (λ _. Submitted W.number W.ends job self.old.own.0 self.new.own.0 (job_view pass.old) (job_view pass.new)) (λ e. (e.0 ≡ job) × (self.new.own.0 ≡ self.old.own.0) × (job_view pass.new ≡ job_view pass.old)) }
         ensures out { MatchResult result (λ _. SubmittedOut W.number job (job_view pass.old) (job_view pass.new) self.old.out self.new.out) (λ _. self.new.out ≡ self.old.out) }
         ensures heard { self.new.heard ≡ self.old.heard }
