@@ -1,64 +1,75 @@
 //! Runs the examples and shows what each writes, goes over the rows, and shows what is not as it has to be; and runs two sections at once.
 #![tactic(auto)]
 
-mod beside;
-mod calls;
-mod failing;
-mod files;
-mod row;
-mod shown;
+use cpc_base::{Dialect, MemShelf, MemSink, NoMemory, Stop};
+use cpc_cli::Report;
+use cpc_standard::{called, called_with_gate};
+use cpc_translate::{TextFault, accept, laid_out};
+use examples_rows::{
+    IdleSink, Refusal, Stages, Together, Told, Watched, run_files, show_beside, show_examples,
+};
+use std::alloc::{AllocError, Global};
+use std::sync::Arc;
 
-ghost use Rattle.std.specs.Prelude.{◌≡◌, length, Some, codes};
-ghost use Rattle.cpc_hosts.specs.Standard.{standard_answer};
+// What a call gives.
+type Answered = Result<Told, AllocError>;
 
-use beside::show_beside;
-use cpc_hosts::{Answer, abs_diff, clamp, greatest, least, sign, standard_hosts};
-use files::run_files;
-use shown::show_examples;
+// The gate of two sections.
+type Held = Arc<Together, Global>;
+
+// What a report tells, where there is one.
+fn told(report: Result<Report, NoMemory>) -> Answered {
+    match report {
+        Ok(report) => Ok(Told {
+            status: report.status,
+            steps: report.steps,
+            cells: report.cells,
+        }),
+        Err(NoMemory) => Err(AllocError),
+    }
+}
+
+// A fault as the rows have it.
+fn refusal(stop: Stop<TextFault>) -> Stop<Refusal> {
+    match stop {
+        Stop::Memory => Stop::Memory,
+        Stop::Fault(fault) => Stop::Fault(Refusal {
+            place: fault.place(),
+            stage: fault.stage(),
+            number: fault.number(),
+            name: fault.name(),
+        }),
+    }
+}
+
+// The stages of this repository.
+#[derive(Drop)]
+struct Proved;
+
+impl Stages for Proved {
+    fn print(&self, alloc: Global, text: &[u8]) -> Result<Vec<u8>, Stop<Refusal>> {
+        match laid_out(alloc, text, Dialect::Cpc) {
+            Ok(printed) => Ok(printed),
+            Err(stop) => Err(refusal(stop)),
+        }
+    }
+
+    fn read_event(&self, alloc: Global, text: &[u8]) -> Result<(), Stop<Refusal>> {
+        match accept(alloc, text, Dialect::Event) {
+            Ok(()) => Ok(()),
+            Err(stop) => Err(refusal(stop)),
+        }
+    }
+}
 
 fn main(rt: HostRuntime) -> anyhow::Result<()> {
-    let alloc = rt.alloc();
-    let abs_diff_by: Answer = Box::new(
-        alloc,
-        |args: &[i64]| -> i64
-            requires { length args.now ≡ 2 }
-            ensures { standard_answer (codes "abs_diff") args.now ≡ Some result }
-        { abs_diff(args) },
-    )?;
-    let least_by: Answer = Box::new(
-        alloc,
-        |args: &[i64]| -> i64
-            requires { length args.now ≡ 2 }
-            ensures { standard_answer (codes "least") args.now ≡ Some result }
-        { least(args) },
-    )?;
-    let greatest_by: Answer = Box::new(
-        alloc,
-        |args: &[i64]| -> i64
-            requires { length args.now ≡ 2 }
-            ensures { standard_answer (codes "greatest") args.now ≡ Some result }
-        { greatest(args) },
-    )?;
-    let clamp_by: Answer = Box::new(
-        alloc,
-        |args: &[i64]| -> i64
-            requires { length args.now ≡ 3 }
-            ensures { standard_answer (codes "clamp") args.now ≡ Some result }
-        { clamp(args) },
-    )?;
-    let sign_by: Answer = Box::new(
-        alloc,
-        |args: &[i64]| -> i64
-            requires { length args.now ≡ 1 }
-            ensures { standard_answer (codes "sign") args.now ≡ Some result }
-        { sign(args) },
-    )?;
-    let Ok(hosts) = standard_hosts(alloc, abs_diff_by, least_by, greatest_by, clamp_by, sign_by)
-    else {
-        println!(rt; "no memory")?;
-        return Ok(());
+    let call = |alloc: Global, words: &[String], shelf: &mut MemShelf, out: &mut IdleSink, err: &mut MemSink| -> Answered {
+        told(called(rt, alloc, words, shelf, out, err))
     };
-    show_examples(rt, &rt, &hosts)?;
-    run_files(rt, &rt, &hosts)?;
-    show_beside(rt, &rt, &hosts)
+    let held = |alloc: Global, words: &[String], shelf: &mut MemShelf, out: &mut Watched, err: &mut MemSink, gate: &Held| -> Answered {
+        told(called_with_gate(rt, alloc, words, shelf, out, err, gate))
+    };
+    show_examples(&rt, &call)?;
+    run_files(&rt, &Proved, &call)?;
+    show_beside(&rt, &held)
 }

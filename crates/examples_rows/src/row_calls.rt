@@ -1,28 +1,37 @@
 //! The calls of a row.
 use crate::calls::make;
+use crate::due::{Due, ends};
 use crate::failing::{each_front, each_put, each_read, each_said};
-use cpc_hosts::{HostTable, Kept, StdHosts};
-use examples_rows::{Due, Files, Left, Line, Row, ends, number};
-use std::sync::Wait;
-use std::thread::Threads;
+use crate::idle::IdleSink;
+use crate::row::{Line, Row, number};
+use crate::setting::{Files, Left};
+use crate::top::{Stages, Told};
+use cpc_base::{MemShelf, MemSink};
+use std::alloc::{AllocError, Global};
 
 /// Takes a line of a row, and makes the calls of the row where it is over.
 ///
 /// # Errors
 /// Where memory is wanting, or what is found cannot be shown.
-pub fn take_line<T>(
+pub fn take_line<S: Stages, F>(
     rt: &HostRuntime,
-    threads: T,
-    hosts: &HostTable<StdHosts>,
+    stages: &S,
+    call: &F,
     row: &mut Row,
     line: &[u8],
 ) -> anyhow::Result<()>
 where
-    T: Threads + Wait + Copy + Send + 'static,
-    requires rule { ⟦<HostTable<StdHosts> as Kept>⟧.keeps hosts.now }
+    F: Fn(
+        Global,
+        &[String],
+        &mut MemShelf,
+        &mut IdleSink,
+        &mut MemSink,
+    ) -> Result<Told, AllocError>,
+    requires { F.IsAlwaysCallable call.now }
 {
     if let Line::End(ending, is_whole) = row.take(line)? {
-        let calls = make_calls(rt, threads, hosts, row, ending, is_whole)?;
+        let calls = make_calls(rt, stages, call, row, ending, is_whole)?;
         row.calls = row.calls.saturating_add(calls);
         row.clear();
     }
@@ -30,17 +39,23 @@ where
 }
 
 // Makes each call of a row with each setting, and tells how many there were.
-fn make_calls<T>(
+fn make_calls<S: Stages, F>(
     rt: &HostRuntime,
-    threads: T,
-    hosts: &HostTable<StdHosts>,
+    stages: &S,
+    call: &F,
     row: &Row,
     ending: &str,
     is_whole: bool,
 ) -> anyhow::Result<u64>
 where
-    T: Threads + Wait + Copy + Send + 'static,
-    requires rule { ⟦<HostTable<StdHosts> as Kept>⟧.keeps hosts.now }
+    F: Fn(
+        Global,
+        &[String],
+        &mut MemShelf,
+        &mut IdleSink,
+        &mut MemSink,
+    ) -> Result<Told, AllocError>,
+    requires { F.IsAlwaysCallable call.now }
 {
     let alloc = rt.alloc();
     let files = row.files();
@@ -53,24 +68,16 @@ where
     for words in row.words.iter() {
         let words = words.as_str();
         for setting in row.settings.iter() {
-            let left = make(threads, alloc, hosts, words, files, *setting)?;
+            let left = make(stages, call, alloc, words, files, *setting)?;
             let is_written = left.out == row.out && left.err == row.err;
             if !(ends(&left, ending) && (is_written || !is_whole)) {
                 show(rt, words, files, &left)?;
             }
             calls = calls.saturating_add(1);
         }
-        run_failing(
-            rt,
-            threads,
-            hosts,
-            words,
-            files,
-            due,
-            row.failing.as_slice(),
-        )?;
+        run_failing(rt, stages, call, words, files, due, row.failing.as_slice())?;
         if row.has_fronts {
-            let left = each_front(threads, alloc, hosts, words, files)?;
+            let left = each_front(stages, call, alloc, words, files)?;
             show_some(rt, words, files, &left)?;
         }
     }
@@ -78,26 +85,32 @@ where
 }
 
 // Makes the calls in which one thing fails.
-fn run_failing<T>(
+fn run_failing<S: Stages, F>(
     rt: &HostRuntime,
-    threads: T,
-    hosts: &HostTable<StdHosts>,
+    stages: &S,
+    call: &F,
     words: &str,
     files: Files<'_>,
     due: Due<'_>,
     failing: &[u64],
 ) -> anyhow::Result<()>
 where
-    T: Threads + Wait + Copy + Send + 'static,
-    requires rule { ⟦<HostTable<StdHosts> as Kept>⟧.keeps hosts.now }
+    F: Fn(
+        Global,
+        &[String],
+        &mut MemShelf,
+        &mut IdleSink,
+        &mut MemSink,
+    ) -> Result<Told, AllocError>,
+    requires { F.IsAlwaysCallable call.now }
 {
     let alloc = rt.alloc();
     for most in failing.iter() {
-        let left = each_read(threads, alloc, hosts, words, files, due, *most)?;
+        let left = each_read(stages, call, alloc, words, files, due, *most)?;
         show_some(rt, words, files, &left)?;
-        let left = each_put(threads, alloc, hosts, words, files, due, *most)?;
+        let left = each_put(stages, call, alloc, words, files, due, *most)?;
         show_some(rt, words, files, &left)?;
-        let left = each_said(threads, alloc, hosts, words, files, due, *most)?;
+        let left = each_said(stages, call, alloc, words, files, due, *most)?;
         show_some(rt, words, files, &left)?;
     }
     Ok(())

@@ -1,30 +1,35 @@
 //! Calls in which one thing fails: each read, each put on `out` and each put on `err` in turn; and calls over each front of
 //! a text. A function gives what the first call left that is not so.
 use crate::calls::make;
-use cpc_hosts::{HostTable, Kept, StdHosts};
-use examples_rows::{
-    Due, Files, Left, Setting, calls_for, is_cut, is_due, is_left, reads_for, steady,
-};
+use crate::due::{Due, calls_for, is_cut, is_due, is_left, reads_for};
+use crate::idle::IdleSink;
+use crate::setting::{Files, Left, Setting, steady};
+use crate::top::{Stages, Told};
+use cpc_base::{MemShelf, MemSink};
 use std::alloc::{AllocError, Global};
-use std::sync::Wait;
-use std::thread::Threads;
 
 /// Each read fails, of the text and then of the history, and none is made behind these.
 ///
 /// # Errors
 /// Where memory is wanting.
-pub fn each_read<T>(
-    rt: T,
+pub fn each_read<S: Stages, F>(
+    stages: &S,
+    call: &F,
     alloc: Global,
-    hosts: &HostTable<StdHosts>,
     line: &str,
     files: Files<'_>,
     due: Due<'_>,
     most: u64,
 ) -> Result<Option<Left>, AllocError>
 where
-    T: Threads + Wait + Copy + Send + 'static,
-    requires rule { ⟦<HostTable<StdHosts> as Kept>⟧.keeps hosts.now }
+    F: Fn(
+        Global,
+        &[String],
+        &mut MemShelf,
+        &mut IdleSink,
+        &mut MemSink,
+    ) -> Result<Told, AllocError>,
+    requires { F.IsAlwaysCallable call.now }
 {
     let of_text = reads_for(files.text, most);
     let of_history = match files.history {
@@ -34,9 +39,9 @@ where
     let all = of_text.saturating_add(of_history);
     for read in 1..all.saturating_add(2) {
         let left = make(
-            rt,
+            stages,
+            call,
             alloc,
-            hosts,
             line,
             files,
             Setting {
@@ -62,26 +67,32 @@ where
 ///
 /// # Errors
 /// Where memory is wanting.
-pub fn each_put<T>(
-    rt: T,
+pub fn each_put<S: Stages, F>(
+    stages: &S,
+    call: &F,
     alloc: Global,
-    hosts: &HostTable<StdHosts>,
     line: &str,
     files: Files<'_>,
     due: Due<'_>,
     most: u64,
 ) -> Result<Option<Left>, AllocError>
 where
-    T: Threads + Wait + Copy + Send + 'static,
-    requires rule { ⟦<HostTable<StdHosts> as Kept>⟧.keeps hosts.now }
+    F: Fn(
+        Global,
+        &[String],
+        &mut MemShelf,
+        &mut IdleSink,
+        &mut MemSink,
+    ) -> Result<Told, AllocError>,
+    requires { F.IsAlwaysCallable call.now }
 {
     let last = (due.out.len() as u64).saturating_add(1);
     let mut before = None;
     for put in 1..last {
         let left = make(
-            rt,
+            stages,
+            call,
             alloc,
-            hosts,
             line,
             files,
             Setting {
@@ -99,9 +110,9 @@ where
     }
     let put = last;
     let left = make(
-        rt,
+        stages,
+        call,
         alloc,
-        hosts,
         line,
         files,
         Setting {
@@ -116,25 +127,31 @@ where
 ///
 /// # Errors
 /// Where memory is wanting.
-pub fn each_said<T>(
-    rt: T,
+pub fn each_said<S: Stages, F>(
+    stages: &S,
+    call: &F,
     alloc: Global,
-    hosts: &HostTable<StdHosts>,
     line: &str,
     files: Files<'_>,
     due: Due<'_>,
     most: u64,
 ) -> Result<Option<Left>, AllocError>
 where
-    T: Threads + Wait + Copy + Send + 'static,
-    requires rule { ⟦<HostTable<StdHosts> as Kept>⟧.keeps hosts.now }
+    F: Fn(
+        Global,
+        &[String],
+        &mut MemShelf,
+        &mut IdleSink,
+        &mut MemSink,
+    ) -> Result<Told, AllocError>,
+    requires { F.IsAlwaysCallable call.now }
 {
     let last = calls_for(due.err.len(), most).saturating_add(1);
     for said in 1..last.saturating_add(1) {
         let left = make(
-            rt,
+            stages,
+            call,
             alloc,
-            hosts,
             line,
             files,
             Setting {
@@ -160,23 +177,29 @@ where
 ///
 /// # Errors
 /// Where memory is wanting.
-pub fn each_front<T>(
-    rt: T,
+pub fn each_front<S: Stages, F>(
+    stages: &S,
+    call: &F,
     alloc: Global,
-    hosts: &HostTable<StdHosts>,
     line: &str,
     files: Files<'_>,
 ) -> Result<Option<Left>, AllocError>
 where
-    T: Threads + Wait + Copy + Send + 'static,
-    requires rule { ⟦<HostTable<StdHosts> as Kept>⟧.keeps hosts.now }
+    F: Fn(
+        Global,
+        &[String],
+        &mut MemShelf,
+        &mut IdleSink,
+        &mut MemSink,
+    ) -> Result<Told, AllocError>,
+    requires { F.IsAlwaysCallable call.now }
 {
     for length in 0..files.text.len() {
         let front = Files {
             text: files.text.get(..length).unwrap_or(b""),
             history: files.history,
         };
-        let left = make(rt, alloc, hosts, line, front, steady(4096))?;
+        let left = make(stages, call, alloc, line, front, steady(4096))?;
         let is_told = left.err.as_slice().starts_with(b"refused ");
         if !(left.status == 3 && left.out.is_empty() && is_told) {
             return Ok(Some(left));

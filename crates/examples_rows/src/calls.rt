@@ -1,61 +1,63 @@
 //! The calls: the command over objects in memory, and the stages of reading that it has no words for.
-use cpc_base::{Dialect, MemShelf, MemSink, Stop};
-use cpc_cli::cpc_main;
-use cpc_hosts::{HostTable, Kept, StdHosts};
-use cpc_pool::NoGate;
-use cpc_translate::{TextFault, accept, laid_out};
-use examples_rows::{Files, IdleSink, Left, Setting, failing, shelf, words_of};
+use crate::idle::IdleSink;
+use crate::setting::{Files, Left, Setting, failing, shelf, words_of};
+use crate::top::{Refusal, Stages, Told};
+use cpc_base::{MemShelf, MemSink, Stop};
 use std::alloc::{AllocError, Global};
-use std::sync::{Arc, Wait};
-use std::thread::Threads;
 
-// Makes a call of the command over the objects of this setting, with the functions of the host that every run has.
-fn called<T>(
-    rt: T,
+// Makes a call of the command over the objects of this setting.
+fn called<F>(
+    call: &F,
     alloc: Global,
-    hosts: &HostTable<StdHosts>,
     words: &[String],
     mut shelf: MemShelf,
     setting: Setting,
 ) -> Result<Left, AllocError>
 where
-    T: Threads + Wait + Copy + Send + 'static,
-    requires rule { ⟦<HostTable<StdHosts> as Kept>⟧.keeps hosts.now }
+    F: Fn(
+        Global,
+        &[String],
+        &mut MemShelf,
+        &mut IdleSink,
+        &mut MemSink,
+    ) -> Result<Told, AllocError>,
+    requires { F.IsAlwaysCallable call.now }
 {
     let most = setting.most as usize;
     let taking = MemSink::new(alloc, most, failing(alloc, setting.put)?);
     let mut out = IdleSink::new(taking, failing(alloc, setting.idle)?);
     let mut err = MemSink::new(alloc, most, failing(alloc, setting.said)?);
-    let gate = Arc::new(alloc, NoGate)?;
-    let report = cpc_main(
-        rt, alloc, words, &mut shelf, &mut out, &mut err, hosts, &gate,
-    );
+    let told = call(alloc, words, &mut shelf, &mut out, &mut err)?;
     Ok(Left {
         out: out.bytes().to_vec(alloc)?,
         err: err.bytes().to_vec(alloc)?,
-        status: report.status,
-        steps: report.steps,
-        cells: report.cells,
+        status: told.status,
+        steps: told.steps,
+        cells: told.cells,
     })
 }
 
-fn command<T>(
-    rt: T,
+fn command<F>(
+    call: &F,
     alloc: Global,
-    hosts: &HostTable<StdHosts>,
     line: &str,
     files: Files<'_>,
     setting: Setting,
 ) -> Result<Left, AllocError>
 where
-    T: Threads + Wait + Copy + Send + 'static,
-    requires rule { ⟦<HostTable<StdHosts> as Kept>⟧.keeps hosts.now }
+    F: Fn(
+        Global,
+        &[String],
+        &mut MemShelf,
+        &mut IdleSink,
+        &mut MemSink,
+    ) -> Result<Told, AllocError>,
+    requires { F.IsAlwaysCallable call.now }
 {
     let words = words_of(alloc, line)?;
     called(
-        rt,
+        call,
         alloc,
-        hosts,
         words.as_slice(),
         shelf(alloc, "a.c", files, setting)?,
         setting,
@@ -63,19 +65,24 @@ where
 }
 
 // The text is translated, and what is printed stands in the file `b.c` of a call of `exec` with these words.
-fn exec_printed<T>(
-    rt: T,
+fn exec_printed<F>(
+    call: &F,
     alloc: Global,
-    hosts: &HostTable<StdHosts>,
     line: &str,
     files: Files<'_>,
     setting: Setting,
 ) -> Result<Left, AllocError>
 where
-    T: Threads + Wait + Copy + Send + 'static,
-    requires rule { ⟦<HostTable<StdHosts> as Kept>⟧.keeps hosts.now }
+    F: Fn(
+        Global,
+        &[String],
+        &mut MemShelf,
+        &mut IdleSink,
+        &mut MemSink,
+    ) -> Result<Told, AllocError>,
+    requires { F.IsAlwaysCallable call.now }
 {
-    let printed = command(rt, alloc, hosts, "translate a.c", files, setting)?;
+    let printed = command(call, alloc, "translate a.c", files, setting)?;
     if printed.status != 0 {
         return Ok(printed);
     }
@@ -86,9 +93,8 @@ where
         history: files.history,
     };
     called(
-        rt,
+        call,
         alloc,
-        hosts,
         words.as_slice(),
         shelf(alloc, "b.c", again, setting)?,
         setting,
@@ -106,28 +112,28 @@ fn ended(status: u8, out: Vec<u8>, err: Vec<u8>) -> Left {
     }
 }
 
-fn refused(alloc: Global, fault: TextFault) -> Result<Left, AllocError> {
-    let line = fault.place().line;
-    let column = fault.place().column;
-    let stage = fault.stage();
-    let number = fault.number();
-    let name = fault.name();
+fn refused(alloc: Global, refusal: Refusal) -> Result<Left, AllocError> {
+    let line = refusal.place.line;
+    let column = refusal.place.column;
+    let stage = refusal.stage;
+    let number = refusal.number;
+    let name = refusal.name;
     let told = format!(in alloc; "refused {line}:{column} {stage} {number} {name}\n")?;
     Ok(ended(3, Vec::new(alloc), told.into_bytes()))
 }
 
 // What is left where a text is not read.
-fn stopped(alloc: Global, stop: Stop<TextFault>) -> Result<Left, AllocError> {
+fn stopped(alloc: Global, stop: Stop<Refusal>) -> Result<Left, AllocError> {
     match stop {
         Stop::Memory => Err(AllocError),
-        Stop::Fault(fault) => refused(alloc, fault),
+        Stop::Fault(refusal) => refused(alloc, refusal),
     }
 }
 
 // A text is printed, and what is printed is printed as itself.
-fn print_twice(alloc: Global, text: &[u8]) -> Result<Left, AllocError> {
-    match laid_out(alloc, text, Dialect::Cpc) {
-        Ok(once) => match laid_out(alloc, &once, Dialect::Cpc) {
+fn print_twice<S: Stages>(stages: &S, alloc: Global, text: &[u8]) -> Result<Left, AllocError> {
+    match stages.print(alloc, text) {
+        Ok(once) => match stages.print(alloc, &once) {
             Ok(twice) if twice == once => Ok(ended(0, once, Vec::new(alloc))),
             _ => Ok(ended(1, once, Vec::new(alloc))),
         },
@@ -136,8 +142,8 @@ fn print_twice(alloc: Global, text: &[u8]) -> Result<Left, AllocError> {
 }
 
 // A text is read as an event program.
-fn read_event(alloc: Global, text: &[u8]) -> Result<Left, AllocError> {
-    match accept(alloc, text, Dialect::Event) {
+fn read_event<S: Stages>(stages: &S, alloc: Global, text: &[u8]) -> Result<Left, AllocError> {
+    match stages.read_event(alloc, text) {
         Ok(()) => Ok(ended(0, Vec::new(alloc), Vec::new(alloc))),
         Err(stop) => stopped(alloc, stop),
     }
@@ -148,24 +154,30 @@ fn read_event(alloc: Global, text: &[u8]) -> Result<Left, AllocError> {
 ///
 /// # Errors
 /// Where memory is wanting.
-pub fn make<T>(
-    rt: T,
+pub fn make<S: Stages, F>(
+    stages: &S,
+    call: &F,
     alloc: Global,
-    hosts: &HostTable<StdHosts>,
     line: &str,
     files: Files<'_>,
     setting: Setting,
 ) -> Result<Left, AllocError>
 where
-    T: Threads + Wait + Copy + Send + 'static,
-    requires rule { ⟦<HostTable<StdHosts> as Kept>⟧.keeps hosts.now }
+    F: Fn(
+        Global,
+        &[String],
+        &mut MemShelf,
+        &mut IdleSink,
+        &mut MemSink,
+    ) -> Result<Told, AllocError>,
+    requires { F.IsAlwaysCallable call.now }
 {
     match line {
-        ":print" => print_twice(alloc, files.text),
-        ":event" => read_event(alloc, files.text),
+        ":print" => print_twice(stages, alloc, files.text),
+        ":event" => read_event(stages, alloc, files.text),
         _ => match line.strip_prefix(":exec") {
-            Some(words) => exec_printed(rt, alloc, hosts, words, files, setting),
-            None => command(rt, alloc, hosts, line, files, setting),
+            Some(words) => exec_printed(call, alloc, words, files, setting),
+            None => command(call, alloc, line, files, setting),
         },
     }
 }

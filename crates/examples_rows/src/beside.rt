@@ -1,11 +1,10 @@
 //! Two sections that are out at once.
-use cpc_base::{Calls, MemSink};
-use cpc_cli::cpc_main;
-use cpc_hosts::{HostTable, Kept, StdHosts};
-use examples_rows::{Files, Together, Watched, shelf, steady, words_of};
-use std::alloc::Global;
-use std::sync::{Arc, Wait};
-use std::thread::Threads;
+use crate::held::{Together, Watched};
+use crate::setting::{Files, shelf, steady, words_of};
+use crate::top::Told;
+use cpc_base::{Calls, MemShelf, MemSink};
+use std::alloc::{AllocError, Global};
+use std::sync::Arc;
 
 // Two sections over one struct; the line 99 is put out once both are out, and before the poll that tells one.
 const TEXT: &str = "struct p { int a; int b; };
@@ -31,14 +30,17 @@ fn show(rt: &HostRuntime, what: &str, holds: bool) -> anyhow::Result<()> {
 ///
 /// # Errors
 /// Where memory is wanting, or what is found cannot be shown.
-pub fn show_beside<T>(
-    threads: T,
-    rt: &HostRuntime,
-    hosts: &HostTable<StdHosts>,
-) -> anyhow::Result<()>
+pub fn show_beside<F>(rt: &HostRuntime, call: &F) -> anyhow::Result<()>
 where
-    T: Threads + Wait + Copy + Send + 'static,
-    requires rule { ⟦<HostTable<StdHosts> as Kept>⟧.keeps hosts.now }
+    F: Fn(
+        Global,
+        &[String],
+        &mut MemShelf,
+        &mut Watched,
+        &mut MemSink,
+        &Arc<Together, Global>,
+    ) -> Result<Told, AllocError>,
+    requires { F.IsAlwaysCallable call.now }
 {
     let alloc = rt.alloc();
     let files = Files {
@@ -51,16 +53,14 @@ where
     let gate = Arc::new(alloc, Together::new())?;
     let mut out = Watched::new(alloc, Arc::try_clone(&gate)?);
     let mut err = MemSink::new(alloc, 4096, Calls::new(Vec::new(alloc)));
-    let report = cpc_main(
-        threads,
+    let told = call(
         alloc,
         words.as_slice(),
         &mut shelf,
         &mut out,
         &mut err,
-        hosts,
         &gate,
-    );
+    )?;
     show(
         rt,
         "two sections are run by a worker each",
@@ -74,6 +74,6 @@ where
     show(
         rt,
         "what they give comes back as the history has it",
-        report.status == 0 && out.bytes() == OUT && err.bytes().is_empty(),
+        told.status == 0 && out.bytes() == OUT && err.bytes().is_empty(),
     )
 }

@@ -1,12 +1,9 @@
 //! The examples, and what each writes: its output, the line on `err`, and its status.
+use crate::idle::IdleSink;
+use crate::top::Told;
 use cpc_base::{Calls, MemFile, MemShelf, MemSink};
-use cpc_cli::cpc_main;
-use cpc_hosts::{HostTable, Kept, StdHosts};
-use cpc_pool::NoGate;
-use std::alloc::Global;
+use std::alloc::{AllocError, Global};
 use std::fs;
-use std::sync::{Arc, Wait};
-use std::thread::Threads;
 
 /// The examples that run, in the order in which they are run.
 const RUN: [&str; 12] = [
@@ -43,27 +40,30 @@ fn file(rt: &HostRuntime, name: &str) -> anyhow::Result<MemFile> {
 }
 
 // Does what these words ask for over these files, and shows what comes of it under a name.
-fn show<T>(
-    threads: T,
+fn show<F>(
     rt: &HostRuntime,
-    hosts: &HostTable<StdHosts>,
+    call: &F,
     name: &str,
     words: &[String],
     files: Vec<MemFile>,
 ) -> anyhow::Result<()>
 where
-    T: Threads + Wait + Copy + Send + 'static,
-    requires { ⟦<HostTable<StdHosts> as Kept>⟧.keeps hosts.now }
+    F: Fn(
+        Global,
+        &[String],
+        &mut MemShelf,
+        &mut IdleSink,
+        &mut MemSink,
+    ) -> Result<Told, AllocError>,
+    requires { F.IsAlwaysCallable call.now }
 {
     let alloc = rt.alloc();
     let mut shelf = MemShelf::new(files, 4096, never(alloc));
-    let mut out = MemSink::new(alloc, 4096, never(alloc));
+    let taking = MemSink::new(alloc, 4096, never(alloc));
+    let mut out = IdleSink::new(taking, never(alloc));
     let mut err = MemSink::new(alloc, 4096, never(alloc));
-    let gate = Arc::new(alloc, NoGate)?;
-    let report = cpc_main(
-        threads, alloc, words, &mut shelf, &mut out, &mut err, hosts, &gate,
-    );
-    let status = report.status;
+    let told = call(alloc, words, &mut shelf, &mut out, &mut err)?;
+    let status = told.status;
     println!(rt; "== {name}")?;
     print!(rt; "{}", String::from_utf8_lossy(alloc, out.bytes())?)?;
     print!(rt; "{}", String::from_utf8_lossy(alloc, err.bytes())?)?;
@@ -72,15 +72,16 @@ where
 }
 
 // Runs a text.
-fn show_run<T>(
-    threads: T,
-    rt: &HostRuntime,
-    hosts: &HostTable<StdHosts>,
-    name: &str,
-) -> anyhow::Result<()>
+fn show_run<F>(rt: &HostRuntime, call: &F, name: &str) -> anyhow::Result<()>
 where
-    T: Threads + Wait + Copy + Send + 'static,
-    requires { ⟦<HostTable<StdHosts> as Kept>⟧.keeps hosts.now }
+    F: Fn(
+        Global,
+        &[String],
+        &mut MemShelf,
+        &mut IdleSink,
+        &mut MemSink,
+    ) -> Result<Told, AllocError>,
+    requires { F.IsAlwaysCallable call.now }
 {
     let alloc = rt.alloc();
     let words = vec![in alloc;
@@ -88,20 +89,20 @@ where
         String::from_str(alloc, name)?,
     ]?;
     let files = vec![in alloc; file(rt, name)?]?;
-    show(threads, rt, hosts, name, words.as_slice(), files)
+    show(rt, call, name, words.as_slice(), files)
 }
 
 // Runs a text by its history.
-fn show_told<T>(
-    threads: T,
-    rt: &HostRuntime,
-    hosts: &HostTable<StdHosts>,
-    name: &str,
-    history: &str,
-) -> anyhow::Result<()>
+fn show_told<F>(rt: &HostRuntime, call: &F, name: &str, history: &str) -> anyhow::Result<()>
 where
-    T: Threads + Wait + Copy + Send + 'static,
-    requires { ⟦<HostTable<StdHosts> as Kept>⟧.keeps hosts.now }
+    F: Fn(
+        Global,
+        &[String],
+        &mut MemShelf,
+        &mut IdleSink,
+        &mut MemSink,
+    ) -> Result<Told, AllocError>,
+    requires { F.IsAlwaysCallable call.now }
 {
     let alloc = rt.alloc();
     let words = vec![in alloc;
@@ -111,27 +112,29 @@ where
         String::from_str(alloc, history)?,
     ]?;
     let files = vec![in alloc; file(rt, name)?, file(rt, history)?]?;
-    show(threads, rt, hosts, name, words.as_slice(), files)
+    show(rt, call, name, words.as_slice(), files)
 }
 
 /// Runs all examples, and shows what each writes.
 ///
 /// # Errors
 /// Where memory is wanting, or a file cannot be read, or what is found cannot be shown.
-pub fn show_examples<T>(
-    threads: T,
-    rt: &HostRuntime,
-    hosts: &HostTable<StdHosts>,
-) -> anyhow::Result<()>
+pub fn show_examples<F>(rt: &HostRuntime, call: &F) -> anyhow::Result<()>
 where
-    T: Threads + Wait + Copy + Send + 'static,
-    requires { ⟦<HostTable<StdHosts> as Kept>⟧.keeps hosts.now }
+    F: Fn(
+        Global,
+        &[String],
+        &mut MemShelf,
+        &mut IdleSink,
+        &mut MemSink,
+    ) -> Result<Told, AllocError>,
+    requires { F.IsAlwaysCallable call.now }
 {
     for name in RUN {
-        show_run(threads, rt, hosts, name)?;
+        show_run(rt, call, name)?;
     }
     for (name, history) in TOLD {
-        show_told(threads, rt, hosts, name, history)?;
+        show_told(rt, call, name, history)?;
     }
     Ok(())
 }

@@ -1,10 +1,11 @@
 //! The files of rows: calls over a text, each with what it has to write and how it has to end. A row that is not so is shown.
-use crate::row::take_line;
-use cpc_hosts::{HostTable, Kept, StdHosts};
-use examples_rows::Row;
+use crate::idle::IdleSink;
+use crate::row::Row;
+use crate::row_calls::take_line;
+use crate::top::{Stages, Told};
+use cpc_base::{MemShelf, MemSink};
+use std::alloc::{AllocError, Global};
 use std::fs;
-use std::sync::Wait;
-use std::thread::Threads;
 
 /// The files of rows, each with the texts of one subject.
 const FILES: [&str; 29] = [
@@ -40,15 +41,16 @@ const FILES: [&str; 29] = [
 ];
 
 // Goes over a file of rows, and tells how many it has.
-fn run_file<T>(
-    threads: T,
-    rt: &HostRuntime,
-    hosts: &HostTable<StdHosts>,
-    name: &str,
-) -> anyhow::Result<()>
+fn run_file<S: Stages, F>(rt: &HostRuntime, stages: &S, call: &F, name: &str) -> anyhow::Result<()>
 where
-    T: Threads + Wait + Copy + Send + 'static,
-    requires rule { ⟦<HostTable<StdHosts> as Kept>⟧.keeps hosts.now }
+    F: Fn(
+        Global,
+        &[String],
+        &mut MemShelf,
+        &mut IdleSink,
+        &mut MemSink,
+    ) -> Result<Told, AllocError>,
+    requires { F.IsAlwaysCallable call.now }
 {
     let alloc = rt.alloc();
     let path = format!(in alloc; "rows/{name}")?;
@@ -57,7 +59,7 @@ where
     let mut line = Vec::new(alloc);
     for byte in bytes.iter() {
         if *byte == b'\n' {
-            take_line(rt, threads, hosts, &mut row, line.as_slice())?;
+            take_line(rt, stages, call, &mut row, line.as_slice())?;
             line.clear();
         } else {
             line.push(*byte)?;
@@ -73,13 +75,19 @@ where
 ///
 /// # Errors
 /// Where memory is wanting, or a file cannot be read, or what is found cannot be shown.
-pub fn run_files<T>(threads: T, rt: &HostRuntime, hosts: &HostTable<StdHosts>) -> anyhow::Result<()>
+pub fn run_files<S: Stages, F>(rt: &HostRuntime, stages: &S, call: &F) -> anyhow::Result<()>
 where
-    T: Threads + Wait + Copy + Send + 'static,
-    requires rule { ⟦<HostTable<StdHosts> as Kept>⟧.keeps hosts.now }
+    F: Fn(
+        Global,
+        &[String],
+        &mut MemShelf,
+        &mut IdleSink,
+        &mut MemSink,
+    ) -> Result<Told, AllocError>,
+    requires { F.IsAlwaysCallable call.now }
 {
     for name in FILES {
-        run_file(threads, rt, hosts, name)?;
+        run_file(rt, stages, call, name)?;
     }
     Ok(())
 }
