@@ -62,6 +62,18 @@ stands_fit q h bound cap n (Full c m) s some = full_fits q h bound cap n m s.1 s
 stands_fit q h bound cap n Accepted s some = absurd s
 stands_fit q h bound cap n Translated s some = absurd s
 
+-- the first state of a run that stands so keeps to the cap, unless the run was left there for its cells
+first_so : (q : Program) (h : History) (bound cap n : ℕ) (outcome : Outcome) (before out : Text) → StandsSo q h bound cap n outcome → FirstFits q h cap (stop_in outcome) before out
+first_so q h bound cap n (Ended k) before out s = inl (s.fits 0 (omega arith))
+first_so q h bound cap n (Exited z) before out s = inl (s.fits 0 (omega arith))
+first_so q h bound cap n (Failed f x) before out s = inl (s.fits 0 (omega arith))
+first_so q h bound cap n (HistoryEnded k) before out s = inl (s.0.fits 0 (omega arith))
+first_so q h bound cap n (BadHistory k m) before out s = inl (s.0.fits 0 (omega arith))
+first_so q h bound cap n (Stopped m) before out s = inl (s.1.fits 0 (omega arith))
+first_so q h bound cap n (Full c m) before out s = inr (inl refl)
+first_so q h bound cap n Accepted before out s = absurd s
+first_so q h bound cap n Translated before out s = absurd s
+
 -- a run that ended is one that may be told in part, where memory is wanting
 pub whole_in_part : (q : Program) (h : History) (options : Options) (text : Bool) (report : Report) (out : Text) (outcome : Outcome)
     → RanWhole q h options text report out outcome → RanInPart q h options text report out Memory
@@ -70,18 +82,17 @@ whole_in_part q h options text report out outcome r = record {
   fits = stands_fit q h options.steps options.cells report.steps outcome r.stands;
   last = stop_in outcome;
   left = left_so q h options.steps options.cells report.steps outcome r.stands;
-  first = tt;
+  first = first_so q h options.steps options.cells report.steps outcome (heading text report.printed.items) out r.stands;
   part = subst (IsPrefix out) r.whole (whole_prefix out);
 }
 
 module _ (host : Host) (told : Option Files) (unread : Text → Type 0) (unwritten : Type 0) (old new : Report) (out : Text) (same : SameRun old new) where
-  -- where no run was begun by the one end, none was by the other; and so with what was written, and with the first state
+  -- where no run was begun by the one end, none was by the other; and so with what was written
   abbrev pub Turns : (was now : End) → Type 0
   Turns was now = ((before : Text) → IsUnbegun was before out → IsUnbegun now before out) × ((text : Text) → IsPartOf was out text → IsPartOf now out text)
-      × ((q : Program) (h : History) (cap : ℕ) (last : Option Stop) (before : Text) → FirstFits q h cap was last before out → FirstFits q h cap now last before out)
 
   stays : (end : End) → Turns end end
-  stays end = (λ before unbegun. unbegun, λ text part. part, λ q h cap last before fits. fits)
+  stays end = (λ before unbegun. unbegun, λ text part. part)
 
   no_run : NoRun old → NoRun new
   no_run h = record { printed = same.printed ∙ h.printed; steps = same.steps ∙ h.steps; cells = same.cells ∙ h.cells }
@@ -128,7 +139,7 @@ module _ (host : Host) (told : Option Files) (unread : Text → Type 0) (unwritt
     fits = subst (λ n. 0 < n → StaysWithin q h options.cells n) (sym same.steps) r.fits;
     last = r.last;
     left = subst (λ n. IsLeftBy q h options.steps options.cells n r.last) (sym same.steps) r.left;
-    first = subst (λ t. FirstFits q h options.cells now r.last (heading text t) out) (sym same.printed) (turns.2 q h options.cells r.last (heading text old.printed.items) r.first);
+    first = subst (λ t. FirstFits q h options.cells r.last (heading text t) out) (sym same.printed) r.first;
     part = subst (IsPartOf now out) (same_shown options.trace text q h r.last) (turns.1 _ r.part);
   }
 
@@ -241,7 +252,7 @@ module _ (host : Host) (told : Option Files) (unread : Text → Type 0) (unwritt
   ended_by_memory command _ (not_begun end h none) = not_begun Memory tt (nothing none)
   ended_by_memory command _ (lacks_host end q t h none silent) = lacks_host Memory q (takes command q t) tt (no_steps none) silent
   ended_by_memory command _ (not_told end q t has h none silent) = not_told Memory q (takes command q t) has tt (no_steps none) silent
-  ended_by_memory command _ (unwritten_in u h) = starved_in (in_part Unwritten Memory (λ before cut. cut.part, λ text cut. cut.part, λ q h cap last before fits. tt) command h)
+  ended_by_memory command _ (unwritten_in u h) = starved_in (in_part Unwritten Memory (λ before cut. cut.part, λ text cut. cut.part) command h)
   ended_by_memory command _ (starved_in h) = starved_in (in_part Memory Memory (stays Memory) command h)
 
   is_end_as : {words : List Text} {end : End} → IsEnd words host told unread unwritten old out end → IsEnd words host told unread unwritten new out end

@@ -1,9 +1,10 @@
 -- How a call ends by what is told of its run.
-use Rattle.std.proofs.Common.{◌≡◌, ◌<◌, ◌≤◌, ◌∙◌, ℕ, zero, suc, Bool, true, false, List, [], arith, Option, None, Some, ap, refl, sym, subst, inl, inr, ◌⊎◌}
+use Rattle.std.proofs.Common.{◌≡◌, ◌<◌, ◌≤◌, ◌∙◌, ◌++◌, append_assoc, ℕ, zero, suc, Bool, true, false, List, [], arith, Option, None, Some, ap, refl, sym, subst, inl, inr, ◌⊎◌}
+use Rattle.std.proofs.lemmas.Bool.{cases_lt}
 use Rattle.cpc_base.specs.Bytes.{Text}
 use Rattle.cpc_tree.specs.Erase.{Names}
 use Rattle.cpc_tree.specs.Syntax.{Program}
-use Rattle.cpc_tree.specs.Texts.{Stop, Over}
+use Rattle.cpc_tree.specs.Texts.{Stop, Over, AtCells}
 use Rattle.cpc_tree.specs.Trace as T
 use Rattle.cpc_meaning.specs.Events.{event}
 use Rattle.cpc_meaning.specs.History.{History}
@@ -72,6 +73,10 @@ over_stands q h bound cap n taken Translated outcome e c t s = cc
 none_shown : (trace : Bool) (q : Program) (h : History) → run_shown trace (event q h 0).trace ≡ []
 none_shown true q h = refl
 none_shown false q h = refl
+
+-- what is a part of nothing is a part of any text
+part_of_none : (out text : Text) → IsPrefix out [] → IsPrefix out text
+part_of_none out text part = record { rest = part.rest ++ text; whole = ap (λ t. t ++ text) part.whole ∙ append_assoc out part.rest text }
 
 all_is : (names : Names) (trace : Bool) (ended : RunEnded) (marks : List T.Mark) → all_shown names trace ended marks ≡ run_text trace (stop_of names ended) marks
 all_is names true ended marks = refl
@@ -152,7 +157,7 @@ module _ (names : Names) (q : Program) (h : History) (options : Options) (limits
   left_by (E.NoHost x) s = absurd s
 
   -- the first state keeps to the cap, unless the run was left for its cells
-  first_by : (ended : RunEnded) → KeepsFirst q h limits.cells ended → FirstFits q h options.cells Unwritten (stop_of names ended) [] out
+  first_by : (ended : RunEnded) → KeepsFirst q h limits.cells ended → FirstFits q h options.cells (stop_of names ended) [] out
   first_by (E.Full asked) keeps = inr (inl refl)
   first_by (E.Over outcome) keeps = inl (first_in keeps)
   first_by E.Steps keeps = inl (first_in keeps)
@@ -204,15 +209,35 @@ module _ (names : Names) (q : Program) (h : History) (options : Options) (limits
         part = subst (IsCutShort out) (all_is names options.trace w.0 marks) w.3;
       }
 
+  -- where the first state has more live cells than the cap, no step was made
+  at_first : options.cells < live_cells (event q h 0) → r.steps ≡ 0
+  at_first above = go r.steps refl
+    where
+      go : (n : ℕ) → r.steps ≡ n → r.steps ≡ 0
+      go zero e = e
+      go (suc n) e = absurd (let fit = fits (omega (arith, e)) 0 (omega arith) in omega (arith, fit, above))
+
+  -- a first state with more than the cap is one that a run is left at, whatever was wanting
   pub ended_starved : r.ended ≡ E.Memory → RanInPart q h options false report out Memory
-  ended_starved e = record {
-    cells = may_cells (went E.Memory e);
-    fits = fits;
-    last = None;
-    left = broken_left (left_as E.Memory e);
-    first = tt;
-    part = subst (IsPrefix out) (shown_is options.trace marks) (went E.Memory e);
-  }
+  ended_starved e = starved (cases_lt options.cells (live_cells (event q h 0)))
+    where
+      starved : (options.cells < live_cells (event q h 0)) ⊎ (live_cells (event q h 0) ≤ options.cells) → RanInPart q h options false report out Memory
+      starved (inl above) = record {
+        cells = may_cells (went E.Memory e);
+        fits = fits;
+        last = Some AtCells;
+        left = (live_cells (event q h 0), inr (record { at_start = at_first above; above = above; asked = refl }));
+        first = inr (inl refl);
+        part = part_of_none out (run_text options.trace (Some AtCells) marks) (unshown (at_first above) (went E.Memory e));
+      }
+      starved (inr within) = record {
+        cells = may_cells (went E.Memory e);
+        fits = fits;
+        last = None;
+        left = broken_left (left_as E.Memory e);
+        first = inl within;
+        part = subst (IsPrefix out) (shown_is options.trace marks) (went E.Memory e);
+      }
 
   -- no function of the host is missing
   pub ended_hosted : (x : _) → r.ended ≡ E.NoHost x → ⊥
@@ -225,7 +250,7 @@ module _ (names : Names) (q : Program) (h : History) (options : Options) (limits
     fits = fits;
     last = Some (Over (outcome_of names outcome));
     left = over_left outcome (left_as (E.Over outcome) e);
-    first = tt;
+    first = inl (fits (some_steps names q h outcome r.steps (left_as (E.Over outcome) e).over) 0 (omega arith));
     part = subst (IsPrefix out) (over_whole outcome e) (whole_prefix out);
   }
 

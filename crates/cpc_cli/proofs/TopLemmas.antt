@@ -211,18 +211,10 @@ part_behind (BadLine fault) h a b p = behind_heading h a b p
 part_behind (NoHost name) h a b p = behind_heading h a b p
 
 -- what is told of the first state of a run is told of it behind what goes before its text, since no bytes are not cut short
-first_behind : (q : Program) (h : History) (cap : ℕ) (end : End) (last : Option Stop) (out before front : Text) → FirstFits q h cap end last [] out → FirstFits q h cap end last before (front ++ out)
-first_behind q h cap Unwritten last out before front (inl fits) = inl fits
-first_behind q h cap Unwritten last out before front (inr (inl at_cells)) = inr (inl at_cells)
-first_behind q h cap Unwritten last out before front (inr (inr cut)) = absurd (let less = cut.short in omega (arith, less))
-first_behind q h cap (Done outcome) last out before front fits = tt
-first_behind q h cap Usage last out before front fits = tt
-first_behind q h cap (Refused fault) last out before front fits = tt
-first_behind q h cap (Unread role) last out before front fits = tt
-first_behind q h cap Memory last out before front fits = tt
-first_behind q h cap (TooLong role) last out before front fits = tt
-first_behind q h cap (BadLine fault) last out before front fits = tt
-first_behind q h cap (NoHost name) last out before front fits = tt
+first_behind : (q : Program) (h : History) (cap : ℕ) (last : Option Stop) (out before front : Text) → FirstFits q h cap last [] out → FirstFits q h cap last before (front ++ out)
+first_behind q h cap last out before front (inl fits) = inl fits
+first_behind q h cap last out before front (inr (inl at_cells)) = inr (inl at_cells)
+first_behind q h cap last out before front (inr (inr cut)) = absurd (let less = cut.short in omega (arith, less))
 
 -- a count that rose from a later one on rose
 pub rose_earlier : (a b c : ℕ) → a ≤ b → Rose b c → Rose a c
@@ -261,7 +253,7 @@ behind q h options text report early late front out cause is end = go end
       fits = r.fits;
       last = r.last;
       left = r.left;
-      first = first_behind q h options.cells end r.last out (heading text report.printed.items) front r.first;
+      first = first_behind q h options.cells r.last out (heading text report.printed.items) front r.first;
       part = subst (λ t. IsPartOf end (t ++ out) (shown options.trace text report.printed.items q h report.steps r.last)) (sym is) (part_behind end (heading text report.printed.items) out _ r.part);
     }
 

@@ -189,10 +189,9 @@ IsUnbegun _ before out = ⊥
 abbrev pub MayHaveCells : (q : Program) → History → Report → (unbegun : Type 0) → Type 0
 MayHaveCells q h report unbegun = HasCells q h report ⊎ (NoSteps report × unbegun)
 
--- the first state of a run that the sink broke off keeps to the cap, unless the run was left there for its cells, or none was begun
-abbrev pub FirstFits : (q : Program) → History → (cap : ℕ) → End → (last : Option Stop) → (before out : Text) → Type 0
-FirstFits q h cap Unwritten last before out = (live_cells (event q h 0) ≤ cap) ⊎ ((last ≡ Some AtCells) ⊎ IsCutShort out before)
-FirstFits q h cap _ last before out = Unit {0}
+-- the first state of a run that was broken off keeps to the cap, unless the run was left there for its cells, or the sink failed before it
+abbrev pub FirstFits : (q : Program) → History → (cap : ℕ) → (last : Option Stop) → (before out : Text) → Type 0
+FirstFits q h cap last before out = (live_cells (event q h 0) ≤ cap) ⊎ ((last ≡ Some AtCells) ⊎ IsCutShort out before)
 
 -- q's event run stands so after the report's steps, and the bytes are what it shows
 pub record RanWhole (q : Program) (h : History) (options : Options) (text : Bool) (report : Report) (out : Text) (outcome : Outcome) : Type 0 where
@@ -206,7 +205,7 @@ pub record RanInPart (q : Program) (h : History) (options : Options) (text : Boo
   pub fits : 0 < report.steps → StaysWithin q h options.cells report.steps
   pub last : Option Stop
   pub left : IsLeftBy q h options.steps options.cells report.steps last
-  pub first : FirstFits q h options.cells end last (heading text report.printed.items) out
+  pub first : FirstFits q h options.cells last (heading text report.printed.items) out
   pub part : IsPartOf end out (shown options.trace text report.printed.items q h report.steps last)
 
 -- how a run ended: it stands so, and the bytes are what it shows; or a sink or memory failed, and they are a prefix of that

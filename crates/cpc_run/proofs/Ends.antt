@@ -97,6 +97,7 @@ starved_first names q h limits trace told = (
     wrote = record { rest = shown trace (run_of q h 0).trace; whole = refl };
     cells = inr (refl, refl, refl);
     bounded = λ m pos le. absurd (omega arith);
+    first = λ starved. inr (inr refl);
     polls = none_taken (length h.polls);
   },
 )

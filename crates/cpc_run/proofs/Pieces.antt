@@ -1,5 +1,5 @@
 -- What waits is written.
-use Rattle.std.proofs.Common.{◌≡◌, ℕ, ◌<◌, ◌≤◌, ◌+◌, ◌-◌, ◌^◌, min, [], ◌++◌, length, length-append, length-take-le, take, drop, Option, refl, sym, ap, ◌∙◌, arith, append_assoc, inl, inr, Bool, subst}
+use Rattle.std.proofs.Common.{◌≡◌, ℕ, ◌<◌, ◌≤◌, ◌+◌, ◌-◌, ◌^◌, min, [], ◌++◌, length, length-append, length-take-le, take, drop, Option, refl, sym, ap, ◌∙◌, arith, append_assoc, inl, inr, Bool, true, subst}
 use Rattle.std.proofs.lemmas.List.{append-nil, take-append-drop}
 use Rattle.std.specs.Io.KnownBytes.{append_known}
 use Rattle.cpc_base.specs.Bytes.{Text}
@@ -54,8 +54,8 @@ module _ (table : Table) (trace : Bool) (due : Ended) (sent pending mid : Text) 
   part_told told now (front, e, part) = (front, e, inr (inl (known, refl, subst (IsCutShort front) with_it part)))
 
 -- memory was wanting for the last line
-pub starved_told : (table : Table) (trace : Bool) (due : Ended) (sent pending : Text) (told now : Option Text) → now ≡ append_known told sent → Wrote told now (λ o. EndsSo table trace due E.Memory o (sent ++ pending))
-starved_told table trace due sent pending told now e = (sent, e, inr (inr (refl, record { rest = pending; whole = refl })))
+pub starved_told : (table : Table) (trace : Bool) (due : Ended) (sent pending : Text) (told now : Option Text) → trace ≡ true → now ≡ append_known told sent → Wrote told now (λ o. EndsSo table trace due E.Memory o (sent ++ pending))
+starved_told table trace due sent pending told now traced e = (sent, e, inr (inr (refl, traced, record { rest = pending; whole = refl })))
 
 -- a count that rose later rose
 pub rose_later : (old mid new : ℕ) → old ≤ mid → Rose mid new → Rose old new

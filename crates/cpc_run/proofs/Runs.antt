@@ -1,5 +1,5 @@
 -- A run, step by step.
-use Rattle.std.proofs.Common.{◌≡◌, ◌⊎◌, inl, inr, ℕ, suc, ◌+◌, ◌<◌, ◌≤◌, Bool, [], ◌++◌, length, Option, Some, None, Result, Ok, refl, sym, ap, subst, ◌∙◌, arith, add-one}
+use Rattle.std.proofs.Common.{◌≡◌, ◌⊎◌, inl, inr, ℕ, suc, ◌+◌, ◌<◌, ◌≤◌, Bool, true, [], ◌++◌, length, Option, Some, None, Result, Ok, refl, sym, ap, subst, ◌∙◌, arith, add-one}
 use Rattle.std.proofs.lemmas.List.{append-nil, length-map}
 use Rattle.std.proofs.lemmas.Bool.{cases_lt}
 use Rattle.cpc_base.specs.Bytes.{Text}
@@ -155,13 +155,14 @@ module _ (names : Names) (q : Program) (h : History) (limits : Limits) (trace : 
       go E.Memory known is left = subst (IsPrefix out) (is ∙ none_last names trace (run_of q h n).trace) (whole_prefix out)
       go (E.NoHost x) known is left = absurd left
 
-  pub tells_all : (table : Table) (e : Ended) → IsInTable table e → (out whole : Text) → IsLeft names q h limits n e → AtEnd q h limits trace n cells polls whole → out ≡ whole ++ last_of names trace e
+  pub tells_all : (table : Table) (e : Ended) → IsInTable table e → (out whole : Text) → IsLeft names q h limits n e → KeepsFirst q h limits.cells e → AtEnd q h limits trace n cells polls whole → out ≡ whole ++ last_of names trace e
       → Tells names q h limits trace (record { ended = e; steps = n; cells = cells; polls = polls }) out
-  tells_all table e known out whole left at is = record {
+  tells_all table e known out whole left first at is = record {
     left = left;
     wrote = went_all table e known out whole at.wrote is left;
     cells = inl at.cells_are;
     bounded = at.bounded;
+    first = λ starved. inl (subst (KeepsFirst q h limits.cells) starved first);
     polls = at.polls_are;
   }
 
@@ -173,6 +174,7 @@ module _ (names : Names) (q : Program) (h : History) (limits : Limits) (trace : 
     wrote = (due, left, first, subst (IsCutShort out) (ap (λ w. w ++ last_of names trace due) at.wrote ∙ sym (all_is names trace due (run_of q h n).trace)) part);
     cells = inl at.cells_are;
     bounded = at.bounded;
+    first = λ starved. cc;
     polls = at.polls_are;
   }
 
@@ -183,27 +185,33 @@ module _ (names : Names) (q : Program) (h : History) (limits : Limits) (trace : 
     wrote = (E.WriteFault, at.broken_off, first, subst (IsCutShort out) (at.wrote ∙ sym (no_last names trace (run_of q h n).trace)) part);
     cells = inl at.cells_are;
     bounded = at.bounded;
+    first = λ starved. cc;
     polls = at.polls_are;
   }
 
-  pub tells_memory : (out whole : Text) → AtEnd q h limits trace n cells polls whole → IsPrefix out whole → Tells names q h limits trace (record { ended = E.Memory; steps = n; cells = cells; polls = polls }) out
-  tells_memory out whole at part = record {
+  pub tells_memory : (out whole : Text) → (live_cells (run_of q h 0) ≤ limits.cells) ⊎ (trace ≡ true) → AtEnd q h limits trace n cells polls whole → IsPrefix out whole → Tells names q h limits trace (record { ended = E.Memory; steps = n; cells = cells; polls = polls }) out
+  tells_memory out whole first at part = record {
     left = at.broken_off;
     wrote = subst (IsPrefix out) at.wrote part;
     cells = inl at.cells_are;
     bounded = at.bounded;
+    first = λ starved. made first;
     polls = at.polls_are;
   }
+    where
+      made : (live_cells (run_of q h 0) ≤ limits.cells) ⊎ (trace ≡ true) → (live_cells (run_of q h 0) ≤ limits.cells) ⊎ ((trace ≡ true) ⊎ (cells ≡ 0))
+      made (inl fits) = inl fits
+      made (inr traced) = inr (inl traced)
 
 -- the report that was due, or that the sink failed or memory was wanting
 pub tells_end : (table : Table) (q : Program) (h : History) (limits : Limits) (trace : Bool) (due : RunReport) (ended : Ended) (out whole : Text) → (IsInTable table due.ended → IsLeft (in_table table) q h limits due.steps due.ended)
     → KeepsFirst q h limits.cells due.ended → AtEnd q h limits trace due.steps due.cells due.polls whole → EndsSo table trace due.ended ended out whole → Tells (in_table table) q h limits trace (record due { ended = ended }) out
 tells_end table q h limits trace due ended out whole left first at (inl e) =
-    subst (λ x. Tells (in_table table) q h limits trace (record due { ended = x }) out) (sym e.1) (tells_all (in_table table) q h limits trace due.steps due.cells due.polls table due.ended e.0 out whole (left e.0) at e.2)
+    subst (λ x. Tells (in_table table) q h limits trace (record due { ended = x }) out) (sym e.1) (tells_all (in_table table) q h limits trace due.steps due.cells due.polls table due.ended e.0 out whole (left e.0) first at e.2)
 tells_end table q h limits trace due ended out whole left first at (inr (inl e)) =
     subst (λ x. Tells (in_table table) q h limits trace (record due { ended = x }) out) (sym e.1) (tells_part (in_table table) q h limits trace due.steps due.cells due.polls due.ended out whole (left e.0) first at e.2)
 tells_end table q h limits trace due ended out whole left first at (inr (inr e)) =
-    subst (λ x. Tells (in_table table) q h limits trace (record due { ended = x }) out) (sym e.0) (tells_memory (in_table table) q h limits trace due.steps due.cells due.polls out whole at e.1)
+    subst (λ x. Tells (in_table table) q h limits trace (record due { ended = x }) out) (sym e.0) (tells_memory (in_table table) q h limits trace due.steps due.cells due.polls out whole (inr e.1) at e.2)
 
 -- what was due is told, or that the sink failed or memory was wanting
 pub ends_told : (table : Table) (q : Program) (h : History) (limits : Limits) (trace : Bool) (due result : RunReport) (whole : Text) (told now : Option Text) → (IsInTable table due.ended → IsLeft (in_table table) q h limits due.steps due.ended)

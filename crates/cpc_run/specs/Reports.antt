@@ -1,5 +1,5 @@
 -- What is told of a run: how it was left, after how many steps and polls, and what went out.
-use Rattle.std.specs.Prelude.{◌≡◌, ◌⊎◌, ℕ, ℤ, suc, ◌+◌, ◌<◌, ◌≤◌, Bool, List, [], ◌++◌, length, map, Option, Some, None, Result, Ok, Err}
+use Rattle.std.specs.Prelude.{◌≡◌, ◌⊎◌, ℕ, ℤ, suc, ◌+◌, ◌<◌, ◌≤◌, Bool, true, List, [], ◌++◌, length, map, Option, Some, None, Result, Ok, Err}
 use Rattle.std.specs.Io.KnownBytes.{append_known}
 use Rattle.cpc_base.specs.Bytes.{Text}
 use Rattle.cpc_base.specs.declared.names.Name.{Name}
@@ -91,6 +91,11 @@ abbrev pub KeepsFirst : (q : Program) → (h : History) → (cap : ℕ) → Ende
 KeepsFirst q h cap (E.Full cells) = Unit {0}
 KeepsFirst q h cap ended = live_cells (run_of q h 0) ≤ cap
 
+-- where memory was wanting, the first state has no more live cells than the cap, unless it was not made, or memory was wanting for the last
+-- line of a trace, which tells that it has more
+abbrev pub StartsWithin : (q : Program) → (h : History) → (cap : ℕ) → (trace : Bool) → (cells : ℕ) → Ended → Type 0
+StartsWithin q h cap trace cells ended = ended ≡ E.Memory → (live_cells (run_of q h 0) ≤ cap) ⊎ ((trace ≡ true) ⊎ (cells ≡ 0))
+
 -- what went out: all, with the last line of a trace; or the first part of it, where memory was wanting, or the sink failed, which then has not
 -- taken all of it, and which may have been at the last line of a run that was left so
 abbrev pub WentOut : Names → (q : Program) → (h : History) → Limits → (trace : Bool) → (n : ℕ) → Ended → (out : Text) → Type 0
@@ -107,6 +112,7 @@ pub record Tells (names : Names) (q : Program) (h : History) (limits : Limits) (
   pub wrote : WentOut names q h limits trace report.steps report.ended out
   pub cells : (report.cells ≡ live_cells (run_of q h report.steps)) ⊎ ((report.ended ≡ E.Memory) × (report.steps ≡ 0) × (report.cells ≡ 0))
   pub bounded : (m : ℕ) → 0 < report.steps → m ≤ report.steps → live_cells (run_of q h m) ≤ limits.cells
+  pub first : StartsWithin q h limits.cells trace report.cells report.ended
   pub polls : length h.polls ≡ report.polls + length (run_of q h report.steps).history.polls
 
 -- a report of q's run over the polls of a history, with what its hosts answered: each answer is one that they may give, and a mark
@@ -168,10 +174,10 @@ Drained told now sent old new = (front : Text) × (now ≡ append_known told fro
 abbrev pub with_last : Table → (trace : Bool) → (due : Ended) → (whole : Text) → Text
 with_last table trace due whole = whole ++ last_of (in_table table) trace due
 
--- all was written and the end is the one that was due, or the sink failed; or memory was wanting
+-- all was written and the end is the one that was due, or the sink failed; or memory was wanting for the last line of a trace
 abbrev pub EndsSo : Table → (trace : Bool) → (due ended : Ended) → (out whole : Text) → Type 0
 EndsSo table trace due ended out whole =
-    (IsInTable table due × (ended ≡ due) × (out ≡ with_last table trace due whole)) ⊎ ((IsInTable table due × (ended ≡ E.WriteFault) × IsCutShort out (with_last table trace due whole)) ⊎ ((ended ≡ E.Memory) × IsPrefix out whole))
+    (IsInTable table due × (ended ≡ due) × (out ≡ with_last table trace due whole)) ⊎ ((IsInTable table due × (ended ≡ E.WriteFault) × IsCutShort out (with_last table trace due whole)) ⊎ ((ended ≡ E.Memory) × (trace ≡ true) × IsPrefix out whole))
 
 -- the loop stands as the first state of q's run, which is never stuck
 pub record Begins (names : Names) (q : Program) (h : History) (l : Loop) (cells : ℕ) : Type 0 where

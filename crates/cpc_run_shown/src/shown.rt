@@ -1,5 +1,5 @@
 //! What goes out for marks and for an end: the bytes of outputs, or the lines of a trace.
-ghost use Rattle.std.specs.Prelude.{◌≡◌, ◌++◌, ◌<◌, length, ◌∷◌, [], IfOk, OnOk, map, true, List};
+ghost use Rattle.std.specs.Prelude.{◌≡◌, ◌++◌, ◌<◌, length, ◌∷◌, [], IfOk, OnOk, OnErr, map, true, List};
 ghost use Rattle.cpc_tree.specs.Erase.{in_table};
 ghost use Rattle.cpc_tree.specs.Texts as X;
 ghost use Rattle.cpc_tree.specs.Trace as T;
@@ -188,7 +188,7 @@ fn put_stop(
     }
 }
 
-/// Puts the last line of a run that was left so, where a trace is wanted. `NoMemory` is want of memory.
+/// Puts the last line of a run that was left so, where a trace is wanted. `NoMemory` is want of memory, and comes only with a trace.
 pub fn put_last(
     trace: bool,
     alloc: Global,
@@ -197,7 +197,8 @@ pub fn put_last(
     pending: &mut Vec<u8>,
 ) -> Result<(), NoMemory>
     requires { IsInTable table.now ended }
-    ensures { OnOk result (pending.new.items ≡ pending.old.items ++ last_of (in_table table.now) trace ended) }
+    ensures put { OnOk result (pending.new.items ≡ pending.old.items ++ last_of (in_table table.now) trace ended) }
+    ensures traced { OnErr result (trace ≡ true) }
 {
     if !trace {
         return Ok(());

@@ -1,4 +1,4 @@
-use Rattle.std.proofs.Common.{[], ◌++◌, ◌+◌, Ok, refl, ap, sym, subst, ◌∙◌, append_assoc, arith}
+use Rattle.std.proofs.Common.{[], ◌++◌, ◌+◌, Ok, inl, refl, ap, sym, subst, ◌∙◌, append_assoc, arith}
 use Rattle.std.proofs.lemmas.List.{append-nil}
 use Rattle.cpc_base.proofs.Pieces.{append_known-nil}
 use Rattle.cpc_meaning.specs.Events.{callbacks}
@@ -116,7 +116,8 @@ returns-in-Err-clause-told g c = λ names q hist spells begins.
     let (reached, has) = far [] in
     let whole = sent ++ c.steps.pending.items in
     let at = at_end names q h limits trace l whole n c.steps.cells c.steps.polls reached c.steps.invariant.counted c.steps.invariant.within in
-    let tells = tells_memory (in_table c.args.table.now) q h limits trace n c.steps.cells c.steps.polls sent whole at (record { rest = c.steps.pending.items; whole = refl }) in
+    let tells = tells_memory (in_table c.args.table.now) q h limits trace n c.steps.cells c.steps.polls sent whole
+    (inl (first_within names q h limits.cells trace l whole n c.steps.cells reached)) at (record { rest = c.steps.pending.items; whole = refl }) in
     ran_with allows (in_table c.args.table.now) q hist limits trace c.report.result answers n (g.O.Sink.taken c.args.out.now) (g.O.Sink.taken c.steps.out) (ap (λ r. r.steps) c.report.ensures)
     (has_same allows given [] [] (run_of q h n) refl has) (sent, taken, subst (λ r. Tells (in_table c.args.table.now) q h limits trace r sent) (sym c.report.ensures) tells)
 
