@@ -1,4 +1,4 @@
 pub mod Native
-pub mod Rows
-pub mod Laws
-pub mod Refusals
+pub mod Sound
+pub mod Run
+pub mod Kept

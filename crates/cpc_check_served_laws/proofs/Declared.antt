@@ -22,14 +22,14 @@ use Rattle.cpc_meaning.specs.Act.{Act, GoesOn, Enters, Leaves, AsksFor, act, arr
 use Rattle.cpc_meaning.specs.Plain.{Frame, Done, Asks, frames_step, make_frame, perform, returned_to}
 use Rattle.cpc_meaning.specs.Trees.{arrival_at, point_after, scope_from, stood_at, trees}
 use Rattle.cpc_meaning.proofs.Functions.{same_text}
-use Rattle.cpc_meaning_pointer_laws.proofs.Blocks.{Only, any_then, only_then}
-use Rattle.cpc_check_sound_laws.specs.Typed.{AllGet, Calls, CallsHost, CallsFunction, CallsPrimitive, CallsPointer, FoundTyped, IsTyped, TypedProgram, is_own, is_pointer_call, is_variable}
-use Rattle.cpc_check_sound_laws.proofs.Accepted.{accepted_is_typed}
-use Rattle.cpc_check_sound_laws.proofs.Agendas.{Each}
-use Rattle.cpc_check_sound_laws.proofs.Agreement.{item_of}
-use Rattle.cpc_check_sound_laws.proofs.Grammar.{items_shape}
-use Rattle.cpc_check_sound_laws.proofs.Paths.{function_typed}
-use Rattle.cpc_check_sound_laws.proofs.Programs.{ItemShape}
+use Rattle.cpc_meaning_laws.proofs.Pointer.Blocks.{Only, any_then, only_then}
+use Rattle.cpc_check_laws.specs.Sound.Typed.{AllGet, Calls, CallsHost, CallsFunction, CallsPrimitive, CallsPointer, FoundTyped, IsTyped, TypedProgram, is_own, is_pointer_call, is_variable}
+use Rattle.cpc_check_laws.proofs.Sound.Accepted.{accepted_is_typed}
+use Rattle.cpc_check_laws.proofs.Sound.Agendas.{Each}
+use Rattle.cpc_check_laws.proofs.Sound.Agreement.{item_of}
+use Rattle.cpc_check_laws.proofs.Sound.Grammar.{items_shape}
+use Rattle.cpc_check_laws.proofs.Sound.Paths.{function_typed}
+use Rattle.cpc_check_laws.proofs.Sound.Programs.{ItemShape}
 use Rattle.cpc_check_served_laws.specs.Laws.{AcceptedAskDeclared, DeclaresHost, IsHost}
 
 -- ---- as many values as arguments

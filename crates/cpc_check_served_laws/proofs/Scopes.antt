@@ -15,9 +15,9 @@ use Rattle.cpc_check_rules.specs.FunctionRules.{is_kept, locals, locals_in, para
 use Rattle.cpc_check_rules.specs.ItemRules.{item_breaks, parameter_block}
 use Rattle.cpc_check_rules.specs.StmtRules.{all_behind, behind, inner, variable}
 use Rattle.cpc_meaning.proofs.Functions.{same_text}
-use Rattle.cpc_check_sound_laws.proofs.Items.{last_first}
-use Rattle.cpc_check_sound_laws.proofs.Unbroken.{holds_not, split}
-use Rattle.cpc_check_sound_laws.proofs.Bodies.{meant_later}
+use Rattle.cpc_check_laws.proofs.Sound.Items.{last_first}
+use Rattle.cpc_check_laws.proofs.Sound.Unbroken.{holds_not, split}
+use Rattle.cpc_check_laws.proofs.Sound.Bodies.{meant_later}
 
 -- ---- names that are not kept
 

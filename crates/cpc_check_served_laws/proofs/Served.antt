@@ -17,12 +17,12 @@ use Rattle.cpc_check_rules.specs.ExprRules.{call_breaks, called_breaks, expr_bre
 use Rattle.cpc_check_rules.specs.StmtRules.{all_behind, behind, inner, maybe_breaks, maybe_test, section_breaks, stmt_breaks, stmts_breaks, test_breaks, to_breaks}
 use Rattle.cpc_check_rules.specs.FunctionRules.{labels, locals, locals_in, locals_maybe, parameter_names, repeated, reserved_breaks}
 use Rattle.cpc_check_rules.specs.ItemRules.{body_breaks, cps_breaks, declared_breaks, function_breaks, in_body, item_breaks, items_breaks, outside, parameter_block, parameters_breaks, sized_breaks, types}
-use Rattle.cpc_check_sound_laws.proofs.Agendas.{Each}
-use Rattle.cpc_check_sound_laws.proofs.Grammar.{items_shape}
-use Rattle.cpc_check_sound_laws.proofs.Knowing.{primitive_kept}
-use Rattle.cpc_check_sound_laws.proofs.Programs.{BodyShape, ItemShape}
-use Rattle.cpc_check_sound_laws.proofs.Shapes.{AllWritten, MaybeWritten, StepWritten, Written, all_first_written}
-use Rattle.cpc_check_sound_laws.proofs.Unbroken.{holds_not, split}
+use Rattle.cpc_check_laws.proofs.Sound.Agendas.{Each}
+use Rattle.cpc_check_laws.proofs.Sound.Grammar.{items_shape}
+use Rattle.cpc_check_laws.proofs.Sound.Knowing.{primitive_kept}
+use Rattle.cpc_check_laws.proofs.Sound.Programs.{BodyShape, ItemShape}
+use Rattle.cpc_check_laws.proofs.Sound.Shapes.{AllWritten, MaybeWritten, StepWritten, Written, all_first_written}
+use Rattle.cpc_check_laws.proofs.Sound.Unbroken.{holds_not, split}
 use Rattle.cpc_native_builtins.specs.Served.{are_served, calls_served, is_served, is_served_arm, is_served_item, is_served_program, is_served_stmt, serves}
 use Rattle.cpc_check_served_laws.specs.Laws.{AcceptedAreServed}
 use Rattle.cpc_check_served_laws.proofs.Scopes.{AreFree, Inside, ItemsFree, block_passed, first_free, free_names, inside_all_behind, inside_behind, inside_inner, item_free, last_free, parameters_free}

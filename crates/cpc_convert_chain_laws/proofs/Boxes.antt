@@ -11,7 +11,7 @@ use Rattle.cpc_meaning.specs.Answer.{Gives}
 use Rattle.cpc_meaning.specs.Eval.{Slot, Register, Boxed, value, assigned}
 use Rattle.cpc_meaning.specs.Act.{AtStatement, GoesOn, assign, simple_act}
 use Rattle.cpc_meaning.specs.Runs.{slot_registers, slots_registers}
-use Rattle.cpc_meaning_cell_laws.proofs.Going.{going_on_keeps}
+use Rattle.cpc_meaning_laws.proofs.Cell.Going.{going_on_keeps}
 use Rattle.cpc_store.proofs.CellLemmas.{store_cells-alloc}
 use Rattle.std.proofs.lemmas.List.{length-replicate}
 use Rattle.cpc_num.specs.declared.kinds.Kind.TheVariants.{ULong}

@@ -23,7 +23,7 @@ use Rattle.cpc_convert_chain_laws.proofs.Fields.{named_pointer, field_assign}
 use Rattle.cpc_convert_chain_laws.proofs.AtLine.{line_path, line_found, line_scope, line_goes, test_holds, test_fails, arm_found, arm_next, arm_goes}
 use Rattle.cpc_convert_chain_laws.proofs.LineSteps.{line_step}
 use Rattle.cpc_convert_chain_laws.proofs.Steps.{step_on}
-use Rattle.cpc_meaning_cell_laws.proofs.Going.{going_on_keeps}
+use Rattle.cpc_meaning_laws.proofs.Cell.Going.{going_on_keeps}
 use Rattle.cpc_convert_chain_laws.proofs.Walks.{walk_one, walk_cons}
 
 module _ (q : Program) (w : World) (fn : Text) (g : Function) (body : Stmts) (below : List (CallFrame Point)) (is_g : function_named q fn ≡ Some g) (k : ℕ) (scope : Scope) (n : ℕ) (rest : Stmts) (slots : List Slot) (s : Store) where

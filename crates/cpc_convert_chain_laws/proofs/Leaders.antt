@@ -14,7 +14,7 @@ use Rattle.cpc_convert_chain_laws.specs.Flat.{before, LineAt}
 use Rattle.cpc_convert_chain_laws.specs.Frames.{at, Holds, Save, Saving, asks_block, fills_frame, frame_through, pointed_slots, register_slots, AreRegisters}
 use Rattle.cpc_convert_chain_laws.specs.Boxes.{AllRegisters}
 use Rattle.cpc_convert_chain_laws.specs.Driver.{any_pointer, DriverFacts, driving, entered, IsPiece}
-use Rattle.cpc_meaning_cell_laws.specs.Cells.{call_cells}
+use Rattle.cpc_meaning_laws.specs.Cell.Cells.{call_cells}
 use Rattle.cpc_convert_chain_laws.specs.Walks.{World, Rise, at_line}
 use Rattle.cpc_convert_chain_laws.proofs.Chains.{chain_push}
 use Rattle.cpc_convert_chain_laws.proofs.Fields.{named_pointer, cast_pointer, held}

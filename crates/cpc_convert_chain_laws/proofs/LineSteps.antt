@@ -11,7 +11,7 @@ use Rattle.cpc_store.specs.Store.{Value, Unset, Whole, At, Store, blocks, with_b
 use Rattle.cpc_store.proofs.CellLemmas.{store_cells-alloc, store_cells-free}
 use Rattle.cpc_meaning.specs.Answer.{Gives}
 use Rattle.cpc_meaning.specs.Eval.{Slot, Register, value, assigned}
-use Rattle.cpc_meaning_cell_laws.proofs.Going.{going_on_keeps}
+use Rattle.cpc_meaning_laws.proofs.Cell.Going.{going_on_keeps}
 use Rattle.cpc_meaning.specs.Act.{AtStatement, AtArrival, GoesOn, AsksFor, simple_act, deliver, assign}
 use Rattle.cpc_meaning.specs.Plain.{Frame as CallFrame, Stack}
 use Rattle.cpc_meaning.specs.Trees.{trees}

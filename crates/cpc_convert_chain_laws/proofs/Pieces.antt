@@ -21,8 +21,8 @@ use Rattle.cpc_convert_chain_laws.specs.Flat.{LineAt}
 use Rattle.cpc_convert_chain_laws.specs.Frames.{at, register_slots, AreRegisters, NoneAre, AndRegister, Scalars, NoScalars, AndScalar, blank}
 use Rattle.cpc_meaning.proofs.Stores.{save_there}
 use Rattle.cpc_store.proofs.CellLemmas.{store_cells-save}
-use Rattle.cpc_meaning_cell_laws.specs.Cells.{call_cells}
-use Rattle.cpc_meaning_cell_laws.proofs.Calls.{call_takes, leaving_gives_back}
+use Rattle.cpc_meaning_laws.specs.Cell.Cells.{call_cells}
+use Rattle.cpc_meaning_laws.proofs.Cell.Calls.{call_takes, leaving_gives_back}
 use Rattle.cpc_convert_chain_laws.specs.Walks.{World, at_line, Rise, Walk, Finishes, running, idle}
 use Rattle.cpc_convert_chain_laws.specs.Driver.{drive_name, DriverFacts, with_round, driving, entered, patched, IsPiece}
 use Rattle.cpc_convert_chain_laws.proofs.AtLine.{line_path, line_found, line_scope}

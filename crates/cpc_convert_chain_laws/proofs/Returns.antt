@@ -14,7 +14,7 @@ use Rattle.cpc_convert_chain_laws.specs.Flat.{LineAt}
 use Rattle.cpc_convert_chain_laws.specs.Frames.{at, Holds, register_slots, AreRegisters}
 use Rattle.cpc_convert_chain_laws.specs.Boxes.{AllRegisters}
 use Rattle.cpc_convert_chain_laws.specs.Driver.{any_pointer, head_fields, patches, DriverFacts, driving, entered, patched, IsPiece}
-use Rattle.cpc_meaning_cell_laws.specs.Cells.{call_cells}
+use Rattle.cpc_meaning_laws.specs.Cell.Cells.{call_cells}
 use Rattle.cpc_convert_chain_laws.specs.Walks.{World, Rise, Walk, Finishes, at_line, idle}
 use Rattle.cpc_convert_chain_laws.proofs.Chains.{chain_patched}
 use Rattle.cpc_convert_chain_laws.proofs.Fields.{held}

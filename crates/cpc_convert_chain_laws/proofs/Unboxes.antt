@@ -22,7 +22,7 @@ use Rattle.cpc_convert_chain_laws.specs.Flat.{before, Stands, LineAt}
 use Rattle.cpc_convert_chain_laws.specs.Walks.{World, at_line, Walk, FaultsAfter, frame_at}
 use Rattle.cpc_convert_chain_laws.specs.Frames.{Holds}
 use Rattle.cpc_convert_chain_laws.specs.Boxes.{unboxes_one, Unboxing, NoUnboxing, PassSlot, AndUnbox}
-use Rattle.cpc_meaning_cell_laws.proofs.Calls.{leaving_gives_back}
+use Rattle.cpc_meaning_laws.proofs.Cell.Calls.{leaving_gives_back}
 use Rattle.cpc_convert_chain_laws.proofs.Fields.{held}
 use Rattle.cpc_convert_chain_laws.proofs.Asking.{asks_unbox}
 use Rattle.cpc_convert_chain_laws.proofs.Flat.{path_at}

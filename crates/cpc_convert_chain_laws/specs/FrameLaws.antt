@@ -18,7 +18,7 @@ use Rattle.cpc_meaning.specs.Events.{Callback, CallWith}
 use Rattle.cpc_convert_chain_laws.specs.Chains.{Saved, frame_cells, Top}
 use Rattle.cpc_convert_chain_laws.specs.Structs.{IsStruct}
 use Rattle.cpc_convert_chain_laws.specs.Flat.{before, Stands, LineAt}
-use Rattle.cpc_meaning_cell_laws.specs.Cells.{call_cells}
+use Rattle.cpc_meaning_laws.specs.Cell.Cells.{call_cells}
 use Rattle.cpc_convert_chain_laws.specs.Walks.{World, Rise, Walk, Swell, Finishes, at_line, running, idle, FaultsAfter}
 use Rattle.cpc_convert_chain_laws.specs.Frames.{at, PointsTo, Holds, Save, asks_block, fills_frame, Saving, pointed_slots, Load, loads_one, Loading, blank}
 use Rattle.cpc_convert_chain_laws.specs.Boxes.{AllRegisters, Boxing, Made, Unboxing, unboxes_one}

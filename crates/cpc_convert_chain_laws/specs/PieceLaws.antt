@@ -23,7 +23,7 @@ use Rattle.cpc_convert_chain_laws.specs.Chains.{Saved, frame_cells, Chain, Top, 
 use Rattle.cpc_convert_chain_laws.specs.Driver.{drive_name, any_pointer, DriverFacts, driving, entered, IsPiece, with_agenda, with_marks, DriverMeant, readies, sleeps, waits, awaits, spawns}
 use Rattle.cpc_convert_chain_laws.specs.Flat.{before, Stands, LineAt}
 use Rattle.cpc_convert_chain_laws.specs.Frames.{at, Holds, Save, Saving, asks_block, fills_frame, frame_through, pointed_slots, Load, Loading, opens_frame, takes_frame, taken_scope, blank, register_slots, AreRegisters}
-use Rattle.cpc_meaning_cell_laws.specs.Cells.{call_cells}
+use Rattle.cpc_meaning_laws.specs.Cell.Cells.{call_cells}
 use Rattle.cpc_convert_chain_laws.specs.Walks.{World, Rise, Walk, at_line, running}
 
 -- a piece takes its frame: its locals have the values of the fields

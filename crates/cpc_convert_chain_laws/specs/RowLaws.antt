@@ -29,7 +29,7 @@ use Rattle.cpc_convert_chain_laws.specs.Driver.{drive_name, any_pointer, head_fi
 use Rattle.cpc_convert_chain_laws.specs.Flat.{before, standing, LineAt}
 use Rattle.cpc_convert_chain_laws.specs.Frames.{at, PointsTo, Holds, asks_block, pointed_slots, Give, fills_call, Giving, GivingFaults, register_slots, AreRegisters}
 use Rattle.cpc_convert_chain_laws.specs.Structs.{IsStruct}
-use Rattle.cpc_meaning_cell_laws.specs.Cells.{call_cells}
+use Rattle.cpc_meaning_laws.specs.Cell.Cells.{call_cells}
 use Rattle.cpc_convert_chain_laws.specs.Walks.{World, Rise, Walk, Finishes, at_line, running, idle, frame_at, line_stack, arriving_at, FaultsAfter}
 
 -- what is known where the start frame of a call is made

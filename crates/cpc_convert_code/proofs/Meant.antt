@@ -7,7 +7,7 @@ use Rattle.std.proofs.Math.Logic.{∥∥₁_elim}
 use Rattle.cpc_tree.specs.Erase.{Names, Table, in_table, item_of, program_of}
 use Rattle.cpc_tree.specs.Syntax.{Item, FunctionItem, Program}
 use Rattle.cpc_convert.specs.Converted.{prototype}
-use Rattle.cpc_convert_accepted_laws.specs.Names.{HasNames}
+use Rattle.cpc_convert_laws.specs.Accepted.Names.{HasNames}
 use Rattle.cpc_convert_chain_laws.specs.Driver.{drive_function}
 use Rattle.cpc_convert_event.specs.Routines.{Routine}
 use Rattle.cpc_convert_event.specs.Frames.{any_frame}

@@ -3,7 +3,7 @@ use Rattle.std.proofs.Common.{◌≡◌, Option, Some, None, ap, subst, refl}
 use Rattle.cpc_num.specs.declared.kinds.Fault.{Fault}
 use Rattle.cpc_meaning.specs.Answer.{Answer, Gives, Faults, NoAnswer, ◌>>=◌, needed}
 use Rattle.cpc_meaning.specs.Eval.{and_then}
-use Rattle.cpc_meaning_pointer_laws.proofs.Blocks.{Only, Any, only_any}
+use Rattle.cpc_meaning_laws.proofs.Pointer.Blocks.{Only, Any, only_any}
 use Rattle.cpc_convert_image_laws.specs.Relations.{Less, AsIs, Untold, Meets, BothGive, BothFault, Stuck, Same, It}
 
 -- ---- what there is

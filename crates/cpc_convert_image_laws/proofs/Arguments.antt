@@ -13,7 +13,7 @@ use Rattle.cpc_meaning.specs.Answer.{Gives, Faults}
 use Rattle.cpc_meaning.specs.Eval.{assigned, at_type}
 use Rattle.cpc_meaning.specs.Requests.{takes, set_integer, taken_as, all_taken, all_long, arguments, byte_values}
 use Rattle.cpc_meaning.specs.Act.{function_of_type, callee}
-use Rattle.cpc_meaning_pointer_laws.proofs.Blocks.{Only, only_then}
+use Rattle.cpc_meaning_laws.proofs.Pointer.Blocks.{Only, only_then}
 use Rattle.cpc_convert_image_laws.specs.Held.{IsHeld}
 use Rattle.cpc_convert_image_laws.specs.Relations.{SameHead, Found, BothFound, NoneFound, Meets, BothGive, BothFault, Stuck}
 use Rattle.cpc_convert_image_laws.proofs.Operators.{assigned_held, at_type_held}

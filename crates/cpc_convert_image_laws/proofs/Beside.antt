@@ -12,7 +12,7 @@ use Rattle.cpc_meaning.specs.Answer.{Answer, Gives, Faults, ◌>>=◌, of_result
 use Rattle.cpc_meaning.specs.Eval.{Slot, Register, Boxed}
 use Rattle.cpc_meaning.specs.Section.{allocated, freed}
 use Rattle.cpc_meaning.specs.Slots.{free_slots}
-use Rattle.cpc_meaning_pointer_laws.proofs.Blocks.{Only}
+use Rattle.cpc_meaning_laws.proofs.Pointer.Blocks.{Only}
 use Rattle.cpc_convert_image_laws.specs.Held.{IsShared, IsHeld, IsHeldStore, beside}
 use Rattle.cpc_convert_image_laws.specs.Relations.{Meets, BothGive, BothFault, Stuck, StoreBeside, InBoth, Answered, BothAnswer}
 use Rattle.cpc_convert_image_laws.proofs.Stores.{IsHeldCells, cells_unset, alloc_holds, free_holds, save_holds}

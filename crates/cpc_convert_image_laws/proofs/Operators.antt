@@ -18,7 +18,7 @@ use Rattle.cpc_store.specs.Store.{Value, Unset, Whole, Null, At, Code, Cond, Sto
 use Rattle.cpc_meaning.specs.Answer.{Answer, Gives, Faults, NoAnswer, ◌>>=◌, of_result, needed}
 use Rattle.cpc_meaning.specs.Eval.{Slot, Spot, InSlot, InCell, and_then, number, read, field_spot, moved, moved_within, moved_by, offsets, offsets_in, distance, ordered, on_pointers, on_mixed, apply, operate, truth_value, element_size, pointed, holds, assigned, at_type}
 use Rattle.cpc_meaning.specs.Layout.{scalar_of}
-use Rattle.cpc_meaning_pointer_laws.proofs.Blocks.{Only, Any, only_any, any_then, only_if}
+use Rattle.cpc_meaning_laws.proofs.Pointer.Blocks.{Only, Any, only_any, any_then, only_if}
 use Rattle.cpc_convert_image_laws.specs.Held.{IsShared, IsHeld, IsHeldStore, beside}
 use Rattle.cpc_convert_image_laws.specs.Relations.{Less, AsIs, Untold, Extends, Meets, BothGive, BothFault, Stuck, Same, It}
 use Rattle.cpc_convert_image_laws.proofs.Answers.{same_then, itself, as_is, self_then, needed_then}

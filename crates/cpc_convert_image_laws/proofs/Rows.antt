@@ -17,7 +17,7 @@ use Rattle.cpc_convert_image_laws.specs.Images.{Readings, image, images, followe
 use Rattle.cpc_convert_image_laws.specs.InPlace.{is_array, IsWritten}
 use Rattle.cpc_convert_image_laws.specs.Held.{IsHeld, IsHeldSlot, IsHeldStore, beside}
 use Rattle.cpc_convert_image_laws.specs.Relations.{Found, BothFound, NoneFound, SameHead, Common, Meets, BothGive, BothFault, Stuck, Same, It, Means, SameAct, WaitAct, Waited, SectionAct, Detached, StoredAct, Stored}
-use Rattle.cpc_meaning_pointer_laws.proofs.Blocks.{Only}
+use Rattle.cpc_meaning_laws.proofs.Pointer.Blocks.{Only}
 use Rattle.cpc_convert_image_laws.proofs.Live.{IsReadLive}
 use Rattle.cpc_convert_image_laws.proofs.Answers.{meets_then, self_then, then_assoc}
 use Rattle.cpc_convert_image_laws.proofs.Arguments.{all_taken_held, same_parameters}

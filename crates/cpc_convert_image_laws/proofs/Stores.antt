@@ -10,7 +10,7 @@ use Rattle.cpc_store.specs.Store.{Value, Unset, Whole, Null, At, Code, Cond, Sto
 use Rattle.cpc_store.proofs.StoreLemmas.{cells_of-alloc_same, cells_of-alloc_other, cells_of-set_other}
 use Rattle.cpc_meaning.specs.Answer.{of_result}
 use Rattle.cpc_meaning.proofs.Stores.{blocks_with, save_there}
-use Rattle.cpc_meaning_pointer_laws.proofs.Blocks.{Only}
+use Rattle.cpc_meaning_laws.proofs.Pointer.Blocks.{Only}
 use Rattle.cpc_convert_image_laws.specs.Held.{IsHeld, IsHeldStore}
 
 class_cases : (c d : Class) → (c ≡ d) ⊎ ¬ (c ≡ d)

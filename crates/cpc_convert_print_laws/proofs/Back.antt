@@ -20,8 +20,8 @@ use Rattle.cpc_printer_laws.proofs.FitPrograms.{read_spellable}
 use Rattle.cpc_printer_laws.proofs.ProgramsRead.{prints_back}
 use Rattle.cpc_printer.specs.Style.{is_tight_for, printed_row, IsPrint, ReadsBack}
 use Rattle.cpc_convert_event.specs.Converted.{converted}
-use Rattle.cpc_convert_accepted_laws.proofs.Names.{accepted_has_names, accepted_is_named}
-use Rattle.cpc_convert_accepted_laws.proofs.Points.{accepted_positions_known}
+use Rattle.cpc_convert_laws.proofs.Accepted.Names.{accepted_has_names, accepted_is_named}
+use Rattle.cpc_convert_laws.proofs.Accepted.Points.{accepted_positions_known}
 use Rattle.cpc_convert_print_laws.specs.Laws.{ConvertedReadsBack}
 use Rattle.cpc_convert_print_laws.proofs.Items.{Prints}
 use Rattle.cpc_convert_print_laws.proofs.Programs.{converted_prints}

@@ -3,7 +3,7 @@ use Rattle.std.proofs.Common.{◌≡◌, ℕ, zero, suc, ◌+◌, ◌≤◌, ◌
 use Rattle.std.proofs.lemmas.List.{length-map, length-append}
 use Rattle.std.proofs.lemmas.Option.{slice_get-map}
 use Rattle.cpc_base.specs.declared.stop.Dialect.TheVariants as D
-use Rattle.cpc_check_sound_laws.specs.Typed.{Gets, AllGet, EachGets, GetsTaken, AllGetTaken, TakesArguments, Calls, CallsHost, CallsFunction, CallsPrimitive, CallsPointer, is_for, IsTyped}
+use Rattle.cpc_check_laws.specs.Sound.Typed.{Gets, AllGet, EachGets, GetsTaken, AllGetTaken, TakesArguments, Calls, CallsHost, CallsFunction, CallsPrimitive, CallsPointer, is_for, IsTyped}
 use Rattle.cpc_tree.specs.declared.program.Mode.{Mode}
 use Rattle.cpc_tree.specs.Primitives.{Primitive, Print, Putc, Puts, Now, CondNew, CondFree, Signal, SignalAll, Exit, Malloc, Free, Yield, Sleep, IoWait, Wait, RtFrame, RtBox, RtFrameFree, RtUnbox, RtReady, RtWait, RtSleep, RtIo, RtDetach, Taken, AnyInteger, SetOf, FreeOf, takes_first}
 use Rattle.cpc_tree.specs.Points.{Nth, TheTest, TheYes, TheNo, TheStep, TheBody, Path, Point, Here, Arrival, End, Simple, Test, Nothing}
@@ -21,9 +21,9 @@ use Rattle.cpc_forms.specs.Order.{points_of, points_in, points_arm, points, with
 use Rattle.cpc_convert_event.specs.NameLaws.{IsCps}
 use Rattle.cpc_convert_event.specs.Routines.{routine_of}
 use Rattle.cpc_convert_event.specs.Lines.{behind_arrival}
-use Rattle.cpc_convert_accepted_laws.specs.Names.{HasNames}
-use Rattle.cpc_convert_accepted_laws.specs.Points.{PositionsKnown}
-use Rattle.cpc_convert_accepted_laws.proofs.Counts.{same_many}
+use Rattle.cpc_convert_laws.specs.Accepted.Names.{HasNames}
+use Rattle.cpc_convert_laws.specs.Accepted.Points.{PositionsKnown}
+use Rattle.cpc_convert_laws.proofs.Accepted.Counts.{same_many}
 use Rattle.cpc_convert_print_laws.proofs.Known.{FunctionReads, StoodPrints, stood_prints}
 use Rattle.cpc_convert_print_laws.proofs.Lines.{AllNoCalls, SimpleSound, StoodSound, ScopeSmall, SmallIf}
 use Rattle.cpc_convert_print_laws.proofs.Rows.{NodePrints}

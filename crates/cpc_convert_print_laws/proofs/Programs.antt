@@ -30,9 +30,9 @@ use Rattle.cpc_convert_event.specs.Converted.{kept_function, item_unless, kept_i
 use Rattle.cpc_convert_event.proofs.Numbers.{AllBelow, NoneBelow, OneBelow, rises_below, below_append, below_chosen}
 use Rattle.cpc_convert_event.proofs.Locals.{closure_rise, counted, loaded_below}
 use Rattle.cpc_convert_event.specs.Rows.{numbers_of}
-use Rattle.cpc_convert_accepted_laws.specs.Names.{HasNames}
-use Rattle.cpc_convert_accepted_laws.specs.Points.{PositionsKnown}
-use Rattle.cpc_convert_accepted_laws.proofs.Below.{boxes_rise, below_numbers}
+use Rattle.cpc_convert_laws.specs.Accepted.Names.{HasNames}
+use Rattle.cpc_convert_laws.specs.Accepted.Points.{PositionsKnown}
+use Rattle.cpc_convert_laws.proofs.Accepted.Below.{boxes_rise, below_numbers}
 use Rattle.cpc_convert_print_laws.proofs.Names as N
 use Rattle.cpc_convert_print_laws.proofs.Images.{row_widened}
 use Rattle.cpc_convert_print_laws.proofs.Items.{Prints, no_items, and_item, first_item, later_items, both_items, PrintsItem, PrintsFunction, PrintsFunctions, no_functions, both_functions}

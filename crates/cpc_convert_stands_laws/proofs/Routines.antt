@@ -18,8 +18,8 @@ use Rattle.cpc_tree.specs.declared.program.Program as GProgram
 use Rattle.cpc_meaning.specs.Threads.{is_cps, is_cps_mode}
 use Rattle.cpc_meaning.specs.Ways as W
 use Rattle.cpc_meaning.specs.Ways.{is_cps_statement}
-use Rattle.cpc_convert_accepted_laws.specs.Names.{HasNames, IsFound}
-use Rattle.cpc_convert_accepted_laws.proofs.Cut.{owners_long}
+use Rattle.cpc_convert_laws.specs.Accepted.Names.{HasNames, IsFound}
+use Rattle.cpc_convert_laws.proofs.Accepted.Cut.{owners_long}
 use Rattle.cpc_forms.specs.Flow.{Place, Start, flow_of, is_leader}
 use Rattle.cpc_forms.specs.Order.{points}
 use Rattle.cpc_forms.specs.Graph as F

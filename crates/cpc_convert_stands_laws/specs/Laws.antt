@@ -8,7 +8,7 @@ use Rattle.cpc_tree.specs.declared.program.Program as G
 use Rattle.cpc_meaning.specs.Threads.{is_cps}
 use Rattle.cpc_convert_names.specs.Tables as T
 use Rattle.cpc_convert_names.specs.Tables.{AreWithin}
-use Rattle.cpc_convert_accepted_laws.specs.Names.{HasNames}
+use Rattle.cpc_convert_laws.specs.Accepted.Names.{HasNames}
 use Rattle.cpc_convert_event.specs.Routines.{Routine, routine_of}
 use Rattle.cpc_convert_event.specs.Converted.{routines}
 use Rattle.cpc_forms_code.specs.Programs.{IsSpelling}

@@ -21,12 +21,12 @@ use Rattle.cpc_meaning.specs.Plain.{Frame, Stack, Done, Went, moved_to, returned
 use Rattle.cpc_meaning.specs.Requests.{Asked, Builtin, Host, ToSpawn, Section, Primitive, Malloc, Free, RtFrame, RtBox, RtFrameFree, RtUnbox}
 use Rattle.cpc_meaning.specs.Runs.{slots_registers, frames_registers}
 use Rattle.cpc_meaning.specs.Trees.{trees, stood_at}
-use Rattle.cpc_meaning_cell_laws.specs.Cells.{call_cells, slots_cells, code_cells, done_cells, acted_cells, request_cells, after_plain, step_cells}
-use Rattle.cpc_meaning_cell_laws.proofs.Calls.{call_takes, leaving_gives_back}
-use Rattle.cpc_meaning_cell_laws.proofs.Going.{going_on_keeps}
-use Rattle.cpc_meaning_pointer_laws.specs.Made.{IsMadeCode}
-use Rattle.cpc_meaning_pointer_laws.specs.Laws.{done_with}
-use Rattle.cpc_meaning_pointer_laws.proofs.Answered.{requests_alike}
+use Rattle.cpc_meaning_laws.specs.Cell.Cells.{call_cells, slots_cells, code_cells, done_cells, acted_cells, request_cells, after_plain, step_cells}
+use Rattle.cpc_meaning_laws.proofs.Cell.Calls.{call_takes, leaving_gives_back}
+use Rattle.cpc_meaning_laws.proofs.Cell.Going.{going_on_keeps}
+use Rattle.cpc_meaning_laws.specs.Pointer.Made.{IsMadeCode}
+use Rattle.cpc_meaning_laws.specs.Pointer.Laws.{done_with}
+use Rattle.cpc_meaning_laws.proofs.Pointer.Answered.{requests_alike}
 use Rattle.cpc_native_changes.specs.declared.changes.Change.{Change}
 use Rattle.cpc_native_changes.specs.declared.changes.Change.TheVariants as C
 use Rattle.cpc_native_changes.specs.Foreseen.{Foresees, EntersSo, AsksSo, MakesSo, ArrivesSo, FreesSo, IsMaking, IsFreeing, arrival}

@@ -11,7 +11,7 @@ use Rattle.cpc_meaning.specs.Eval.{Context, used_type, value, values, holds, ass
 use Rattle.cpc_meaning.specs.Slots.{free_slots}
 use Rattle.cpc_meaning.specs.Requests.{Primitive, primitive_named, takes, section_takes, all_taken, all_long, arguments}
 use Rattle.cpc_meaning.specs.Act.{Stood, AtStatement, AtArrival, AtEnd, Act, Leaves, assign, deliver, right_side, assigns, calls, callee, calls_value, puts_text, asks_with, calls_named, calls_expr, detaches, spawns, leaves, returns, simple_act, test_act, found_act, target_of, arrives, act}
-use Rattle.cpc_meaning_cell_laws.proofs.Going.{If, if_any}
+use Rattle.cpc_meaning_laws.proofs.Cell.Going.{If, if_any}
 
 module _ (c : Context) where
   -- where a function is left

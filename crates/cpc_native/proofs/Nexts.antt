@@ -13,9 +13,9 @@ use Rattle.cpc_meaning.specs.Runs.{live_cells, registers, frames_registers}
 use Rattle.cpc_meaning.specs.Trees.{trees}
 use Rattle.cpc_eval_values.specs.Shown.{value_of, store_of}
 use Rattle.cpc_eval_index.specs.Indexed.{items_of, IsOwn}
-use Rattle.cpc_meaning_cell_laws.specs.Cells.{code_cells, step_cells}
-use Rattle.cpc_meaning_cell_laws.proofs.Steps.{steps_leave}
-use Rattle.cpc_meaning_pointer_laws.specs.Made.{IsMadeCode}
+use Rattle.cpc_meaning_laws.specs.Cell.Cells.{code_cells, step_cells}
+use Rattle.cpc_meaning_laws.proofs.Cell.Steps.{steps_leave}
+use Rattle.cpc_meaning_laws.specs.Pointer.Made.{IsMadeCode}
 use Rattle.cpc_native_frames.specs.declared.frame.Frame.{Frame}
 use Rattle.cpc_native_frames.specs.Frames.{frame_of}
 use Rattle.cpc_native_frames.specs.Made.{slots_of}

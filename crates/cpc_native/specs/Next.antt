@@ -15,8 +15,8 @@ use Rattle.cpc_meaning.specs.Runs.{live_cells}
 use Rattle.cpc_meaning.specs.Slots.{free_slots}
 use Rattle.cpc_eval_values.specs.Shown.{store_of}
 use Rattle.cpc_eval_index.specs.Indexed.{items_of}
-use Rattle.cpc_meaning_pointer_laws.specs.Made.{IsMadeCode}
-use Rattle.cpc_meaning_cell_laws.specs.Cells.{call_cells, slots_cells}
+use Rattle.cpc_meaning_laws.specs.Pointer.Made.{IsMadeCode}
+use Rattle.cpc_meaning_laws.specs.Cell.Cells.{call_cells, slots_cells}
 use Rattle.cpc_native_changes.specs.declared.changes.Change.{Change}
 use Rattle.cpc_native_changes.specs.declared.changes.Change.TheVariants as C
 use Rattle.cpc_native.specs.declared.machine.Machine.{Machine}

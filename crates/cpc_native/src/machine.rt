@@ -23,7 +23,7 @@ ghost use Rattle.cpc_native_frames.specs.Made.{slots_of};
 ghost use Rattle.cpc_native.specs.Stacks.{fault_of};
 ghost use Rattle.cpc_tree.specs.Points.{Point};
 ghost use Rattle.cpc_check_rules.specs.Apart.{AreApart};
-ghost use Rattle.cpc_meaning_cell_laws.specs.Cells.{call_cells};
+ghost use Rattle.cpc_meaning_laws.specs.Cell.Cells.{call_cells};
 ghost use Rattle.cpc_meaning.specs.Events.{Callback};
 ghost use Rattle.cpc_meaning.specs.Machine.{State};
 ghost use Rattle.cpc_meaning.specs.Runs.{live_cells};

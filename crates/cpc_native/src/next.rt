@@ -4,7 +4,7 @@ ghost use Rattle.cpc_tree.specs.Erase.{Names, function_of};
 ghost use Rattle.cpc_check_rules.specs.Apart.{AreApart};
 ghost use Rattle.cpc_eval_values.specs.Shown.{store_of};
 ghost use Rattle.cpc_eval_index.specs.Indexed.{items_of, IsOwn};
-ghost use Rattle.cpc_meaning_cell_laws.specs.Cells.{call_cells};
+ghost use Rattle.cpc_meaning_laws.specs.Cell.Cells.{call_cells};
 ghost use Rattle.cpc_native_changes.specs.Foreseen.{EntersOwnly};
 ghost use Rattle.cpc_native_frames.specs.Frames.{RiseFrom};
 ghost use Rattle.cpc_native_frames.specs.Made.{slots_of};

@@ -5,7 +5,7 @@ use Rattle.cpc_base.proofs.Lists.{drop_to_item}
 use Rattle.cpc_tree.specs.Erase.{Names, type_of}
 use Rattle.cpc_tree.specs.Syntax.{Variable, Program}
 use Rattle.cpc_tree.specs.Typing as T
-use Rattle.cpc_meaning_cell_laws.specs.Cells.{or_zero, variables_cells}
+use Rattle.cpc_meaning_laws.specs.Cell.Cells.{or_zero, variables_cells}
 use Rattle.cpc_eval_index.specs.Sized.{capped}
 use Rattle.cpc_eval_locals.specs.declared.variables.Variable as V
 use Rattle.cpc_eval_locals.specs.Kept.{kept_by}

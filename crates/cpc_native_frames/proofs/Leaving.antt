@@ -7,7 +7,7 @@ use Rattle.cpc_store.specs.declared.values.Class.TheVariants.{Auto}
 use Rattle.cpc_store.specs.Store.{StoreOf, Store}
 use Rattle.cpc_store.proofs.CodeLemmas.{size-map}
 use Rattle.cpc_tree.specs.Erase.{Names}
-use Rattle.cpc_meaning_cell_laws.specs.Cells.{or_zero, slot_cells, slots_cells}
+use Rattle.cpc_meaning_laws.specs.Cell.Cells.{or_zero, slot_cells, slots_cells}
 use Rattle.cpc_meaning.specs.Answer.{Answer}
 use Rattle.cpc_meaning.specs.Slots as M
 use Rattle.cpc_eval_values.specs.Shown.{store_of}

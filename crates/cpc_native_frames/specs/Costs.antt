@@ -2,7 +2,7 @@
 use Rattle.std.specs.Prelude.{ℕ, ◌+◌, List, [], ◌∷◌}
 use Rattle.cpc_tree.specs.Syntax.{Ty, Program}
 use Rattle.cpc_tree.specs.Typing.{size}
-use Rattle.cpc_meaning_cell_laws.specs.Cells.{or_zero}
+use Rattle.cpc_meaning_laws.specs.Cell.Cells.{or_zero}
 
 -- of variables of these types
 abbrev pub types_cells : Program → List Ty → ℕ

@@ -2,7 +2,7 @@
 ghost use Rattle.std.specs.Prelude.{◌≡◌, ◌-◌, ◌^◌, min, IfSome};
 ghost use Rattle.cpc_tree.specs.Erase.{Names, type_of, function_of};
 ghost use Rattle.cpc_tree.specs.Typing as T;
-ghost use Rattle.cpc_meaning_cell_laws.specs.Cells as L;
+ghost use Rattle.cpc_meaning_laws.specs.Cell.Cells as L;
 ghost use Rattle.cpc_meaning.specs.Slots as M;
 ghost use Rattle.cpc_check_rules.specs.Apart.{AreApart};
 ghost use Rattle.cpc_eval_values.specs.Shown.{store_of};

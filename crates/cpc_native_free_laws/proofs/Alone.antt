@@ -19,12 +19,12 @@ use Rattle.cpc_meaning.specs.Requests.{Builtin, Request, all_long, all_taken, ar
 use Rattle.cpc_meaning.specs.Act.{Stood, AtStatement, AtArrival, AtEnd, Act, GoesOn, Enters, Leaves, AsksFor, act, arrives, asks_with, assign, assigns, callee, calls, calls_expr, calls_named, calls_value, deliver, detaches, found_act, leaves, puts_text, right_side, simple_act, spawns, target_of}
 use Rattle.cpc_meaning.specs.Plain.{Frame, Done, Asks, asking, frames_step, make_frame, perform, returned_to}
 use Rattle.cpc_meaning.specs.Trees.{arrival_at, point_after, scope_from, stood_at, trees}
-use Rattle.cpc_meaning_pointer_laws.proofs.Blocks.{Only, any_then, only_as, only_then}
+use Rattle.cpc_meaning_laws.proofs.Pointer.Blocks.{Only, any_then, only_as, only_then}
 use Rattle.cpc_check_rules.specs.Calls.{gives}
-use Rattle.cpc_check_sound_laws.specs.Suits.{converts}
-use Rattle.cpc_check_sound_laws.specs.Typed.{Calls, CallsHost, CallsFunction, CallsPrimitive, CallsPointer, FoundTyped, IsTyped, TypedProgram, is_own, is_pointer_call, is_variable}
-use Rattle.cpc_check_sound_laws.proofs.Accepted.{accepted_is_typed}
-use Rattle.cpc_check_sound_laws.proofs.Paths.{function_typed}
+use Rattle.cpc_check_laws.specs.Sound.Suits.{converts}
+use Rattle.cpc_check_laws.specs.Sound.Typed.{Calls, CallsHost, CallsFunction, CallsPrimitive, CallsPointer, FoundTyped, IsTyped, TypedProgram, is_own, is_pointer_call, is_variable}
+use Rattle.cpc_check_laws.proofs.Sound.Accepted.{accepted_is_typed}
+use Rattle.cpc_check_laws.proofs.Sound.Paths.{function_typed}
 use Rattle.cpc_native.specs.Next.{GoesNowhere, frees}
 use Rattle.cpc_native_free_laws.specs.Laws.{AcceptedFreeAlone}
 

@@ -29,7 +29,7 @@ use Rattle.cpc_tree.specs.declared.program.Word.{Word}
 use Rattle.cpc_check.specs.Accepted.{IsRead, IsWithin}
 use Rattle.cpc_eval.specs.Numbers.{ProgramNumbers}
 use Rattle.cpc_native_laws.specs.Laws.{AcceptedHasNumbers, IsSpelling, AreSpellings}
-use Rattle.cpc_check_sound_laws.proofs.Unbroken.{split}
+use Rattle.cpc_check_laws.proofs.Sound.Unbroken.{split}
 use Rattle.cpc_check.proofs.Parts.{item_again}
 use Rattle.cpc_check.proofs.Spelled.{spelling, spells}
 use Rattle.cpc_native_laws.proofs.Tokens.{row_fit}

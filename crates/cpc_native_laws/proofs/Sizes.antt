@@ -18,9 +18,9 @@ use Rattle.cpc_check_rules.specs.ExprRules.{called_breaks, arg_breaks, expr_brea
 use Rattle.cpc_check_rules.specs.StmtRules.{inner, behind, all_behind, target_breaks, to_breaks, test_breaks, maybe_test, start_breaks, started_breaks, return_breaks, stmt_breaks, stmts_breaks, maybe_breaks}
 use Rattle.cpc_check_rules.specs.FunctionRules.{reserved_breaks, locals, labels, label_breaks, stray_breaks, many_breaks}
 use Rattle.cpc_check_rules.specs.ItemRules.{Signature, outside, declared_breaks, types, cps_breaks, parameters_breaks, sized_breaks, in_body, body_breaks, item_breaks, items_breaks}
-use Rattle.cpc_check_sound_laws.proofs.Unbroken.{split, holds_not}
-use Rattle.cpc_check_sound_laws.proofs.Agreement.{Grows, sizes_grow}
-use Rattle.cpc_check_sound_laws.proofs.Programs.{grows_all}
+use Rattle.cpc_check_laws.proofs.Sound.Unbroken.{split, holds_not}
+use Rattle.cpc_check_laws.proofs.Sound.Agreement.{Grows, sizes_grow}
+use Rattle.cpc_check_laws.proofs.Sound.Programs.{grows_all}
 use Rattle.cpc_eval.specs.Numbers.{FitsSize, HasNumbers, MaybeNumbers, AllNumbers, StmtNumbers, StmtsNumbers, ArmNumbers, ItemsNumbers}
 use Rattle.cpc_native_laws.proofs.Literals.{Fine, AllFine, FineIf, FineStmt, FineStmts, FineArm, FineBody, FineItem, FineItems}
 

@@ -29,9 +29,9 @@ use Rattle.cpc_meaning.proofs.Agendas.{SameAgenda, SameResult, made as cond_same
 use Rattle.cpc_history_marks.specs.Views.{told_of}
 use Rattle.cpc_run_code.specs.declared.items.Item.{Item}
 use Rattle.cpc_run.specs.declared.looped.Loop.{Loop}
-use Rattle.cpc_meaning_pointer_laws.specs.Made.{IsMadeCode}
-use Rattle.cpc_meaning_pointer_laws.specs.Laws.{done_with}
-use Rattle.cpc_meaning_pointer_laws.proofs.Answered.{answered_alike}
+use Rattle.cpc_meaning_laws.specs.Pointer.Made.{IsMadeCode}
+use Rattle.cpc_meaning_laws.specs.Pointer.Laws.{done_with}
+use Rattle.cpc_meaning_laws.proofs.Pointer.Answered.{answered_alike}
 use Rattle.cpc_run_shown.specs.declared.outcome.Outcome.{Outcome}
 use Rattle.cpc_run_shown.specs.declared.outcome.Outcome.TheVariants as O
 use Rattle.cpc_run_code.specs.Code.{items_in, store_in, stack_in}

@@ -34,7 +34,7 @@ use Rattle.cpc_meaning.specs.Trees.{trees}
 use Rattle.cpc_meaning.proofs.Agendas.{SameAgenda, readies_all}
 use Rattle.cpc_meaning.proofs.Both.{Ends, Goes}
 use Rattle.cpc_check.specs.Accepted.{IsRead}
-use Rattle.cpc_check_sound_laws.specs.Promises.{AcceptedCallbacksNeverStuck}
+use Rattle.cpc_check_laws.specs.Sound.Promises.{AcceptedCallbacksNeverStuck}
 use Rattle.cpc_native_builtins.specs.Served.{is_served_program}
 use Rattle.cpc_check_served_laws.specs.Laws.{AcceptedAreServed}
 use Rattle.cpc_history_marks.specs.declared.marks.Told.{Told}

@@ -22,7 +22,7 @@ use Rattle.cpc_meaning.specs.Requests.{Request}
 use Rattle.cpc_meaning.specs.Runs.{live_cells}
 use Rattle.cpc_meaning.specs.Start.{before_bars}
 use Rattle.cpc_meaning.specs.Trees.{trees}
-use Rattle.cpc_meaning_pointer_laws.specs.Made.{IsMadeCode}
+use Rattle.cpc_meaning_laws.specs.Pointer.Made.{IsMadeCode}
 use Rattle.cpc_eval_values.specs.Shown.{value_of, values_of}
 use Rattle.cpc_native.specs.Stacks.{request_of}
 use Rattle.cpc_native.specs.declared.machine.Request as N

@@ -19,7 +19,7 @@ use Rattle.cpc_meaning.specs.Events.{callbacks}
 use Rattle.cpc_meaning.specs.Machine.{after_done, first_answer, host_call, ints_of, marks, reply, settled}
 use Rattle.cpc_meaning.specs.Plain.{Asks, Done, Form, Frame, Returned, Stack, Went, answered, asking, context, frames_answered, perform}
 use Rattle.cpc_meaning.specs.Trees.{trees}
-use Rattle.cpc_meaning_pointer_laws.proofs.Blocks.{Only}
+use Rattle.cpc_meaning_laws.proofs.Pointer.Blocks.{Only}
 use Rattle.cpc_run.specs.Answers.{Allows, Answered}
 use Rattle.cpc_run.specs.Hosts.{HostsMeet, answers_of}
 use Rattle.cpc_run.specs.States.{States}

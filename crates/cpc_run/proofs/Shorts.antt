@@ -21,8 +21,8 @@ use Rattle.cpc_meaning.specs.Machine.{Machine, settled, step_running, code_step,
 use Rattle.cpc_meaning.specs.Plain.{Frame, make_frame, stack_of}
 use Rattle.cpc_meaning.specs.Runs.{live_cells, frames_registers, registers}
 use Rattle.cpc_meaning.specs.Trees.{trees}
-use Rattle.cpc_meaning_cell_laws.specs.Cells.{call_cells}
-use Rattle.cpc_meaning_cell_laws.proofs.Steps.{taking_adds}
+use Rattle.cpc_meaning_laws.specs.Cell.Cells.{call_cells}
+use Rattle.cpc_meaning_laws.proofs.Cell.Steps.{taking_adds}
 use Rattle.cpc_run.specs.declared.looped.Loop.{Loop}
 use Rattle.cpc_run_code.specs.declared.short.Short.{Short}
 use Rattle.cpc_run_code.specs.declared.short.Short.TheVariants as W
@@ -30,7 +30,7 @@ use Rattle.cpc_run_code.specs.Code.{store_in, stack_in}
 use Rattle.cpc_run.specs.Shorts.{Counts, IsBeyond}
 use Rattle.cpc_run_code.specs.Shorts.{IsAbove}
 use Rattle.cpc_run.specs.States.{States, Within, settles, program_in}
-use Rattle.cpc_meaning_pointer_laws.specs.Made.{IsMadeStore}
+use Rattle.cpc_meaning_laws.specs.Pointer.Made.{IsMadeStore}
 use Rattle.cpc_run.proofs.Turns.{frame_never_fails}
 use Rattle.cpc_run_code.proofs.Written.{Collects, collects}
 

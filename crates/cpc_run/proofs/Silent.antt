@@ -24,7 +24,7 @@ use Rattle.cpc_meaning.specs.Requests.{Asked, Builtin, Host, Section, ToSpawn}
 use Rattle.cpc_meaning.specs.Section.{allocated, freed}
 use Rattle.cpc_meaning.specs.Start.{main_name}
 use Rattle.cpc_meaning.specs.Trees.{trees}
-use Rattle.cpc_meaning_pointer_laws.proofs.Blocks.{Only, any_then, only_then}
+use Rattle.cpc_meaning_laws.proofs.Pointer.Blocks.{Only, any_then, only_then}
 use Rattle.cpc_run.specs.declared.made.Made.{Made}
 use Rattle.cpc_run.specs.declared.made.Made.TheVariants as M
 use Rattle.cpc_run.specs.Answers.{Allows, Answered, MadeAnswered}

@@ -16,7 +16,7 @@ use Rattle.cpc_meaning.specs.Machine.{replies, try_step}
 use Rattle.cpc_meaning.specs.Runs.{live_cells}
 use Rattle.cpc_meaning.specs.Section.{allocated}
 use Rattle.cpc_meaning.specs.Trees.{trees}
-use Rattle.cpc_meaning_pointer_laws.specs.Made.{IsMadeCode}
+use Rattle.cpc_meaning_laws.specs.Pointer.Made.{IsMadeCode}
 use Rattle.cpc_eval_values.specs.Shown.{value_of}
 use Rattle.cpc_native_builtins.specs.Builtins.{primitive_of}
 use Rattle.cpc_native_builtins.specs.declared.call.Call.{Call}

@@ -13,7 +13,7 @@ ghost use Rattle.cpc_meaning.specs.Events.{callbacks};
 ghost use Rattle.cpc_meaning.specs.Machine.{asked_by, primitive, prints, byte_of};
 ghost use Rattle.cpc_meaning.specs.Trees.{trees};
 ghost use Rattle.cpc_eval_values.specs.Shown.{value_of, values_of};
-ghost use Rattle.cpc_meaning_pointer_laws.specs.Made.{IsMadeCode};
+ghost use Rattle.cpc_meaning_laws.specs.Pointer.Made.{IsMadeCode};
 ghost use Rattle.cpc_run_code.specs.Code.{stack_in};
 ghost use Rattle.cpc_run.specs.Going.{CallHasBlock, CallsBack, CallsThere, HasBlock, HasCallback, KnowsNames, KnowsSection};
 ghost use Rattle.cpc_native.specs.Stacks.{request_of};

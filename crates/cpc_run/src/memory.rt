@@ -11,7 +11,7 @@ ghost use Rattle.cpc_meaning.specs.Machine.{replies, with_store};
 ghost use Rattle.cpc_meaning.specs.Section.{allocated, freed};
 ghost use Rattle.cpc_meaning.specs.Trees.{trees};
 ghost use Rattle.cpc_eval_values.specs.Shown.{value_of, values_of};
-ghost use Rattle.cpc_meaning_pointer_laws.specs.Made.{IsMadeCode};
+ghost use Rattle.cpc_meaning_laws.specs.Pointer.Made.{IsMadeCode};
 ghost use Rattle.cpc_native_acts.specs.Taken.{IsTaken};
 ghost use Rattle.cpc_run_code.specs.Code.{store_in, stack_in};
 ghost use Rattle.cpc_run.specs.Going.{HasRoom, HasRoomFor};

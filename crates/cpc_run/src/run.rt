@@ -26,7 +26,7 @@ use crate::made::Made;
 use cpc_base::{Failed, Names, NoMemory, Sink, write_all};
 use cpc_check::Checked;
 use cpc_check_served_laws::{accepted_are_served, accepted_ask_declared};
-use cpc_check_sound_laws::accepted_callbacks_never_stuck;
+use cpc_check_laws::accepted_callbacks_never_stuck;
 use cpc_eval_index::Index;
 use cpc_history_marks::Told;
 use cpc_hosts::{HostRule, HostTable, Kept};

@@ -22,20 +22,20 @@ use Rattle.cpc_meaning.specs.Copies.{copy_of, Collected, AllGave, OneFailed, Not
 use Rattle.cpc_meaning.specs.Machine.{State, ends, marks, with_agenda, with_store, runs, after_done, reply, int_of, cond_of, prints, replies, acts, primitive, direction_of, submits, ints_of, first_answer, host_call, asked_by, next_poll, next_round, turns_where, schedules, runs_on, code_step, step_running, settled, try_step, unless_over, next, step, takes_poll, polled, told_state}
 use Rattle.cpc_meaning.specs.Events.{Callback, CallMain, CallWith, starts_callback, event_primitive, callbacks_of, event, callbacks}
 use Rattle.cpc_meaning.specs.Start.{main_name}
-use Rattle.cpc_meaning_pointer_laws.specs.Made.{IsMade, IsMadeCallback, IsMadeStore, IsMadeCode}
-use Rattle.cpc_meaning_pointer_laws.proofs.Blocks.{Only, only_then, any_then}
-use Rattle.cpc_meaning_pointer_laws.proofs.Values.{assigned_made}
-use Rattle.cpc_meaning_pointer_laws.proofs.Stores.{Later, later_made, Onward}
-use Rattle.cpc_meaning_pointer_laws.proofs.Steps.{FrameMade, DoneMade, frame_come, stack_made, code_later, answered_made, plain_made}
+use Rattle.cpc_meaning_laws.specs.Pointer.Made.{IsMade, IsMadeCallback, IsMadeStore, IsMadeCode}
+use Rattle.cpc_meaning_laws.proofs.Pointer.Blocks.{Only, only_then, any_then}
+use Rattle.cpc_meaning_laws.proofs.Pointer.Values.{assigned_made}
+use Rattle.cpc_meaning_laws.proofs.Pointer.Stores.{Later, later_made, Onward}
+use Rattle.cpc_meaning_laws.proofs.Pointer.Steps.{FrameMade, DoneMade, frame_come, stack_made, code_later, answered_made, plain_made}
 use Rattle.cpc_meaning_matching.specs.Steps.{or_stay}
 use Rattle.cpc_meaning.specs.Requests.{Asked, Builtin, Host, ToSpawn, Section}
 use Rattle.cpc_meaning.specs.Trees.{trees}
 use Rattle.cpc_meaning.specs.History.{History}
 use Rattle.cpc_tree.specs.Points.{Point}
-use Rattle.cpc_meaning_pointer_laws.proofs.Machine.{Handed, allocated_made, freed_made}
-use Rattle.cpc_meaning_pointer_laws.proofs.Runs.{runs_are_made}
-use Rattle.cpc_meaning_kept_laws.specs.Kept.{KeptAgenda}
-use Rattle.cpc_meaning_kept_laws.proofs.Agendas as L
+use Rattle.cpc_meaning_laws.proofs.Pointer.Machine.{Handed, allocated_made, freed_made}
+use Rattle.cpc_meaning_laws.proofs.Pointer.Runs.{runs_are_made}
+use Rattle.cpc_check_laws.specs.Kept.Kept.{KeptAgenda}
+use Rattle.cpc_check_laws.proofs.Kept.Agendas as L
 use Rattle.cpc_run_code.specs.Made.{IsValue, IsMadeRun}
 use Rattle.cpc_run_code.proofs.Written.{Collects, collects}
 

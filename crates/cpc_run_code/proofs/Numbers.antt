@@ -7,7 +7,7 @@ use Rattle.cpc_store.specs.Store as S
 use Rattle.cpc_meaning.specs.Answer.{Gives, ◌>>=◌}
 use Rattle.cpc_meaning.specs.Machine.{int_of, ints_of}
 use Rattle.cpc_meaning.proofs.Functions.{gives_then}
-use Rattle.cpc_meaning_pointer_laws.proofs.Blocks.{Only, any_then, only_then}
+use Rattle.cpc_meaning_laws.proofs.Pointer.Blocks.{Only, any_then, only_then}
 use Rattle.cpc_eval_values.specs.Shown.{value_of, values_of}
 
 -- what stands behind a list is told behind its numbers

@@ -15,11 +15,11 @@ use Rattle.cpc_meaning.specs.Answer.{Answer, Gives, Faults, NoAnswer, ◌>>=◌,
 use Rattle.cpc_meaning.specs.Plain.{Form, Frame, Stack, stack_of, Done, Went, Returned, Asks, plain, running_function}
 use Rattle.cpc_meaning.specs.Section.{Job, SectionEnd, Gave, Broke, NoEnd, section_done, all_integers, section_gave, copy_left, section_next, section_run, section_from, section_frame, section_end}
 use Rattle.cpc_meaning.specs.Copies.{job_numbered, write_back, write_to, Collected, AllGave, OneFailed, NotClear, and_value, written, collected, collect_one, collect}
-use Rattle.cpc_meaning_pointer_laws.specs.Made.{IsMadeStore}
-use Rattle.cpc_meaning_pointer_laws.proofs.Blocks.{Only, only_then, only_as}
-use Rattle.cpc_meaning_pointer_laws.proofs.Stores.{Onward, onward_self, onward_then, save_onward}
-use Rattle.cpc_meaning_kept_laws.proofs.Values.{IsNumber, number_made}
-use Rattle.cpc_meaning_kept_laws.proofs.Stores.{only_both}
+use Rattle.cpc_meaning_laws.specs.Pointer.Made.{IsMadeStore}
+use Rattle.cpc_meaning_laws.proofs.Pointer.Blocks.{Only, only_then, only_as}
+use Rattle.cpc_meaning_laws.proofs.Pointer.Stores.{Onward, onward_self, onward_then, save_onward}
+use Rattle.cpc_check_laws.proofs.Kept.Values.{IsNumber, number_made}
+use Rattle.cpc_check_laws.proofs.Kept.Stores.{only_both}
 
 -- ---- integers
 

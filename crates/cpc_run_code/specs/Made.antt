@@ -4,8 +4,8 @@ use Rattle.cpc_store.specs.Store.{Value}
 use Rattle.cpc_meaning.specs.Events.{Callback}
 use Rattle.cpc_meaning.specs.Machine.{State}
 use Rattle.cpc_meaning.specs.Plain.{Stack}
-use Rattle.cpc_meaning_pointer_laws.specs.Made.{IsMadeCallback, IsMadeStore, IsMadeCode}
-use Rattle.cpc_meaning_kept_laws.specs.Kept.{KeptAgenda}
+use Rattle.cpc_meaning_laws.specs.Pointer.Made.{IsMadeCallback, IsMadeStore, IsMadeCode}
+use Rattle.cpc_check_laws.specs.Kept.Kept.{KeptAgenda}
 
 -- any value
 abbrev pub IsValue : Value → Type 0

@@ -1,4 +1,4 @@
-use Rattle.cpc_check_laws.proofs.NativeItems.{native_unbroken}
+use Rattle.cpc_check_laws.proofs.Native.NativeItems.{native_unbroken}
 use Rattle.cpc_check_laws.proofs.laws.native_programs_pass.Goals as goal
 
 pub returns : goal.returns

@@ -1,5 +1,5 @@
-use Rattle.cpc_convert_laws.proofs.Items as L
-use Rattle.cpc_convert_laws.proofs.Pass as N
+use Rattle.cpc_convert_laws.proofs.Related.Items as L
+use Rattle.cpc_convert_laws.proofs.Related.Pass as N
 use Rattle.cpc_convert_laws.proofs.laws.items_own.Goals as goal
 
 -- the join of the rows speaks of settings, of which no clause can speak yet; it is checked with this one

@@ -1,4 +1,4 @@
-use Rattle.cpc_convert_laws.proofs.Sums as L
+use Rattle.cpc_convert_laws.proofs.Related.Sums as L
 use Rattle.cpc_convert_laws.proofs.laws.items_stay.Goals as goal
 
 pub returns : goal.returns

@@ -1,4 +1,4 @@
-use Rattle.cpc_convert_laws.proofs.Native as L
+use Rattle.cpc_convert_laws.proofs.Related.Native as L
 use Rattle.cpc_convert_laws.proofs.laws.returns_come_last.Goals as goal
 
 pub returns : goal.returns

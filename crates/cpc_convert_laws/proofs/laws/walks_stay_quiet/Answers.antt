@@ -1,4 +1,4 @@
-use Rattle.cpc_convert_laws.proofs.Walking as L
+use Rattle.cpc_convert_laws.proofs.Related.Walking as L
 use Rattle.cpc_convert_laws.proofs.laws.walks_stay_quiet.Goals as goal
 
 pub returns : goal.returns

@@ -3,7 +3,7 @@ use Rattle.std.proofs.Math.Logic.{∥∥₁_elim}
 use Rattle.std.proofs.Math.Nat.{ℕ_set}
 use Rattle.cpc_tree.specs.Erase.{function_of}
 use Rattle.cpc_tree.specs.Syntax as X
-use Rattle.cpc_meaning_cell_laws.specs.Cells.{call_cells}
+use Rattle.cpc_meaning_laws.specs.Cell.Cells.{call_cells}
 use Rattle.cpc_eval_index.specs.Indexed.{items_of}
 use Rattle.cpc_eval_locals.specs.Owners.{owner_of}
 use Rattle.cpc_eval.proofs.Own.{same_function, never_absent}

@@ -1,0 +1,10 @@
+pub mod NativeValues
+pub mod NativeStatements
+pub mod NativeItems
+pub mod Widened
+pub mod OnePlace
+pub mod PlacesValues
+pub mod PlacesStatements
+pub mod PlacesFunctions
+pub mod PlacesItems
+pub mod Refusals

@@ -1,0 +1,5 @@
+use Rattle.cpc_check_laws.proofs.Kept.Slots as L
+use Rattle.cpc_check_laws.proofs.laws.calls_fit.Goals as goal
+
+pub returns : goal.returns
+returns c = record { law = L.calls_fit }

@@ -1,0 +1,5 @@
+use Rattle.cpc_check_laws.proofs.Kept.Runs as L
+use Rattle.cpc_check_laws.proofs.laws.threads_keep.Goals as goal
+
+pub returns : goal.returns
+returns g c = record { law = L.threads_keep }

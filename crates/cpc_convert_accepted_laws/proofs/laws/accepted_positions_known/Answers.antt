@@ -1,5 +1,0 @@
-use Rattle.cpc_convert_accepted_laws.proofs.Points as L
-use Rattle.cpc_convert_accepted_laws.proofs.laws.accepted_positions_known.Goals as goal
-
-pub returns : goal.returns
-returns c = record { law = L.accepted_positions_known }

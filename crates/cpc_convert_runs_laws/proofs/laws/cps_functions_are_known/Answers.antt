@@ -1,5 +1,0 @@
-use Rattle.cpc_convert_runs_laws.proofs.Accepted as L
-use Rattle.cpc_convert_runs_laws.proofs.laws.cps_functions_are_known.Goals as goal
-
-pub returns : goal.returns
-returns c = record { law = L.cps_is_known }

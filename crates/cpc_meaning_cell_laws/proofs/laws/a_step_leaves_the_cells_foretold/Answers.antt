@@ -1,5 +1,0 @@
-use Rattle.cpc_meaning_cell_laws.proofs.Steps.{steps_leave}
-use Rattle.cpc_meaning_cell_laws.proofs.laws.a_step_leaves_the_cells_foretold.Goals as goal
-
-pub returns : goal.returns
-returns g c = record { law = steps_leave _ }

@@ -1,5 +1,0 @@
-use Rattle.cpc_meaning_kept_laws.proofs.Modes as L
-use Rattle.cpc_meaning_kept_laws.proofs.laws.accepted_keeps_modes.Goals as goal
-
-pub returns : goal.returns
-returns c = record { law = L.accepted_keeps_modes }

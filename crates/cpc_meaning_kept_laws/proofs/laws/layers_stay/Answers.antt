@@ -1,5 +1,0 @@
-use Rattle.cpc_meaning_kept_laws.proofs.LayerRuns as L
-use Rattle.cpc_meaning_kept_laws.proofs.laws.layers_stay.Goals as goal
-
-pub returns : goal.returns
-returns g c = record { law = L.layers_stay }

@@ -1,5 +1,0 @@
-use Rattle.cpc_meaning_kept_laws.proofs.BesideSections as L
-use Rattle.cpc_meaning_kept_laws.proofs.laws.sections_beside.Goals as goal
-
-pub returns : goal.returns
-returns g c = record { law = L.sections_beside }

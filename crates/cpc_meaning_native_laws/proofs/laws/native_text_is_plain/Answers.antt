@@ -1,5 +1,0 @@
-use Rattle.cpc_meaning_native_laws.proofs.Shaped as L
-use Rattle.cpc_meaning_native_laws.proofs.laws.native_text_is_plain.Goals as goal
-
-pub returns : goal.returns
-returns c = record { law = L.native_text_is_plain }

@@ -1,5 +1,0 @@
-use Rattle.cpc_meaning_native_laws.proofs.Alike as L
-use Rattle.cpc_meaning_native_laws.proofs.laws.plain_runs_same.Goals as goal
-
-pub returns : goal.returns
-returns c = record { law = L.plain_runs_same }

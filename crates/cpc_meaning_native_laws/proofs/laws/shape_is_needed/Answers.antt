@@ -1,5 +1,0 @@
-use Rattle.cpc_meaning_native_laws.proofs.Refused as L
-use Rattle.cpc_meaning_native_laws.proofs.laws.shape_is_needed.Goals as goal
-
-pub returns : goal.returns
-returns c = record { law = L.shape_is_needed }

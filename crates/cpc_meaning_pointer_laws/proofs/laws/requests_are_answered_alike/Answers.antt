@@ -1,5 +1,0 @@
-use Rattle.cpc_meaning_pointer_laws.proofs.Answered.{requests_alike}
-use Rattle.cpc_meaning_pointer_laws.proofs.laws.requests_are_answered_alike.Goals as goal
-
-pub returns : goal.returns
-returns c = record { law = requests_alike }
