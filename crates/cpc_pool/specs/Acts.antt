@@ -8,6 +8,10 @@ use Rattle.cpc_pool_ends.specs.declared.done.Done.{Done}
 use Rattle.cpc_pool_ends.specs.declared.views.DoneView.{DoneView}
 use Rattle.cpc_pool_ends.specs.Views.{Arrives, Settled, after_push}
 
+-- how many jobs are out at most: sent to the workers, with a completion that was not accepted yet
+abbrev pub most_out : ℕ
+most_out = 1024
+
 -- the completion of a job that the pool ran itself
 abbrev pub ran : {J E : Type 0} → J → E → Done J E
 ran j e = record { worker = 0; job = j; end = e }

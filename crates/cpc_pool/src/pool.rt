@@ -10,7 +10,7 @@ ghost use Rattle.cpc_pool_jobs.specs.Views.{submitter, Settled as JobsSettled};
 ghost use Rattle.cpc_pool_ends.specs.declared.done.Done.{Done};
 ghost use Rattle.cpc_pool_ends.specs.Views.{loops, Settled as DonesSettled};
 ghost use Rattle.cpc_pool.specs.Passes.{Submits, Pops};
-ghost use Rattle.cpc_pool.specs.Acts.{Ran, Submitted, SubmittedOut, Accepted, AcceptedOut};
+ghost use Rattle.cpc_pool.specs.Acts.{most_out, Ran, Submitted, SubmittedOut, Accepted, AcceptedOut};
 
 use super::bell::Bell;
 use super::completions::Completions;
@@ -24,7 +24,7 @@ use std::sync::atomic::{AtomicBool, Ordering};
 use std::sync::{Arc, Wait};
 use std::thread::Threads;
 
-// The most jobs that are out at once: sent to the workers, with a completion that was not accepted yet.
+// `most_out`, as code has it.
 const MOST_OUT: usize = 1024;
 
 // How many messages the channel has room for: the jobs that can be out, and a stop for each worker. So nobody who sends waits.
@@ -119,7 +119,7 @@ impl<W: Runner, G: Gate> Pool<W, G> {
         ensures seat { Submits (sends_on self.new.jobs) pass.new × ((job_view pass.new).stops ≡ 0) }
         ensures same { (self.new.jobs ≡ self.old.jobs) × (self.new.crew ≡ self.old.crew) × (vec_len self.new.workers ≡ vec_len self.old.workers) }
         ensures here { vec_len self.old.workers ≡ 0 → job_view pass.new ≡ job_view pass.old }
-        ensures full { 1024 ≤ self.old.out → job_view pass.new ≡ job_view pass.old }
+        ensures full { most_out ≤ self.old.out → job_view pass.new ≡ job_view pass.old }
         ensures submitted { MatchResult result (λ _. Submitted W.number W.ends job self.old.own.0 self.new.own.0 (job_view pass.old) (job_view pass.new)) (λ e. (e.0 ≡ job) × (self.new.own.0 ≡ self.old.own.0) × (job_view pass.new ≡ job_view pass.old)) }
         ensures out { MatchResult result (λ _. SubmittedOut W.number job (job_view pass.old) (job_view pass.new) self.old.out self.new.out) (λ _. self.new.out ≡ self.old.out) }
         ensures heard { self.new.heard ≡ self.old.heard }
