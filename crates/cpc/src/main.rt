@@ -4,13 +4,12 @@
 ghost use Rattle.std.specs.Prelude.{◌≡◌, IfOk, OnErr, codes};
 ghost use Rattle.std.specs.Process.{exit_status};
 ghost use Rattle.cpc_base.specs.Outside.{Rose};
-ghost use Rattle.cpc_run.specs.Reports.{Wrote};
-ghost use Rattle.cpc_cli.specs.Answer.{Said};
+ghost use Rattle.cpc_standard.specs.Reports.{Wrote};
+ghost use Rattle.cpc_standard.specs.Answer.{Said};
 
 use cpc_base::{Failed, NoMemory, Sink, write_all};
-use cpc_cli::Report;
 use cpc_files::{OpenedShelf, StreamSink, SystemFiles};
-use cpc_standard::called;
+use cpc_standard::{Report, called};
 use std::env;
 use std::io::ErrorKind;
 use std::process::ExitCode;

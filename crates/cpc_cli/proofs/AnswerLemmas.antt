@@ -16,7 +16,7 @@ use Rattle.cpc_check.specs.Accepted.{Accepts}
 use Rattle.cpc_cli.specs.Command.{Asks, Host, bytes_line, history_named, named, sample_options, source_of}
 use Rattle.cpc_cli.specs.Ran.{FirstFits, HasCells, IsAnswered, IsPartOf, IsUnbegun, LacksHost, MayHaveCells, NoSteps, NotTold, RanInPart, RanWhole, StandsSo, StaysWithin, IsFull, IsLeftBy, StartsFull, heading, shown, stop_in}
 use Rattle.cpc_cli.specs.Answer.{Answer, Rises, status_of, Does, DoesInPart, NotAccepted, EndedIn, did, not_begun, lacks_host, not_told, unwritten_in, starved_in, IsEnd, misused, starved, performed, NoRun, Nothing, Printed, Runs, RunsInPart, Takes}
-use Rattle.cpc_run.specs.Reports.{IsPrefix}
+use Rattle.cpc_run_workers.specs.Reports.{IsPrefix}
 use Rattle.cpc_cli.specs.declared.answer.Role.{Role}
 use Rattle.cpc_cli.specs.declared.answer.Role.TheVariants as R
 use Rattle.cpc_cli.specs.declared.answer.Report.{Report}

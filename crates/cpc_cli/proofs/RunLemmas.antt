@@ -10,7 +10,7 @@ use Rattle.cpc_meaning.specs.Events.{event}
 use Rattle.cpc_meaning.specs.History.{History}
 use Rattle.cpc_meaning.specs.Runs.{live_cells}
 use Rattle.cpc_run_shown.specs.Outcomes.{outcome_of}
-use Rattle.cpc_run.specs.Reports.{IsCutShort, IsPrefix, KeepsFirst, Tells, IsLeft, WentOut, IsBrokenOff as RunIsBrokenOff, IsFull as RunIsFull}
+use Rattle.cpc_run_workers.specs.Reports.{IsCutShort, IsPrefix, KeepsFirst, Tells, IsLeft, WentOut, IsBrokenOff as RunIsBrokenOff, IsFull as RunIsFull}
 use Rattle.cpc_run_shown.specs.Shown.{all_shown, shown as run_shown, stop_of}
 use Rattle.cpc_run_shown.specs.declared.outcome.Limits.{Limits}
 use Rattle.cpc_run_shown.specs.declared.outcome.Ended.{Ended as RunEnded}

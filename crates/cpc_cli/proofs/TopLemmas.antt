@@ -28,7 +28,7 @@ use Rattle.cpc_sample.specs.Sample.{sample_text}
 use Rattle.cpc_cli.specs.Command.{Host, InFile, IsRun, Labels, Source, by_exec, by_run, events_source, file_source, history_named, labels_in, labels_of, made_source, no_labels, source_of, threads_source}
 use Rattle.cpc_cli.specs.Ran.{FirstFits, HasHosts, IsAnswered, IsPartOf, IsUnbegun, LacksHost, MayHaveCells, NoSteps, NotTold, RanAnswered, RanInPart, RanTo, RanTold, RanWhole, TellsPolls, heading, history_with, run_text, shown, stop_in}
 use Rattle.cpc_cli.specs.Answer.{AcceptedAs, TextHas, IsTranslated, NotAccepted, Does, DoesInPart, EndedIn, did, not_begun, lacks_host, not_told, unwritten_in, starved_in, Nothing, NoRun, Printed, RefusesText, Runs, RunsInPart, Takes, line_of}
-use Rattle.cpc_run.specs.Reports.{IsCutShort, IsPrefix}
+use Rattle.cpc_run_workers.specs.Reports.{IsCutShort, IsPrefix}
 use Rattle.cpc_cli.specs.declared.answer.Role.TheVariants as R
 use Rattle.cpc_cli.specs.declared.answer.Report.{Report}
 use Rattle.cpc_cli.specs.declared.answer.Outcome.{Outcome}

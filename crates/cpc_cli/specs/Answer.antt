@@ -19,7 +19,7 @@ use Rattle.cpc_translate.specs.Refusals.{IsTextFault}
 use Rattle.cpc_translate.specs.Promised.{NoLeak, Shape, converted}
 use Rattle.cpc_translate.specs.Faults as F
 use Rattle.cpc_sample.specs.Sample.{sample_text}
-use Rattle.cpc_run.specs.Reports.{IsCutShort}
+use Rattle.cpc_run_workers.specs.Reports.{IsCutShort}
 use Rattle.cpc_cli.specs.Command.{Host, InFile, IsMade, IsRun, Labels, Origin, Source, bytes_line, events_source, history_named, labels_in, limit_of, made_source, name_of, sample_options, source_of, text_limit, threads_source}
 use Rattle.cpc_cli.specs.Ran.{FileHas, HasHosts, IsAnswered, IsPartOf, LacksHost, NoSteps, NotTold, RanInPart, RanWhole, TellsPolls, history_with}
 use Rattle.cpc_cli.specs.declared.answer.Role.{Role}

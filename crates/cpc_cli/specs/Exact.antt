@@ -15,7 +15,7 @@ use Rattle.cpc_translate.specs.declared.fault.TextFault.{TextFault}
 use Rattle.cpc_cli_command.specs.Commands.{Command, Check, Exec, Options, Sample, Translate, Run, command_of}
 use Rattle.cpc_cli.specs.Command.{Host, InFile, IsMade, IsRun, Origin, Source, bytes_line, events_source, history_limit, history_named, labels_in, made_source, sample_options, source_of, text_limit, threads_source}
 use Rattle.cpc_sample.specs.Sample.{sample_text}
-use Rattle.cpc_run.specs.Hosts.{missing_of}
+use Rattle.cpc_run_workers.specs.Hosts.{missing_of}
 use Rattle.cpc_cli.specs.Ran.{HasHosts, IsAnswered, StandsSo, history_with, shown, stop_in}
 use Rattle.cpc_cli.specs.Answer.{IsTranslated, Rises, line_of, status_of}
 use Rattle.cpc_cli.specs.declared.answer.Role.TheVariants as R

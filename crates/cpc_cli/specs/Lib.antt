@@ -5,3 +5,4 @@ pub mod Ran
 pub mod Answer
 pub mod Asked
 pub mod Exact
+pub use Rattle.cpc_run_workers.specs.Reports

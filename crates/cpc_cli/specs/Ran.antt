@@ -9,8 +9,8 @@ use Rattle.cpc_meaning.specs.Events.{event}
 use Rattle.cpc_meaning.specs.History.{History}
 use Rattle.cpc_meaning.specs.Runs.{Full as IsAbove, live_cells}
 use Rattle.cpc_history.specs.Reading.{IsFaultOf}
-use Rattle.cpc_run.specs.Hosts.{HostsMeet, answers_of, missing_of}
-use Rattle.cpc_run.specs.Reports.{IsCutShort, IsPrefix}
+use Rattle.cpc_run_workers.specs.Hosts.{HostsMeet, answers_of, missing_of}
+use Rattle.cpc_run_workers.specs.Reports.{IsCutShort, IsPrefix}
 use Rattle.cpc_run_shown.specs.Shown.{traced}
 use Rattle.cpc_cli_command.specs.Commands.{Options}
 use Rattle.cpc_cli.specs.Command.{Host, history_limit}

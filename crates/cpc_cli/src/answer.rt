@@ -6,7 +6,7 @@ ghost use Rattle.cpc_tree.specs.Texts as T;
 ghost use Rattle.cpc_cli.specs.Answer.{status_of, line_of, outcome_line as line_of_outcome, Said, wrong_text};
 ghost use Rattle.cpc_cli.specs.Command.{limit_of, name_of, no_labels};
 ghost use Rattle.cpc_cli.specs.Inputs.{labels};
-ghost use Rattle.cpc_run.specs.Reports.{Wrote};
+ghost use Rattle.cpc_run_workers.specs.Reports.{Wrote};
 ghost use Rattle.cpc_cli.specs.declared.answer.End.{End};
 ghost use Rattle.cpc_cli.specs.declared.answer.End.TheVariants as V;
 ghost use Rattle.cpc_cli.specs.declared.answer.Outcome.TheVariants as O;

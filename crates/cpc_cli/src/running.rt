@@ -8,8 +8,8 @@ ghost use Rattle.cpc_tree.specs.Erase.{in_table, program_of};
 ghost use Rattle.cpc_meaning.specs.History.{polls_fit};
 ghost use Rattle.cpc_history_marks.specs.Views.{told_of};
 ghost use Rattle.cpc_run_shown.specs.Outcomes.{outcome_of as run_outcome_of};
-ghost use Rattle.cpc_run.specs.Hosts.{missing_of};
-ghost use Rattle.cpc_run.specs.Reports.{IsCutShort, Wrote};
+ghost use Rattle.cpc_run_workers.specs.Hosts.{missing_of};
+ghost use Rattle.cpc_run_workers.specs.Reports.{IsCutShort, Wrote};
 ghost use Rattle.cpc_cli_command.specs.Commands.{asked_options};
 ghost use Rattle.cpc_cli_command.specs.Number.{most_cells, most_workers};
 ghost use Rattle.cpc_cli.specs.declared.answer.End.{End};
@@ -27,8 +27,9 @@ use cpc_history::read_history;
 use cpc_history_marks::Told;
 use cpc_hosts::{HostRule, HostTable, Kept};
 use cpc_pool::Gate;
-use cpc_run::{Ended, Limits, Outcome as RunOutcome, before_bars, missing_host};
-use cpc_run_workers::run_with_workers;
+use cpc_run_workers::{
+    Ended, Limits, Outcome as RunOutcome, before_bars, missing_host, run_with_workers,
+};
 use std::alloc::Global;
 use std::sync::{Arc, Wait};
 use std::thread::Threads;

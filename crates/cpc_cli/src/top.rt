@@ -2,7 +2,7 @@
 ghost use Rattle.std.specs.Prelude.{◌≡◌, ◌≢◌, ◌⊎◌, ◌≤◌, Some, [], map, option_map, string_bytes, unwrap_or};
 ghost use Rattle.cpc_base.specs.Bytes.{Text};
 ghost use Rattle.cpc_base.specs.Outside.{Rose, WhereTold};
-ghost use Rattle.cpc_run.specs.Reports.{Wrote};
+ghost use Rattle.cpc_run_workers.specs.Reports.{Wrote};
 ghost use Rattle.cpc_cli_command.specs.Commands.{Check, Exec, Run, Sample, Translate, asked, asked_options, command_of};
 ghost use Rattle.cpc_cli_command.specs.Number.{most_cells, most_workers};
 ghost use Rattle.cpc_cli_command.specs.Usage.{IsBounded};

@@ -1,2 +1,3 @@
 pub mod Given
 pub mod Made
+pub use Rattle.cpc_convert_stands_laws.specs.Laws

@@ -8,15 +8,14 @@ ghost use Rattle.cpc_convert_event.specs.Routines.{Routine};
 ghost use Rattle.cpc_convert_event.specs.Pieces.{made_of};
 ghost use Rattle.cpc_convert_event.specs.Converted.{all_structs, all_boxes, all_made};
 ghost use Rattle.cpc_convert_standing.specs.Whole.{IsComplete};
-ghost use Rattle.cpc_convert_lines.specs.Around.{Stands};
+ghost use Rattle.cpc_convert_pieces.specs.Around.{Stands};
 ghost use Rattle.cpc_convert_items.specs.Listed.{listed};
 ghost use Rattle.cpc_convert_code.specs.Given.{AreGiven, routines_by};
 
 use cpc_base::{Names, NoMemory};
 use cpc_convert_items::Items;
-use cpc_convert_lines::Around;
 use cpc_convert_names::{Book, Called};
-use cpc_convert_pieces::pieces;
+use cpc_convert_pieces::{Around, pieces};
 use cpc_convert_rows::Stepped;
 use std::alloc::Global;
 

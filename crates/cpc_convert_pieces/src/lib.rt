@@ -7,4 +7,5 @@ mod making;
 mod opening;
 mod rows;
 
+pub use cpc_convert_lines::Around;
 pub use making::{piece, pieces};

@@ -27,7 +27,7 @@ use Rattle.cpc_eval.specs.Numbers.{ProgramNumbers}
 use Rattle.cpc_native_frames.specs.declared.frame.Frame.{Frame}
 use Rattle.cpc_native_frames.specs.Frames.{frame_of, IsWellFrame}
 use Rattle.cpc_native_frames.specs.Made.{slots_of}
-use Rattle.cpc_native_stood.specs.Stood.{StoodNumbers, is_served_stood, IsTexts, IsServing}
+use Rattle.cpc_native_acts.specs.Stood.{StoodNumbers, is_served_stood, IsTexts, IsServing}
 use Rattle.cpc_native.specs.Stacks.{frames_of}
 use Rattle.cpc_native.specs.Runs.{Runs}
 use Rattle.cpc_native.specs.Well.{AreWell}

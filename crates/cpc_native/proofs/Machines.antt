@@ -28,9 +28,9 @@ use Rattle.cpc_native_frames.specs.Frames.{frame_of}
 use Rattle.cpc_native_frames.specs.Made.{slots_of}
 use Rattle.cpc_native_acts.specs.declared.act.Act.{Act}
 use Rattle.cpc_native_acts.specs.declared.act.Act.TheVariants as A
-use Rattle.cpc_native_plans.specs.Stops.{MeetsOr}
+use Rattle.cpc_native_acts.specs.Stops.{MeetsOr}
 use Rattle.cpc_native_acts.specs.Acts.{act_of, enters_act, Keeps}
-use Rattle.cpc_native_stood.specs.Stood.{stood_of, context_in}
+use Rattle.cpc_native_acts.specs.Stood.{stood_of, context_in}
 use Rattle.cpc_native.specs.declared.machine.Machine.{Machine}
 use Rattle.cpc_native.specs.declared.machine.Stepped.{Stepped}
 use Rattle.cpc_native.specs.declared.machine.Stepped.TheVariants as N

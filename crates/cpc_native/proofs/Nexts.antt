@@ -21,7 +21,7 @@ use Rattle.cpc_native_frames.specs.Frames.{frame_of}
 use Rattle.cpc_native_frames.specs.Made.{slots_of}
 use Rattle.cpc_native_changes.specs.declared.changes.Change.{Change}
 use Rattle.cpc_native_changes.specs.declared.changes.Change.TheVariants as C
-use Rattle.cpc_native_stood.specs.Stood.{stood_of, context_in}
+use Rattle.cpc_native_acts.specs.Stood.{stood_of, context_in}
 use Rattle.cpc_native_changes.specs.Foreseen.{Foresees}
 use Rattle.cpc_native.specs.declared.machine.Machine.{Machine}
 use Rattle.cpc_native.specs.Stacks.{frames_of, stack_of}

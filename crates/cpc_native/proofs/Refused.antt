@@ -7,7 +7,7 @@ use Rattle.cpc_tree.specs.declared.program.Function.{Function}
 use Rattle.cpc_meaning.specs.Plain as P
 use Rattle.cpc_native_frames.specs.declared.frame.Frame.{Frame}
 use Rattle.cpc_native_acts.specs.Acts.{is_call_stood}
-use Rattle.cpc_native_stood.specs.Stood.{stood_of}
+use Rattle.cpc_native_acts.specs.Stood.{stood_of}
 use Rattle.cpc_native.specs.declared.machine.Machine.{Machine}
 use Rattle.cpc_native.specs.declared.machine.Stepped.{Stepped}
 use Rattle.cpc_native.specs.declared.machine.Stepped.TheVariants as S

@@ -4,3 +4,5 @@ pub mod Stacks
 pub mod Runs
 pub mod Well
 pub mod Next
+pub use Rattle.cpc_native_acts.specs.Stops
+pub use Rattle.cpc_native_acts.specs.Taken

@@ -10,7 +10,7 @@ use Rattle.cpc_native_frames.specs.declared.frame.Frame.{Frame}
 use Rattle.cpc_native_frames.specs.Back.{IsAsBefore}
 use Rattle.cpc_native_frames.specs.Frames.{IsWellFrame}
 use Rattle.cpc_native_acts.specs.Acts.{IsLawfulIf, is_call_stood}
-use Rattle.cpc_native_stood.specs.Stood.{stood_of}
+use Rattle.cpc_native_acts.specs.Stood.{stood_of}
 use Rattle.cpc_native_acts.specs.Taken.{IsCalledWith}
 use Rattle.cpc_native_acts.specs.declared.act.Act.{Act}
 use Rattle.cpc_native_acts.specs.declared.act.Act.TheVariants as A

@@ -1,3 +1,5 @@
 pub mod Ends
 pub mod Led
 pub mod Pointed
+pub use Rattle.cpc_native.specs.Stops
+pub use Rattle.cpc_native.specs.Runs

@@ -10,7 +10,7 @@ ghost use Rattle.cpc_meaning.specs.Requests as R;
 ghost use Rattle.cpc_eval_values.specs.Shown.{value_of};
 ghost use Rattle.cpc_native.specs.Well.{IsWell, IsSameBut};
 ghost use Rattle.cpc_native.specs.Stacks.{request_of};
-ghost use Rattle.cpc_native_acts.specs.Taken.{IsAskedWith, IsCalledWith};
+ghost use Rattle.cpc_native.specs.Taken.{IsAskedWith, IsCalledWith};
 ghost use Rattle.cpc_sections.specs.Jobs.{IsLawfulEnd};
 ghost use Rattle.cpc_tree.specs.Primitives as P;
 ghost use Rattle.cpc_native_sections.specs.Led.{LeadsTo, StaysWell, IsRunning, asking_of, answer_of};

@@ -8,7 +8,7 @@ ghost use Rattle.cpc_check_rules.specs.Apart.{AreApart};
 ghost use Rattle.cpc_store.specs.Seen.{seen, IsLawful};
 ghost use Rattle.cpc_meaning.specs.Copies as C;
 ghost use Rattle.cpc_eval_values.specs.Shown.{value_of, store_of};
-ghost use Rattle.cpc_native_plans.specs.Stops.{MeetsOr, row_shown};
+ghost use Rattle.cpc_native.specs.Stops.{MeetsOr, row_shown};
 ghost use Rattle.cpc_run_globals.specs.Layouts.{AreLayouts};
 ghost use Rattle.cpc_native_sections.specs.Pointed.{pointee, pointed_type, or_named};
 

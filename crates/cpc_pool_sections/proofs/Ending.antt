@@ -12,7 +12,7 @@ use Rattle.cpc_eval_values.specs.Shown.{value_of, values_of}
 use Rattle.cpc_sections.specs.Jobs.{job_of, EndsAs}
 use Rattle.cpc_sections.specs.declared.job.Job.{Job}
 use Rattle.cpc_sections.specs.declared.job.SectionEnd.{SectionEnd}
-use Rattle.cpc_native_sections.specs.Ends.{IsEndOf}
+use Rattle.cpc_run_sections.specs.NativeSectionsEnds.{IsEndOf}
 use Rattle.cpc_run_sections.specs.Ends.{MayEnd}
 use Rattle.cpc_pool_sections.specs.Same.{IsSameJob}
 

@@ -5,6 +5,7 @@ mod runner;
 mod same;
 mod workers;
 
+pub use cpc_run_sections::Assigned;
 pub use runner::Sectioner;
 pub use same::is_same;
 pub use workers::{Workers, start};

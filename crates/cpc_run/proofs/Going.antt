@@ -24,13 +24,13 @@ use Rattle.cpc_meaning.specs.Start.{before_bars}
 use Rattle.cpc_meaning.specs.Trees.{trees}
 use Rattle.cpc_meaning_laws.specs.Pointer.Made.{IsMadeCode}
 use Rattle.cpc_eval_values.specs.Shown.{value_of, values_of}
-use Rattle.cpc_native.specs.Stacks.{request_of}
-use Rattle.cpc_native.specs.declared.machine.Request as N
-use Rattle.cpc_native.specs.declared.machine.Stepped.TheVariants as X
+use Rattle.cpc_run_code.specs.Stacks.{request_of}
+use Rattle.cpc_run_code.specs.Request as N
+use Rattle.cpc_run_code.specs.Stepped.TheVariants as X
 use Rattle.cpc_native_builtins.specs.Builtins.{asked_of, primitive_of}
 use Rattle.cpc_native_builtins.specs.declared.call.Call.{Call}
 use Rattle.cpc_native_builtins.specs.declared.call.Call.TheVariants as C
-use Rattle.cpc_native_laws.specs.Laws.{AreOthers}
+use Rattle.cpc_run_code.specs.Laws.{AreOthers}
 use Rattle.cpc_run_code.specs.declared.code.Code.{Code}
 use Rattle.cpc_run.specs.declared.looped.Loop.{Loop}
 use Rattle.cpc_run_shown.specs.declared.outcome.Ended.TheVariants as E

@@ -14,7 +14,7 @@ use Rattle.cpc_meaning.specs.Machine.{settled, try_step}
 use Rattle.cpc_meaning.specs.Plain.{make_frame, stack_of}
 use Rattle.cpc_meaning.specs.Start.{main_name}
 use Rattle.cpc_meaning.specs.Trees.{trees}
-use Rattle.cpc_native_laws.specs.Laws.{AreOthers}
+use Rattle.cpc_run_code.specs.Laws.{AreOthers}
 use Rattle.cpc_run.specs.declared.looped.Loop.{Loop}
 use Rattle.cpc_run.specs.declared.made.Made as D
 use Rattle.cpc_run.specs.declared.made.Made.TheVariants as M

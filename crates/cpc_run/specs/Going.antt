@@ -21,7 +21,7 @@ use Rattle.cpc_eval_values.specs.Shown.{value_of}
 use Rattle.cpc_native_builtins.specs.Builtins.{primitive_of}
 use Rattle.cpc_native_builtins.specs.declared.call.Call.{Call}
 use Rattle.cpc_native_builtins.specs.declared.call.Call.TheVariants as C
-use Rattle.cpc_native_laws.specs.Laws.{AreOthers}
+use Rattle.cpc_run_code.specs.Laws.{AreOthers}
 use Rattle.cpc_run.specs.declared.looped.Loop.{Loop}
 use Rattle.cpc_run_code.specs.Code.{stack_in}
 use Rattle.cpc_run.specs.Hosts.{HasHosts}

@@ -14,7 +14,7 @@ use Rattle.cpc_meaning.specs.History.{History}
 use Rattle.cpc_meaning.specs.Machine.{ends, IsStuck}
 use Rattle.cpc_meaning.specs.Runs.{live_cells, Full}
 use Rattle.cpc_meaning.specs.Start.{opening}
-use Rattle.cpc_native_laws.specs.Laws.{AreOthers}
+use Rattle.cpc_run_code.specs.Laws.{AreOthers}
 use Rattle.cpc_history_marks.specs.declared.marks.Told.{Told}
 use Rattle.cpc_history_marks.specs.Views.{told_of}
 use Rattle.cpc_run.specs.declared.looped.Loop.{Loop}

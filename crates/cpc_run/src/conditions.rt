@@ -6,14 +6,14 @@ ghost use Rattle.cpc_tree.specs.Primitives as R;
 ghost use Rattle.cpc_meaning.specs.Events.{callbacks};
 ghost use Rattle.cpc_meaning.specs.Machine.{primitive};
 ghost use Rattle.cpc_eval_values.specs.Shown.{value_of, values_of};
-ghost use Rattle.cpc_native_acts.specs.Taken.{IsAskedWith};
+ghost use Rattle.cpc_run_code.specs.NativeActsTaken.{IsAskedWith};
 ghost use Rattle.cpc_run_code.specs.Code.{stack_in};
 ghost use Rattle.cpc_run.specs.States.{States, Fits, IsSteady, GoesSteady, Keeps, Did, Acted, settles, program_in};
 
 use crate::looped::Loop;
 use cpc_base::{Name, NoMemory, Stop};
-use cpc_native::Request;
 use cpc_num::Kind;
+use cpc_run_code::Request;
 use cpc_run_shown::Outcome;
 use cpc_store::Value;
 use std::alloc::Global;

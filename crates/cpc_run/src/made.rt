@@ -19,7 +19,7 @@ use cpc_base::{Name, Names, NoMemory};
 use cpc_hosts::{HostRule, HostTable, Kept};
 use cpc_num::Fault;
 use cpc_run_code::Short;
-use cpc_run_sections::Sections;
+use cpc_run_jobs::Sections;
 use cpc_run_shown::Outcome;
 use std::alloc::Global;
 

@@ -12,7 +12,7 @@ ghost use Rattle.cpc_meaning.specs.Section.{allocated, freed};
 ghost use Rattle.cpc_meaning.specs.Trees.{trees};
 ghost use Rattle.cpc_eval_values.specs.Shown.{value_of, values_of};
 ghost use Rattle.cpc_meaning_laws.specs.Pointer.Made.{IsMadeCode};
-ghost use Rattle.cpc_native_acts.specs.Taken.{IsTaken};
+ghost use Rattle.cpc_run_code.specs.NativeActsTaken.{IsTaken};
 ghost use Rattle.cpc_run_code.specs.Code.{store_in, stack_in};
 ghost use Rattle.cpc_run.specs.Going.{HasRoom, HasRoomFor};
 ghost use Rattle.cpc_run_code.specs.Taken.{IsNumber};
@@ -20,8 +20,8 @@ ghost use Rattle.cpc_run.specs.States.{States, Stands, Fits, IsSteady, GoesStead
 
 use crate::looped::Loop;
 use cpc_base::{Name, NoMemory};
-use cpc_native::Request;
 use cpc_num::Fault;
+use cpc_run_code::Request;
 use cpc_run_shown::Outcome;
 use cpc_store::{Block, Class, Value};
 use std::alloc::Global;

@@ -13,7 +13,7 @@ ghost use Rattle.cpc_meaning.specs.Events.{event_primitive};
 ghost use Rattle.cpc_meaning.specs.Machine as M;
 ghost use Rattle.cpc_meaning.specs.Trees.{trees};
 ghost use Rattle.cpc_eval_values.specs.Shown.{value_of, values_of};
-ghost use Rattle.cpc_native_acts.specs.Taken.{IsAskedWith};
+ghost use Rattle.cpc_run_code.specs.NativeActsTaken.{IsAskedWith};
 ghost use Rattle.cpc_run_code.specs.Code.{stack_in};
 ghost use Rattle.cpc_run.specs.Going.{HasCallback};
 ghost use Rattle.cpc_run_code.specs.Taken.{IsCode, IsNumber};
@@ -22,8 +22,7 @@ ghost use Rattle.cpc_run.specs.States.{States, Fits, IsSteady, GoesSteady, Keeps
 use crate::looped::Loop;
 use cpc_base::{Direction, Name, NoMemory, Stop};
 use cpc_history_marks::Mark;
-use cpc_native::Request;
-use cpc_run_code::{Callback, Item};
+use cpc_run_code::{Callback, Item, Request};
 use cpc_run_shown::{Outcome, put_wait};
 use cpc_store::Value;
 use std::alloc::Global;

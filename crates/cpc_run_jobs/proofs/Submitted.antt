@@ -10,7 +10,7 @@ use Rattle.cpc_tree.specs.Erase.{Names}
 use Rattle.cpc_store.specs.Store.{Value}
 use Rattle.cpc_meaning.specs.Answer.{Answer, Gives, Faults, NoAnswer}
 use Rattle.cpc_meaning.specs.Section as M
-use Rattle.cpc_native_plans.specs.Stops.{MeetsOr, row_shown}
+use Rattle.cpc_run_sections.specs.Stops.{MeetsOr, row_shown}
 use Rattle.cpc_eval_values.specs.Shown.{values_of}
 use Rattle.cpc_sections.specs.Jobs.{job_of}
 use Rattle.cpc_sections.specs.declared.job.Job.{Job}

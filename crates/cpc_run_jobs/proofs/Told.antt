@@ -20,7 +20,7 @@ use Rattle.cpc_meaning.specs.Copies as C
 use Rattle.cpc_meaning.specs.Plain.{Form}
 use Rattle.cpc_meaning.specs.Section as M
 use Rattle.cpc_eval_values.specs.Shown.{value_of, values_of}
-use Rattle.cpc_native_sections.specs.Ends.{IsEndOf}
+use Rattle.cpc_run_sections.specs.NativeSectionsEnds.{IsEndOf}
 use Rattle.cpc_run_sections.specs.Ends.{MayEnd}
 use Rattle.cpc_sections.specs.Backs.{CollectsAs, one_collected}
 use Rattle.cpc_sections.specs.Jobs.{job_of, end_of, EndsAs, IsLawfulEnd}

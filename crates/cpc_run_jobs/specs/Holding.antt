@@ -9,7 +9,7 @@ use Rattle.cpc_tree.specs.declared.program.Program as GProgram
 use Rattle.cpc_store.specs.Store.{Value}
 use Rattle.cpc_meaning.specs.Answer.{Answer, Gives, Faults, NoAnswer}
 use Rattle.cpc_meaning.specs.Section as M
-use Rattle.cpc_native.specs.Runs.{Runs}
+use Rattle.cpc_run_sections.specs.Runs.{Runs}
 use Rattle.cpc_run_globals.specs.Layouts.{AreLayouts}
 use Rattle.cpc_run_jobs.specs.declared.jobs.Jobs.{Jobs}
 pub use Rattle.cpc_run_jobs.specs.Held.{AreHeld, are_out, left_out, IfAllGave}

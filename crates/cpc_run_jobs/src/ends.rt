@@ -8,7 +8,7 @@ ghost use Rattle.cpc_meaning.specs.Copies as C;
 ghost use Rattle.cpc_meaning.specs.Section as M;
 ghost use Rattle.cpc_meaning.specs.Trees.{trees};
 ghost use Rattle.cpc_eval_values.specs.Shown.{values_of, store_of};
-ghost use Rattle.cpc_native.specs.Runs.{Runs};
+ghost use Rattle.cpc_run_sections.specs.Runs.{Runs};
 ghost use Rattle.cpc_sections.specs.Backs.{CollectsAs, collected_of};
 ghost use Rattle.cpc_run_jobs.specs.Held.{AreHeld, IfAllGave, are_out, left_out};
 ghost use Rattle.cpc_run_jobs.specs.Telling.{Reached, ReachedNext};

@@ -5,4 +5,5 @@ mod ends;
 mod jobs;
 mod out;
 
+pub use cpc_run_sections::Sections;
 pub use jobs::Jobs;

@@ -5,4 +5,5 @@ mod assigned;
 mod sections;
 
 pub use assigned::Assigned;
+pub use cpc_native_sections::{copy_of, run_section};
 pub use sections::Sections;

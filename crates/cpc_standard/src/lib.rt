@@ -4,13 +4,14 @@
 ghost use Rattle.std.specs.Prelude.{◌≡◌, length, map, string_bytes, Some, IfOk, MatchResult, OnErr, codes};
 ghost use Rattle.cpc_base.specs.Outside.{Rose};
 ghost use Rattle.cpc_hosts.specs.Standard.{StandardAnswers, standard_answer, standard_names};
-ghost use Rattle.cpc_run.specs.Reports.{Wrote};
+ghost use Rattle.cpc_cli.specs.Reports.{Wrote};
 ghost use Rattle.cpc_cli.specs.Answer.{Answer, rises};
 ghost use Rattle.cpc_cli.specs.Asked.{AsksUpTo, tells_early, words_end};
 ghost use Rattle.cpc_cli.specs.Command.{host_of};
 
 use cpc_base::{NoMemory, Shelf, Sink};
-use cpc_cli::{Report, cpc_main};
+pub use cpc_cli::Report;
+use cpc_cli::cpc_main;
 use cpc_hosts::{Answer, abs_diff, clamp, greatest, least, sign, standard_hosts};
 use cpc_pool::{Gate, NoGate};
 use std::alloc::Global;

@@ -3,7 +3,7 @@ ghost use Rattle.std.specs.Prelude.{IfOk};
 ghost use Rattle.cpc_tree.specs.Erase.{program_of};
 ghost use Rattle.cpc_printer.specs.Style.{IsPrint};
 ghost use Rattle.cpc_convert_event.specs.Converted as E;
-ghost use Rattle.cpc_convert_stands_laws.specs.Laws.{AreOf};
+ghost use Rattle.cpc_convert_code.specs.Laws.{AreOf};
 ghost use Rattle.cpc_translate.specs.Passes.{IsGiven, AreOfBoxed, AreOfGraph, AreOfSplit};
 
 use cpc_base::NoMemory;

@@ -18,8 +18,7 @@ use crate::fault::TextFault;
 use crate::reading::{read, read_again};
 use cpc_base::{Dialect, NoMemory, Stop};
 use cpc_check::Checked;
-use cpc_convert_laws::converted_rests_with_held_frames;
-use cpc_convert_laws::converted_has_the_same_runs;
+use cpc_convert_laws::{converted_has_the_same_runs, converted_rests_with_held_frames};
 use std::alloc::Global;
 
 /// A program, the text that is printed of its event program, and the program that this is read as.

@@ -2,8 +2,7 @@
 #![tactic(auto)]
 
 use cpc_base::{Dialect, MemShelf, MemSink, NoMemory, Stop};
-use cpc_cli::Report;
-use cpc_standard::{called, called_with_gate};
+use cpc_standard::{Report, called, called_with_gate};
 use cpc_translate::{TextFault, accept, laid_out};
 use examples_rows::{
     IdleSink, Refusal, Stages, Together, Told, Watched, run_files, show_beside, show_examples,

@@ -1,5 +1,5 @@
 use Rattle.std.proofs.Common.{codes, inr, refl, take}
-use Rattle.cpc_cli.proofs.TopLemmas.{is_cut}
+use Rattle.cpc_standard.proofs.TopLemmas.{is_cut}
 use Rattle.cpc.proofs.say_no_memory.Goals as goal
 
 pub returns-in-Err : goal.returns-in-Err

@@ -1,6 +1,6 @@
 use Rattle.std.proofs.Common.{map, string_bytes, subst}
 use Rattle.cpc_hosts.specs.Standard.{StandardAnswers}
-use Rattle.cpc_run.specs.Reports.{Wrote}
+use Rattle.cpc_cli.specs.Reports.{Wrote}
 use Rattle.cpc_cli.specs.Answer.{Answer, Counts, rises}
 use Rattle.cpc_cli.specs.Command.{host_of}
 use Rattle.cpc_standard.proofs.called_with_gate.Goals as goal

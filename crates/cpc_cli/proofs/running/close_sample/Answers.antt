@@ -1,5 +1,5 @@
 use Rattle.std.proofs.Common.{rules, ◌≡◌, sym, subst, take}
-use Rattle.cpc_run.specs.Reports.{IsCutShort}
+use Rattle.cpc_run_workers.specs.Reports.{IsCutShort}
 use Rattle.cpc_cli.specs.Command.{length_line}
 use Rattle.cpc_cli.proofs.TopLemmas.{is_cut}
 use Rattle.cpc_cli.proofs.running.close_sample.Goals as goal

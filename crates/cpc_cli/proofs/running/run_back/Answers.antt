@@ -4,7 +4,7 @@ use Rattle.std.specs.Io.KnownBytes.{append_known}
 use Rattle.cpc_base.proofs.Pieces.{append_known-append}
 use Rattle.cpc_tree.specs.Erase.{program_of}
 use Rattle.cpc_cli_command.specs.Commands.{asked_options}
-use Rattle.cpc_run.specs.Reports.{IsCutShort}
+use Rattle.cpc_run_workers.specs.Reports.{IsCutShort}
 use Rattle.cpc_cli.specs.Ran.{heading}
 use Rattle.cpc_cli.proofs.TopLemmas.{answered_behind, rose_earlier, unasked, unbegun}
 use Rattle.cpc_cli.proofs.running.run_back.Goals as goal

@@ -1,8 +1,8 @@
 use Rattle.std.proofs.Common.{refl, sym}
 use Rattle.std.specs.Arc.{arc_value}
 use Rattle.cpc_tree.specs.Erase.{in_table, program_of}
-use Rattle.cpc_run.specs.Hosts.{with_answers}
-use Rattle.cpc_run.specs.Reports.{history_of}
+use Rattle.cpc_run_workers.specs.Hosts.{with_answers}
+use Rattle.cpc_run_workers.specs.Reports.{history_of}
 use Rattle.cpc_cli_command.specs.Commands.{asked_options}
 use Rattle.cpc_cli.proofs.RunLemmas.{ended_full, ended_hosted, ended_over, ended_starved, ended_steps, ended_unwritten, over_starved}
 use Rattle.cpc_cli.proofs.running.run_bare.Goals as goal

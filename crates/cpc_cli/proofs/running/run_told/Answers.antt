@@ -4,7 +4,7 @@ use Rattle.cpc_base.specs.Outside.{Rose}
 use Rattle.cpc_check.specs.declared.checked.Checked.{Checked}
 use Rattle.cpc_tree.specs.Erase.{in_table, program_of}
 use Rattle.cpc_history_marks.specs.Views.{told_of}
-use Rattle.cpc_run.specs.Hosts.{missing_of}
+use Rattle.cpc_run_workers.specs.Hosts.{missing_of}
 use Rattle.cpc_cli_command.specs.Commands.{asked_options}
 use Rattle.cpc_cli.specs.Command.{host_of}
 use Rattle.cpc_cli.proofs.TopLemmas.{told_polls}

@@ -2,7 +2,7 @@ use Rattle.std.proofs.Common.{false, sym, subst, refl, take, []}
 use Rattle.cpc_base.proofs.Pieces.{append_known-nil}
 use Rattle.cpc_tree.specs.Locate.{located}
 use Rattle.cpc_cli.specs.Answer.{did, not_begun, unwritten_in}
-use Rattle.cpc_run.specs.Reports.{IsCutShort}
+use Rattle.cpc_run_workers.specs.Reports.{IsCutShort}
 use Rattle.cpc_cli.specs.declared.answer.Outcome.TheVariants.{Translated}
 use Rattle.cpc_cli.proofs.TopLemmas.{is_cut}
 use Rattle.cpc_cli_command.specs.Commands.{Translate}

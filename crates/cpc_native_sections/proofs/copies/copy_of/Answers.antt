@@ -7,7 +7,7 @@ use Rattle.cpc_meaning.specs.Copies as C
 use Rattle.cpc_meaning.specs.Layout.{layout}
 use Rattle.cpc_eval_values.specs.Meets.{Meets}
 use Rattle.cpc_eval_values.specs.Shown.{value_of, values_of, store_of}
-use Rattle.cpc_native_plans.specs.Stops.{MeetsOr, row_shown}
+use Rattle.cpc_native.specs.Stops.{MeetsOr, row_shown}
 use Rattle.cpc_native_sections.proofs.Pointing.{same_one, row_pointed, none_pointed}
 use Rattle.cpc_native_sections.proofs.copies.copy_of.Goals as goal
 

@@ -6,7 +6,7 @@ use Rattle.cpc_meaning.specs.Copies.{collect}
 use Rattle.cpc_meaning.specs.Section as M
 use Rattle.cpc_meaning.specs.Trees.{trees}
 use Rattle.cpc_eval_values.specs.Shown.{values_of, store_of}
-use Rattle.cpc_native.specs.Runs.{Runs}
+use Rattle.cpc_run_sections.specs.Runs.{Runs}
 use Rattle.cpc_run_jobs.specs.Held.{AreHeld, are_out, left_out}
 use Rattle.cpc_run_jobs.specs.Telling.{Reached}
 use Rattle.cpc_run_jobs.proofs.ends.all_told.Given as goal

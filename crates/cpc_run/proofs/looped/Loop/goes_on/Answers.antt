@@ -4,8 +4,8 @@ use Rattle.cpc_meaning.specs.Trees.{trees}
 use Rattle.cpc_eval_values.specs.Shown.{value_of}
 use Rattle.cpc_run.specs.Answers.{CameAnswered}
 use Rattle.cpc_run_code.specs.Code.{AskedIn, EndsIdle, Same, done_of, store_in, stack_in}
-use Rattle.cpc_native.specs.Stacks.{request_of}
-use Rattle.cpc_native.specs.Well.{AsksServed}
+use Rattle.cpc_run_code.specs.Stacks.{request_of}
+use Rattle.cpc_run_code.specs.Well.{AsksServed}
 use Rattle.cpc_meaning_laws.specs.Pointer.Made.{IsMadeCode}
 use Rattle.cpc_run.specs.States.{settles, where_running, program_in}
 use Rattle.cpc_meaning.specs.Events.{callbacks}

@@ -1,0 +1,1 @@
+pub use Rattle.cpc_cli.proofs.TopLemmas
