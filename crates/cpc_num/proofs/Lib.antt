@@ -1,3 +1,5 @@
 pub mod DivisionLemmas
 pub mod KindLemmas
+pub mod OperatorLemmas
 pub mod ResultLemmas
+pub mod ShiftLemmas

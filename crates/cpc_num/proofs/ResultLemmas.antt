@@ -66,7 +66,7 @@ shift_right-kept : (kind : Kind) (x y : ℤ) → IsOf kind x → IfOk (shift_rig
 unfolding shift_right
 shift_right-kept kind x y h = elim (can_shift kind y) as (λ b. IfOk (cond b (Ok (int_div_euclid x (pos (2 ^ unsigned_abs y)))) (Err F.Shift)) (IsOf kind)) [ true ↦ floor_between kind x (2 ^ unsigned_abs y) h | false ↦ tt ]
 
-truth-kept : (b : Bool) → IsOf Int (truth b)
+pub truth-kept : (b : Bool) → IsOf Int (truth b)
 truth-kept true = record { low = omega (arith, ints); high = omega (arith, ints) }
 truth-kept false = record { low = omega (arith, ints); high = omega (arith, ints) }
 

@@ -7,7 +7,6 @@ use Rattle.cpc_num.proofs.arithmetic.quotient.Goals as goal
 
 pub returns-then-is_of-clause-value : goal.returns-then-is_of-clause-value
 returns-then-is_of-clause-value c =
-    let q : to_z w128 (of_z w128 c.ratio-quotient.result) ≡ int_div c.args.left c.args.right = grind (arith, to_z-of_z) in
     let v : to_z w128 (of_z w128 c.ratio-quotient.result) ≡ int_div c.args.left c.args.right = grind (arith, to_z-of_z) in
     let t : is_of c.args.kind (int_div c.args.left c.args.right) ≡ true = cc in
     ap Ok v ∙ sym (divided_fits c.args.kind c.args.left c.args.right (int_div c.args.left c.args.right) c.if-right-eq0.false t)
