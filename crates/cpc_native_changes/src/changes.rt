@@ -35,7 +35,7 @@ use cpc_store::{Store, Value};
 use cpc_tree::program::{CType, Expr, Function, Statement};
 
 /// What a step of a frame does to the live cells.
-#[derive(Clone, Copy, Debug)]
+#[derive(Clone, Copy)]
 pub enum Change<'p> {
     /// As many stay live; so too where the step faults.
     Stays,

@@ -24,7 +24,7 @@ pub enum Apart {
 }
 
 /// What was read of an expression.
-#[derive(Drop, Debug)]
+#[derive(Drop)]
 pub enum Shape {
     /// A call taken apart. `place` is that of its bracket.
     Call {

@@ -12,7 +12,7 @@ use cpc_tree::program::UnaryOp;
 use cpc_tree::token::{Keyword, Punctuator, Token, TokenKind};
 
 /// How a unary expression begins.
-#[derive(Clone, Copy, Debug)]
+#[derive(Clone, Copy)]
 pub enum Prefix {
     /// With an operator.
     Sign(UnaryOp),

@@ -15,7 +15,7 @@ use cpc_tree::token::{Keyword, Punctuator, Token};
 use std::alloc::Global;
 
 /// What stands behind `=`: a value, a whole call, or a section with the place of its keyword.
-#[derive(Drop, Debug)]
+#[derive(Drop)]
 pub enum Right {
     Value(Expr),
     Call {

@@ -3,14 +3,14 @@ use cpc_base::{Name, Names, Place};
 use cpc_num::{Kind, Op};
 
 /// A name where it is written. `place` is that of its first byte.
-#[derive(Clone, Copy, PartialEq, Eq, Debug)]
+#[derive(Clone, Copy, PartialEq, Eq)]
 pub struct Word {
     pub place: Place,
     pub name: Name,
 }
 
 /// A unary operator (C11 6.5.3): `-`, `+`, `!`, `~`, `*` and `&`.
-#[derive(Clone, Copy, PartialEq, Eq, Debug)]
+#[derive(Clone, Copy, PartialEq, Eq)]
 pub enum UnaryOp {
     Minus,
     Plus,
@@ -21,7 +21,7 @@ pub enum UnaryOp {
 }
 
 /// How a function runs.
-#[derive(Clone, Copy, PartialEq, Eq, Debug)]
+#[derive(Clone, Copy, PartialEq, Eq)]
 pub enum Mode {
     /// A function of the host, of which there are prototypes alone.
     Extern,
@@ -34,7 +34,7 @@ pub enum Mode {
 }
 
 /// A type of the language (C11 6.2.5).
-#[derive(Drop, Debug)]
+#[derive(Drop)]
 pub enum CType {
     Void,
     /// An integer type.
@@ -55,7 +55,6 @@ pub enum CType {
 
 /// An expression (C11 6.5). `place` is that of the first byte of its literal or of its operator: of `Index`, `CallIn`
 /// and `Cast` that of the opening bracket, of `Choose` that of `?`. Parentheses leave no trace.
-#[derive(Debug)]
 pub enum Expr {
     Name(Word),
     Integer {
@@ -225,7 +224,7 @@ impl Drop for Expr {
 ///
 /// `operator` is the place of the assignment's operator, of `=` before a call or a section; where an initialiser is such
 /// a call it is the declared name's, and where there is no place for the value it is the statement's own.
-#[derive(Drop, Debug)]
+#[derive(Drop)]
 pub enum Statement {
     Block {
         place: Place,
@@ -318,21 +317,21 @@ pub enum Statement {
 }
 
 /// A parameter, which a prototype may leave unnamed.
-#[derive(Drop, Debug)]
+#[derive(Drop)]
 pub struct Parameter {
     pub word: Option<Word>,
     pub of: CType,
 }
 
 /// A variable with its type, as a field of a struct.
-#[derive(Drop, Debug)]
+#[derive(Drop)]
 pub struct Field {
     pub word: Word,
     pub of: CType,
 }
 
 /// A function with its body, which is a Block. `place` is that of its first byte, `word` its name.
-#[derive(Drop, Debug)]
+#[derive(Drop)]
 pub struct Function {
     pub place: Place,
     pub mode: Mode,
@@ -343,7 +342,7 @@ pub struct Function {
 }
 
 /// A part of a program (C11 6.9). A declaration of several declarators is several parts.
-#[derive(Drop, Debug)]
+#[derive(Drop)]
 pub enum Item {
     Struct {
         tag: Word,

@@ -6,7 +6,7 @@ use cpc_base::{Name, Place};
 use cpc_num::Kind;
 
 /// A keyword (C11 6.4.1): the 32 of C89, `inline`, `restrict`, and those of threads.
-#[derive(Clone, Copy, PartialEq, Eq, Debug)]
+#[derive(Clone, Copy, PartialEq, Eq)]
 pub enum Keyword {
     /// `auto`
     Auto,
@@ -181,7 +181,7 @@ impl Keyword {
 }
 
 /// A punctuator (C11 6.4.6).
-#[derive(Clone, Copy, PartialEq, Eq, Debug)]
+#[derive(Clone, Copy, PartialEq, Eq)]
 pub enum Punctuator {
     /// `(`
     LeftParen,
@@ -380,7 +380,7 @@ impl Punctuator {
 }
 
 /// What a token is.
-#[derive(Drop, Debug)]
+#[derive(Drop)]
 pub enum TokenKind {
     Keyword(Keyword),
     Punctuator(Punctuator),
@@ -395,7 +395,7 @@ pub enum TokenKind {
 }
 
 /// A token, and where its first byte stands.
-#[derive(Drop, Debug)]
+#[derive(Drop)]
 pub struct Token {
     pub place: Place,
     pub kind: TokenKind,

@@ -20,7 +20,7 @@ use cpc_tree::program::{CType, Expr, UnaryOp};
 use std::alloc::Global;
 
 /// The type of an expression: of a value, or of a place. An expression that has no type is none of them.
-#[derive(Drop, Debug)]
+#[derive(Drop)]
 pub enum TypeFound {
     /// A value of this type.
     Value(CType),
