@@ -17,7 +17,7 @@ use cpc_store::Value;
 use std::alloc::Global;
 
 /// A poll tells a section of this number that is not out at its turn.
-#[derive(Clone, Copy, Debug, PartialEq, Eq)]
+#[derive(Clone, Copy)]
 pub struct PollFault {
     pub section: u64,
 }

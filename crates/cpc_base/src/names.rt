@@ -11,11 +11,11 @@ use std::alloc::Global;
 use std::marker::Model;
 
 /// The number of a text in a table of names, counted from 0. Names are ordered by first use.
-#[derive(Clone, Copy, Debug, PartialEq, Eq, PartialOrd, Ord)]
+#[derive(Clone, Copy, PartialEq, Eq, PartialOrd, Ord)]
 pub struct Name(pub u64);
 
 /// A table of names: texts in order of first use, none of them twice. A text is any bytes, the empty one too.
-#[derive(Debug, Drop)]
+#[derive(Drop)]
 pub struct Names {
     texts: IndexSet<Vec<u8>>,
 }

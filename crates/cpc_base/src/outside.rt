@@ -6,7 +6,7 @@ ghost use Rattle.cpc_base.specs.Bytes.{Text};
 ghost use Rattle.cpc_base.specs.Outside.{AskedTo, Files, Rose, IsRead};
 
 /// The answer of an object that failed.
-#[derive(Clone, Copy, Debug, PartialEq, Eq)]
+#[derive(Clone, Copy, PartialEq, Eq)]
 pub struct Failed;
 
 /// Files by name.

@@ -4,8 +4,8 @@ ghost use Rattle.cpc_base.specs.declared.stop.Stop.TheVariants.{Memory};
 
 use std::alloc::{AllocError, AllocFailed};
 
-/// A place in a text. Places are ordered as they follow one another in the text.
-#[derive(Clone, Copy, Debug, PartialEq, Eq, PartialOrd, Ord)]
+/// A place in a text.
+#[derive(Clone, Copy)]
 pub struct Place {
     /// The line, counted from 1. A line feed ends a line.
     pub line: u64,
@@ -14,7 +14,7 @@ pub struct Place {
 }
 
 /// Which of two languages a text is in.
-#[derive(Clone, Copy, Debug, PartialEq, Eq)]
+#[derive(Clone, Copy)]
 pub enum Dialect {
     /// Continuation-Passing C: C with cooperative threads, as it is written.
     Cpc,
@@ -23,11 +23,11 @@ pub enum Dialect {
 }
 
 /// Want of memory.
-#[derive(Clone, Copy, Debug, PartialEq, Eq)]
+#[derive(Clone, Copy, Debug)]
 pub struct NoMemory;
 
 /// Why a call that takes memory gave no answer.
-#[derive(Debug, PartialEq, Eq, Drop)]
+#[derive(Drop)]
 pub enum Stop<F> {
     /// Want of memory.
     Memory,

@@ -10,7 +10,7 @@ use cpc_tree::program::{Parameter, Statement, Word};
 use std::alloc::Global;
 
 /// Which words of a statement are wanted.
-#[derive(Clone, Copy, Debug, PartialEq, Eq)]
+#[derive(Clone, Copy)]
 pub(crate) enum Wanted {
     /// The labels that it has.
     Labels,

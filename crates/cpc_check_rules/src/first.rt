@@ -7,7 +7,7 @@ use crate::rule::Rule;
 use cpc_base::Place;
 
 /// A rule that is broken, and where.
-#[derive(Clone, Copy, Debug, PartialEq, Eq)]
+#[derive(Clone, Copy)]
 pub struct Breach {
     /// Where the text shows it.
     pub place: Place,
@@ -29,7 +29,7 @@ fn comes_before(a: Breach, b: Breach) -> bool
 }
 
 /// The first broken rule of those that were noted: by their places, and at one place by the numbers of the rules.
-#[derive(Debug, Drop)]
+#[derive(Drop)]
 pub struct First {
     /// The first of them, where there is one.
     pub breach: Option<Breach>,

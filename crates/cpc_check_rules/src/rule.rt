@@ -3,7 +3,7 @@ ghost use Rattle.std.specs.Prelude.{◌≡◌};
 ghost use Rattle.cpc_check_rules.specs.Rule.{number, rule_text};
 
 /// A rule of the language.
-#[derive(Clone, Copy, Debug, PartialEq, Eq)]
+#[derive(Clone, Copy)]
 pub enum Rule {
     /// A name, a label of a section or a function's body that is not declared (C11 6.5.1).
     Undeclared,

@@ -5,7 +5,7 @@ ghost use Rattle.cpc_check_rules.specs.Calls as C;
 ghost use Rattle.cpc_check_values.specs.Wants.{primitive_of, spelling_of, primitive_found};
 
 /// A primitive: of both dialects, of the dialect Cpc, or of the dialect Event.
-#[derive(Clone, Copy, PartialEq, Eq, Debug)]
+#[derive(Clone, Copy)]
 pub enum Primitive {
     Print,
     Putc,

@@ -23,7 +23,7 @@ use cpc_types::{Meant, Scope};
 use std::alloc::Global;
 
 /// What a function is started as.
-#[derive(Clone, Copy, PartialEq, Eq, Debug)]
+#[derive(Clone, Copy)]
 pub enum Start {
     /// A thread, which `cpc_spawn` starts.
     Thread,

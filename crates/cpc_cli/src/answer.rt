@@ -19,7 +19,7 @@ use cpc_translate::TextFault;
 use std::alloc::{AllocError, Global};
 
 /// A file that a command reads, by what it is for.
-#[derive(Clone, Copy, Debug, PartialEq, Eq)]
+#[derive(Clone, Copy)]
 pub enum Role {
     /// The text of the program.
     Text,
@@ -28,7 +28,7 @@ pub enum Role {
 }
 
 /// The files that the words name, as a line tells them.
-#[derive(Clone, Copy, Debug, PartialEq, Eq)]
+#[derive(Clone, Copy)]
 pub struct Inputs<'a> {
     /// The name of the text's file.
     pub text: &'a str,
@@ -39,7 +39,7 @@ pub struct Inputs<'a> {
 }
 
 /// How a command's work stands at its end.
-#[derive(Debug, PartialEq, Eq, Drop)]
+#[derive(Drop)]
 pub enum Outcome {
     /// The run is over, and so many wait.
     Ended(u64),
@@ -62,7 +62,7 @@ pub enum Outcome {
 }
 
 /// Why a call ended.
-#[derive(Debug, PartialEq, Eq, Drop)]
+#[derive(Drop)]
 pub enum End {
     /// The command did its work.
     Done(Outcome),

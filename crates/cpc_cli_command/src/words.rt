@@ -21,7 +21,7 @@ use cpc_base::Stop;
 use std::alloc::Global;
 
 /// How a program is to run.
-#[derive(Clone, Copy, Debug, PartialEq, Eq)]
+#[derive(Clone, Copy)]
 pub struct Options<'a> {
     /// The file that holds the history, where one is named; without one the history has no polls.
     pub history: Option<&'a str>,
@@ -38,7 +38,7 @@ pub struct Options<'a> {
 }
 
 /// What a command line asks for. A file is named as the words name it.
-#[derive(Clone, Copy, Debug, PartialEq, Eq)]
+#[derive(Clone, Copy)]
 pub enum Command<'a> {
     /// Reads and checks the text of the file.
     Check {
@@ -74,7 +74,7 @@ pub enum Command<'a> {
 }
 
 /// The words are no command of `cpc`.
-#[derive(Clone, Copy, Debug, PartialEq, Eq, Drop)]
+#[derive(Clone, Copy, Drop)]
 pub struct Usage;
 
 /// The command that `words` ask for, without the program's name. `Fault(Usage)` where they ask for none, and `Memory`

@@ -11,7 +11,7 @@ use std::alloc::Global;
 use std::marker::Model;
 
 /// The condition is not live, or it is released with waiters.
-#[derive(Clone, Copy, Debug, PartialEq, Eq)]
+#[derive(Clone, Copy)]
 pub struct CondFault;
 
 /// Conditions, numbered from 0 in order of making, and the items that wait on them.

@@ -11,7 +11,7 @@ use cpc_store::{Store, Value};
 use cpc_tree::program::Function;
 
 /// A variable of a call: its value, or the number of its auto block.
-#[derive(Clone, Copy, PartialEq, Eq, Debug)]
+#[derive(Clone, Copy)]
 pub enum Slot {
     Register(Value),
     Boxed(u64),

@@ -21,7 +21,7 @@ use cpc_store::{Block, Class, Store, Value};
 use cpc_tree::program::{CType, Mode};
 
 /// Where a place is: the number of a slot of the call, or a cell of a block.
-#[derive(Clone, Copy, PartialEq, Eq, Debug)]
+#[derive(Clone, Copy)]
 pub enum Spot {
     Slot(u64),
     Cell(Block, u64),

@@ -18,7 +18,7 @@ use cpc_store::{Scalar, Value};
 use cpc_tree::program::CType;
 
 /// How an argument of a primitive is taken.
-#[derive(Clone, Copy, PartialEq, Eq, Debug)]
+#[derive(Clone, Copy)]
 pub enum Taken {
     /// An integer of any kind, which is set.
     AnyInteger,

@@ -17,7 +17,7 @@ use cpc_num::{Fault, Op};
 use cpc_store::{Store, Value};
 
 /// An operand of an operator.
-#[derive(Clone, Copy, PartialEq, Eq, Debug)]
+#[derive(Clone, Copy)]
 pub enum Side {
     Neither,
     Left,

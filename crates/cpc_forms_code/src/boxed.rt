@@ -7,7 +7,7 @@ use cpc_base::Name;
 use cpc_tree::program::{CType, Expr, Function, Program, Statement};
 
 /// How a statement is left.
-#[derive(Clone, Copy, PartialEq, Eq, Debug)]
+#[derive(Clone, Copy)]
 pub enum Manner {
     /// In its own step.
     InPlace,

@@ -7,7 +7,7 @@ use crate::graph::GraphFunction;
 use cpc_tree::program::Program;
 
 /// The start of a function, or a leader, by its number.
-#[derive(Clone, Copy, PartialEq, Eq, Debug)]
+#[derive(Clone, Copy)]
 pub enum Owner {
     Start,
     Leader(usize),

@@ -24,7 +24,7 @@ pub(crate) const MALFORMED: u8 = 5;
 ///    string cannot hold, or a character of none or several bytes.
 ///
 /// Inside one token the leftmost byte that shows a fault decides.
-#[derive(Clone, Copy, Debug, PartialEq, Eq)]
+#[derive(Clone, Copy)]
 pub struct LexFault {
     /// Where the first byte of what is faulty stands.
     pub place: Place,

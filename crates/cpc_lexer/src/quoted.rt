@@ -17,7 +17,7 @@ use cpc_tree::token::TokenKind;
 use std::alloc::Global;
 
 /// What encloses a character, and what a string.
-#[derive(Clone, Copy, PartialEq, Eq)]
+#[derive(Clone, Copy)]
 pub(crate) enum Quote {
     Single,
     Double,

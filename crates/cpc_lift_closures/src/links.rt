@@ -8,7 +8,7 @@ use std::alloc::Global;
 
 /// A number that leads to another: an owner to one to which control goes, or at which a value arrives; or an owner to a variable
 /// that it uses.
-#[derive(Clone, Copy, Debug, PartialEq, Eq)]
+#[derive(Clone, Copy)]
 pub struct Link {
     pub from: usize,
     pub to: usize,

@@ -4,7 +4,7 @@ ghost use Rattle.cpc_tree.specs.Primitives.{primitive_named, primitive_in};
 ghost use Rattle.cpc_native_builtins.specs.Builtins.{primitive_of, printing, signalling, waiting, framing, scheduling, or_primitive};
 
 /// A primitive of the language: those of both dialects, of the dialect of threads, and of the dialect of events.
-#[derive(Clone, Copy, PartialEq, Eq, Debug)]
+#[derive(Clone, Copy)]
 pub enum Builtin {
     /// `cpc_print`: a number and a line's end go out.
     Print,

@@ -8,7 +8,7 @@ use cpc_base::NoMemory;
 use std::alloc::Global;
 
 /// A part of a statement.
-#[derive(Clone, Copy, PartialEq, Eq, Debug)]
+#[derive(Clone, Copy)]
 pub enum Part {
     /// The n-th statement of a block, or of the first part of a `for`, counted from 0.
     Nth(usize),
@@ -25,7 +25,7 @@ pub enum Part {
 }
 
 /// What happens at a point.
-#[derive(Clone, Copy, PartialEq, Eq, Debug)]
+#[derive(Clone, Copy)]
 pub enum Phase {
     /// The statement or the test at the path is next.
     Here,
@@ -36,7 +36,7 @@ pub enum Phase {
 }
 
 /// A position in the body of a function: which part to take at each level, and what happens there.
-#[derive(Drop, Debug)]
+#[derive(Drop)]
 pub struct Point {
     pub phase: Phase,
     pub path: Vec<Part>,

@@ -2,7 +2,7 @@
 
 /// A kind of whole number: `char`, which is signed, `int` and `long` of 8, 32 and 64 bits, and
 /// the same without a sign. The values are those of two's complement (C11 6.2.6.2).
-#[derive(Clone, Copy, PartialEq, Eq, Debug)]
+#[derive(Clone, Copy, PartialEq, Eq)]
 pub enum Kind {
     Char,
     UChar,
@@ -13,7 +13,7 @@ pub enum Kind {
 }
 
 /// An operator of two operands.
-#[derive(Clone, Copy, PartialEq, Eq, Debug)]
+#[derive(Clone, Copy)]
 pub enum Op {
     Mul,
     Div,
@@ -34,7 +34,7 @@ pub enum Op {
 }
 
 /// Why a step of a program fails.
-#[derive(Clone, Copy, PartialEq, Eq, Debug)]
+#[derive(Clone, Copy, PartialEq, Eq)]
 pub enum Fault {
     /// A signed result is out of the range of its kind.
     Overflow,

@@ -13,7 +13,7 @@ use cpc_tree::program::Expr;
 use std::alloc::Global;
 
 /// Which calls are taken apart. A call that is taken apart counts nothing in the nesting, until more is put round it.
-#[derive(Clone, Copy, PartialEq, Eq, Debug)]
+#[derive(Clone, Copy)]
 pub enum Apart {
     /// None: a call is an expression.
     Never,

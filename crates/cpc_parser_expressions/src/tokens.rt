@@ -23,7 +23,7 @@ pub enum Prefix {
 }
 
 /// What may follow a postfix expression.
-#[derive(Clone, Copy, Debug)]
+#[derive(Clone, Copy)]
 pub enum Behind {
     /// Arguments, at `(`.
     Args,

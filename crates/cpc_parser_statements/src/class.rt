@@ -17,7 +17,7 @@ use cpc_parser_types::{
 use cpc_tree::token::{Keyword, Punctuator, Token};
 
 /// How a statement that ends with a semicolon begins.
-#[derive(Clone, Copy, Debug)]
+#[derive(Clone, Copy)]
 pub enum First {
     /// With `cpc_detached`.
     Section,
@@ -28,7 +28,7 @@ pub enum First {
 }
 
 /// How it goes on behind its first expression.
-#[derive(Clone, Copy, Debug)]
+#[derive(Clone, Copy)]
 pub enum More {
     Sets,
     Updates(Op),
@@ -36,7 +36,7 @@ pub enum More {
 }
 
 /// Which statement it is.
-#[derive(Clone, Copy, Debug)]
+#[derive(Clone, Copy)]
 pub enum Class {
     Block,
     Empty,

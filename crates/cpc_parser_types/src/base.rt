@@ -18,7 +18,7 @@ use cpc_tree::token::{Keyword, Punctuator, Token, TokenKind};
 use std::alloc::Global;
 
 /// The type that a declaration begins with.
-#[derive(Clone, Copy, PartialEq, Eq, Debug)]
+#[derive(Clone, Copy)]
 pub enum Base {
     Void,
     Int(Kind),
@@ -40,7 +40,7 @@ impl Base {
 }
 
 // Which words may still go on a base type.
-#[derive(Clone, Copy, PartialEq, Eq, Debug)]
+#[derive(Clone, Copy)]
 enum Ending {
     Done,
     Long(Kind),

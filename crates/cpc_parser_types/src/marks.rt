@@ -161,7 +161,7 @@ pub fn stepping(mark: Punctuator) -> Option<Op>
 }
 
 /// What stands between two operands.
-#[derive(Clone, Copy, PartialEq, Eq, Debug)]
+#[derive(Clone, Copy)]
 pub enum Operator {
     Binary(Op),
     And,

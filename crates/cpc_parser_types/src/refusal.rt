@@ -11,7 +11,7 @@ pub const SYNTAX: u8 = 1;
 pub const DEEP: u8 = 2;
 
 /// The fault of tokens that are no program.
-#[derive(Clone, Copy, Debug, PartialEq, Eq)]
+#[derive(Clone, Copy)]
 pub struct ParseFault {
     /// Where the first token stands at which no program is left, or the end of the text.
     pub place: Place,
@@ -35,7 +35,7 @@ impl ParseFault {
 }
 
 /// Why a part was not read: want of memory, or a fault with the number of tokens from its place on.
-#[derive(Debug, Drop)]
+#[derive(Drop)]
 pub enum Refusal {
     Memory,
     Syntax(usize),

@@ -77,7 +77,7 @@ pub fn send_stop<W: Runner, R: Wait>(
 }
 
 /// Nobody sends any more. It is made by `take` alone, where the channel failed, so that whoever has one has seen that.
-#[derive(Debug, PartialEq, Eq, Drop)]
+#[derive(Drop)]
 pub struct Closed(());
 
 /// Takes the next message, and waits until there is one. At an error nobody sends any more, nothing was taken, and the channel was empty

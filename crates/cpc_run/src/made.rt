@@ -27,7 +27,7 @@ use std::alloc::Global;
 const CHUNK: usize = 4096;
 
 /// What a step within a cap came to.
-#[derive(Clone, Copy, Debug)]
+#[derive(Clone, Copy)]
 pub(crate) enum Made {
     /// The run goes on, with so many live cells.
     On(u64),

@@ -4,7 +4,7 @@ use cpc_num::Fault;
 use cpc_run_shown::Outcome;
 
 /// What a step comes to where nothing ran before it.
-#[derive(Clone, Copy, Debug)]
+#[derive(Clone, Copy)]
 pub(crate) enum Step {
     /// The run goes on.
     On,

@@ -15,7 +15,7 @@ use cpc_num::{Kind, convert};
 use cpc_store::Value;
 
 /// A function with its pointer, which is lawful.
-#[derive(Clone, Copy, Debug)]
+#[derive(Clone, Copy)]
 pub struct Callback {
     pub function: Name,
     pub pointer: Value,
@@ -35,7 +35,7 @@ impl Callback {
 }
 
 /// What the loop takes up.
-#[derive(Clone, Copy, Debug)]
+#[derive(Clone, Copy)]
 pub enum Item {
     /// The call of `main` at the start.
     Main,

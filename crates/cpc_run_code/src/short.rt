@@ -7,7 +7,7 @@ use cpc_base::NoMemory;
 use std::alloc::{AllocError, AllocFailed};
 
 /// Why the loop leaves a step unmade.
-#[derive(Clone, Copy, Debug)]
+#[derive(Clone, Copy)]
 pub enum Short {
     /// Memory was wanting.
     Memory,

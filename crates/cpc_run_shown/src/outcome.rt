@@ -6,7 +6,7 @@ use cpc_base::Name;
 use cpc_num::Fault;
 
 /// How far a run may go.
-#[derive(Clone, Copy, PartialEq, Eq, Debug)]
+#[derive(Clone, Copy)]
 pub struct Limits {
     /// The most steps.
     pub steps: u64,
@@ -17,7 +17,7 @@ pub struct Limits {
 }
 
 /// How a run is over.
-#[derive(Clone, Copy, PartialEq, Eq, Debug)]
+#[derive(Clone, Copy)]
 pub enum Outcome {
     /// Nothing runs and nothing is ready; so many items wait.
     Ended(u64),
@@ -32,7 +32,7 @@ pub enum Outcome {
 }
 
 /// Why a run was left.
-#[derive(Clone, Copy, PartialEq, Eq, Debug)]
+#[derive(Clone, Copy)]
 pub enum Ended {
     /// It is over.
     Over(Outcome),
@@ -49,7 +49,7 @@ pub enum Ended {
 }
 
 /// How a run ended, the steps that it made, and the live cells and the polls that were taken after them.
-#[derive(Clone, Copy, PartialEq, Eq, Debug)]
+#[derive(Clone, Copy)]
 pub struct RunReport {
     /// Why it was left.
     pub ended: Ended,

@@ -5,7 +5,7 @@ use cpc_base::Name;
 use cpc_num::{Kind, is_of};
 
 /// What a block of cells was made for.
-#[derive(Clone, Copy, PartialEq, Eq, Debug)]
+#[derive(Clone, Copy, PartialEq, Eq)]
 pub enum Class {
     /// A global.
     Static,
@@ -18,7 +18,7 @@ pub enum Class {
 }
 
 /// A block: the number counts the blocks of its class from 0, in order of making.
-#[derive(Clone, Copy, PartialEq, Eq, Debug)]
+#[derive(Clone, Copy, PartialEq, Eq)]
 pub struct Block {
     pub class: Class,
     pub number: u64,
@@ -28,7 +28,7 @@ pub struct Block {
 /// a cell of a block, the code of a function, or a condition variable.
 ///
 /// It is lawful where an `Int` is a value of its kind and the offset of an `At` is below 2^63.
-#[derive(Clone, Copy, PartialEq, Eq, Debug)]
+#[derive(Clone, Copy, PartialEq, Eq)]
 pub enum Value {
     Unset,
     Int(Kind, i128),
@@ -54,7 +54,7 @@ impl Value {
 }
 
 /// What a cell of a scalar type is to hold.
-#[derive(Clone, Copy, PartialEq, Eq, Debug)]
+#[derive(Clone, Copy)]
 pub enum Scalar {
     Int(Kind),
     Pointer,

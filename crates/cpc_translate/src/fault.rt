@@ -7,7 +7,7 @@ use cpc_lexer::LexFault;
 use cpc_parser_types::ParseFault;
 
 /// Why a text is refused.
-#[derive(Clone, Copy, Debug, PartialEq, Eq)]
+#[derive(Clone, Copy)]
 pub enum TextFault {
     /// It is not cut into tokens.
     Lex(LexFault),

@@ -3,14 +3,14 @@ use cpc_base::{Name, Names, Place};
 use cpc_num::{Kind, Op};
 
 /// A name where it is written. `place` is that of its first byte.
-#[derive(Clone, Copy, PartialEq, Eq)]
+#[derive(Clone, Copy)]
 pub struct Word {
     pub place: Place,
     pub name: Name,
 }
 
 /// A unary operator (C11 6.5.3): `-`, `+`, `!`, `~`, `*` and `&`.
-#[derive(Clone, Copy, PartialEq, Eq)]
+#[derive(Clone, Copy)]
 pub enum UnaryOp {
     Minus,
     Plus,
@@ -21,7 +21,7 @@ pub enum UnaryOp {
 }
 
 /// How a function runs.
-#[derive(Clone, Copy, PartialEq, Eq)]
+#[derive(Clone, Copy)]
 pub enum Mode {
     /// A function of the host, of which there are prototypes alone.
     Extern,

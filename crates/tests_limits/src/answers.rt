@@ -6,7 +6,7 @@ use cpc_printer::print;
 use std::alloc::Global;
 
 /// A program, or refused at a column of the first line with a number, or none of both.
-#[derive(Clone, Copy, Debug, PartialEq, Eq)]
+#[derive(Clone, Copy, PartialEq, Eq)]
 pub(crate) enum Answer {
     Program,
     Refused(u64, u8),

@@ -34,7 +34,7 @@ enum Act<'a> {
 }
 
 /// What an act comes to.
-#[derive(Clone, Copy, Debug, PartialEq, Eq)]
+#[derive(Clone, Copy, PartialEq, Eq)]
 enum Seen {
     /// It was done.
     Went,
@@ -167,7 +167,7 @@ fn signals_wake_in_waiting_order_and_are_lost(rt: HostRuntime) {
         (Act::Signals(1), Seen::Went),
         (Act::Takes, Seen::Item(9, false)),
     ] {
-        assert_eq!(rt; done(rt.alloc(), &mut agenda, act), seen);
+        assert!(rt; done(rt.alloc(), &mut agenda, act) == seen);
     }
     assert!(rt; !agenda.needs_poll());
 }
@@ -205,7 +205,7 @@ fn polls_wake_sections_then_descriptors_then_timers(rt: HostRuntime) {
         (Act::Takes, Seen::Item(1, false)),
         (Act::Takes, Seen::Nothing),
     ] {
-        assert_eq!(rt; done(rt.alloc(), &mut agenda, act), seen);
+        assert!(rt; done(rt.alloc(), &mut agenda, act) == seen);
     }
     assert_eq!(rt; agenda.now(), 5);
 }
@@ -214,10 +214,8 @@ fn polls_wake_sections_then_descriptors_then_timers(rt: HostRuntime) {
 fn so_many_sections_are_out_at_most(rt: HostRuntime) {
     let mut agenda = Agenda::new(rt.alloc());
     for number in 0..1024u64 {
-        assert_eq!(rt;
-            done(rt.alloc(), &mut agenda, Act::Submits(7)),
-            Seen::Number(number)
-        );
+        let seen = done(rt.alloc(), &mut agenda, Act::Submits(7));
+        assert!(rt; seen == Seen::Number(number));
     }
     let ended = [Event::Done(1000)];
     for (act, seen) in [
@@ -225,6 +223,6 @@ fn so_many_sections_are_out_at_most(rt: HostRuntime) {
         (Act::Polls(1, &ended), Seen::Went),
         (Act::Submits(7), Seen::Number(1024)),
     ] {
-        assert_eq!(rt; done(rt.alloc(), &mut agenda, act), seen);
+        assert!(rt; done(rt.alloc(), &mut agenda, act) == seen);
     }
 }

@@ -19,7 +19,7 @@ fn functions_are_taken_and_called(rt: HostRuntime) -> Result<(), Fail> {
             ensures { standard_answer (codes "least") args.now ≡ Some result }
         { least(args) },
     )?;
-    assert!(rt; hosts.add(alloc, "least", 2, f) == Ok(()));
+    assert!(rt; hosts.add(alloc, "least", 2, f).is_ok());
     let f: Answer = Box::new(
         alloc,
         |args: &[i64]| -> i64
@@ -27,7 +27,7 @@ fn functions_are_taken_and_called(rt: HostRuntime) -> Result<(), Fail> {
             ensures { standard_answer (codes "abs_diff") args.now ≡ Some result }
         { abs_diff(args) },
     )?;
-    assert!(rt; hosts.add(alloc, "abs_diff", 2, f) == Ok(()));
+    assert!(rt; hosts.add(alloc, "abs_diff", 2, f).is_ok());
     assert!(rt; hosts.call(b"least", &[4, -3]) == Some(-3));
     assert!(rt; hosts.call(b"abs_diff", &[i64::MIN, 1]) == Some(i64::MAX));
     assert!(rt; hosts.call(b"least", &[4]) == None);
@@ -61,16 +61,24 @@ fn zero(_args: &[i64]) -> i64 {
     0
 }
 
+/// The number of the fault, and 0 where there is none.
+fn refused(added: Result<(), Stop<HostFault>>) -> u8 {
+    match added {
+        Err(Stop::Fault(fault)) => fault.number,
+        _ => 0,
+    }
+}
+
 #[test]
 fn what_the_table_refuses(rt: HostRuntime) -> Result<(), Fail> {
     let alloc = rt.alloc();
     let mut hosts: HostTable<Nine> = HostTable::new(alloc);
     let f: Answer = Box::new(alloc, zero)?;
-    assert!(rt; hosts.add(alloc, "zero", 8, f) == Ok(()));
+    assert!(rt; hosts.add(alloc, "zero", 8, f).is_ok());
     let f: Answer = Box::new(alloc, zero)?;
-    assert!(rt; hosts.add(alloc, "zero", 9, f) == Err(Stop::Fault(HostFault { number: 1 })));
+    assert!(rt; refused(hosts.add(alloc, "zero", 9, f)) == 1);
     let f: Answer = Box::new(alloc, zero)?;
-    assert!(rt; hosts.add(alloc, "nine", 9, f) == Err(Stop::Fault(HostFault { number: 2 })));
+    assert!(rt; refused(hosts.add(alloc, "nine", 9, f)) == 2);
     assert!(rt; !hosts.has(b"nine", 9));
     Ok(())
 }

@@ -32,7 +32,7 @@ enum Act {
 }
 
 /// What an act comes to.
-#[derive(Clone, Copy, Debug, PartialEq, Eq)]
+#[derive(Clone, Copy, PartialEq, Eq)]
 enum Seen {
     /// It was done.
     Went,
@@ -121,7 +121,7 @@ fn cells_are_written_and_read_and_blocks_dropped_once(rt: HostRuntime) {
         ),
         (Act::Loads(HEAP, 0, INT), Seen::Faulted(Fault::Freed)),
     ] {
-        assert_eq!(rt; done(rt.alloc(), &mut store, act), seen);
+        assert!(rt; done(rt.alloc(), &mut store, act) == seen);
     }
     assert_eq!(rt; store.live_cells(), 0);
 }

@@ -489,9 +489,14 @@ fn long_texts(rt: HostRuntime) -> Result<(), Fail> {
     Ok(())
 }
 
+fn ends_at(text: &[u8], line: u64, column: u64) -> bool {
+    let end = end_of_text(text);
+    end.line == line && end.column == column
+}
+
 #[test]
 fn end_of_texts(rt: HostRuntime) {
-    assert_eq!(rt; end_of_text(b""), Place { line: 1, column: 1 });
-    assert_eq!(rt; end_of_text(b"ab\xc3\xa9\t"), Place { line: 1, column: 6 });
-    assert_eq!(rt; end_of_text(b"a\r\n\n  b"), Place { line: 3, column: 4 });
+    assert!(rt; ends_at(b"", 1, 1));
+    assert!(rt; ends_at(b"ab\xc3\xa9\t", 1, 6));
+    assert!(rt; ends_at(b"a\r\n\n  b", 3, 4));
 }
