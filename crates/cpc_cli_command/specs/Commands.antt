@@ -70,6 +70,14 @@ bare_app = on_top (λ s. record s {
   subcommand_required = true;
 }) (new_app (codes "cpc"))
 
+-- with the subcommands that only read
+abbrev pub reading_app : App
+reading_app = with_subcommand (with_subcommand bare_app (on_file (codes "check")).top) (on_file (codes "translate")).top
+
+-- and with those that run
+abbrev pub running_app : App
+running_app = with_subcommand (with_subcommand reading_app run_app.top) exec_app.top
+
 -- the subcommands, in order
 abbrev pub subcommands : List App
 subcommands = on_file (codes "check") ∷ on_file (codes "translate") ∷ run_app ∷ exec_app ∷ sample_app ∷ []

@@ -2,7 +2,7 @@
 ghost use Rattle.std.specs.Prelude.{◌≡◌, IfOk, codes, false};
 ghost use Rattle.clap.specs.Words.{app_of, rule_of};
 ghost use Rattle.cpc_cli_command.specs.Commands.{IsLocal, bare_app, count_rule, cpc_app, exec_app, file_rule, flag_rule};
-ghost use Rattle.cpc_cli_command.specs.Commands.{on_file as on_file_app, option_rule, run_app, sample_app, with_options};
+ghost use Rattle.cpc_cli_command.specs.Commands.{on_file as on_file_app, option_rule, reading_app, run_app, running_app, sample_app, with_options};
 ghost use Rattle.cpc_cli_command.specs.Commands.{with_limits as with_limits_app, with_values as with_values_app};
 
 use clap::{Arg, ArgAction, Command};
@@ -112,14 +112,27 @@ fn bare<'a>(alloc: Global) -> Command<'a>
         .subcommand_required(true)
 }
 
+/// `cpc` with the subcommands that only read: `check` and `translate`.
+fn reading<'a>(alloc: Global) -> Result<Command<'a>, AllocError>
+    ensures { IfOk result (λ c. app_of c ≡ reading_app) }
+{
+    bare(alloc)
+        .subcommand(on_file(alloc, "check")?)?
+        .subcommand(on_file(alloc, "translate")?)
+}
+
+/// `cpc` with these and with those that run: `run` and `exec`.
+fn running<'a>(alloc: Global) -> Result<Command<'a>, AllocError>
+    ensures { IfOk result (λ c. app_of c ≡ running_app) }
+{
+    reading(alloc)?
+        .subcommand(run(alloc)?)?
+        .subcommand(exec(alloc)?)
+}
+
 /// The whole command line.
 pub(crate) fn cpc<'a>(alloc: Global) -> Result<Command<'a>, AllocError>
     ensures { IfOk result (λ c. app_of c ≡ cpc_app) }
 {
-    bare(alloc)
-        .subcommand(on_file(alloc, "check")?)?
-        .subcommand(on_file(alloc, "translate")?)?
-        .subcommand(run(alloc)?)?
-        .subcommand(exec(alloc)?)?
-        .subcommand(sample(alloc)?)
+    running(alloc)?.subcommand(sample(alloc)?)
 }

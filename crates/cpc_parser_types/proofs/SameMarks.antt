@@ -1,6 +1,6 @@
 -- The same marks and keywords are equal.
 use Rattle.std.proofs.Common.{◌≡◌, ◌↔◌, IsTrue, Bool, true, List, [], ◌∷◌, Some, refl, sym, ap, subst, ◌∙◌}
-use Rattle.cpc_base.proofs.Truth.{equal_truth}
+use Rattle.cpc_base.proofs.Truth.{equal_truth, by_false_true}
 use Rattle.cpc_tree.specs.declared.token.Keyword.{Keyword}
 use Rattle.cpc_tree.specs.declared.token.Keyword.TheVariants as K
 use Rattle.cpc_tree.specs.declared.token.Punctuator.{Punctuator}
@@ -67,7 +67,7 @@ mark_equal P.BarEqual P.BarEqual e = refl
 mark_equal P.CaretEqual P.CaretEqual e = refl
 mark_equal P.ShiftLeftEqual P.ShiftLeftEqual e = refl
 mark_equal P.ShiftRightEqual P.ShiftRightEqual e = refl
-mark_equal p q e = absurd cc
+mark_equal p q e = by_false_true e
 
 pub word_equal : (p q : Keyword) → same_word p q ≡ true → p ≡ q
 word_equal K.Auto K.Auto e = refl
@@ -109,7 +109,7 @@ word_equal K.Detached K.Detached e = refl
 word_equal K.CpcSpawn K.CpcSpawn e = refl
 word_equal K.CpcDetached K.CpcDetached e = refl
 word_equal K.CpcCondvar K.CpcCondvar e = refl
-word_equal p q e = absurd cc
+word_equal p q e = by_false_true e
 
 pub kind_mark : (names : Names) (k : TokenKind) (mark : Punctuator) → is_mark mark (lexeme_of names k) ≡ true → k ≡ T.Punctuator mark
 kind_mark names (T.Punctuator p) mark e = ap (λ q. T.Punctuator q) (sym (mark_equal mark p e))
