@@ -1,6 +1,6 @@
 //! How often the system failed.
 ghost use Rattle.std.specs.Prelude.{◌≡◌, ◌≤◌, Ok, IsErr, MatchResult};
-ghost use Rattle.cpc_base.specs.Plan.{one_more};
+ghost use Rattle.cpc_base.specs.Outside.{one_more};
 
 use cpc_base::Failed;
 use std::io;

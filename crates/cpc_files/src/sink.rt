@@ -1,7 +1,7 @@
 //! Streams as sinks.
 ghost use Rattle.std.specs.Prelude.{◌≡◌, ◌≤◌, length, IfOk, MatchResult, None};
 ghost use Rattle.std.specs.Io.KnownBytes.{WriteAppends};
-ghost use Rattle.cpc_base.specs.Plan.{one_more};
+ghost use Rattle.cpc_base.specs.Outside.{one_more};
 
 use crate::faults::Faults;
 use cpc_base::{Failed, Sink};

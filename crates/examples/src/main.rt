@@ -1,7 +1,8 @@
 //! Runs the examples and shows what each writes, goes over the rows, and shows what is not as it has to be; and runs two sections at once.
 #![tactic(auto)]
 
-use cpc_base::{Dialect, MemShelf, MemSink, NoMemory, Stop};
+use cpc_base::{Dialect, NoMemory, Stop};
+use cpc_base_memory::{MemShelf, MemSink};
 use cpc_standard::{Report, called, called_with_gate};
 use cpc_translate::{TextFault, accept, laid_out};
 use examples_rows::{

@@ -2,7 +2,7 @@
 use crate::held::{Together, Watched};
 use crate::setting::{Files, shelf, steady, words_of};
 use crate::top::Told;
-use cpc_base::{Calls, MemShelf, MemSink};
+use cpc_base_memory::{Calls, MemShelf, MemSink};
 use std::alloc::{AllocError, Global};
 use std::sync::Arc;
 

@@ -2,7 +2,8 @@
 use crate::idle::IdleSink;
 use crate::setting::{Files, Left, Setting, failing, shelf, words_of};
 use crate::top::{Refusal, Stages, Told};
-use cpc_base::{MemShelf, MemSink, Stop};
+use cpc_base::Stop;
+use cpc_base_memory::{MemShelf, MemSink};
 use std::alloc::{AllocError, Global};
 
 // Makes a call of the command over the objects of this setting.

@@ -5,7 +5,7 @@ use crate::due::{Due, calls_for, is_cut, is_due, is_left, reads_for};
 use crate::idle::IdleSink;
 use crate::setting::{Files, Left, Setting, steady};
 use crate::top::{Stages, Told};
-use cpc_base::{MemShelf, MemSink};
+use cpc_base_memory::{MemShelf, MemSink};
 use std::alloc::{AllocError, Global};
 
 /// Each read fails, of the text and then of the history, and none is made behind these.

@@ -3,7 +3,7 @@ use crate::idle::IdleSink;
 use crate::row::Row;
 use crate::row_calls::take_line;
 use crate::top::{Stages, Told};
-use cpc_base::{MemShelf, MemSink};
+use cpc_base_memory::{MemShelf, MemSink};
 use std::alloc::{AllocError, Global};
 use std::fs;
 

@@ -1,7 +1,8 @@
 //! A sink of which one call takes nothing.
 ghost use Rattle.std.specs.Prelude.{None};
 
-use cpc_base::{Calls, Failed, MemSink, Sink};
+use cpc_base::{Failed, Sink};
+use cpc_base_memory::{Calls, MemSink};
 
 /// Takes bytes into memory, but none at the calls that `calls` names, where it answers 0. It counts these calls and those at
 /// which the memory behind it fails, and tells nothing of content.

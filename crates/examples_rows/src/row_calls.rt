@@ -6,7 +6,7 @@ use crate::idle::IdleSink;
 use crate::row::{Line, Row, number};
 use crate::setting::{Files, Left};
 use crate::top::{Stages, Told};
-use cpc_base::{MemShelf, MemSink};
+use cpc_base_memory::{MemShelf, MemSink};
 use std::alloc::{AllocError, Global};
 
 /// Takes a line of a row, and makes the calls of the row where it is over.

@@ -1,5 +1,5 @@
 //! The objects of a call, and what it leaves: how they behave, the files, and the words of a line.
-use cpc_base::{Calls, MemFile, MemShelf};
+use cpc_base_memory::{Calls, MemFile, MemShelf};
 use std::alloc::{AllocError, Global};
 
 /// How the objects behave: the most bytes of a call, the number of the read, the put on `out` and the put on `err` that

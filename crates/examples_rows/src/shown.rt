@@ -1,7 +1,7 @@
 //! The examples, and what each writes: its output, the line on `err`, and its status.
 use crate::idle::IdleSink;
 use crate::top::Told;
-use cpc_base::{Calls, MemFile, MemShelf, MemSink};
+use cpc_base_memory::{Calls, MemFile, MemShelf, MemSink};
 use std::alloc::{AllocError, Global};
 use std::fs;
 

@@ -1,5 +1,6 @@
 //! A sink in memory, of which one call fails.
-use cpc_base::{Calls, Failed, MemSink, Sink};
+use cpc_base::{Failed, Sink};
+use cpc_base_memory::{Calls, MemSink};
 use std::test::Fail;
 
 #[test]

@@ -1,8 +1,6 @@
 //! What no clause says: that each call answers with memory at hand. Files that fail are tested where the command runs.
-use cpc_base::{
-    Calls, Failed, MemFile, MemShelf, Name, Names, Place, ReadFault, Shelf, Sink, SteadyShelf,
-    Stop, read_file, read_held, write_all,
-};
+use cpc_base::{Failed, Name, Names, ReadFault, Shelf, Sink, Stop, read_file, write_all};
+use cpc_base_memory::{Calls, MemFile, MemShelf, SteadyShelf, read_held};
 use std::alloc::{AllocError, Global};
 use std::test::Fail;
 

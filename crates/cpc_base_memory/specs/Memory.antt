@@ -3,9 +3,9 @@ use Rattle.std.specs.Prelude.{ℕ, Bool, false, ◌-◌, ◌++◌, min, max, Lis
 use Rattle.std.specs.Option.{option_map}
 use Rattle.std.specs.Str.{bytes_eq}
 use Rattle.cpc_base.specs.Bytes.{Text}
-use Rattle.cpc_base.specs.Outside.{Files}
-use Rattle.cpc_base.specs.Plan.{Plan, after_call, one_more}
-use Rattle.cpc_base.specs.declared.mem_shelf.MemFile.{MemFile}
+use Rattle.cpc_base.specs.Outside.{Files, one_more}
+use Rattle.cpc_base_memory.specs.Plan.{Plan, after_call}
+use Rattle.cpc_base_memory.specs.declared.mem_shelf.MemFile.{MemFile}
 
 -- a shelf: its files, the most bytes that a read gives, the calls that fail, and the faults so far
 pub record HeldFiles : Type 0 where

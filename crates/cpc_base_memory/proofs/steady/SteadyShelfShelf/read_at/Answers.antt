@@ -1,8 +1,8 @@
 use Rattle.std.proofs.Common.{◌∙◌, ap, sym}
 use Rattle.std.specs.Option.{option_map}
-use Rattle.cpc_base.specs.Memory.{files_of}
-use Rattle.cpc_base.proofs.MemoryLemmas.{is_read}
-use Rattle.cpc_base.proofs.steady.SteadyShelfShelf.read_at.Goals as goal
+use Rattle.cpc_base_memory.specs.Memory.{files_of}
+use Rattle.cpc_base_memory.proofs.MemoryLemmas.{is_read}
+use Rattle.cpc_base_memory.proofs.steady.SteadyShelfShelf.read_at.Goals as goal
 
 pub returns-in-Some-clause-bytes : goal.returns-in-Some-clause-bytes
 returns-in-Some-clause-bytes c =

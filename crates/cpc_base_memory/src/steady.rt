@@ -1,14 +1,12 @@
 //! A shelf in memory that never fails at a file that it holds.
 ghost use Rattle.std.specs.Prelude.{◌≡◌, ◌≤◌, Some, length, true, is_some, IfOk, IsErrOf};
 ghost use Rattle.cpc_base.specs.Outside.{IsLonger};
-ghost use Rattle.cpc_base.specs.Memory.{files_of};
+ghost use Rattle.cpc_base_memory.specs.Memory.{files_of};
 ghost use Rattle.cpc_base.specs.declared.stop.Stop.TheVariants.{Fault};
 ghost use Rattle.cpc_base.specs.declared.file.ReadFault.TheVariants.{TooLong, Unread};
 
-use crate::file::{ReadFault, read_file};
 use crate::mem_shelf::{MemFile, copy_piece, named};
-use crate::outside::{Failed, Shelf};
-use crate::stop::Stop;
+use cpc_base::{Failed, ReadFault, Shelf, Stop, read_file};
 use std::alloc::Global;
 use std::marker::Model;
 
@@ -20,7 +18,7 @@ pub struct SteadyShelf {
 }
 
 impl Model for SteadyShelf {
-    ghost use Rattle.cpc_base.specs.Memory.{SteadyFiles};
+    ghost use Rattle.cpc_base_memory.specs.Memory.{SteadyFiles};
 
     ghost Value = { SteadyFiles };
 
@@ -44,7 +42,7 @@ impl SteadyShelf {
 }
 
 impl Shelf for SteadyShelf {
-    ghost use Rattle.cpc_base.specs.Memory.{files_of, miss_count};
+    ghost use Rattle.cpc_base_memory.specs.Memory.{files_of, miss_count};
 
     ghost files = { λ s. Some (files_of s.files) };
 

@@ -1,7 +1,7 @@
 use Rattle.std.proofs.Common.{◌≡◌, Some, refl}
-use Rattle.cpc_base.specs.Memory.{files_of}
-use Rattle.cpc_base.proofs.MemoryLemmas.{held_never_rises, if_ok_told}
-use Rattle.cpc_base.proofs.steady.read_held.Goals as goal
+use Rattle.cpc_base_memory.specs.Memory.{files_of}
+use Rattle.cpc_base_memory.proofs.MemoryLemmas.{held_never_rises, if_ok_told}
+use Rattle.cpc_base_memory.proofs.steady.read_held.Goals as goal
 
 pub returns-clause-whole : goal.returns-clause-whole
 returns-clause-whole c =

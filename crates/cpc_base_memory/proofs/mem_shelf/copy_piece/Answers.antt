@@ -1,6 +1,6 @@
 use Rattle.std.proofs.Common.{arith}
 use Rattle.cpc_base.proofs.Pieces.{copied_piece}
-use Rattle.cpc_base.proofs.mem_shelf.copy_piece.Goals as goal
+use Rattle.cpc_base_memory.proofs.mem_shelf.copy_piece.Goals as goal
 
 pub returns-clause-piece : goal.returns-clause-piece
 returns-clause-piece c =

@@ -1,10 +1,10 @@
 //! A sink in memory whose calls fail as planned.
 ghost use Rattle.std.specs.Prelude.{◌≡◌, ◌↔◌, ◌≤◌, ◌++◌, ◌⊎◌, [], Some, false, IsTrue, IsErr, IfOk, OnOk, OnErr, length, take, min, max};
-ghost use Rattle.cpc_base.specs.Plan.{FailsNext};
-ghost use Rattle.cpc_base.specs.Memory.{after_put, after_refusal};
+ghost use Rattle.cpc_base_memory.specs.Plan.{FailsNext};
+ghost use Rattle.cpc_base_memory.specs.Memory.{after_put, after_refusal};
 
 use crate::calls::Calls;
-use crate::outside::{Failed, Sink};
+use cpc_base::{Failed, Sink};
 use std::alloc::Global;
 use std::marker::Model;
 
@@ -19,7 +19,7 @@ pub struct MemSink {
 }
 
 impl Model for MemSink {
-    ghost use Rattle.cpc_base.specs.Memory.{HeldBytes};
+    ghost use Rattle.cpc_base_memory.specs.Memory.{HeldBytes};
 
     ghost Value = { HeldBytes };
 

@@ -1,8 +1,8 @@
 use Rattle.std.proofs.Common.{◌↔◌, IsTrue, refl, subst, inr}
-use Rattle.cpc_base.specs.Plan.{FailsNext}
-use Rattle.cpc_base.proofs.MemoryLemmas.{planned}
-use Rattle.cpc_base.proofs.mem_sink.MemSinkSink.put.Goals.{then-fails-via-then-fails, then-fails-via-else-fails+then-self}
-use Rattle.cpc_base.proofs.mem_sink.MemSinkSink.put.Goals as goal
+use Rattle.cpc_base_memory.specs.Plan.{FailsNext}
+use Rattle.cpc_base_memory.proofs.MemoryLemmas.{planned}
+use Rattle.cpc_base_memory.proofs.mem_sink.MemSinkSink.put.Goals.{then-fails-via-then-fails, then-fails-via-else-fails+then-self}
+use Rattle.cpc_base_memory.proofs.mem_sink.MemSinkSink.put.Goals as goal
 
 pub returns-then-fails-clause-fails : goal.returns-then-fails-clause-fails
 returns-then-fails-clause-fails c =

@@ -2,9 +2,9 @@
 use Rattle.std.proofs.Common.{◌≡◌, ◌↔◌, ◌⊎◌, inl, inr, ℕ, List, refl, ap, sym, ◌∙◌, Bool, Option, Some, None, IsNone, IsTrue, Result, Ok, Err, IfOk, true, false, is_some, if◌then◌else◌, arith}
 use Rattle.std.specs.Option.{option_map}
 use Rattle.cpc_base.specs.Outside.{Files, Rose, WhereTold, IsPiece, IsRead}
-use Rattle.cpc_base.specs.Plan.{Plan, FailsNext}
-use Rattle.cpc_base.specs.Memory.{files_of, miss_count}
-use Rattle.cpc_base.specs.declared.mem_shelf.MemFile.{MemFile}
+use Rattle.cpc_base_memory.specs.Plan.{Plan, FailsNext}
+use Rattle.cpc_base_memory.specs.Memory.{files_of, miss_count}
+use Rattle.cpc_base_memory.specs.declared.mem_shelf.MemFile.{MemFile}
 
 some_files : (x y : Files) → ◌≡◌ {A = Option Files} (Some x) (Some y) → x ≡ y
 some_files x y e = cc

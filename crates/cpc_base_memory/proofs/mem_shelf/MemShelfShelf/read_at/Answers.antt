@@ -1,10 +1,10 @@
 use Rattle.std.proofs.Common.{◌∙◌, ◌↔◌, ◌≡◌, Some, IsTrue, ap, sym, refl, subst, inr, true≢false}
 use Rattle.std.specs.Option.{option_map}
-use Rattle.cpc_base.specs.Plan.{FailsNext}
-use Rattle.cpc_base.specs.Memory.{files_of}
-use Rattle.cpc_base.proofs.MemoryLemmas.{is_read, works, planned, no_bytes}
-use Rattle.cpc_base.proofs.mem_shelf.MemShelfShelf.read_at.Goals.{in_default-via-in-Some+else-not-fails, in_default-via-in_default}
-use Rattle.cpc_base.proofs.mem_shelf.MemShelfShelf.read_at.Goals as goal
+use Rattle.cpc_base_memory.specs.Plan.{FailsNext}
+use Rattle.cpc_base_memory.specs.Memory.{files_of}
+use Rattle.cpc_base_memory.proofs.MemoryLemmas.{is_read, works, planned, no_bytes}
+use Rattle.cpc_base_memory.proofs.mem_shelf.MemShelfShelf.read_at.Goals.{in_default-via-in-Some+else-not-fails, in_default-via-in_default}
+use Rattle.cpc_base_memory.proofs.mem_shelf.MemShelfShelf.read_at.Goals as goal
 
 there : (c : goal.After-slice_known-in-Some-1) → files_of c.args.self.now.files c.args.name.now ≡ Some c.in-Some.file.now.bytes.items
 there c = ap (λ held. files_of held.files c.args.name.now) (sym c.self.view_is) ∙ ap (λ fs. files_of fs c.args.name.now) (sym c.as_slice.ensures.value) ∙ ap (option_map (λ file. file.bytes.items)) (sym c.in-Some.ensures)

@@ -1,14 +1,11 @@
 -- Which calls of an object in memory are to fail.
-use Rattle.std.specs.Prelude.{ℕ, ◌+◌, ◌-◌, ◌^◌, min, List, Contains}
+use Rattle.std.specs.Prelude.{ℕ, List, Contains}
+use Rattle.cpc_base.specs.Outside.{one_more}
 
 -- the calls made so far, and the numbers of those that are to fail, counted from 1
 pub record Plan : Type 0 where
   pub failing : List ℕ
   pub made : ℕ
-
--- a count of 64 bits after one more; it stands still at its last value
-abbrev pub one_more : ℕ → ℕ
-one_more count = min (count + 1) (2 ^ 64 - 1)
 
 -- the plan after one more call
 abbrev pub after_call : Plan → Plan

@@ -3,11 +3,11 @@ ghost use Rattle.std.specs.Prelude.{◌≡◌, ◌↔◌, ◌≤◌, ◌⊎◌, 
 ghost use Rattle.std.specs.Option.{option_copied};
 ghost use Rattle.std.specs.Str.{bytes_eq};
 ghost use Rattle.cpc_base.specs.Outside.{IsPiece, IsRead};
-ghost use Rattle.cpc_base.specs.Plan.{FailsNext};
-ghost use Rattle.cpc_base.specs.Memory.{files_of, piece_size, read_size, after_read, after_fault};
+ghost use Rattle.cpc_base_memory.specs.Plan.{FailsNext};
+ghost use Rattle.cpc_base_memory.specs.Memory.{files_of, piece_size, read_size, after_read, after_fault};
 
 use crate::calls::Calls;
-use crate::outside::{Failed, Shelf};
+use cpc_base::{Failed, Shelf};
 use std::marker::Model;
 
 /// A file in memory. Of two files with one name a shelf shows the first.
@@ -29,7 +29,7 @@ pub struct MemShelf {
 }
 
 impl Model for MemShelf {
-    ghost use Rattle.cpc_base.specs.Memory.{HeldFiles};
+    ghost use Rattle.cpc_base_memory.specs.Memory.{HeldFiles};
 
     ghost Value = { HeldFiles };
 

@@ -1,6 +1,6 @@
 //! Which calls of an object in memory are to fail.
 ghost use Rattle.std.specs.Prelude.{◌≡◌, ◌↔◌, IsTrue};
-ghost use Rattle.cpc_base.specs.Plan.{FailsNext, after_call};
+ghost use Rattle.cpc_base_memory.specs.Plan.{FailsNext, after_call};
 
 use std::marker::Model;
 
@@ -12,7 +12,7 @@ pub struct Calls {
 }
 
 impl Model for Calls {
-    ghost use Rattle.cpc_base.specs.Plan.{Plan};
+    ghost use Rattle.cpc_base_memory.specs.Plan.{Plan};
 
     ghost Value = { Plan };
 
