@@ -25,6 +25,17 @@ fn show(rt: &HostRuntime, what: &str, holds: bool) -> anyhow::Result<()> {
     Ok(())
 }
 
+// Shows whether each began with a worker, whether both were out at once, and whether what they gave came back.
+fn show_all(rt: &HostRuntime, began: bool, together: bool, is_due: bool) -> anyhow::Result<()> {
+    show(rt, "two sections are run by a worker each", began)?;
+    show(rt, "they are out at once, beside the loop", together)?;
+    show(
+        rt,
+        "what they give comes back as the history has it",
+        is_due,
+    )
+}
+
 /// Runs a text whose two sections are each held until both have begun and the loop has put out a line meanwhile, and shows whether all
 /// was so. Where a section ran as it is submitted, or the two one behind the other, a worker would give up.
 ///
@@ -61,19 +72,6 @@ where
         &mut err,
         &gate,
     )?;
-    show(
-        rt,
-        "two sections are run by a worker each",
-        gate.both_began(),
-    )?;
-    show(
-        rt,
-        "they are out at once, beside the loop",
-        !gate.has_given_up(),
-    )?;
-    show(
-        rt,
-        "what they give comes back as the history has it",
-        told.status == 0 && out.bytes() == OUT && err.bytes().is_empty(),
-    )
+    let is_due = told.status == 0 && out.bytes() == OUT && err.bytes().is_empty();
+    show_all(rt, gate.both_began(), !gate.has_given_up(), is_due)
 }

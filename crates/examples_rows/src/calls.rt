@@ -6,8 +6,31 @@ use cpc_base::Stop;
 use cpc_base_memory::{MemShelf, MemSink};
 use std::alloc::{AllocError, Global};
 
-// Makes a call of the command over the objects of this setting.
-fn called<F>(
+// The sinks of this setting, `out` and `err`.
+fn sinks(alloc: Global, setting: Setting) -> Result<(IdleSink, MemSink), AllocError> {
+    let most = setting.most as usize;
+    let taking = MemSink::new(alloc, most, failing(alloc, setting.put)?);
+    let out = IdleSink::new(taking, failing(alloc, setting.idle)?);
+    let err = MemSink::new(alloc, most, failing(alloc, setting.said)?);
+    Ok((out, err))
+}
+
+// What a call left that told this.
+fn left_by(alloc: Global, told: Told, out: &IdleSink, err: &MemSink) -> Result<Left, AllocError> {
+    Ok(Left {
+        out: out.bytes().to_vec(alloc)?,
+        err: err.bytes().to_vec(alloc)?,
+        status: told.status,
+        steps: told.steps,
+        cells: told.cells,
+    })
+}
+
+/// Makes a call of the command over a shelf and over sinks of this setting.
+///
+/// # Errors
+/// Where memory is wanting.
+pub fn called<F>(
     call: &F,
     alloc: Global,
     words: &[String],
@@ -24,18 +47,9 @@ where
     ) -> Result<Told, AllocError>,
     requires { F.IsAlwaysCallable call.now }
 {
-    let most = setting.most as usize;
-    let taking = MemSink::new(alloc, most, failing(alloc, setting.put)?);
-    let mut out = IdleSink::new(taking, failing(alloc, setting.idle)?);
-    let mut err = MemSink::new(alloc, most, failing(alloc, setting.said)?);
+    let (mut out, mut err) = sinks(alloc, setting)?;
     let told = call(alloc, words, &mut shelf, &mut out, &mut err)?;
-    Ok(Left {
-        out: out.bytes().to_vec(alloc)?,
-        err: err.bytes().to_vec(alloc)?,
-        status: told.status,
-        steps: told.steps,
-        cells: told.cells,
-    })
+    left_by(alloc, told, &out, &err)
 }
 
 fn command<F>(
@@ -65,6 +79,12 @@ where
     )
 }
 
+// The words of a call of `exec` over the file `b.c`, with these behind it.
+fn exec_words(alloc: Global, line: &str) -> Result<Vec<String>, AllocError> {
+    let line = format!(in alloc; "exec b.c {line}")?;
+    words_of(alloc, line.as_str())
+}
+
 // The text is translated, and what is printed stands in the file `b.c` of a call of `exec` with these words.
 fn exec_printed<F>(
     call: &F,
@@ -87,8 +107,7 @@ where
     if printed.status != 0 {
         return Ok(printed);
     }
-    let mut words = words_of(alloc, "exec b.c")?;
-    words.append(&mut words_of(alloc, line)?)?;
+    let words = exec_words(alloc, line)?;
     let again = Files {
         text: printed.out.as_slice(),
         history: files.history,

@@ -106,12 +106,24 @@ where
 {
     let alloc = rt.alloc();
     for most in failing.iter() {
-        let left = each_read(stages, call, alloc, words, files, due, *most)?;
-        show_some(rt, words, files, &left)?;
-        let left = each_put(stages, call, alloc, words, files, due, *most)?;
-        show_some(rt, words, files, &left)?;
-        let left = each_said(stages, call, alloc, words, files, due, *most)?;
-        show_some(rt, words, files, &left)?;
+        show_some(
+            rt,
+            words,
+            files,
+            &each_read(stages, call, alloc, words, files, due, *most)?,
+        )?;
+        show_some(
+            rt,
+            words,
+            files,
+            &each_put(stages, call, alloc, words, files, due, *most)?,
+        )?;
+        show_some(
+            rt,
+            words,
+            files,
+            &each_said(stages, call, alloc, words, files, due, *most)?,
+        )?;
     }
     Ok(())
 }

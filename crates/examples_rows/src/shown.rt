@@ -1,5 +1,7 @@
 //! The examples, and what each writes: its output, the line on `err`, and its status.
+use crate::calls::called;
 use crate::idle::IdleSink;
+use crate::setting::{Left, steady, words_of};
 use crate::top::Told;
 use cpc_base_memory::{Calls, MemFile, MemShelf, MemSink};
 use std::alloc::{AllocError, Global};
@@ -28,23 +30,35 @@ const TOLD: [(&str, &str); 3] = [
     ("sorter.c", "sorter.polls"),
 ];
 
-fn never(alloc: Global) -> Calls {
-    Calls::new(Vec::new(alloc))
+// The files of the examples of these names.
+fn files(rt: &HostRuntime, names: &[&str]) -> anyhow::Result<Vec<MemFile>> {
+    let alloc = rt.alloc();
+    let mut files = Vec::new(alloc);
+    for name in names {
+        let bytes = fs::read(rt, name)?;
+        let name = String::from_str(alloc, name)?;
+        files.push(MemFile { name, bytes })?;
+    }
+    Ok(files)
 }
 
-// A file of the examples.
-fn file(rt: &HostRuntime, name: &str) -> anyhow::Result<MemFile> {
-    let bytes = fs::read(rt, name)?;
-    let name = String::from_str(rt.alloc(), name)?;
-    Ok(MemFile { name, bytes })
+// Shows what a call left, under a name.
+fn tell(rt: &HostRuntime, name: &str, left: &Left) -> anyhow::Result<()> {
+    let alloc = rt.alloc();
+    let status = left.status;
+    println!(rt; "== {name}")?;
+    print!(rt; "{}", String::from_utf8_lossy(alloc, left.out.as_slice())?)?;
+    print!(rt; "{}", String::from_utf8_lossy(alloc, left.err.as_slice())?)?;
+    println!(rt; "status {status}")?;
+    Ok(())
 }
 
-// Does what these words ask for over these files, and shows what comes of it under a name.
+// Does what the words of this line ask for over these files, and shows what comes of it under a name.
 fn show<F>(
     rt: &HostRuntime,
     call: &F,
     name: &str,
-    words: &[String],
+    line: &str,
     files: Vec<MemFile>,
 ) -> anyhow::Result<()>
 where
@@ -58,17 +72,10 @@ where
     requires { F.IsAlwaysCallable call.now }
 {
     let alloc = rt.alloc();
-    let mut shelf = MemShelf::new(files, 4096, never(alloc));
-    let taking = MemSink::new(alloc, 4096, never(alloc));
-    let mut out = IdleSink::new(taking, never(alloc));
-    let mut err = MemSink::new(alloc, 4096, never(alloc));
-    let told = call(alloc, words, &mut shelf, &mut out, &mut err)?;
-    let status = told.status;
-    println!(rt; "== {name}")?;
-    print!(rt; "{}", String::from_utf8_lossy(alloc, out.bytes())?)?;
-    print!(rt; "{}", String::from_utf8_lossy(alloc, err.bytes())?)?;
-    println!(rt; "status {status}")?;
-    Ok(())
+    let shelf = MemShelf::new(files, 4096, Calls::new(Vec::new(alloc)));
+    let words = words_of(alloc, line)?;
+    let left = called(call, alloc, words.as_slice(), shelf, steady(4096))?;
+    tell(rt, name, &left)
 }
 
 // Runs a text.
@@ -83,13 +90,8 @@ where
     ) -> Result<Told, AllocError>,
     requires { F.IsAlwaysCallable call.now }
 {
-    let alloc = rt.alloc();
-    let words = vec![in alloc;
-        String::from_str(alloc, "run")?,
-        String::from_str(alloc, name)?,
-    ]?;
-    let files = vec![in alloc; file(rt, name)?]?;
-    show(rt, call, name, words.as_slice(), files)
+    let line = format!(in rt.alloc(); "run {name}")?;
+    show(rt, call, name, line.as_str(), files(rt, &[name])?)
 }
 
 // Runs a text by its history.
@@ -104,15 +106,8 @@ where
     ) -> Result<Told, AllocError>,
     requires { F.IsAlwaysCallable call.now }
 {
-    let alloc = rt.alloc();
-    let words = vec![in alloc;
-        String::from_str(alloc, "run")?,
-        String::from_str(alloc, name)?,
-        String::from_str(alloc, "--history")?,
-        String::from_str(alloc, history)?,
-    ]?;
-    let files = vec![in alloc; file(rt, name)?, file(rt, history)?]?;
-    show(rt, call, name, words.as_slice(), files)
+    let line = format!(in rt.alloc(); "run {name} --history {history}")?;
+    show(rt, call, name, line.as_str(), files(rt, &[name, history])?)
 }
 
 /// Runs all examples, and shows what each writes.

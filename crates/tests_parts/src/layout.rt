@@ -1,15 +1,12 @@
 //! The layout of what nests deep, of which no clause speaks.
-use cpc_base::Names;
+use cpc_base::{Name, Names, NoMemory};
 use cpc_num::Kind;
 use cpc_printer_layout::{Lexeme, Sheet, text};
 use cpc_tree::token::{Keyword, Punctuator};
 use std::test::Fail;
 
-#[test]
-fn lines_and_levels(rt: HostRuntime) -> Result<(), Fail> {
-    let mut names = Names::new(rt.alloc());
-    let mut sheet = Sheet::new(rt.alloc(), true);
-    let x = names.intern(rt.alloc(), b"x")?;
+// Writes a block on the sheet, with lines in it and behind it.
+fn write(sheet: &mut Sheet, x: Name) -> Result<(), NoMemory> {
     sheet.mark(Punctuator::LeftBrace)?;
     sheet.set_in();
     sheet.line();
@@ -20,7 +17,15 @@ fn lines_and_levels(rt: HostRuntime) -> Result<(), Fail> {
     sheet.mark(Punctuator::Minus)?;
     sheet.set_out();
     sheet.line();
-    sheet.word(Keyword::Else)?;
+    sheet.word(Keyword::Else)
+}
+
+#[test]
+fn lines_and_levels(rt: HostRuntime) -> Result<(), Fail> {
+    let mut names = Names::new(rt.alloc());
+    let mut sheet = Sheet::new(rt.alloc(), true);
+    let x = names.intern(rt.alloc(), b"x")?;
+    write(&mut sheet, x)?;
     let out = text(rt.alloc(), &names, &sheet)?;
     assert!(rt; out.as_slice() == b"{\n    x = 20ul- -\nelse\n".as_slice());
     Ok(())
