@@ -24,4 +24,5 @@ pub mod LocalSteps
 pub mod Trees
 pub mod StmtSteps
 pub mod EntrySteps
+pub mod KindSteps
 pub mod Braced
