@@ -6,7 +6,8 @@ use Rattle.cpc_num.specs.declared.kinds.Kind.TheVariants as N
 use Rattle.cpc_tree.specs.declared.token.Keyword.TheVariants as K
 use Rattle.cpc_tree.specs.declared.token.Punctuator.TheVariants as P
 use Rattle.cpc_base.specs.declared.stop.Place.{Place}
-use Rattle.cpc_base.proofs.Lists.{some_is}
+use Rattle.cpc_base.proofs.Lists.{some_is, none_not_some}
+use Rattle.cpc_base.proofs.Truth.{by_false_true}
 use Rattle.cpc_tree.specs.Tokens.{Lexeme, Word, Mark, Named, Placed}
 use Rattle.cpc_tree.specs.Located.{Ident}
 use Rattle.cpc_tree.specs.Syntax.{Ty, TyInt, TyStruct}
@@ -40,7 +41,7 @@ of_first q (Word K.Int) v e = subst (λ w. Based (word q K.Int ∷ []) w) (some_
 of_first q (Word K.Long) v e = subst (λ w. Based (word q K.Long ∷ []) w) (some_is _ v e) (refl, long q, long_int q)
 of_first q (Word K.Signed) v e = subst (λ w. Based (word q K.Signed ∷ []) w) (some_is _ v e) (q, refl, refl)
 of_first q (Word K.Unsigned) v e = subst (λ w. Based (word q K.Unsigned ∷ []) w) (some_is _ v e) (q, refl, refl)
-of_first q t v e = absurd cc
+of_first q t v e = absurd (none_not_some v e)
 
 with_word : (f : List Placed) (v : Ty × Ending) (q : Place) (t : Lexeme) (c : Kind × Ending) → Based f v → next_word v.1 t ≡ Some c → Based (f ++ at q t ∷ []) (TyInt c.0, c.1)
 with_word f (u, LongWord kind) q (Word K.Int) c b e = subst (λ w. Based (f ++ word q K.Int ∷ []) (TyInt w.0, w.1)) (some_is _ c e) (kind_base _ kind (b.2 q))
@@ -50,16 +51,16 @@ with_word f (u, SignedWord) q (Word K.Long) c b e = subst (λ w. Based (f ++ wor
 with_word f (u, UnsignedWord) q (Word K.Char) c b e = subst (λ w. Based (f ++ word q K.Char ∷ []) (TyInt w.0, w.1)) (some_is _ c e) (rw (b.1) (kind_base _ N.UChar (unsigned_char b.0 q)))
 with_word f (u, UnsignedWord) q (Word K.Int) c b e = subst (λ w. Based (f ++ word q K.Int ∷ []) (TyInt w.0, w.1)) (some_is _ c e) (rw (b.1) (kind_base _ N.UInt (unsigned_int b.0 q)))
 with_word f (u, UnsignedWord) q (Word K.Long) c b e = subst (λ w. Based (f ++ word q K.Long ∷ []) (TyInt w.0, w.1)) (some_is _ c e) (rw (b.1) (refl, unsigned_long b.0 q, unsigned_long_int b.0 q))
-with_word f v q t c b e = absurd cc
+with_word f v q t c b e = absurd (none_not_some c e)
 
 struct_is : (q : Place) (t : Lexeme) → is_struct t ≡ true → at q t ≡ word q K.Struct
 struct_is q (Word K.Struct) e = refl
-struct_is q t e = absurd cc
+struct_is q t e = by_false_true e
 
 -- a token with the text of a name is the name
 pub named_in : (q : Place) (k : Lexeme) (x : Ident) → ident_in q k ≡ Some x → at q k ≡ named x
 named_in q (Named y) x e = ap (λ z. named z) (some_is _ x e)
-named_in q k x e = absurd cc
+named_in q k x e = absurd (none_not_some x e)
 
 pub named_is : (t : Placed) (x : Ident) → ident_of t ≡ Some x → t ≡ named x
 named_is t x e = named_in t.place t.lexeme x e
@@ -110,7 +111,7 @@ to_base f t h (struct_base q x) = (Done, first (word q K.Struct ∷ named x ∷ 
 
 pub star_is : (q : Place) (t : Lexeme) (c : Unit {0}) → star_class t ≡ Some c → at q t ≡ mark q P.Star
 star_is q (Mark P.Star) c e = refl
-star_is q t c e = absurd cc
+star_is q t c e = absurd (none_not_some c e)
 
 -- What is read is a base type and stars of the grammar.
 pub of_typed : (f : List Placed) (v : Ty × Ending) (h : ℕ) → Typed f v h → (a : List Placed) × (g : List Placed) × (base : Ty) × (f ≡ a ++ g) × ReadsBase a base 0 × ReadsStars base g v.0 h

@@ -4,6 +4,8 @@ use Rattle.std.proofs.lemmas.List.{append-nil}
 use Rattle.cpc_num.specs.declared.kinds.Kind.{Kind}
 use Rattle.cpc_tree.specs.declared.token.Punctuator.TheVariants as P
 use Rattle.cpc_base.specs.declared.stop.Place.{Place}
+use Rattle.cpc_base.proofs.Lists.{none_not_some}
+use Rattle.cpc_base.proofs.Truth.{by_false_true}
 use Rattle.cpc_tree.specs.Tokens.{Lexeme, Mark, Named, Number, Placed}
 use Rattle.cpc_tree.specs.Located.{Ident, LParameter}
 use Rattle.cpc_tree.specs.Syntax.{Ty, TyPointer, TyCode}
@@ -23,19 +25,19 @@ Shaped f (Closed t o) h = ReadsParam f (record { called = o; type = t }) h
 -- single marks
 unbracket_lexeme : (k : Lexeme) → is_unbracket k ≡ true → k ≡ Mark P.RightBracket
 unbracket_lexeme (Mark P.RightBracket) e = refl
-unbracket_lexeme k e = absurd cc
+unbracket_lexeme k e = by_false_true e
 
 pub right_lexeme : (k : Lexeme) → is_right k ≡ true → k ≡ Mark P.RightParen
 right_lexeme (Mark P.RightParen) e = refl
-right_lexeme k e = absurd cc
+right_lexeme k e = by_false_true e
 
 left_lexeme : (k : Lexeme) → is_left k ≡ true → k ≡ Mark P.LeftParen
 left_lexeme (Mark P.LeftParen) e = refl
-left_lexeme k e = absurd cc
+left_lexeme k e = by_false_true e
 
 star_lexeme : (k : Lexeme) → is_star k ≡ true → k ≡ Mark P.Star
 star_lexeme (Mark P.Star) e = refl
-star_lexeme k e = absurd cc
+star_lexeme k e = by_false_true e
 
 pub unbracket_is : (t : Placed) → is_unbracket t.lexeme ≡ true → t ≡ mark t.place P.RightBracket
 unbracket_is t e = ap (λ k. at t.place k) (unbracket_lexeme t.lexeme e)
@@ -51,7 +53,7 @@ star_mark t e = ap (λ k. at t.place k) (star_lexeme t.lexeme e)
 
 number_in : (q : Place) (k : Lexeme) → is_number k ≡ true → (kind : Kind) × (z : ℤ) × (at q k ≡ number q kind z)
 number_in q (Number kind z) e = (kind, z, refl)
-number_in q k e = absurd cc
+number_in q k e = by_false_true e
 
 number_is : (t : Placed) → is_number t.lexeme ≡ true → (kind : Kind) × (z : ℤ) × (t ≡ number t.place kind z)
 number_is t e = number_in t.place t.lexeme e
@@ -59,8 +61,9 @@ number_is t e = number_in t.place t.lexeme e
 name_in : (p : Piece) (q : Place) (k : Lexeme) → piece_class p k ≡ Some Name → (v : Ty × Ending) × (p ≡ Open v) × (at q k ≡ named (ident_at (at q k)))
 name_in (Open v) q (Named x) e = (v, refl, refl)
 name_in (Open v) q (Mark P.LeftBracket) e = absurd cc
+name_in (Open v) q (Mark P.LeftParen) e = absurd cc
 name_in (Known t x) q (Mark P.LeftBracket) e = absurd cc
-name_in p q k e = absurd cc
+name_in p q k e = absurd (none_not_some Name e)
 
 name_is : (p : Piece) (t : Placed) → piece_class p t.lexeme ≡ Some Name → (v : Ty × Ending) × (p ≡ Open v) × (t ≡ named (ident_at t))
 name_is p t e = name_in p t.place t.lexeme e
@@ -73,15 +76,19 @@ pub data Naming : Piece → Type 0 where
 brackets_in : (p : Piece) (q : Place) (k : Lexeme) → piece_class p k ≡ Some Brackets → Naming p × (at q k ≡ mark q P.LeftBracket)
 brackets_in (Open v) q (Mark P.LeftBracket) e = (without v, refl)
 brackets_in (Known t x) q (Mark P.LeftBracket) e = (with_name t x, refl)
-brackets_in p q k e = absurd cc
+brackets_in (Open v) q (Named x) e = absurd cc
+brackets_in (Open v) q (Mark P.LeftParen) e = absurd cc
+brackets_in p q k e = absurd (none_not_some Brackets e)
 
 brackets_is : (p : Piece) (t : Placed) → piece_class p t.lexeme ≡ Some Brackets → Naming p × (t ≡ mark t.place P.LeftBracket)
 brackets_is p t e = brackets_in p t.place t.lexeme e
 
 code_in : (p : Piece) (q : Place) (k : Lexeme) → piece_class p k ≡ Some Code → (v : Ty × Ending) × (p ≡ Open v) × (at q k ≡ mark q P.LeftParen)
 code_in (Open v) q (Mark P.LeftParen) e = (v, refl, refl)
+code_in (Open v) q (Named x) e = absurd cc
+code_in (Open v) q (Mark P.LeftBracket) e = absurd cc
 code_in (Known t x) q (Mark P.LeftBracket) e = absurd cc
-code_in p q k e = absurd cc
+code_in p q k e = absurd (none_not_some Code e)
 
 code_is : (p : Piece) (t : Placed) → piece_class p t.lexeme ≡ Some Code → (v : Ty × Ending) × (p ≡ Open v) × (t ≡ mark t.place P.LeftParen)
 code_is p t e = code_in p t.place t.lexeme e

@@ -3,6 +3,8 @@ use Rattle.std.proofs.Common.{◌≡◌, ℕ, ◌+◌, Bool, true, false, ◌||�
 use Rattle.cpc_num.specs.declared.kinds.Kind.TheVariants as N
 use Rattle.cpc_tree.specs.declared.token.Punctuator.TheVariants as P
 use Rattle.cpc_base.specs.declared.stop.Place.{Place}
+use Rattle.cpc_base.proofs.Lists.{none_not_some}
+use Rattle.cpc_base.proofs.Truth.{by_false_true}
 use Rattle.cpc_tree.specs.Tokens.{Lexeme, Word, Mark, Named, Number, Placed}
 use Rattle.cpc_tree.specs.Located.{Ident, LParameter}
 use Rattle.cpc_tree.specs.Syntax.{Ty}
@@ -46,11 +48,11 @@ starts_expect = record {
 
 text_is : (q : Place) (t : Lexeme) (x : Ident) → ident_in q t ≡ Some x → is_name t ≡ true
 text_is q (Named y) x e = refl
-text_is q t x e = absurd cc
+text_is q t x e = absurd (none_not_some x e)
 
 name_each : (q : Place) (t : Lexeme) → is_name t ≡ true → (m : ℕ) × Opens (One ident_of) m (at q t ∷ [])
 name_each q (Named y) e = let x : Ident = record { place = q; text = y } in (0, record { rest = []; value = x; nest = 0; reads = (named x, refl, refl, refl); fits = omega arith })
-name_each q t e = absurd cc
+name_each q t e = by_false_true e
 
 starts_name : Starts lexeme (λ k. is_name k ≡ true) (One ident_of)
 starts_name = record { head = λ f v h r. (r.0, [], r.1, text_is r.0.place r.0.lexeme v r.2); each = λ t e. name_each t.place t.lexeme e }
@@ -58,12 +60,12 @@ starts_name = record { head = λ f v h r. (r.0, [], r.1, text_is r.0.place r.0.l
 not_number : (o : Option (Unit {0})) (k : Lexeme) → is_unbracket k ≡ true → Absent is_number Any o k
 not_number None (Mark P.RightBracket) e = refl
 not_number (Some u) k e = tt
-not_number o k e = absurd cc
+not_number o k e = by_false_true e
 
 not_name : (o : Option Ident) (k : Lexeme) → is_right k ≡ true → Absent is_name Any o k
 not_name None (Mark P.RightParen) e = refl
 not_name (Some u) k e = tt
-not_name o k e = absurd cc
+not_name o k e = by_false_true e
 
 -- What may stand behind what has been read of a parameter.
 abbrev pub PieceEnd : Piece → Lexeme → Type 0
@@ -73,15 +75,15 @@ PieceEnd (Closed t o) k = Unit {0}
 
 word_ends : (e : Ending) (k : Lexeme) (c : Going) (t : Ty) → piece_class (Open (t, e)) k ≡ Some c → next_word e k ≡ None
 word_ends Done k c t e = refl
-word_ends (LongWord i) (Word k) c t e = absurd cc
+word_ends (LongWord i) (Word k) c t e = absurd (none_not_some c e)
 word_ends (LongWord i) k c t e = refl
-word_ends SignedWord (Word k) c t e = absurd cc
+word_ends SignedWord (Word k) c t e = absurd (none_not_some c e)
 word_ends SignedWord k c t e = refl
-word_ends UnsignedWord (Word k) c t e = absurd cc
+word_ends UnsignedWord (Word k) c t e = absurd (none_not_some c e)
 word_ends UnsignedWord k c t e = refl
 
 no_star_class : (v : Ty × Ending) (k : Lexeme) (c : Going) → piece_class (Open v) k ≡ Some c → star_class k ≡ None
-no_star_class v (Mark P.Star) c e = absurd cc
+no_star_class v (Mark P.Star) c e = absurd (none_not_some c e)
 no_star_class v k c e = refl
 
 piece_clear : (p : Piece) (k : Lexeme) (c : Going) → piece_class p k ≡ Some c → PieceEnd p k
@@ -134,11 +136,11 @@ comma_piece (Closed t o) = (tt, refl)
 
 right_mark : (k : Lexeme) → is_right k ≡ true → k ≡ Mark P.RightParen
 right_mark (Mark P.RightParen) e = refl
-right_mark k e = absurd cc
+right_mark k e = by_false_true e
 
 pub comma_mark : (k : Lexeme) → is_comma k ≡ true → k ≡ Mark P.Comma
 comma_mark (Mark P.Comma) e = refl
-comma_mark k e = absurd cc
+comma_mark k e = by_false_true e
 
 pub commas : Sample lexeme is_comma
 commas = record { token = token (Mark P.Comma); holds = refl }
@@ -166,7 +168,7 @@ each_by t true i o j e =
     let x = token (Named []) in
     (0, record { rest = x ∷ []; value = tagged nobody; nest = 0; reads = inl (t, x ∷ [], refl, i, (nobody, refl, (x, refl, refl, refl))); fits = omega arith })
 each_by t false i (Some v) j e = (0, record { rest = []; value = v; nest = 0; reads = inr (t, refl, j, refl); fits = omega arith })
-each_by t false i None j e = absurd cc
+each_by t false i None j e = by_false_true e
 
 head_by : (f : List Placed) (v : Ty × Ending) (h : ℕ) → Firsts f v h → (t : Placed) × (g : List Placed) × (f ≡ t ∷ g) × (starts_base t.lexeme ≡ true)
 head_by f v h (inl (t, g, e, p, r)) = (t, g, e, struct_starts t.lexeme p)

@@ -1,5 +1,6 @@
 -- The same marks and keywords are equal.
 use Rattle.std.proofs.Common.{◌≡◌, ◌↔◌, IsTrue, Bool, true, List, [], ◌∷◌, Some, refl, sym, ap, subst, ◌∙◌}
+use Rattle.cpc_base.proofs.Lists.{some_is, none_not_some}
 use Rattle.cpc_base.proofs.Truth.{equal_truth, by_false_true}
 use Rattle.cpc_tree.specs.declared.token.Keyword.{Keyword}
 use Rattle.cpc_tree.specs.declared.token.Keyword.TheVariants as K
@@ -113,35 +114,35 @@ word_equal p q e = by_false_true e
 
 pub kind_mark : (names : Names) (k : TokenKind) (mark : Punctuator) → is_mark mark (lexeme_of names k) ≡ true → k ≡ T.Punctuator mark
 kind_mark names (T.Punctuator p) mark e = ap (λ q. T.Punctuator q) (sym (mark_equal mark p e))
-kind_mark names (T.Keyword w) mark e = absurd cc
-kind_mark names (T.Name n) mark e = absurd cc
-kind_mark names (T.Integer kind z) mark e = absurd cc
-kind_mark names (T.Character z) mark e = absurd cc
-kind_mark names (T.Text bytes) mark e = absurd cc
+kind_mark names (T.Keyword w) mark e = by_false_true e
+kind_mark names (T.Name n) mark e = by_false_true e
+kind_mark names (T.Integer kind z) mark e = by_false_true e
+kind_mark names (T.Character z) mark e = by_false_true e
+kind_mark names (T.Text bytes) mark e = by_false_true e
 
 pub kind_word : (names : Names) (k : TokenKind) (word : Keyword) → is_word word (lexeme_of names k) ≡ true → k ≡ T.Keyword word
 kind_word names (T.Keyword w) word e = ap (λ q. T.Keyword q) (sym (word_equal word w e))
-kind_word names (T.Punctuator p) word e = absurd cc
-kind_word names (T.Name n) word e = absurd cc
-kind_word names (T.Integer kind z) word e = absurd cc
-kind_word names (T.Character z) word e = absurd cc
-kind_word names (T.Text bytes) word e = absurd cc
+kind_word names (T.Punctuator p) word e = by_false_true e
+kind_word names (T.Name n) word e = by_false_true e
+kind_word names (T.Integer kind z) word e = by_false_true e
+kind_word names (T.Character z) word e = by_false_true e
+kind_word names (T.Text bytes) word e = by_false_true e
 
 -- a mark is begun with exactly if it is the first
 begun : (names : Names) (ts : List Token) (mark : Punctuator) → begins mark (placed names ts) ≡ true → first_mark ts ≡ Some mark
-begun names [] mark e = absurd cc
+begun names [] mark e = by_false_true e
 begun names (t ∷ rest) mark e = rw (kind_mark names t.kind mark e) refl
 
 mark_of_kind : (names : Names) (k : TokenKind) (mark : Punctuator) → mark_in k ≡ Some mark → is_mark mark (lexeme_of names k) ≡ true
-mark_of_kind names (T.Punctuator p) mark e = let i : p ≡ mark = cc in rw i (mark_self mark)
-mark_of_kind names (T.Keyword w) mark e = absurd cc
-mark_of_kind names (T.Name n) mark e = absurd cc
-mark_of_kind names (T.Integer kind z) mark e = absurd cc
-mark_of_kind names (T.Character z) mark e = absurd cc
-mark_of_kind names (T.Text bytes) mark e = absurd cc
+mark_of_kind names (T.Punctuator p) mark e = rw (some_is p mark e) (mark_self mark)
+mark_of_kind names (T.Keyword w) mark e = absurd (none_not_some mark e)
+mark_of_kind names (T.Name n) mark e = absurd (none_not_some mark e)
+mark_of_kind names (T.Integer kind z) mark e = absurd (none_not_some mark e)
+mark_of_kind names (T.Character z) mark e = absurd (none_not_some mark e)
+mark_of_kind names (T.Text bytes) mark e = absurd (none_not_some mark e)
 
 begin_mark : (names : Names) (ts : List Token) (mark : Punctuator) → first_mark ts ≡ Some mark → begins mark (placed names ts) ≡ true
-begin_mark names [] mark e = absurd cc
+begin_mark names [] mark e = absurd (none_not_some mark e)
 begin_mark names (t ∷ rest) mark e = mark_of_kind names t.kind mark e
 
 pub begins_is : (names : Names) (ts : List Token) (mark : Punctuator) (b : Bool) → (IsTrue b ↔ (first_mark ts ≡ Some mark)) → b ≡ begins mark (placed names ts)
@@ -149,19 +150,19 @@ begins_is names ts mark b e = equal_truth b (begins mark (placed names ts)) (λ 
 
 -- the same of keywords
 word_begun : (names : Names) (ts : List Token) (word : Keyword) → begins_word word (placed names ts) ≡ true → first_word ts ≡ Some word
-word_begun names [] word e = absurd cc
+word_begun names [] word e = by_false_true e
 word_begun names (t ∷ rest) word e = rw (kind_word names t.kind word e) refl
 
 word_of_kind : (names : Names) (k : TokenKind) (word : Keyword) → word_in k ≡ Some word → is_word word (lexeme_of names k) ≡ true
-word_of_kind names (T.Keyword w) word e = let i : w ≡ word = cc in rw i (word_self word)
-word_of_kind names (T.Punctuator p) word e = absurd cc
-word_of_kind names (T.Name n) word e = absurd cc
-word_of_kind names (T.Integer kind z) word e = absurd cc
-word_of_kind names (T.Character z) word e = absurd cc
-word_of_kind names (T.Text bytes) word e = absurd cc
+word_of_kind names (T.Keyword w) word e = rw (some_is w word e) (word_self word)
+word_of_kind names (T.Punctuator p) word e = absurd (none_not_some word e)
+word_of_kind names (T.Name n) word e = absurd (none_not_some word e)
+word_of_kind names (T.Integer kind z) word e = absurd (none_not_some word e)
+word_of_kind names (T.Character z) word e = absurd (none_not_some word e)
+word_of_kind names (T.Text bytes) word e = absurd (none_not_some word e)
 
 begin_word : (names : Names) (ts : List Token) (word : Keyword) → first_word ts ≡ Some word → begins_word word (placed names ts) ≡ true
-begin_word names [] word e = absurd cc
+begin_word names [] word e = absurd (none_not_some word e)
 begin_word names (t ∷ rest) word e = word_of_kind names t.kind word e
 
 pub word_is : (names : Names) (ts : List Token) (word : Keyword) (b : Bool) → (IsTrue b ↔ (first_word ts ≡ Some word)) → b ≡ begins_word word (placed names ts)

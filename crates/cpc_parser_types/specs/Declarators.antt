@@ -5,7 +5,7 @@ use Rattle.cpc_tree.specs.Tokens.{Lexeme, Mark, Named, Number, Placed}
 use Rattle.cpc_tree.specs.Syntax.{Ty, TyPointer, TyCode, TyArray}
 use Rattle.cpc_tree.specs.Located.{Ident, LVariable, LParameter}
 use Rattle.cpc_tree.specs.TypeGrammar.{types, ReadsStars}
-use Rattle.cpc_parser_reading.specs.Reading.{Reader, nothing, one, before, after, pair, bind, mapped, headed, optional, one_of}
+use Rattle.cpc_parser_reading.specs.Reading.{Reader, Read, ◌>>=◌, nothing, one, before, after, pair, bind, mapped, headed, optional, one_of}
 use Rattle.cpc_parser_reading.specs.Chain.{Linking, chain}
 use Rattle.cpc_parser_types.specs.TypeReaders.{ident_of, ident_at, is_star, is_left, is_right, is_unbracket, star_class, lists}
 
@@ -81,6 +81,10 @@ abbrev pub variable_of : Ty × Declared → LVariable
 variable_of (t, Plain x None) = record { called = x; type = t }
 variable_of (t, Plain x (Some n)) = record { called = x; type = TyArray t n }
 variable_of (t, Pointer x ps) = record { called = x; type = TyCode t (types ps) }
+
+-- a variable behind stars, if the type with them is this one with this nesting
+abbrev pub variable_at : Ty → ℕ → ℕ → Reader Placed LVariable
+variable_at t h d ts = (declared_at d ts >>= λ y. Read ((t, y.0), max h y.1, y.2)) >>= λ z. Read (variable_of z.0, z.1, z.2)
 
 -- a variable behind a base type
 abbrev pub declarator_at : Ty → ℕ → Reader Placed LVariable

@@ -1,8 +1,9 @@
 //! Declarators, parameters and types without names (C11 6.7.6 and 6.7.7).
-ghost use Rattle.std.specs.Prelude.{◌≡◌, ◌<◌, ◌≤◌, ℕ, length, map, IfOk};
+ghost use Rattle.std.specs.Prelude.{◌≡◌, ◌<◌, ◌≤◌, ℕ, false, length, map, IfOk};
 ghost use Rattle.cpc_tree.specs.Erase.{Names, type_of};
 ghost use Rattle.cpc_tree.specs.Locate.{ident, located_parameter};
-ghost use Rattle.cpc_parser_types.specs.Declarators.{declarator_at};
+ghost use Rattle.cpc_parser_types.specs.Begins.{begins_name};
+ghost use Rattle.cpc_parser_types.specs.Declarators.{declarator_at, variable_at};
 ghost use Rattle.cpc_parser_types.specs.TypeViews.{base_type, coded_at, parameter_at, parameters_at, row_at, type_at};
 ghost use Rattle.cpc_parser_types.specs.Views.{placed, Gives};
 
@@ -27,18 +28,35 @@ pub fn declarator(
     ensures shorter { IfOk result (λ x. length x.3.now < length tokens.now) }
 {
     let (of, nest, rest) = stars(alloc, depth, base, tokens)?;
-    if begins_name(rest) {
-        let (word, rest) = name(rest)?;
-        let (of, rest) = array(alloc, of, rest)?;
-        return Ok((word, of, nest, rest));
+    if !begins_name(rest) {
+        return pointer(alloc, depth, of, nest, rest);
     }
-    if !begins_mark(rest, Punctuator::LeftParen) {
-        return fault(rest);
+    let (word, rest) = name(rest)?;
+    let (of, rest) = array(alloc, of, rest)?;
+    Ok((word, of, nest, rest))
+}
+
+// A variable that is a pointer to a function whose result and its nesting are known, from its opening mark on.
+fn pointer(
+    alloc: Global,
+    depth: usize,
+    of: CType,
+    nest: usize,
+    tokens: &[Token],
+) -> Result<(Word, CType, usize, &[Token]), Refusal>
+    requires unnamed { (names : Names) → begins_name (placed names tokens.now) ≡ false }
+    requires nest { nest ≤ depth }
+    ensures gives { (names : Names) → Gives (λ x. (record { called = ident names x.0; type = type_of names x.1 }, x.2, placed names x.3.now)) result (variable_at (type_of names of) nest depth (placed names tokens.now)) }
+    ensures nest { IfOk result (λ x. x.2 ≤ depth) }
+    ensures shorter { IfOk result (λ x. length x.3.now < length tokens.now) }
+{
+    if !begins_mark(tokens, Punctuator::LeftParen) {
+        return fault(tokens);
     }
     if depth == 0 {
-        return deep(rest);
+        return deep(tokens);
     }
-    let (_, rest) = expect_mark(rest, Punctuator::LeftParen)?;
+    let (_, rest) = expect_mark(tokens, Punctuator::LeftParen)?;
     let (_, rest) = expect_mark(rest, Punctuator::Star)?;
     let (word, rest) = name(rest)?;
     let (of, nest, rest) = code(alloc, depth, of, nest, rest)?;
