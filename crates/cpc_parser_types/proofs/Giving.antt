@@ -1,5 +1,5 @@
 -- What functions of the parser give, from what those that they call give.
-use Rattle.std.proofs.Common.{◌≡◌, ℕ, List, length, Result, Err, ap, ◌∙◌}
+use Rattle.std.proofs.Common.{◌≡◌, ℕ, List, length, Result, Err, refl, ap, ◌∙◌}
 use Rattle.std.specs.Result.{IsErrAnd}
 use Rattle.std.proofs.lemmas.List.{length-map}
 use Rattle.std.proofs.lemmas.Result.{err_from_is_err_and}
@@ -41,3 +41,9 @@ read_is x y e = ap (value_or x) e
 pub err_through : {Y A B : Type 0} (view : Y → B × ℕ × List Placed) (x : Result Y GRefusal.Refusal) (e : GRefusal.Refusal) (r : Reading Placed A) (s : Reading Placed B) (k : A × ℕ × List Placed → Reading Placed B)
     → IsErrAnd x (λ y. y ≡ e) → Refuses e r → s ≡ (r >>= k) → Gives view x s
 err_through view x e r s k i g j = let p = err_from_is_err_and x i in rw (p.1, p.2) (err_on e r s k g j)
+
+-- what goes on twice goes on once
+pub goes_on : {T A B C : Type 0} (r : Reading T A) (f : A × ℕ × List T → Reading T B) (g : B × ℕ × List T → Reading T C) → ((r >>= f) >>= g) ≡ (r >>= λ x. f x >>= g)
+goes_on (Read x) f g = refl
+goes_on (Fault left) f g = refl
+goes_on (Deep left) f g = refl

@@ -106,3 +106,8 @@ parameters_row d [] e = absurd cc
 parameters_row d (u ∷ rest) e =
     ap (λ r. r >>= λ x. Read (params_of x.0, x.1, x.2)) (optional_begins (λ t. starts_base t.lexeme) d (separated (λ t. is_comma t.lexeme) (param_at (λ us. lists d us) d)) u rest e)
     ∙ row_by (separated (λ t. is_comma t.lexeme) (param_at (λ us. lists d us) d) (u ∷ rest))
+
+-- where none begins, no parameters
+pub parameters_none : (d : ℕ) (ts : List Placed) → begins_base ts ≡ false → parameters_at d ts ≡ Read ([], 0, ts)
+parameters_none d [] e = refl
+parameters_none d (u ∷ rest) e = rw e refl

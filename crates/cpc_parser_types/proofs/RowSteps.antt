@@ -12,11 +12,11 @@ use Rattle.cpc_parser_reading.specs.Lists.{separated, several}
 use Rattle.cpc_parser_reading.proofs.Readers.{links_end, links_stop, separated_on}
 use Rattle.cpc_parser_types.specs.Begins.{begins}
 use Rattle.cpc_parser_types.specs.TypeReaders.{Piece, is_comma, lists, param_at, param_of}
-use Rattle.cpc_parser_types.specs.TypeViews.{parameter_at}
+use Rattle.cpc_parser_types.specs.TypeViews.{parameter_at, row_at}
 use Rattle.cpc_parser_types.specs.Views.{Refuses}
 use Rattle.cpc_parser_types.specs.declared.refusal.Refusal as GRefusal
 use Rattle.cpc_parser_types.specs.declared.refusal.Refusal.TheVariants as R
-use Rattle.cpc_parser_types.proofs.Giving.{read_is}
+use Rattle.cpc_parser_types.proofs.Giving.{read_is, goes_on}
 use Rattle.cpc_parser_types.proofs.Params.{commas, param_exact, ParamEnd, comma_mark, comma_piece}
 use Rattle.cpc_parser_types.proofs.Lists.{lists_exact}
 
@@ -78,6 +78,11 @@ err_seen (R.Syntax n) (Deep left) k g = let i = g.2 in absurd cc
 err_seen (R.Deep n) (Read x) k g = let i = g.2 in absurd cc
 err_seen (R.Deep n) (Fault left) k g = let i = g.2 in absurd cc
 err_seen (R.Deep n) (Deep left) k g = (left, subst (λ l. length l ≡ n) (sym (deep_is left g.0 (Deep left) (Deep g.0) g.2 refl refl)) g.1, refl)
+
+pub row_first_err : (d : ℕ) (ts : List Placed) (e : GRefusal.Refusal) → Refuses e (parameter_at d ts) → Refuses e (row_at d ts)
+row_first_err d ts e g =
+    subst (λ r. Refuses e (r >>= λ x. Read (map param_of x.0, x.1, x.2))) (sym (goes_on (param_at (λ us. lists d us) d ts) (λ x. Read (x.0 ∷ [], x.1, x.2)) (λ x. rest_at d x.0 x.1 x.2)))
+    (err_seen e (param_at (λ us. lists d us) d ts) (λ x. rest_at d (x.0 ∷ []) x.1 x.2) g)
 
 pub row_err : (d : ℕ) (ps : List Piece) (h : ℕ) (q : Place) (rest : List Placed) (e : GRefusal.Refusal) (s : Reading Placed (List Piece)) → h ≤ d → rest_at d ps h (mark q P.Comma ∷ rest) ≡ s → Refuses e (parameter_at d rest)
     → Refuses e (s >>= λ x. Read (map param_of x.0, x.1, x.2))

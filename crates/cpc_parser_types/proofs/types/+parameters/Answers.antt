@@ -1,18 +1,21 @@
-use Rattle.std.proofs.Common.{◌≡◌, ◌+◌, [], ◌∷◌, ◌++◌, max, map, refl, sym, ap, ◌∙◌, arith}
+use Rattle.std.proofs.Common.{◌≡◌, ◌+◌, List, [], ◌∷◌, ◌++◌, max, map, refl, sym, ap, ◌∙◌, arith}
 use Rattle.std.specs.Option.{option_map}
+use Rattle.cpc_tree.specs.declared.program.Parameter as GParameter
 use Rattle.cpc_tree.specs.declared.token.Punctuator.TheVariants as P
 use Rattle.cpc_tree.specs.Erase.{type_of}
 use Rattle.cpc_tree.specs.Locate.{ident, located_parameter}
 use Rattle.cpc_tree.specs.Syntax.{TyCode}
 use Rattle.cpc_tree.specs.TypeGrammar.{types, without_void}
-use Rattle.cpc_parser_reading.specs.Reading.{Read, ◌>>=◌, expect}
-use Rattle.cpc_parser_types.specs.TypeReaders.{is_right, param_of}
+use Rattle.cpc_parser_reading.specs.Reading.{Read, ◌>>=◌, expect, after}
+use Rattle.cpc_parser_types.specs.TypeReaders.{is_left, is_right, lists, param_of}
+use Rattle.cpc_parser_types.specs.TypeViews.{coded_at}
 use Rattle.cpc_parser_types.specs.Views.{placed}
 use Rattle.cpc_parser_types.proofs.BehindSteps.{finished_at}
-use Rattle.cpc_parser_types.proofs.NamelessSteps.{parameters_row}
-use Rattle.cpc_parser_types.proofs.Giving.{err_through, deep_here}
+use Rattle.cpc_parser_types.proofs.NamelessSteps.{parameters_row, parameters_none}
+use Rattle.cpc_parser_types.proofs.Giving.{err_through, deep_here, goes_on}
 use Rattle.std.proofs.lemmas.Result.{err_from_is_err_and}
-use Rattle.cpc_parser_types.proofs.RowSteps.{rest_at, row_first, row_next, row_last, row_err, pushed}
+use Rattle.cpc_parser_types.proofs.RowSteps.{rest_at, row_first, row_first_err, row_next, row_last, row_err, pushed}
+use Rattle.cpc_parser_types.proofs.TypedSteps.{behind_at, parameter_is}
 use Rattle.cpc_parser_types.proofs.TokenSteps.{code_tokens, param_deep, param_code, param_named, param_plain, begun_err}
 use Rattle.cpc_parser_types.proofs.types.+parameters.Goals as goal
 
@@ -87,7 +90,7 @@ row-returns-in_err-behind-clause-gives t c =
 pub row-more-init : goal.row-more-init
 row-more-init t c = (
   λ names. let k = row_first c.args.depth (placed names c.args.tokens.now) (placed names c.in_ok-first.rest.now) (located_parameter names c.in_ok-first.first) c.in_ok-first.nest (c.in_ok-first.ensures.gives names) in
-      (k.0 ∷ [], pushed param_of (located_parameter names) [] [] c.push.new.self.items k.0 c.in_ok-first.first refl k.1 (c.in_ok-push.ensures.items ∙ ap (λ l. l ++ c.in_ok-first.first ∷ []) c.new-all.ensures.items), k.2),
+      (k.0 ∷ [], pushed param_of (located_parameter names) [] [] c.push.new.self.items k.0 c.in_ok-first.first refl k.1 (◌∙◌ {A = List GParameter.Parameter} c.in_ok-push.ensures.items (ap (λ l. l ++ c.in_ok-first.first ∷ []) c.new-all.ensures.items)), k.2),
   c.in_ok-first.ensures.nest,
   c.in_ok-first.ensures.shorter,
 )
@@ -117,3 +120,33 @@ row-returns-clause-gives t c =
     λ names. let inv = c.more.invariant.0 names in
     ap (λ r. r >>= λ x. Read (map param_of x.0, x.1, x.2)) (sym inv.2 ∙ row_last c.args.depth inv.0 c.more.nest (placed names c.more.rest.now) (sym (c.begins_mark.ensures names) ∙ c.more-test.false))
     ∙ ap (λ l. Read (l, c.more.nest, placed names c.more.rest.now)) inv.1
+
+pub code-returns-in_err-rest-clause-gives : goal.code-returns-in_err-rest-clause-gives
+code-returns-in_err-rest-clause-gives t c =
+    λ names. err_through _ _ _ _ _ (λ x. after (λ u. is_left u.lexeme) (λ us. lists c.args.depth us) x.2 >>= λ y. Read (TyCode (type_of names c.args.of) (types y.0), max c.args.nest y.1, y.2)) c.from_residual.ensures.1 (c.in_err-rest.ensures.gives names)
+    (goes_on (expect (λ u. is_right u.lexeme) (placed names c.args.tokens.now)) (λ x. after (λ u. is_left u.lexeme) (λ us. lists c.args.depth us) x.2) (λ y. Read (TyCode (type_of names c.args.of) (types y.0), max c.args.nest y.1, y.2)))
+
+pub code-returns-in_err-rest-2-clause-gives : goal.code-returns-in_err-rest-2-clause-gives
+code-returns-in_err-rest-2-clause-gives t c =
+    λ names. err_through _ _ _ _ _ (λ x. lists c.args.depth x.2 >>= λ y. Read (TyCode (type_of names c.args.of) (types y.0), max c.args.nest y.1, y.2)) c.from_residual-in_err-rest-2.ensures.1 (c.in_err-rest-2.ensures.gives names)
+    (ap (λ z. coded_at (type_of names c.args.of) c.args.nest c.args.depth (placed names z)) c.in_ok-rest.ensures.first
+    ∙ goes_on (expect (λ u. is_left u.lexeme) (placed names c.in_ok-rest.rest.now)) (λ x. lists c.args.depth x.2) (λ y. Read (TyCode (type_of names c.args.of) (types y.0), max c.args.nest y.1, y.2)))
+
+pub parameters-returns-then-not-begins_base-clause-gives : goal.parameters-returns-then-not-begins_base-clause-gives
+parameters-returns-then-not-begins_base-clause-gives t c =
+    λ names. parameters_none c.args.depth (placed names c.args.tokens.now) (sym (c.begins_base.ensures names) ∙ c.if-not-begins_base.true)
+    ∙ ap (λ l. Read (map (located_parameter names) l, 0, placed names c.args.tokens.now)) (sym c.new.ensures.items)
+
+pub parameters-returns-in_err-list-clause-gives : goal.parameters-returns-in_err-list-clause-gives
+parameters-returns-in_err-list-clause-gives t c =
+    λ names. err_through _ _ _ _ _ (λ x. Read (without_void x.0, x.1, x.2)) c.from_residual.ensures.1 (c.in_err-list.ensures.gives names)
+    (parameters_row c.args.depth (placed names c.args.tokens.now) (sym (c.begins_base.ensures names) ∙ c.if-not-begins_base.false))
+
+pub parameter-returns-in_err-of-clause-gives : goal.parameter-returns-in_err-of-clause-gives
+parameter-returns-in_err-of-clause-gives t c =
+    λ names. err_through _ _ _ _ _ (λ x. behind_at c.args.depth x.0 x.1 x.2) c.from_residual.ensures.1 (c.in_err-of.ensures.gives names) (parameter_is c.args.depth (placed names c.args.tokens.now))
+
+pub row-returns-in_err-first-clause-gives : goal.row-returns-in_err-first-clause-gives
+row-returns-in_err-first-clause-gives t c =
+    let p = err_from_is_err_and c.from_residual.result c.from_residual.ensures.1 in
+    λ names. rw (p.1, p.2) (row_first_err c.args.depth (placed names c.args.tokens.now) c.in_err-first.field-0.0 (c.in_err-first.ensures.gives names))
