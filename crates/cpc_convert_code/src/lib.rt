@@ -4,5 +4,6 @@
 mod beginning;
 mod converting;
 mod parts;
+mod pieces;
 
 pub use converting::convert;

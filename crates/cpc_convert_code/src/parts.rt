@@ -12,10 +12,11 @@ ghost use Rattle.cpc_convert_pieces.specs.Around.{Stands};
 ghost use Rattle.cpc_convert_items.specs.Listed.{listed};
 ghost use Rattle.cpc_convert_code.specs.Given.{AreGiven, routines_by};
 
+use crate::pieces::pieces;
 use cpc_base::{Names, NoMemory};
 use cpc_convert_items::Items;
 use cpc_convert_names::{Book, Called};
-use cpc_convert_pieces::{Around, pieces};
+use cpc_convert_pieces::Around;
 use cpc_convert_rows::Stepped;
 use std::alloc::Global;
 

@@ -1,5 +1,3 @@
-pub mod Growing
-pub mod Respawned
 pub mod Codes
 pub mod Keeping
 pub mod Passes

@@ -4,7 +4,7 @@ use Rattle.std.proofs.lemmas.List.{map-append, append-nil}
 use Rattle.cpc_tree.specs.Syntax.{Stmt, Stmts, NoStmt, AndStmt}
 use Rattle.cpc_convert_chain_laws.specs.Flat.{before}
 use Rattle.cpc_convert_lines.specs.Written.{Written, put, puts}
-use Rattle.cpc_convert_items.proofs.Growing.{taken_more}
+use Rattle.cpc_convert_respawning.proofs.Growing.{taken_more}
 
 -- two rows
 pub puts_both : (w : Written) (xs ys : List Stmt) → puts w (xs ++ ys) ≡ puts (puts w xs) ys

@@ -8,12 +8,11 @@ ghost use Rattle.cpc_convert_event.specs.Converted.{kept_items, kept_function};
 ghost use Rattle.cpc_convert_names.specs.Book.{IsBook};
 ghost use Rattle.cpc_convert_items.specs.Listed.{listed};
 
-use crate::copying::{copy_fields, copy_parameters};
 use crate::items::Items;
-use crate::respawning::respawn;
 use cpc_base::NoMemory;
 use cpc_convert_images::copy_if;
 use cpc_convert_names::Book;
+use cpc_convert_respawning::{copy_fields, copy_parameters, respawn};
 use cpc_shapes::copy_of;
 use cpc_tree::program::{Function, Item, Mode};
 use std::alloc::Global;

@@ -5,20 +5,15 @@ mod around;
 mod arriving;
 mod frames;
 mod leaving;
-mod opening;
 mod out;
 mod simple;
 mod trees;
 mod ways;
 
 pub use around::{Around, closure, label, local, local_type, piece, readings, tag};
-pub use arriving::{arriving_at, target};
+pub use arriving::{arriving_at, load, load_arriving, target};
 pub use frames::{ask_block, begin_frame, make_frame};
 pub use leaving::{hand_nothing, hand_over, leave};
-pub use opening::{
-    box_variables, declare_variables, declare_words, free_frame, load_next, load_value,
-    load_variables, take_frame,
-};
 pub use out::Out;
 pub use trees::{
     any_pointer, field, frame_through, is_scalar, is_there, named, size_of, to_struct, zero,

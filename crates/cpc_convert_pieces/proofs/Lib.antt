@@ -1,6 +1,1 @@
-mod Written
-mod Knowing
-mod Found
 mod Rowed
-mod Within
-mod Made

@@ -9,7 +9,7 @@ use Rattle.cpc_convert_event.specs.Names.{node_label}
 use Rattle.cpc_convert_event.specs.Routines.{Routine}
 use Rattle.cpc_convert_event.specs.Rows.{PutRow, row_of, put_lines, put_rows, put_statement, first_number, is_wanted, label_if, rows_statements}
 use Rattle.cpc_convert_lines.specs.Written.{Written}
-use Rattle.cpc_convert_pieces.proofs.Written.{plain, labelled_by}
+use Rattle.cpc_convert_opening.proofs.Written.{plain, labelled_by}
 
 first_left : (p : Program) (r : Routine) (l : Place) (ns : List ℕ) (j : ℕ) → first_number (map (row_of p r l) (drop j ns)) ≡ slice_get ns j
 first_left p r l [] zero = refl

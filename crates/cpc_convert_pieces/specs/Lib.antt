@@ -1,5 +1,3 @@
-pub mod Whole
-pub mod Labels
-pub mod Parts
+pub use Rattle.cpc_convert_opening.specs.Whole
 pub use Rattle.cpc_convert_lines.specs.Around
 pub use Rattle.cpc_convert_lines.specs.declared.around.Around as ConvertLinesAround

@@ -1,11 +1,9 @@
-//! The pieces of an event program: what is made of an owner of a cps function.
+//! The pieces of an event program: the statements that are made of an owner of a cps function.
 #![tactic(auto)]
 
-mod calls;
-mod kept;
 mod making;
-mod opening;
 mod rows;
 
 pub use cpc_convert_lines::Around;
-pub use making::{piece, pieces};
+pub use cpc_convert_opening::owner_name;
+pub use making::statements;

@@ -11,7 +11,7 @@ ghost use Rattle.cpc_convert_event.specs.Rows as R;
 ghost use Rattle.cpc_convert_names.specs.Called.{nodes_in};
 ghost use Rattle.cpc_convert_lines.specs.Around.{Stands, IsNode};
 ghost use Rattle.cpc_convert_lines.specs.Written.{written, puts};
-ghost use Rattle.cpc_convert_pieces.specs.Labels.{label_where};
+ghost use Rattle.cpc_convert_opening.specs.Labels.{label_where};
 ghost use Rattle.cpc_convert_rows.specs.Marks.{is_set};
 ghost use Rattle.cpc_convert_rows.specs.Steps.{IsStepped};
 

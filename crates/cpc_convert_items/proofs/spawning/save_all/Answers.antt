@@ -7,7 +7,7 @@ use Rattle.cpc_convert_chain_laws.specs.Frames.{saves_one}
 use Rattle.cpc_convert_event.specs.Lines.{save_of}
 use Rattle.cpc_convert_event.specs.Names.{frame_name}
 use Rattle.cpc_convert_lines.specs.Written.{written, puts}
-use Rattle.cpc_convert_items.proofs.Growing.{mapped_twice}
+use Rattle.cpc_convert_respawning.proofs.Growing.{mapped_twice}
 use Rattle.cpc_convert_items.proofs.Putting.{put_more}
 use Rattle.cpc_convert_items.proofs.spawning.save_all.Goals as goal
 

@@ -5,7 +5,7 @@ use Rattle.cpc_base.proofs.Lists.{get_or_within}
 use Rattle.cpc_tree.specs.Erase.{field_of}
 use Rattle.cpc_convert_event.specs.Routines.{local_of, locals_of}
 use Rattle.cpc_convert_lines.specs.Around.{IsVariable}
-use Rattle.cpc_convert_items.proofs.Growing.{more}
+use Rattle.cpc_convert_respawning.proofs.Growing.{more}
 use Rattle.cpc_convert_items.proofs.Standing.{kept_within}
 use Rattle.cpc_convert_items.proofs.structs.keep_all.Goals as goal
 

@@ -2,8 +2,8 @@ use Rattle.std.proofs.Common.{ap, ◌∙◌, ◌++◌, []}
 use Rattle.cpc_forms_code.specs.Splits.{place_of}
 use Rattle.cpc_convert_event.specs.Rows.{piece_statements}
 use Rattle.cpc_convert_lines.specs.Written.{Written, puts}
-use Rattle.cpc_convert_pieces.specs.Parts.{opening_of}
-use Rattle.cpc_convert_pieces.proofs.Written.{puts_plain}
+use Rattle.cpc_convert_opening.specs.Parts.{opening_of}
+use Rattle.cpc_convert_opening.proofs.Written.{puts_plain}
 use Rattle.cpc_convert_pieces.proofs.making.statements.Goals as goal
 
 pub returns : goal.returns

@@ -4,8 +4,8 @@ use Rattle.cpc_convert_event.specs.Rows.{row_of, put_rows, is_wanted, rows_state
 use Rattle.cpc_convert_lines.specs.Around.{IsNode}
 use Rattle.cpc_convert_lines.specs.Written.{written}
 use Rattle.cpc_convert_rows.specs.Marks.{is_set}
-use Rattle.cpc_convert_pieces.proofs.Knowing.{many, numbers_within}
-use Rattle.cpc_convert_pieces.proofs.Written.{plain}
+use Rattle.cpc_convert_opening.proofs.Knowing.{many, numbers_within}
+use Rattle.cpc_convert_opening.proofs.Written.{plain}
 use Rattle.cpc_convert_pieces.proofs.making.write_all.Goals as goal
 
 pub returns : goal.returns

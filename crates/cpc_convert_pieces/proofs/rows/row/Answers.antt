@@ -2,7 +2,7 @@ use Rattle.std.proofs.Common.{map}
 use Rattle.cpc_forms_code.specs.Splits.{place_of}
 use Rattle.cpc_convert_event.specs.Rows.{put_statement, put_lines, row_of}
 use Rattle.cpc_convert_lines.specs.Written.{written}
-use Rattle.cpc_convert_pieces.proofs.Written.{row_written}
+use Rattle.cpc_convert_opening.proofs.Written.{row_written}
 use Rattle.cpc_convert_pieces.proofs.rows.row.Goals as goal
 
 pub returns : goal.returns

@@ -6,7 +6,7 @@ use Rattle.cpc_tree.specs.Typing.{is_scalar}
 use Rattle.cpc_convert_event.specs.Frames.{value_struct_if, start_struct, leader_struct}
 use Rattle.cpc_convert_lines.specs.Around.{IsNode}
 use Rattle.cpc_convert_items.specs.Listed.{listed}
-use Rattle.cpc_convert_items.proofs.Growing.{more}
+use Rattle.cpc_convert_respawning.proofs.Growing.{more}
 use Rattle.cpc_convert_items.proofs.items.Items.frame_structs.Goals as goal
 
 pub loop-leader-init : goal.loop-leader-init

@@ -12,7 +12,7 @@ use Rattle.cpc_convert_event.specs.Names.{start_name, pointer_name}
 use Rattle.cpc_convert_event.specs.Pieces.{spawner_function, piece_function, leader_function, parameter_of, called_so}
 use Rattle.cpc_convert_lines.specs.Around.{IsNode}
 use Rattle.cpc_convert_items.specs.Listed.{listed}
-use Rattle.cpc_convert_items.proofs.Growing.{more, mapped_twice}
+use Rattle.cpc_convert_respawning.proofs.Growing.{more, mapped_twice}
 use Rattle.cpc_convert_items.proofs.Standing.{called_is}
 use Rattle.cpc_convert_items.proofs.items.Items.prototypes.Goals as goal
 

@@ -1,0 +1,5 @@
+pub mod Written
+pub mod Knowing
+pub mod Found
+pub mod Within
+pub mod Made
