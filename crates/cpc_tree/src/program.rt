@@ -1,6 +1,16 @@
 //! The trees of a program: each node with its place, each name by its number in the program's table.
-use cpc_base::{Name, Names, Place};
+ghost use Rattle.std.specs.Prelude.{◌≡◌, IfOk, option_map};
+ghost use Rattle.cpc_tree.specs.Erase as E;
+ghost use Rattle.cpc_tree.specs.Erase.{type_of};
+ghost use Rattle.cpc_tree.specs.Typing as T;
+ghost use Rattle.cpc_tree.specs.Typing.{APlace};
+
+use cpc_base::{Name, Names, NoMemory, Place};
 use cpc_num::{Kind, Op};
+use std::alloc::Global;
+
+// What a tree owns is let go of here and not by a derive: a crate that lets go of one then calls this, and does not prove
+// it again in each function that may end while it owns one.
 
 /// A name where it is written. `place` is that of its first byte.
 #[derive(Clone, Copy)]
@@ -34,7 +44,6 @@ pub enum Mode {
 }
 
 /// A type of the language (C11 6.2.5).
-#[derive(Drop)]
 pub enum CType {
     Void,
     /// An integer type.
@@ -51,6 +60,58 @@ pub enum CType {
     Struct(Name),
     /// An array, and how many elements it has.
     Array(Box<CType>, u64),
+}
+
+impl Drop for CType {
+    fn drop(self) {
+        match self {
+            CType::Void => {}
+            CType::Int(_) => {}
+            CType::Condvar => {}
+            CType::Pointer(to) => drop(to),
+            CType::Code { result, parameters } => {
+                drop(result);
+                drop(parameters);
+            }
+            CType::Struct(_) => {}
+            CType::Array(element, _) => drop(element),
+        }
+    }
+}
+
+impl CType {
+    /// What a pointer type points to; of any other type nothing.
+    pub fn target(self) -> Option<CType>
+        ensures { (names : E.Names) → option_map (type_of names) result ≡ T.target (type_of names self) }
+    {
+        match self {
+            CType::Pointer(to) => Some(Box::into_inner(to)),
+            _ => None,
+        }
+    }
+
+    /// The type of a pointer to a place of a type: to an array's element where it is an array (C11 6.3.2.1). Where there is
+    /// no memory for it, `NoMemory`.
+    pub fn pointer(self, alloc: Global) -> Result<CType, NoMemory>
+        ensures { IfOk result (λ pointer. (names : E.Names) → type_of names pointer ≡ T.pointer_type (type_of names self)) }
+    {
+        match self {
+            CType::Array(element, _) => Ok(CType::Pointer(element)),
+            of => Ok(CType::Pointer(Box::new(alloc, of)?)),
+        }
+    }
+
+    /// The type of what a place of the type gives where it is used as a value: a pointer to the element of an array
+    /// (C11 6.3.2.1), and nothing of a struct.
+    pub fn read(self) -> Option<CType>
+        ensures { (names : E.Names) → option_map (type_of names) result ≡ T.used (APlace (type_of names self)) }
+    {
+        match self {
+            CType::Array(element, _) => Some(CType::Pointer(element)),
+            CType::Struct(_) => None,
+            of => Some(of),
+        }
+    }
 }
 
 /// An expression (C11 6.5). `place` is that of the first byte of its literal or of its operator: of `Index`, `CallIn`
@@ -128,8 +189,6 @@ pub enum Expr {
     },
 }
 
-// What an expression owns is let go of here and not by a derive: a crate that lets go of one then calls this, and does
-// not prove it again.
 impl Drop for Expr {
     fn drop(self) {
         match self {
@@ -224,7 +283,6 @@ impl Drop for Expr {
 ///
 /// `operator` is the place of the assignment's operator, of `=` before a call or a section; where an initialiser is such
 /// a call it is the declared name's, and where there is no place for the value it is the statement's own.
-#[derive(Drop)]
 pub enum Statement {
     Block {
         place: Place,
@@ -316,6 +374,104 @@ pub enum Statement {
     },
 }
 
+impl Drop for Statement {
+    fn drop(self) {
+        match self {
+            Statement::Block { place: _, inner } => drop(inner),
+            Statement::Empty { place: _ } => {}
+            Statement::Declare {
+                place: _,
+                word: _,
+                of,
+                start,
+            } => {
+                drop(of);
+                drop(start);
+            }
+            Statement::Assign {
+                place: _,
+                operator: _,
+                target,
+                op: _,
+                value,
+            } => {
+                drop(target);
+                drop(value);
+            }
+            Statement::Call {
+                place: _,
+                operator: _,
+                target,
+                function,
+                arguments,
+            } => {
+                drop(target);
+                drop(function);
+                drop(arguments);
+            }
+            Statement::Detach {
+                place: _,
+                operator: _,
+                keyword: _,
+                target,
+                function: _,
+                arguments,
+            } => {
+                drop(target);
+                drop(arguments);
+            }
+            Statement::Spawn {
+                place: _,
+                function: _,
+                arguments,
+            } => drop(arguments),
+            Statement::If {
+                place: _,
+                test,
+                yes,
+                no,
+            } => {
+                drop(test);
+                drop(yes);
+                drop(no);
+            }
+            Statement::While {
+                place: _,
+                test,
+                body,
+            } => {
+                drop(test);
+                drop(body);
+            }
+            Statement::DoWhile {
+                place: _,
+                body,
+                test,
+            } => {
+                drop(body);
+                drop(test);
+            }
+            Statement::For {
+                place: _,
+                first,
+                test,
+                step,
+                body,
+            } => {
+                drop(first);
+                drop(test);
+                drop(step);
+                drop(body);
+            }
+            Statement::Goto { place: _, label: _ } => {}
+            Statement::Label { label: _, inner } => drop(inner),
+            Statement::Break { place: _ } => {}
+            Statement::Continue { place: _ } => {}
+            Statement::Return { place: _, value } => drop(value),
+        }
+    }
+}
+
 /// A parameter, which a prototype may leave unnamed.
 #[derive(Drop)]
 pub struct Parameter {
@@ -331,7 +487,6 @@ pub struct Field {
 }
 
 /// A function with its body, which is a Block. `place` is that of its first byte, `word` its name.
-#[derive(Drop)]
 pub struct Function {
     pub place: Place,
     pub mode: Mode,
@@ -341,8 +496,23 @@ pub struct Function {
     pub body: Statement,
 }
 
+impl Drop for Function {
+    fn drop(self) {
+        let Function {
+            place: _,
+            mode: _,
+            word: _,
+            result,
+            parameters,
+            body,
+        } = self;
+        drop(result);
+        drop(parameters);
+        drop(body);
+    }
+}
+
 /// A part of a program (C11 6.9). A declaration of several declarators is several parts.
-#[derive(Drop)]
 pub enum Item {
     Struct {
         tag: Word,
@@ -365,10 +535,44 @@ pub enum Item {
     Function(Function),
 }
 
+impl Drop for Item {
+    fn drop(self) {
+        match self {
+            Item::Struct { tag: _, fields } => drop(fields),
+            Item::Global { word: _, of, start } => {
+                drop(of);
+                drop(start);
+            }
+            Item::Prototype {
+                place: _,
+                mode: _,
+                word: _,
+                result,
+                parameters,
+            } => {
+                drop(result);
+                drop(parameters);
+            }
+            Item::Function(function) => drop(function),
+        }
+    }
+}
+
 /// A program. Its names are numbers of its table of texts; `end` is the place just after the last byte of its text.
-#[derive(Drop)]
 pub struct Program {
     pub names: Names,
     pub items: Vec<Item>,
     pub end: Place,
+}
+
+impl Drop for Program {
+    fn drop(self) {
+        let Program {
+            names,
+            items,
+            end: _,
+        } = self;
+        drop(names);
+        drop(items);
+    }
 }

@@ -15,7 +15,7 @@ ghost use Rattle.cpc_types.specs.Scoped.{scope_of};
 use crate::fields::field_type;
 use crate::operators::{
     TypeFound, address_type, binary_type, can_cast, choice_type, int_where, is_tested, moved,
-    place_at, sum_type, target, unary_type, used, value_of,
+    place_at, sum_type, unary_type, used, value_of,
 };
 use crate::scope::Scope;
 use crate::sizes::is_complete;
@@ -202,7 +202,7 @@ fn element(
     match t {
         Some(t) => match u {
             Some(u) => match sum_type(alloc, t, u, can_move(t, u, scope))? {
-                Some(sum) => Ok(place_at(target(sum))),
+                Some(sum) => Ok(place_at(sum.target())),
                 None => Ok(TypeFound::Absent),
             },
             None => Ok(TypeFound::Absent),
@@ -238,7 +238,7 @@ pub fn arrow_form(
     ensures { IfOk result (λ form. (names : Names) → AreApart names → found_of names form ≡ arrow_of (scope_of names scope.now).items (found_of names found) (names field)) }
 {
     match used(found) {
-        Some(of) => field_type(alloc, target(of), field, scope),
+        Some(of) => field_type(alloc, of.target(), field, scope),
         None => Ok(TypeFound::Absent),
     }
 }

@@ -50,9 +50,7 @@ pub fn used(found: TypeFound) -> Option<CType>
 {
     match found {
         TypeFound::Value(of) => Some(of),
-        TypeFound::Place(CType::Array(of, _)) => Some(CType::Pointer(of)),
-        TypeFound::Place(CType::Struct(_)) => None,
-        TypeFound::Place(of) => Some(of),
+        TypeFound::Place(of) => of.read(),
         TypeFound::Absent => None,
     }
 }
@@ -280,32 +278,12 @@ pub(crate) fn can_cast(null: bool, t: &CType, u: &CType) -> bool
     }
 }
 
-/// What a pointer type points to.
-pub(crate) fn target(of: CType) -> Option<CType>
-    ensures { (names : Names) → optional_of names result ≡ T.target (type_of names of) }
-{
-    match of {
-        CType::Pointer(to) => Some(Box::into_inner(to)),
-        _ => None,
-    }
-}
-
-/// A pointer to a place of the type: of an array, to its element.
-pub(crate) fn pointer_type(alloc: Global, of: CType) -> Result<CType, NoMemory>
-    ensures { IfOk result (λ pointer. (names : Names) → type_of names pointer ≡ T.pointer_type (type_of names of)) }
-{
-    match of {
-        CType::Array(element, _) => Ok(CType::Pointer(element)),
-        of => Ok(CType::Pointer(Box::new(alloc, of)?)),
-    }
-}
-
 /// `&` of a variable, or of a function's name.
 pub(crate) fn address_type(alloc: Global, found: TypeFound) -> Result<TypeFound, NoMemory>
     ensures { IfOk result (λ value. (names : Names) → found_of names value ≡ option_map T.address_type (found_of names found)) }
 {
     match found {
-        TypeFound::Place(of) => Ok(TypeFound::Value(pointer_type(alloc, of)?)),
+        TypeFound::Place(of) => Ok(TypeFound::Value(of.pointer(alloc)?)),
         TypeFound::Value(of) => Ok(TypeFound::Value(of)),
         TypeFound::Absent => Ok(TypeFound::Absent),
     }
@@ -325,8 +303,11 @@ fn sign_type(found: TypeFound) -> TypeFound
     ensures { (names : Names) → found_of names result ≡ T.sign_type UnaryOp.Minus (found_of names found) }
 {
     match used(found) {
-        Some(CType::Int(kind)) => TypeFound::Value(CType::Int(promoted(kind))),
-        _ => TypeFound::Absent,
+        Some(of) => match &of {
+            CType::Int(kind) => TypeFound::Value(CType::Int(promoted(*kind))),
+            _ => TypeFound::Absent,
+        },
+        None => TypeFound::Absent,
     }
 }
 
@@ -335,7 +316,7 @@ fn target_type(found: TypeFound) -> TypeFound
 {
     match used(found) {
         None => TypeFound::Absent,
-        Some(of) => place_at(target(of)),
+        Some(of) => place_at(of.target()),
     }
 }
 
@@ -383,7 +364,7 @@ pub(crate) fn unary_type(
         UnaryOp::Not => Ok(int_where(is_tested(found))),
         UnaryOp::Dereference => Ok(target_type(found)),
         UnaryOp::AddressOf => match found {
-            TypeFound::Place(of) => Ok(TypeFound::Value(pointer_type(alloc, of)?)),
+            TypeFound::Place(of) => Ok(TypeFound::Value(of.pointer(alloc)?)),
             _ => Ok(TypeFound::Absent),
         },
     }
