@@ -9,7 +9,7 @@ use Rattle.cpc_tree.specs.declared.program.Parameter.{Parameter}
 use Rattle.cpc_tree.specs.Erase.{Names, type_of, parameter_of}
 use Rattle.cpc_tree.specs.Locate.{located_expr, located_exprs}
 use Rattle.cpc_tree.specs.Primitives as P
-use Rattle.cpc_tree.specs.Syntax.{Ty}
+use Rattle.cpc_tree.specs.Syntax.{Ty, TyCode}
 use Rattle.cpc_tree.specs.Typing as T
 use Rattle.cpc_check_rules.specs.Scopes.{Scope}
 use Rattle.cpc_check_rules.specs.Calls as C
@@ -24,19 +24,16 @@ listed : (ts : List Ty) → T.list_of_tys (T.tys_of ts) ≡ ts
 listed [] = refl
 listed (t ∷ ts) = ap (λ us. t ∷ us) (listed ts)
 
--- the function of a pointer
-code_called : (names : Names) (b : Box CType Global) (ts : Vec CType Global) → C.Takes (map (λ t. C.Of t) (map (type_of names) ts.items)) (type_of names b.value) ≡ C.code_callee (optional_of names (Some (V.Code b ts)))
-code_called names b ts = sym (
-    ap (λ t. C.code_callee (Some t)) (code_is names b ts)
-    ∙ ap (λ us. C.Takes (map (λ t. C.Of t) us) (type_of names b.value)) (listed (map (type_of names) ts.items)))
+-- the function of a pointer, by what its type is taken apart to
+pub code_taken : (t : Ty) (r : Ty) (ps : List Ty) → Some (T.function_type r ps) ≡ T.code_type t → C.Takes (map (λ p. C.Of p) ps) r ≡ C.code_callee (Some t)
+code_taken (TyCode s qs) r ps e =
+    let g : TyCode r (T.tys_of ps) ≡ TyCode s qs = cc in
+    ap (λ us. C.Takes (map (λ p. C.Of p) us) r) (sym (listed ps)) ∙ ap (λ t. C.code_callee (Some t)) g
+code_taken t r ps e = cc
 
-pub code_called_at : (names : Names) (o : Option CType) (x : CType) (b b' : Box CType Global) (ts ts' : Vec CType Global) → o ≡ Some x → x ≡ V.Code b ts → b' ≡ b → ts' ≡ ts
-    → C.Takes (map (λ t. C.Of t) (map (type_of names) ts'.items)) (type_of names b'.value) ≡ C.code_callee (optional_of names o)
-code_called_at names o x b b' ts ts' e f g h =
-    ap (λ us. C.Takes (map (λ t. C.Of t) (map (type_of names) us.items)) (type_of names b'.value)) h
-    ∙ ap (λ r. C.Takes (map (λ t. C.Of t) (map (type_of names) ts.items)) (type_of names r.value)) g
-    ∙ code_called names b ts
-    ∙ sym (ap (λ u. C.code_callee (optional_of names u)) (e ∙ ap (λ y. Some y) f))
+pub code_untaken : (t : Ty) → None ≡ T.code_type t → C.NoCallee ≡ C.code_callee (Some t)
+code_untaken (TyCode s qs) e = cc
+code_untaken t e = refl
 
 -- ---- parameters that are integers
 

@@ -229,17 +229,12 @@ pub(crate) fn named_rules(first: &mut First, place: Place, callee: &Callee, w: &
 fn code_callee<'s>(of: Option<CType>) -> Callee<'s>
     ensures { (names : Spelling) → callee_of names result ≡ C.code_callee (optional_of names of) }
 {
-    match of {
-        Some(
-            CType::Code {
-                result: given,
-                parameters,
-            },
-        ) => Callee::Code {
-            result: given,
-            parameters,
-        },
-        _ => Callee::NoCode,
+    let Some(of) = of else {
+        return Callee::NoCode;
+    };
+    match of.into_code() {
+        Some((result, parameters)) => Callee::Code { result, parameters },
+        None => Callee::NoCode,
     }
 }
 

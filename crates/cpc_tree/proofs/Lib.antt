@@ -6,3 +6,4 @@ pub mod Spelled
 pub mod Known
 pub mod Places
 pub mod LocatedClauses
+pub mod Codes

@@ -166,6 +166,11 @@ list_of_tys (AndTy t ts) = t ∷ list_of_tys ts
 abbrev pub function_type : (result : Ty) → (parameters : List Ty) → Ty
 function_type r ps = TyCode r (tys_of ps)
 
+-- the type, where it is that of a function
+abbrev pub code_type : Ty → Option Ty
+code_type (TyCode r ps) = Some (TyCode r ps)
+code_type _ = None
+
 -- the parameter types of a code type
 abbrev pub code_parameters : Ty → List Ty
 code_parameters (TyCode r ps) = list_of_tys ps

@@ -1,5 +1,5 @@
 //! The trees of a program: each node with its place, each name by its number in the program's table.
-ghost use Rattle.std.specs.Prelude.{◌≡◌, IfOk, option_map};
+ghost use Rattle.std.specs.Prelude.{◌≡◌, IfOk, map, option_map};
 ghost use Rattle.cpc_tree.specs.Erase as E;
 ghost use Rattle.cpc_tree.specs.Erase.{type_of};
 ghost use Rattle.cpc_tree.specs.Typing as T;
@@ -110,6 +110,17 @@ impl CType {
             CType::Array(element, _) => Some(CType::Pointer(element)),
             CType::Struct(_) => None,
             of => Some(of),
+        }
+    }
+
+    /// What a function of the type gives and what it takes; of any other type nothing.
+    #[tactic(auto, using(std::proofs::lemmas::Grind::common_steps, crate::proofs::Codes::code_given))]
+    pub fn into_code(self) -> Option<(Box<CType>, Vec<CType>)>
+        ensures { (names : E.Names) → option_map (λ code. T.function_type (type_of names code.0.value) (map (type_of names) code.1.items)) result ≡ T.code_type (type_of names self) }
+    {
+        match self {
+            CType::Code { result, parameters } => Some((result, parameters)),
+            _ => None,
         }
     }
 }
