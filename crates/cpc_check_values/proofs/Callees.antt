@@ -3,7 +3,6 @@ use Rattle.std.proofs.Common.{◌≡◌, ℕ, ◌+◌, ◌<◌, ◌≤◌, true,
 use Rattle.std.specs.Prelude.{slice_get}
 use Rattle.std.proofs.lemmas.List.{drop_more, drop_all}
 use Rattle.cpc_tree.specs.declared.program.CType.{CType}
-use Rattle.cpc_tree.specs.declared.program.CType.TheVariants as V
 use Rattle.cpc_tree.specs.declared.program.Expr.{Expr}
 use Rattle.cpc_tree.specs.declared.program.Parameter.{Parameter}
 use Rattle.cpc_tree.specs.Erase.{Names, type_of, parameter_of}
@@ -14,7 +13,6 @@ use Rattle.cpc_tree.specs.Typing as T
 use Rattle.cpc_check_rules.specs.Scopes.{Scope}
 use Rattle.cpc_check_rules.specs.Calls as C
 use Rattle.cpc_shapes.specs.Listed.{optional_of}
-use Rattle.cpc_shapes.proofs.CodeParts.{code_is}
 use Rattle.cpc_check_values.specs.declared.primitives.Primitive.{Primitive}
 use Rattle.cpc_check_values.specs.declared.primitives.Primitive.TheVariants as R
 use Rattle.cpc_check_values.proofs.Arguments.{counted}
@@ -30,6 +28,12 @@ code_taken (TyCode s qs) r ps e =
     let g : TyCode r (T.tys_of ps) ≡ TyCode s qs = cc in
     ap (λ us. C.Takes (map (λ p. C.Of p) us) r) (sym (listed ps)) ∙ ap (λ t. C.code_callee (Some t)) g
 code_taken t r ps e = cc
+
+pub code_taken_at : (names : Names) (o : Option CType) (x : CType) (b : Box CType Global) (ts : Vec CType Global) → o ≡ Some x
+    → Some (T.function_type (type_of names b.value) (map (type_of names) ts.items)) ≡ T.code_type (type_of names x)
+    → C.Takes (map (λ t. C.Of t) (map (type_of names) ts.items)) (type_of names b.value) ≡ C.code_callee (optional_of names o)
+code_taken_at names o x b ts e f =
+    code_taken (type_of names x) (type_of names b.value) (map (type_of names) ts.items) f ∙ sym (ap (λ u. C.code_callee (optional_of names u)) e)
 
 pub code_untaken : (t : Ty) → None ≡ T.code_type t → C.NoCallee ≡ C.code_callee (Some t)
 code_untaken (TyCode s qs) e = cc
