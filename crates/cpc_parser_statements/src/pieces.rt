@@ -4,7 +4,7 @@ ghost use Rattle.cpc_tree.specs.Erase.{Names};
 ghost use Rattle.cpc_tree.specs.Locate.{located_expr, located_stmt};
 ghost use Rattle.cpc_parser_types.specs.Views.{placed, Gives};
 ghost use Rattle.cpc_parser_statements.specs.StmtReaders.{test_at, maybe_at, sentence_at, first_at, last_at};
-ghost use Rattle.cpc_parser_statements.specs.CodeViews.{seen, opening_at, step_at, declaration_at, goto_in, break_in, continue_in, return_in, spawn_in};
+ghost use Rattle.cpc_parser_statements.specs.CodeViews.{held, seen, opening_at, step_at, declaration_at, goto_in, break_in, continue_in, return_in, spawn_in};
 
 use crate::class::first_of;
 use crate::local::local;
@@ -187,9 +187,9 @@ fn step(
     alloc: Global,
     room: usize,
     tokens: &[Token],
-) -> Result<(Option<Statement>, usize, &[Token]), Refusal>
+) -> Result<(Option<Box<Statement>>, usize, &[Token]), Refusal>
     requires { 0 < room }
-    ensures gives { (names : Names) → Gives (λ x. (option_map (located_stmt names) x.0, x.1, placed names x.2.now)) result (step_at room (placed names tokens.now)) }
+    ensures gives { (names : Names) → Gives (λ x. (held names x.0, x.1, placed names x.2.now)) result (step_at room (placed names tokens.now)) }
     ensures nest { IfOk result (λ x. x.1 ≤ room) }
     ensures shorter { IfOk result (λ x. length x.2.now ≤ length tokens.now) }
 {
@@ -197,7 +197,8 @@ fn step(
         return Ok((None, 0, tokens));
     };
     let (statement, nest, rest) = simple(alloc, room, tokens)?;
-    Ok((Some(statement), nest, rest))
+    let step = Box::new(alloc, statement)?;
+    Ok((Some(step), nest, rest))
 }
 
 /// The last part of a `for`, and the mark behind it.
@@ -205,9 +206,9 @@ pub fn last_part(
     alloc: Global,
     room: usize,
     tokens: &[Token],
-) -> Result<(Option<Statement>, usize, &[Token]), Refusal>
+) -> Result<(Option<Box<Statement>>, usize, &[Token]), Refusal>
     requires { 0 < room }
-    ensures gives { (names : Names) → Gives (λ x. (option_map (located_stmt names) x.0, x.1, placed names x.2.now)) result (last_at room (placed names tokens.now)) }
+    ensures gives { (names : Names) → Gives (λ x. (held names x.0, x.1, placed names x.2.now)) result (last_at room (placed names tokens.now)) }
     ensures nest { IfOk result (λ x. x.1 ≤ room) }
     ensures shorter { IfOk result (λ x. length x.2.now < length tokens.now) }
 {

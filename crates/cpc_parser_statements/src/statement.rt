@@ -79,6 +79,24 @@ fn inside(
     }
 }
 
+// A statement that stands in another one, in the box in which that holds it. So no function of this cycle keeps a whole
+// statement while it reads the next, and what nests takes little of the stack.
+#[cycle(statement)]
+fn inner(
+    alloc: Global,
+    depth: usize,
+    tokens: &[Token],
+) -> Result<(Box<Statement>, usize, &[Token]), Refusal>
+    requires { 0 < depth }
+    ensures gives { (names : Names) → Gives (λ x. (located_stmt names x.0.value, x.1, placed names x.2.now)) result (statement_at depth (placed names tokens.now)) }
+    ensures nest { IfOk result (λ x. x.1 ≤ depth) }
+    ensures shorter { IfOk result (λ x. length x.2.now < length tokens.now) }
+{
+    let (statement, nest, rest) = statement(alloc, depth, tokens)?;
+    let held = Box::new(alloc, statement)?;
+    Ok((held, nest, rest))
+}
+
 // A label and its statement, or a statement that begins with an expression, a mark or a section.
 #[cycle(statement)]
 fn labelled(
@@ -102,9 +120,8 @@ fn labelled(
     }
     let (label, rest) = name(tokens)?;
     let (_, rest) = expect_mark(rest, Punctuator::Colon)?;
-    let (inner, nest, rest) = statement(alloc, depth - 1, rest)?;
-    let made = making::labels(alloc, label, inner)?;
-    Ok((made, nest + 1, rest))
+    let (inner, nest, rest) = inner(alloc, depth - 1, rest)?;
+    Ok((making::labels(label, inner), nest + 1, rest))
 }
 
 /// A block.
@@ -203,14 +220,14 @@ fn conditional(
     ensures shorter { IfOk result (λ x. length x.2.now < length tokens.now) }
 {
     let (test, outer, rest) = test(alloc, room, tokens)?;
-    let (yes, first, rest) = statement(alloc, room, rest)?;
+    let (yes, first, rest) = inner(alloc, room, rest)?;
     if !begins_word(rest, Keyword::Else) {
-        let made = making::branched(alloc, place, test, yes, None)?;
+        let made = making::branched(place, test, yes, None);
         return Ok((made, deeper(outer, first) + 1, rest));
     }
     let (_, rest) = expect_word(rest, Keyword::Else)?;
-    let (no, second, rest) = statement(alloc, room, rest)?;
-    let made = making::branched(alloc, place, test, yes, Some(no))?;
+    let (no, second, rest) = inner(alloc, room, rest)?;
+    let made = making::branched(place, test, yes, Some(no));
     Ok((made, deeper(outer, deeper(first, second)) + 1, rest))
 }
 
@@ -229,8 +246,8 @@ fn while_loop(
     ensures shorter { IfOk result (λ x. length x.2.now < length tokens.now) }
 {
     let (test, outer, rest) = test(alloc, room, tokens)?;
-    let (body, nest, rest) = statement(alloc, room, rest)?;
-    let made = making::looped(alloc, place, test, body)?;
+    let (body, nest, rest) = inner(alloc, room, rest)?;
+    let made = making::looped(place, test, body);
     Ok((made, deeper(outer, nest) + 1, rest))
 }
 
@@ -248,11 +265,11 @@ fn do_loop(
     ensures nest { IfOk result (λ x. x.1 ≤ room + 1) }
     ensures shorter { IfOk result (λ x. length x.2.now < length tokens.now) }
 {
-    let (body, nest, rest) = statement(alloc, room, tokens)?;
+    let (body, nest, rest) = inner(alloc, room, tokens)?;
     let (_, rest) = expect_word(rest, Keyword::While)?;
     let (test, outer, rest) = test(alloc, room, rest)?;
     let (_, rest) = expect_mark(rest, Punctuator::Semicolon)?;
-    let made = making::until(alloc, place, body, test)?;
+    let made = making::until(place, body, test);
     Ok((made, deeper(nest, outer) + 1, rest))
 }
 
@@ -274,8 +291,8 @@ fn for_loop(
     let (first, one, rest) = first_part(alloc, room, rest)?;
     let (test, two, rest) = maybe(alloc, room, rest)?;
     let (step, three, rest) = last_part(alloc, room, rest)?;
-    let (body, four, rest) = statement(alloc, room, rest)?;
-    let made = making::counted(alloc, place, first, test, step, body)?;
+    let (body, four, rest) = inner(alloc, room, rest)?;
+    let made = making::counted(place, first, test, step, body);
     let nest = deeper(one, deeper(two, deeper(three, four)));
     Ok((made, nest + 1, rest))
 }

@@ -1,6 +1,5 @@
-use Rattle.std.proofs.Common.{rules}
 use Rattle.cpc_parser_statements.proofs.Trees.{if_is}
 use Rattle.cpc_parser_statements.proofs.making.branched.Goals as goal
 
-pub returns-clause-is : goal.returns-clause-is
-returns-clause-is c = search (rules, if_is)
+pub returns : goal.returns
+returns c = λ names. if_is names c.args.place c.args.test c.args.yes c.args.no

@@ -8,7 +8,7 @@ use Rattle.cpc_parser_statements.specs.CodeViews.{class_seen, seen}
 use Rattle.cpc_parser_statements.proofs.SimpleSteps.{deep_at}
 use Rattle.cpc_parser_statements.proofs.StmtSteps.{fault_at, statement_none, statement_deep, statement_simple, statement_in, labelled_deep, labelled_sentence}
 use Rattle.cpc_parser_statements.proofs.EntrySteps.{one_local, one_stated, entries_next, entries_deep, entries_end, entries_fail}
-use Rattle.cpc_parser_statements.proofs.KindSteps.{memory_through, read_as, while_steps, do_steps, if_steps, if_alone, if_on, for_steps, label_steps, labelled_unnamed, block_steps}
+use Rattle.cpc_parser_statements.proofs.KindSteps.{read_as, while_steps, do_steps, if_steps, if_alone, if_on, for_steps, label_steps, labelled_unnamed, block_steps}
 use Rattle.std.proofs.lemmas.Result.{err_from_is_err_and}
 use Rattle.cpc_parser_statements.proofs.statement.+statement.Goals as goal
 
@@ -96,14 +96,11 @@ labelled-returns-in_err-inner-clause-gives t c = λ names.
     let b = on_read _ _ _ _ a (c.in_ok-rest.ensures.gives names) in
     err_through _ c.from_residual-in_err-inner.result c.in_err-inner.field-0.0 _ _ _ c.from_residual-in_err-inner.ensures.1 (c.in_err-inner.ensures.gives names) b
 
-pub labelled-returns-in_err-made-clause-gives : goal.labelled-returns-in_err-made-clause-gives
-labelled-returns-in_err-made-clause-gives t c = λ names. memory_through _ c.from_residual-in_err-made.result c.in_err-made.field-0.0 _ c.from_residual-in_err-made.ensures.1 c.in_err-made.ensures.wants
-
 pub labelled-returns-clause-gives : goal.labelled-returns-clause-gives
 labelled-returns-clause-gives t c = λ names.
     let a = on_read _ _ _ _ (label_steps c.args.depth (placed names c.args.tokens.now) (sym (c.begins_label.ensures names) ∙ c.if-not-begins_label.false) (omega (arith, c.if-depth-lt2.false))) (c.in_ok-label.ensures.gives names) in
     let b = on_read _ _ _ _ a (c.in_ok-rest.ensures.gives names) in
-    read_as _ _ _ _ _ _ (on_read _ _ _ _ b (c.in_ok-inner.ensures.gives names)) (c.in_ok-made.ensures.is names) (omega arith)
+    read_as _ _ _ _ _ _ (on_read _ _ _ _ b (c.in_ok-inner.ensures.gives names)) (c.labels.ensures names) (omega arith)
 
 pub inside-returns-in-Block-clause-gives : goal.inside-returns-in-Block-clause-gives
 inside-returns-in-Block-clause-gives t c = λ names. rw c.in-Block.is (c.braced.ensures.gives names)
@@ -150,13 +147,10 @@ while_loop-returns-in_err-body-clause-gives t c = λ names.
     let a = on_read _ _ _ _ (while_steps c.args.place c.args.room (placed names c.args.tokens.now)) (c.in_ok-test.ensures.gives names) in
     err_through _ c.from_residual-in_err-body.result c.in_err-body.field-0.0 _ _ _ c.from_residual-in_err-body.ensures.1 (c.in_err-body.ensures.gives names) a
 
-pub while_loop-returns-in_err-made-clause-gives : goal.while_loop-returns-in_err-made-clause-gives
-while_loop-returns-in_err-made-clause-gives t c = λ names. memory_through _ c.from_residual-in_err-made.result c.in_err-made.field-0.0 _ c.from_residual-in_err-made.ensures.1 c.in_err-made.ensures.wants
-
 pub while_loop-returns-clause-gives : goal.while_loop-returns-clause-gives
 while_loop-returns-clause-gives t c = λ names.
     let a = on_read _ _ _ _ (while_steps c.args.place c.args.room (placed names c.args.tokens.now)) (c.in_ok-test.ensures.gives names) in
-    read_as _ _ _ _ _ _ (on_read _ _ _ _ a (c.in_ok-body.ensures.gives names)) (c.in_ok-made.ensures.is names) (ap (λ n. n + 1) c.deeper.ensures)
+    read_as _ _ _ _ _ _ (on_read _ _ _ _ a (c.in_ok-body.ensures.gives names)) (c.looped-made.ensures names) (ap (λ n. n + 1) c.deeper.ensures)
 
 pub do_loop-returns-in_err-body-clause-gives : goal.do_loop-returns-in_err-body-clause-gives
 do_loop-returns-in_err-body-clause-gives t c = λ names.
@@ -180,15 +174,12 @@ do_loop-returns-in_err-rest-2-clause-gives t c = λ names.
     let d = on_read _ _ _ _ b (c.in_ok-test.ensures.gives names) in
     err_through _ c.from_residual-in_err-rest-2.result c.in_err-rest-2.field-0.0 _ _ _ c.from_residual-in_err-rest-2.ensures.1 (c.in_err-rest-2.ensures.gives names) d
 
-pub do_loop-returns-in_err-made-clause-gives : goal.do_loop-returns-in_err-made-clause-gives
-do_loop-returns-in_err-made-clause-gives t c = λ names. memory_through _ c.from_residual-in_err-made.result c.in_err-made.field-0.0 _ c.from_residual-in_err-made.ensures.1 c.in_err-made.ensures.wants
-
 pub do_loop-returns-clause-gives : goal.do_loop-returns-clause-gives
 do_loop-returns-clause-gives t c = λ names.
     let a = on_read _ _ _ _ (do_steps c.args.place c.args.room (placed names c.args.tokens.now)) (c.in_ok-body.ensures.gives names) in
     let b = on_read _ _ _ _ a (c.in_ok-rest.ensures.gives names) in
     let d = on_read _ _ _ _ b (c.in_ok-test.ensures.gives names) in
-    read_as _ _ _ _ _ _ (on_read _ _ _ _ d (c.in_ok-rest-2.ensures.gives names)) (c.in_ok-made.ensures.is names) (ap (λ n. n + 1) c.deeper.ensures)
+    read_as _ _ _ _ _ _ (on_read _ _ _ _ d (c.in_ok-rest-2.ensures.gives names)) (c.until-made.ensures names) (ap (λ n. n + 1) c.deeper.ensures)
 
 pub conditional-returns-in_err-test-clause-gives : goal.conditional-returns-in_err-test-clause-gives
 conditional-returns-in_err-test-clause-gives t c = λ names.
@@ -199,14 +190,11 @@ conditional-returns-in_err-yes-clause-gives t c = λ names.
     let a = on_read _ _ _ _ (if_steps c.args.place c.args.room (placed names c.args.tokens.now)) (c.in_ok-test.ensures.gives names) in
     err_through _ c.from_residual-in_err-yes.result c.in_err-yes.field-0.0 _ _ _ c.from_residual-in_err-yes.ensures.1 (c.in_err-yes.ensures.gives names) a
 
-pub conditional-returns-in_err-made-clause-gives : goal.conditional-returns-in_err-made-clause-gives
-conditional-returns-in_err-made-clause-gives t c = λ names. memory_through _ c.from_residual-in_err-made.result c.in_err-made.field-0.0 _ c.from_residual-in_err-made.ensures.1 c.in_err-made.ensures.wants
-
 pub conditional-returns-then-not-begins_word-clause-gives : goal.conditional-returns-then-not-begins_word-clause-gives
 conditional-returns-then-not-begins_word-clause-gives t c = λ names.
     let a = on_read _ _ _ _ (if_steps c.args.place c.args.room (placed names c.args.tokens.now)) (c.in_ok-test.ensures.gives names) in
     let b = on_read _ _ _ _ a (c.in_ok-yes.ensures.gives names) in
-    read_as _ _ _ _ _ _ (if_alone c.args.place c.args.room (located_expr names c.in_ok-test.test, c.in_ok-test.outer, placed names c.in_ok-test.rest.now) _ _ b (sym (c.begins_word.ensures names) ∙ c.if-not-begins_word.true)) (c.in_ok-made.ensures.is names) (ap (λ n. n + 1) c.deeper.ensures)
+    read_as _ _ _ _ _ _ (if_alone c.args.place c.args.room (located_expr names c.in_ok-test.test, c.in_ok-test.outer, placed names c.in_ok-test.rest.now) _ _ b (sym (c.begins_word.ensures names) ∙ c.if-not-begins_word.true)) (c.branched-made.ensures names) (ap (λ n. n + 1) c.deeper.ensures)
 
 pub conditional-returns-in_err-rest-clause-gives : goal.conditional-returns-in_err-rest-clause-gives
 conditional-returns-in_err-rest-clause-gives t c = λ names.
@@ -223,16 +211,13 @@ conditional-returns-in_err-no-clause-gives t c = λ names.
     let e = on_read _ _ _ _ d (c.in_ok-rest.ensures.gives names) in
     err_through _ c.from_residual-in_err-no.result c.in_err-no.field-0.0 _ _ _ c.from_residual-in_err-no.ensures.1 (c.in_err-no.ensures.gives names) e
 
-pub conditional-returns-in_err-made-2-clause-gives : goal.conditional-returns-in_err-made-2-clause-gives
-conditional-returns-in_err-made-2-clause-gives t c = λ names. memory_through _ c.from_residual-in_err-made-2.result c.in_err-made-2.field-0.0 _ c.from_residual-in_err-made-2.ensures.1 c.in_err-made-2.ensures.wants
-
 pub conditional-returns-clause-gives : goal.conditional-returns-clause-gives
 conditional-returns-clause-gives t c = λ names.
     let a = on_read _ _ _ _ (if_steps c.args.place c.args.room (placed names c.args.tokens.now)) (c.in_ok-test.ensures.gives names) in
     let b = on_read _ _ _ _ a (c.in_ok-yes.ensures.gives names) in
     let d = if_on c.args.place c.args.room (located_expr names c.in_ok-test.test, c.in_ok-test.outer, placed names c.in_ok-test.rest.now) _ _ b (sym (c.begins_word.ensures names) ∙ c.if-not-begins_word.false) in
     let e = on_read _ _ _ _ d (c.in_ok-rest.ensures.gives names) in
-    read_as _ _ _ _ _ _ (on_read _ _ _ _ e (c.in_ok-no.ensures.gives names)) (c.in_ok-made-2.ensures.is names) (ap (λ n. n + 1) (c.deeper-3.ensures ∙ ap (λ n. max c.in_ok-test.outer n) c.deeper-2.ensures))
+    read_as _ _ _ _ _ _ (on_read _ _ _ _ e (c.in_ok-no.ensures.gives names)) (c.branched-made-2.ensures names) (ap (λ n. n + 1) (c.deeper-3.ensures ∙ ap (λ n. max c.in_ok-test.outer n) c.deeper-2.ensures))
 
 pub for_loop-returns-in_err-rest-clause-gives : goal.for_loop-returns-in_err-rest-clause-gives
 for_loop-returns-in_err-rest-clause-gives t c = λ names.
@@ -264,13 +249,13 @@ for_loop-returns-in_err-body-clause-gives t c = λ names.
     let e = on_read _ _ _ _ d (c.in_ok-step.ensures.gives names) in
     err_through _ c.from_residual-in_err-body.result c.in_err-body.field-0.0 _ _ _ c.from_residual-in_err-body.ensures.1 (c.in_err-body.ensures.gives names) e
 
-pub for_loop-returns-in_err-made-clause-gives : goal.for_loop-returns-in_err-made-clause-gives
-for_loop-returns-in_err-made-clause-gives t c = λ names. memory_through _ c.from_residual-in_err-made.result c.in_err-made.field-0.0 _ c.from_residual-in_err-made.ensures.1 c.in_err-made.ensures.wants
-
 pub for_loop-returns-clause-gives : goal.for_loop-returns-clause-gives
 for_loop-returns-clause-gives t c = λ names.
     let a = on_read _ _ _ _ (for_steps c.args.place c.args.room (placed names c.args.tokens.now)) (c.in_ok-rest.ensures.gives names) in
     let b = on_read _ _ _ _ a (c.in_ok-first.ensures.gives names) in
     let d = on_read _ _ _ _ b (c.in_ok-test.ensures.gives names) in
     let e = on_read _ _ _ _ d (c.in_ok-step.ensures.gives names) in
-    read_as _ _ _ _ _ _ (on_read _ _ _ _ e (c.in_ok-body.ensures.gives names)) (c.in_ok-made.ensures.is names) (ap (λ n. n + 1) (c.deeper-nest.ensures ∙ ap (λ n. max c.in_ok-first.one n) (c.deeper-2.ensures ∙ ap (λ n. max c.in_ok-test.two n) c.deeper.ensures)))
+    read_as _ _ _ _ _ _ (on_read _ _ _ _ e (c.in_ok-body.ensures.gives names)) (c.counted-made.ensures names) (ap (λ n. n + 1) (c.deeper-nest.ensures ∙ ap (λ n. max c.in_ok-first.one n) (c.deeper-2.ensures ∙ ap (λ n. max c.in_ok-test.two n) c.deeper.ensures)))
+
+pub inner-returns-in_err-statement-clause-gives : goal.inner-returns-in_err-statement-clause-gives
+inner-returns-in_err-statement-clause-gives t c = λ names. let p = err_from_is_err_and c.from_residual.result c.from_residual.ensures.1 in rw (p.1, p.2) (c.in_err-statement.ensures.gives names)

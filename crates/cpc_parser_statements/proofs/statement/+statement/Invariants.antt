@@ -11,17 +11,20 @@ decreases-labelled l = 6 * l.depth
 abbrev pub decreases-statement : goal.decreases-statement
 decreases-statement l = 6 * l.depth + 1
 
+abbrev pub decreases-inner : goal.decreases-inner
+decreases-inner l = 6 * l.depth + 2
+
 abbrev pub decreases-conditional : goal.decreases-conditional
-decreases-conditional l = 6 * l.room + 2
+decreases-conditional l = 6 * l.room + 3
 
 abbrev pub decreases-while_loop : goal.decreases-while_loop
-decreases-while_loop l = 6 * l.room + 2
+decreases-while_loop l = 6 * l.room + 3
 
 abbrev pub decreases-do_loop : goal.decreases-do_loop
-decreases-do_loop l = 6 * l.room + 2
+decreases-do_loop l = 6 * l.room + 3
 
 abbrev pub decreases-for_loop : goal.decreases-for_loop
-decreases-for_loop l = 6 * l.room + 2
+decreases-for_loop l = 6 * l.room + 3
 
 abbrev pub decreases-entry : goal.decreases-entry
 decreases-entry l = 6 * l.room + 2
