@@ -26,7 +26,6 @@ const MOST_NUMBERS: u64 = 1 << 62;
 /// those that wait, each for a condition, a time, a descriptor or a section.
 ///
 /// An item is a callback with its pointer, or whatever else the loop takes up again.
-#[derive(Drop)]
 pub struct Agenda<T> {
     pub(crate) ready: VecDeque<(T, Value)>,
     pub(crate) round: VecDeque<(T, Value)>,
@@ -35,6 +34,27 @@ pub struct Agenda<T> {
     pub(crate) timers: Timers<T>,
     pub(crate) sections: Sections<T>,
     pub(crate) clock: Clock,
+}
+
+impl<T: Drop> Drop for Agenda<T> {
+    fn drop(self) {
+        let Agenda {
+            ready,
+            round,
+            conds,
+            descr,
+            timers,
+            sections,
+            clock,
+        } = self;
+        drop(ready);
+        drop(round);
+        drop(conds);
+        drop(descr);
+        drop(timers);
+        drop(sections);
+        drop(clock);
+    }
 }
 
 impl<T: Drop> Agenda<T> {

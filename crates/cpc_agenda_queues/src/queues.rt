@@ -12,11 +12,22 @@ use std::collections::BTreeMap;
 use std::marker::Model;
 
 /// Items that wait, each in the queue of a key and with an arrival number.
-#[derive(Drop)]
 pub struct Queues<K: Ord + Copy, T> {
     arrived: u64,
     by_arrival: BTreeMap<u64, (K, T)>,
     numbers: Numbers<K>,
+}
+
+impl<K: Ord + Copy + Drop, T: Drop> Drop for Queues<K, T> {
+    fn drop(self) {
+        let Queues {
+            arrived: _,
+            by_arrival,
+            numbers,
+        } = self;
+        drop(by_arrival);
+        drop(numbers);
+    }
 }
 
 impl<K: Ord + Copy, T> Model for Queues<K, T> {

@@ -11,7 +11,6 @@ use cpc_base::{Failed, Shelf};
 use std::marker::Model;
 
 /// A file in memory. Of two files with one name a shelf shows the first.
-#[derive(Drop)]
 pub struct MemFile {
     /// Its name, compared byte by byte.
     pub name: String,
@@ -19,13 +18,33 @@ pub struct MemFile {
     pub bytes: Vec<u8>,
 }
 
+impl Drop for MemFile {
+    fn drop(self) {
+        let MemFile { name, bytes } = self;
+        drop(name);
+        drop(bytes);
+    }
+}
+
 /// Files in memory. A read gives at most `most` bytes but at least one, fails at the calls that `calls` names, and counts its faults.
-#[derive(Drop)]
 pub struct MemShelf {
     files: Vec<MemFile>,
     most: usize,
     calls: Calls,
     faults: u64,
+}
+
+impl Drop for MemShelf {
+    fn drop(self) {
+        let MemShelf {
+            files,
+            most: _,
+            calls,
+            faults: _,
+        } = self;
+        drop(files);
+        drop(calls);
+    }
 }
 
 impl Model for MemShelf {

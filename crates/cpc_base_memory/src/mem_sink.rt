@@ -9,13 +9,26 @@ use std::alloc::Global;
 use std::marker::Model;
 
 /// Takes bytes into memory, at most `most` a call but at least one, fails at the calls that `calls` names, and counts its faults. Want of memory is a fault too.
-#[derive(Drop)]
 pub struct MemSink {
     bytes: Vec<u8>,
     most: usize,
     calls: Calls,
     faults: u64,
     starved: bool,
+}
+
+impl Drop for MemSink {
+    fn drop(self) {
+        let MemSink {
+            bytes,
+            most: _,
+            calls,
+            faults: _,
+            starved: _,
+        } = self;
+        drop(bytes);
+        drop(calls);
+    }
 }
 
 impl Model for MemSink {

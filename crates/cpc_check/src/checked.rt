@@ -10,7 +10,6 @@ use cpc_eval_index::{Index, ProgramTable};
 use cpc_tree::program::Program;
 
 /// A program that some text of its dialect is read as, and that breaks no rule, and what was found out of it once.
-#[derive(Drop)]
 pub struct Checked {
     /// The program.
     pub program: Program,
@@ -22,6 +21,18 @@ pub struct Checked {
     pub ghost within: { ∥ IsWithin program ∥₁ },
     pub ghost unbroken: { breaks dialect (located program) ≡ [] },
     pub ghost tabled: { ∥ IsProgramTable program.items.items table ∥₁ },
+}
+
+impl Drop for Checked {
+    fn drop(self) {
+        let Checked {
+            program,
+            dialect: _,
+            table,
+        } = self;
+        drop(program);
+        drop(table);
+    }
 }
 
 impl Checked {

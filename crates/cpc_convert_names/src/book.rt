@@ -18,13 +18,26 @@ use std::alloc::Global;
 
 /// All names of a conversion: words, for each name of the source what a spawn of it calls, and the names of what is made of the cps
 /// functions, in the order of the text.
-#[derive(Drop)]
 pub struct Book<'a> {
     pub own: OwnWords,
     pub of_loop: LoopWords,
     pub spawners: Vec<Name>,
     pub of_none: Name,
     pub functions: Vec<Called<'a>>,
+}
+
+impl Drop for Book<'_> {
+    fn drop(self) {
+        let Book {
+            own: _,
+            of_loop: _,
+            spawners,
+            of_none: _,
+            functions,
+        } = self;
+        drop(spawners);
+        drop(functions);
+    }
 }
 
 // The spawners of the names of a source. `NoMemory` is want of memory.

@@ -18,7 +18,6 @@ use cpc_tree::program::Function;
 use std::alloc::Global;
 
 /// The names of what is made of a cps function.
-#[derive(Drop)]
 pub struct Called<'a> {
     pub lifted: &'a LiftedFunction<'a>,
     /// What a spawn calls.
@@ -35,6 +34,25 @@ pub struct Called<'a> {
     pub locals: Vec<Name>,
     /// For each variable the tag that its box would have.
     pub tags: Vec<Name>,
+}
+
+impl Drop for Called<'_> {
+    fn drop(self) {
+        let Called {
+            lifted: _,
+            spawner: _,
+            start: _,
+            value: _,
+            pieces,
+            labels,
+            locals,
+            tags,
+        } = self;
+        drop(pieces);
+        drop(labels);
+        drop(locals);
+        drop(tags);
+    }
 }
 
 // The names of so many numbers: a text with two bars, a word and the number behind it. `NoMemory` is want of memory.

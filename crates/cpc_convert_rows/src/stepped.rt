@@ -17,11 +17,22 @@ use std::alloc::Global;
 
 /// A function with a step for each of its nodes, and the nodes of each owner in the order of their numbers: first those of the start, and
 /// then for each node what it owns, if it is a leader.
-#[derive(Drop)]
 pub struct Stepped<'a> {
     pub split: &'a SplitFunction<'a>,
     pub steps: Vec<Step>,
     pub owned: Vec<Vec<usize>>,
+}
+
+impl Drop for Stepped<'_> {
+    fn drop(self) {
+        let Stepped {
+            split: _,
+            steps,
+            owned,
+        } = self;
+        drop(steps);
+        drop(owned);
+    }
 }
 
 // A step for each node. `NoMemory` is want of memory.

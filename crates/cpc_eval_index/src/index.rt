@@ -22,10 +22,17 @@ use std::alloc::Global;
 
 /// What is found out of a program once: which items its names stand for, the cells of its structs, and the tables of its functions.
 /// It has nothing of the program itself, so it can be kept beside it.
-#[derive(Drop)]
 pub struct ProgramTable {
     pub(crate) items: Tables,
     pub(crate) functions: Vec<Option<FunctionTable>>,
+}
+
+impl Drop for ProgramTable {
+    fn drop(self) {
+        let ProgramTable { items, functions } = self;
+        drop(items);
+        drop(functions);
+    }
 }
 
 impl ProgramTable {

@@ -13,7 +13,6 @@ use std::alloc::Global;
 
 /// The first item that declares each name, the first that defines it, the last struct of each tag; for each item how
 /// many globals come before it, and the cells of the struct that it declares, capped.
-#[derive(Drop)]
 pub(crate) struct Tables {
     pub named: Places,
     pub defined: Places,
@@ -21,6 +20,24 @@ pub(crate) struct Tables {
     pub globals: Vec<u64>,
     pub sizes: Vec<Option<u64>>,
     pub count: u64,
+}
+
+impl Drop for Tables {
+    fn drop(self) {
+        let Tables {
+            named,
+            defined,
+            tagged,
+            globals,
+            sizes,
+            count: _,
+        } = self;
+        drop(named);
+        drop(defined);
+        drop(tagged);
+        drop(globals);
+        drop(sizes);
+    }
 }
 
 impl Tables {

@@ -25,11 +25,23 @@ use std::alloc::Global;
 
 /// What is found out of a function once: its variables, the statements of its body that declare locals, and where its labels
 /// lead. It has nothing of the function itself, so it can be kept beside it.
-#[derive(Drop)]
 pub struct FunctionTable {
     pub(crate) marks: Vec<Mark>,
     pub(crate) variables: Vec<Variable>,
     pub(crate) labels: BodyTable,
+}
+
+impl Drop for FunctionTable {
+    fn drop(self) {
+        let FunctionTable {
+            marks,
+            variables,
+            labels,
+        } = self;
+        drop(marks);
+        drop(variables);
+        drop(labels);
+    }
 }
 
 /// The parameters and the locals of a function, in order, and by name and place, and its labels, by the function's table. A

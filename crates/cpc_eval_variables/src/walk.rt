@@ -20,11 +20,23 @@ use std::alloc::Global;
 
 /// What a walk has come to: the names in scope, the types of the variables so far, and the numbers of those to which `&`
 /// is applied.
-#[derive(Drop)]
 pub(crate) struct Walk<'f> {
     scope: Scope<'f>,
     pub(crate) types: Vec<&'f CType>,
     pub(crate) addressed: Vec<usize>,
+}
+
+impl Drop for Walk<'_> {
+    fn drop(self) {
+        let Walk {
+            scope,
+            types,
+            addressed,
+        } = self;
+        drop(scope);
+        drop(types);
+        drop(addressed);
+    }
 }
 
 /// Adds the variables to which `&` is applied in the parts of a statement that has no statement in it and declares nothing.

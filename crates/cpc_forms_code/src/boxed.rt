@@ -54,13 +54,25 @@ pub struct BoxedPoint<'a> {
 }
 
 /// A cps function: its variables in order, the parameters first, and its points in the order of the text, the end last.
-#[derive(Drop)]
 pub struct BoxedFunction<'a> {
     pub source: &'a Program,
     pub function: &'a Function,
     pub variables: Vec<Variable<'a>>,
     pub points: Vec<BoxedPoint<'a>>,
     pub ghost formed: { ∥ IsBoxed source.now function.now variables.items points.items ∥₁ },
+}
+
+impl Drop for BoxedFunction<'_> {
+    fn drop(self) {
+        let BoxedFunction {
+            source: _,
+            function: _,
+            variables,
+            points,
+        } = self;
+        drop(variables);
+        drop(points);
+    }
 }
 
 /// A program whose cps functions are boxed, in the order of the text.

@@ -14,12 +14,23 @@ pub enum Owner {
 }
 
 /// A cps function with the owner of each node, None where control never comes, and the leaders in the order of their numbers.
-#[derive(Drop)]
 pub struct SplitFunction<'a> {
     pub graph: &'a GraphFunction<'a>,
     pub owners: Vec<Option<Owner>>,
     pub leaders: Vec<usize>,
     pub ghost formed: { ∥ IsSplit graph.now owners.items leaders.items ∥₁ },
+}
+
+impl Drop for SplitFunction<'_> {
+    fn drop(self) {
+        let SplitFunction {
+            graph: _,
+            owners,
+            leaders,
+        } = self;
+        drop(owners);
+        drop(leaders);
+    }
 }
 
 /// A program whose cps functions are split, in the order of the text.

@@ -10,7 +10,6 @@ pub struct Told {
 }
 
 /// What a step shows.
-#[derive(Drop)]
 pub enum Mark {
     /// An output of bytes.
     Out(Vec<u8>),
@@ -26,6 +25,23 @@ pub enum Mark {
     Section(u64, Vec<u8>),
     /// A poll was taken.
     Poll(Told),
+}
+
+impl Drop for Mark {
+    fn drop(self) {
+        match self {
+            Mark::Out(part) => drop(part),
+            Mark::Host(part0, part1, _) => {
+                drop(part0);
+                drop(part1);
+            }
+            Mark::Sleep(_) => {}
+            Mark::Wait(_) => {}
+            Mark::Io(_, _) => {}
+            Mark::Section(_, part1) => drop(part1),
+            Mark::Poll(_) => {}
+        }
+    }
 }
 
 /// How a run stands.

@@ -19,10 +19,17 @@ use cpc_lift_closures::Link;
 use std::alloc::Global;
 
 /// The ways between owners, and the variables that owners use.
-#[derive(Drop)]
 pub(crate) struct Gathered {
     pub(crate) ways: Vec<Link>,
     pub(crate) uses: Vec<Link>,
+}
+
+impl Drop for Gathered {
+    fn drop(self) {
+        let Gathered { ways, uses } = self;
+        drop(ways);
+        drop(uses);
+    }
 }
 
 // Adds a box.

@@ -66,13 +66,26 @@ pub enum Stepped {
 }
 
 /// The calls of a program's functions upon each other, and the store that they share.
-#[derive(Drop)]
 pub struct Machine<'p> {
     index: Index<'p>,
     texts: &'p Names,
     store: Store,
     calls: Calls<'p>,
     arriving: Option<Value>,
+}
+
+impl Drop for Machine<'_> {
+    fn drop(self) {
+        let Machine {
+            index: _,
+            texts: _,
+            store,
+            calls,
+            arriving: _,
+        } = self;
+        drop(store);
+        drop(calls);
+    }
 }
 
 // The fault that a step comes to.

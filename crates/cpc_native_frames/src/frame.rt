@@ -30,11 +30,22 @@ use cpc_tree::program::Function;
 use std::alloc::Global;
 
 /// A call of a function: where it stands in the body, and its variables. Its point has room for every path of the body.
-#[derive(Drop)]
 pub struct Frame<'p> {
     pub function: &'p Function,
     pub point: Point,
     pub slots: Vec<Slot>,
+}
+
+impl Drop for Frame<'_> {
+    fn drop(self) {
+        let Frame {
+            function: _,
+            point,
+            slots,
+        } = self;
+        drop(point);
+        drop(slots);
+    }
 }
 
 // The variables of a function of the program.

@@ -15,10 +15,17 @@ pub(crate) struct Node {
 }
 
 /// The statements in a body, numbered in the order of the text, and the numbers of those that labels are put before.
-#[derive(Drop)]
 pub(crate) struct Table {
     pub(crate) nodes: Vec<Node>,
     places: HashMap<u64, usize>,
+}
+
+impl Drop for Table {
+    fn drop(self) {
+        let Table { nodes, places } = self;
+        drop(nodes);
+        drop(places);
+    }
 }
 
 impl Table {

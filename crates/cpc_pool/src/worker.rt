@@ -21,7 +21,6 @@ use std::thread;
 use std::thread::Promise;
 
 /// What all workers of a pool share.
-#[derive(Drop)]
 pub struct Crew<W: Runner, G: Gate> {
     /// Runs the jobs.
     pub runner: Arc<W, Global>,
@@ -33,6 +32,23 @@ pub struct Crew<W: Runner, G: Gate> {
     pub bell: Arc<Bell, Global>,
     /// Whether nobody asks for completions any more.
     pub over: Arc<AtomicBool, Global>,
+}
+
+impl<W: Runner + Drop, G: Gate + Drop> Drop for Crew<W, G> {
+    fn drop(self) {
+        let Crew {
+            runner,
+            gate,
+            dones,
+            bell,
+            over,
+        } = self;
+        drop(runner);
+        drop(gate);
+        drop(dones);
+        drop(bell);
+        drop(over);
+    }
 }
 
 impl<W: Runner, G: Gate> Crew<W, G> {

@@ -10,7 +10,6 @@ use cpc_tree::token::{Keyword, Punctuator};
 use std::alloc::Global;
 
 /// A token that is printed.
-#[derive(Drop)]
 pub enum Lexeme {
     Keyword(Keyword),
     Punctuator(Punctuator),
@@ -23,6 +22,20 @@ pub enum Lexeme {
     Character(i128),
     /// A string literal, by its bytes without a final zero.
     Text(Vec<u8>),
+}
+
+impl Drop for Lexeme {
+    fn drop(self) {
+        match self {
+            Lexeme::Keyword(_) => {}
+            Lexeme::Punctuator(_) => {}
+            Lexeme::Name(_) => {}
+            Lexeme::Filler => {}
+            Lexeme::Integer(_, _) => {}
+            Lexeme::Character(_) => {}
+            Lexeme::Text(part) => drop(part),
+        }
+    }
 }
 
 /// The blanks before a token. They are free: no token depends on them.

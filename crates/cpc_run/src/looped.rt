@@ -28,7 +28,6 @@ use cpc_store::Value;
 use std::alloc::Global;
 
 /// A run that goes on: the running code, what is ready and what waits, the sections that are out, and the polls that are left.
-#[derive(Drop)]
 pub(crate) struct Loop<'p> {
     /// The code, its store and its stack.
     pub machine: Code<'p>,
@@ -44,6 +43,23 @@ pub(crate) struct Loop<'p> {
     pub trace: bool,
     /// The name of `main`.
     pub main: Name,
+}
+
+impl Drop for Loop<'_> {
+    fn drop(self) {
+        let Loop {
+            machine,
+            running: _,
+            turns,
+            jobs,
+            polls: _,
+            trace: _,
+            main: _,
+        } = self;
+        drop(machine);
+        drop(turns);
+        drop(jobs);
+    }
 }
 
 impl<'p> Loop<'p> {

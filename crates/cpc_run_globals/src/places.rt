@@ -17,10 +17,17 @@ use std::alloc::Global;
 ///
 /// The second skips structs whose only field is a struct, so that going from a struct to its cells takes no longer than there are
 /// cells, however long a chain of such structs is.
-#[derive(Drop)]
 pub(crate) struct Places {
     last: Vec<Option<usize>>,
     ends: Vec<usize>,
+}
+
+impl Drop for Places {
+    fn drop(self) {
+        let Places { last, ends } = self;
+        drop(last);
+        drop(ends);
+    }
 }
 
 // Whether an item is a struct of this tag.

@@ -50,12 +50,24 @@ fn copied(alloc: Global, job: &Job) -> Result<Job, NoMemory>
 ///
 /// Of each a copy is kept here, by its number. Whoever runs it may do so at any time from its submission on: its value does not
 /// depend on when.
-#[derive(Drop)]
 pub struct Jobs<'p> {
     program: &'p Program,
     layouts: Layouts<'p>,
     bound: u64,
     out: Out,
+}
+
+impl Drop for Jobs<'_> {
+    fn drop(self) {
+        let Jobs {
+            program: _,
+            layouts,
+            bound: _,
+            out,
+        } = self;
+        drop(layouts);
+        drop(out);
+    }
 }
 
 impl<'p> Jobs<'p> {

@@ -4,7 +4,6 @@ use cpc_num::Fault;
 use cpc_store::Value;
 
 /// A call of a detached function that is to be run on a copy of cells.
-#[derive(Drop)]
 pub struct Job {
     /// Which section it is; they are numbered from 0 in the order in which they are submitted.
     pub number: u64,
@@ -16,6 +15,20 @@ pub struct Job {
     pub cells: Vec<Value>,
     /// The first argument, through which the cells go back.
     pub pointer: Value,
+}
+
+impl Drop for Job {
+    fn drop(self) {
+        let Job {
+            number: _,
+            function: _,
+            args,
+            cells,
+            pointer: _,
+        } = self;
+        drop(args);
+        drop(cells);
+    }
 }
 
 /// What a section came to.

@@ -11,12 +11,26 @@ use std::alloc::Global;
 use std::marker::Model;
 
 /// The blocks of each class.
-#[derive(Drop)]
 pub(crate) struct Classes {
     statics: Blocks,
     autos: Blocks,
     heap: Blocks,
     frames: Blocks,
+}
+
+impl Drop for Classes {
+    fn drop(self) {
+        let Classes {
+            statics,
+            autos,
+            heap,
+            frames,
+        } = self;
+        drop(statics);
+        drop(autos);
+        drop(heap);
+        drop(frames);
+    }
 }
 
 impl Model for Classes {

@@ -13,10 +13,16 @@ use std::marker::Model;
 /// Blocks of cells, by class and number. Each cell holds a lawful value.
 ///
 /// A freed block takes no memory, and its number is not used again. Only `alloc` takes memory.
-#[derive(Drop)]
 pub struct Store {
     classes: Classes,
     live: u64,
+}
+
+impl Drop for Store {
+    fn drop(self) {
+        let Store { classes, live: _ } = self;
+        drop(classes);
+    }
 }
 
 impl Model for Store {

@@ -8,12 +8,25 @@ use std::alloc::Global;
 
 /// The names that items declare, one for each item at most, and how many of the items are in scope. `last` has for
 /// each name the last item in scope that declares it, `before` for each item what `last` had for its name before it.
-#[derive(Drop)]
 pub(crate) struct Index {
     names: Vec<Option<Name>>,
     before: Vec<Option<usize>>,
     last: Vec<Option<usize>>,
     count: usize,
+}
+
+impl Drop for Index {
+    fn drop(self) {
+        let Index {
+            names,
+            before,
+            last,
+            count: _,
+        } = self;
+        drop(names);
+        drop(before);
+        drop(last);
+    }
 }
 
 impl Index {

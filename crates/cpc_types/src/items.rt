@@ -18,12 +18,24 @@ use std::alloc::Global;
 
 /// What items declare, of which a number is in scope: names, tags, the cells of each struct that is complete, capped,
 /// and whether these are all integers.
-#[derive(Drop)]
 pub(crate) struct Items {
     names: Index,
     tags: Index,
     sizes: Vec<Option<u64>>,
     integral: Vec<bool>,
+}
+
+impl Drop for Items {
+    fn drop(self) {
+        let Items {
+            names: _,
+            tags: _,
+            sizes,
+            integral,
+        } = self;
+        drop(sizes);
+        drop(integral);
+    }
 }
 
 // The name of a variable or a function that an item declares.

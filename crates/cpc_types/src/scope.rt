@@ -14,7 +14,6 @@ use cpc_tree::program::{CType, Field, Function, Program};
 use std::alloc::Global;
 
 /// What is in scope at a place of a program: the items so far, and the blocks, the innermost last.
-#[derive(Drop)]
 pub struct Scope<'p> {
     alloc: Global,
     program: &'p Program,
@@ -22,6 +21,19 @@ pub struct Scope<'p> {
     blocks: Blocks,
     ghost declared: { AreDeclared program.now.items.items items } by { Prim.hlevel props },
     ghost told: { AreTold program.now.items.items items } by { Prim.hlevel props },
+}
+
+impl Drop for Scope<'_> {
+    fn drop(self) {
+        let Scope {
+            alloc: _,
+            program: _,
+            items,
+            blocks,
+        } = self;
+        drop(items);
+        drop(blocks);
+    }
 }
 
 impl<'p> Scope<'p> {

@@ -81,11 +81,22 @@ impl Gate for Together {
 }
 
 /// A sink in memory that tells the gate when it has taken the first line.
-#[derive(Drop)]
 pub struct Watched {
     bytes: Vec<u8>,
     faults: u64,
     gate: Arc<Together, Global>,
+}
+
+impl Drop for Watched {
+    fn drop(self) {
+        let Watched {
+            bytes,
+            faults: _,
+            gate,
+        } = self;
+        drop(bytes);
+        drop(gate);
+    }
 }
 
 impl Watched {

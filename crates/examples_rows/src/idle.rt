@@ -6,11 +6,22 @@ use cpc_base_memory::{Calls, MemSink};
 
 /// Takes bytes into memory, but none at the calls that `calls` names, where it answers 0. It counts these calls and those at
 /// which the memory behind it fails, and tells nothing of content.
-#[derive(Drop)]
 pub struct IdleSink {
     to: MemSink,
     calls: Calls,
     faults: u64,
+}
+
+impl Drop for IdleSink {
+    fn drop(self) {
+        let IdleSink {
+            to,
+            calls,
+            faults: _,
+        } = self;
+        drop(to);
+        drop(calls);
+    }
 }
 
 impl IdleSink {

@@ -13,7 +13,6 @@ use crate::setting::{Files, Setting};
 use std::alloc::{AllocError, Global};
 
 /// A row that is being read, and how many there were.
-#[derive(Drop)]
 pub struct Row {
     alloc: Global,
     text: Vec<u8>,
@@ -36,6 +35,33 @@ pub struct Row {
     pub rows: u64,
     /// The calls that were made.
     pub calls: u64,
+}
+
+impl Drop for Row {
+    fn drop(self) {
+        let Row {
+            alloc: _,
+            text,
+            is_begun: _,
+            history,
+            has_history: _,
+            words,
+            settings,
+            failing,
+            has_fronts: _,
+            out,
+            err,
+            rows: _,
+            calls: _,
+        } = self;
+        drop(text);
+        drop(history);
+        drop(words);
+        drop(settings);
+        drop(failing);
+        drop(out);
+        drop(err);
+    }
 }
 
 /// What a line of a row says.

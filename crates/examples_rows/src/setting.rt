@@ -28,7 +28,6 @@ pub struct Files<'a> {
 }
 
 /// What a call left.
-#[derive(Drop)]
 pub struct Left {
     /// What it wrote on `out`.
     pub out: Vec<u8>,
@@ -40,6 +39,20 @@ pub struct Left {
     pub steps: u64,
     /// The live cells behind them.
     pub cells: u64,
+}
+
+impl Drop for Left {
+    fn drop(self) {
+        let Left {
+            out,
+            err,
+            status: _,
+            steps: _,
+            cells: _,
+        } = self;
+        drop(out);
+        drop(err);
+    }
 }
 
 /// So many bytes a call, and nothing fails.
