@@ -1,7 +1,8 @@
 -- What is added for an expression, by the form that the code finds.
-use Rattle.std.proofs.Common.{◌≡◌, ◌⊎◌, inl, inr, ℕ, List, ◌++◌, Option, None, refl, sym, ap, ◌∙◌, append_assoc, Vec, Box, Global}
+use Rattle.std.proofs.Common.{◌≡◌, ◌⊎◌, inl, inr, ℕ, ◌+◌, ◌<◌, List, ◌++◌, length, get_or, drop, Option, None, Some, refl, sym, ap, ◌∙◌, append_assoc, Vec, Box, Global}
 use Rattle.cpc_base.specs.declared.stop.Place.{Place}
 use Rattle.cpc_base.specs.declared.names.Name.{Name}
+use Rattle.cpc_base.proofs.Lists.{drop_to_item}
 use Rattle.cpc_tree.specs.declared.program.Word.{Word}
 use Rattle.cpc_tree.specs.declared.program.UnaryOp.{UnaryOp}
 use Rattle.cpc_tree.specs.declared.program.UnaryOp.TheVariants.{AddressOf}
@@ -11,7 +12,7 @@ use Rattle.cpc_tree.specs.declared.program.Expr.TheVariants as E
 use Rattle.cpc_tree.specs.Syntax as S
 use Rattle.cpc_tree.specs.Erase.{Names, expr_of, exprs_of}
 use Rattle.cpc_tree.specs.Typing.{Scope}
-use Rattle.cpc_tree.specs.Registers.{addresses, addresses_all}
+use Rattle.cpc_tree.specs.Registers.{slot_of, addresses, addresses_all}
 use Rattle.cpc_eval_variables.proofs.Nodes.{call_seen, unary_seen}
 
 pub unary_taken : (names : Names) (scope : Scope) (e : GExpr.Expr) (place : Place) (op : UnaryOp) (operand : Box GExpr.Expr Global) → e ≡ E.Unary place op operand
@@ -33,6 +34,14 @@ unary_plain names scope e place op operand x y o h u v n i =
     ap (λ (z : GExpr.Expr). addresses scope (expr_of names z)) (v ∙ sym u)
     ∙ (ap (λ q. addresses_by_name names scope q (expr_of names x)) (sym i)
     ∙ (sym n ∙ (ap (λ (z : GExpr.Expr). addresses scope (S.EUnary op (expr_of names z))) u ∙ sym (unary_taken names scope e place op operand h))))
+
+-- `&` of a name
+pub unary_named : (names : Names) (scope : Scope) (e : GExpr.Expr) (place : Place) (op : UnaryOp) (operand : Box GExpr.Expr Global) (x : GExpr.Expr) (name : Name) (o : Option Name) → e ≡ E.Unary place op operand
+    → x ≡ operand.value → addresses scope (S.EUnary op (expr_of names x)) ≡ addresses_by_name names scope o (expr_of names x) → o ≡ Some name
+    → slot_of scope (names name) ≡ addresses scope (expr_of names e)
+unary_named names scope e place op operand x name o h u n i =
+    ap (λ q. addresses_by_name names scope q (expr_of names x)) (sym i)
+    ∙ (sym n ∙ (ap (λ (z : GExpr.Expr). addresses scope (S.EUnary op (expr_of names z))) u ∙ sym (unary_taken names scope e place op operand h)))
 
 -- `&` of what is no name
 pub no_name : (names : Names) (scope : Scope) (e : GExpr.Expr) → ((w : Word) → e ≡ E.Name w → ⊥) → addresses scope (S.EUnary AddressOf (expr_of names e)) ≡ addresses scope (expr_of names e)
@@ -80,3 +89,12 @@ module _ (names : Names) (scope : Scope) (e : GExpr.Expr) where
   operands_added a b v w x y z is ev ew k m =
       let A : GExpr.Expr → List ℕ = λ q. addresses scope (expr_of names q) in
       both_added x (A v) (A w) (A e) y z k m (operands a b is ∙ (ap (λ q. A q ++ A b.value) (sym ev) ∙ ap (λ q. A v ++ A q) (sym ew)))
+
+-- along a row
+pub all_more : (names : Names) (scope : Scope) (row : List GExpr.Expr) (i : ℕ) (e : GExpr.Expr) (xs ys : List ℕ) → i < length row → e ≡ get_or row i e → ys ≡ xs ++ addresses scope (expr_of names e)
+    → ys ++ addresses_all scope (exprs_of names (drop (i + 1) row)) ≡ xs ++ addresses_all scope (exprs_of names (drop i row))
+all_more names scope row i e xs ys h is k =
+    let rest = addresses_all scope (exprs_of names (drop (i + 1) row)) in
+    ap (λ l. l ++ rest) k
+    ∙ (append_assoc xs (addresses scope (expr_of names e)) rest
+    ∙ ap (λ es. xs ++ addresses_all scope (exprs_of names es)) (sym (drop_to_item row i e h is)))

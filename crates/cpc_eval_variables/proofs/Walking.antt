@@ -7,6 +7,7 @@ use Rattle.cpc_tree.specs.declared.program.CType.{CType}
 use Rattle.cpc_tree.specs.declared.program.Parameter.{Parameter}
 use Rattle.cpc_tree.specs.declared.program.Expr as GExpr
 use Rattle.cpc_tree.specs.declared.program.Statement.{Statement}
+use Rattle.cpc_tree.specs.declared.program.Word.{Word}
 use Rattle.cpc_tree.specs.declared.program.Statement.TheVariants as T
 use Rattle.cpc_tree.specs.Syntax.{Ty, Variable, Stmt, For}
 use Rattle.cpc_tree.specs.Erase.{Names, type_of, expr_of, stmt_of, list_of, maybe_at, parameter_of}
@@ -99,6 +100,27 @@ module _ (names : Names) (e : Statement) where
   do_added scope behind n place body test s x y z is es same k h =
       let S : Statement → List ℕ = λ q. addresses_by scope n (stmt_of names q) in
       both_added x (S s) (addresses scope (expr_of names test)) (S e) y z k (h ∙ ap (λ q. y ++ addresses q (expr_of names test)) same) (ap S is ∙ ap (λ q. S q ++ addresses scope (expr_of names test)) (sym es))
+
+  pub while_locals : (place : Place) (test : GExpr.Expr) (body : Box Statement Global) (s : Statement) → e ≡ T.While place test body → s ≡ body.value → locals (stmt_of names s) ≡ locals (stmt_of names e)
+  while_locals place test body s is es =
+      let L : Statement → List Variable = λ q. locals (stmt_of names q) in
+      ap L es ∙ sym (ap L is)
+
+  pub do_locals : (place : Place) (body : Box Statement Global) (test : GExpr.Expr) (s : Statement) → e ≡ T.DoWhile place body test → s ≡ body.value → locals (stmt_of names s) ≡ locals (stmt_of names e)
+  do_locals place body test s is es =
+      let L : Statement → List Variable = λ q. locals (stmt_of names q) in
+      ap L es ∙ sym (ap L is)
+
+  pub label_locals : (label : Word) (inner : Box Statement Global) (s : Statement) → e ≡ T.Label label inner → s ≡ inner.value → locals (stmt_of names s) ≡ locals (stmt_of names e)
+  label_locals label inner s is es =
+      let L : Statement → List Variable = λ q. locals (stmt_of names q) in
+      ap L es ∙ sym (ap L is)
+
+  pub label_addresses : (scope : Y.Scope) (n : ℕ) (label : Word) (inner : Box Statement Global) (s : Statement) → e ≡ T.Label label inner → s ≡ inner.value
+      → addresses_by scope n (stmt_of names s) ≡ addresses_by scope n (stmt_of names e)
+  label_addresses scope n label inner s is es =
+      let S : Statement → List ℕ = λ q. addresses_by scope n (stmt_of names q) in
+      ap S es ∙ sym (ap S is)
 
 -- the number of variables behind a statement
 pub later_count : (names : Names) (ts us : List (Bor CType)) (xs : List Variable) (n a b : ℕ) → types_of names us ≡ types_of names ts ++ types_in xs → a ≡ length us → b ≡ length ts → n + (a - b) ≡ n + length xs

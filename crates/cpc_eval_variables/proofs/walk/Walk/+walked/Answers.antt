@@ -1,12 +1,15 @@
-use Rattle.std.proofs.Common.{◌≡◌, ◌+◌, ◌++◌, length, ap, ◌∙◌, option_map, refl, arith}
+use Rattle.std.proofs.Common.{List, take, Bor, subst, sym, append-nil, ◌≡◌, ◌+◌, ◌++◌, length, ap, ◌∙◌, option_map, refl, arith}
 use Rattle.std.proofs.lemmas.Result.{on_ok_weaker}
+use Rattle.cpc_tree.specs.declared.program.CType.{CType}
+use Rattle.cpc_tree.specs.declared.program.Statement.{Statement}
 use Rattle.cpc_tree.specs.Erase.{expr_of, stmt_of, list_of, maybe_at}
-use Rattle.cpc_tree.specs.Points.{locals, locals_in, locals_arm, extended_all}
+use Rattle.cpc_tree.specs.Points.{locals, locals_in, locals_arm, extended, extended_all}
 use Rattle.cpc_tree.specs.Registers.{addresses_by, addresses_in, addresses_if, addresses_arm}
 use Rattle.cpc_eval_variables.specs.Scoped.{scope_of}
 use Rattle.cpc_eval_variables.specs.Typed.{types_in, types_of}
 use Rattle.cpc_eval_variables.proofs.Addressing.{both_added}
-use Rattle.cpc_eval_variables.proofs.Walking.{kept_longer, kept_on, later_count, told_same, header_added, block_locals, block_addresses, for_locals, for_addresses, types_more, scope_more, addressed_more, both_types, scope_same, if_locals, if_added, while_added, do_added}
+use Rattle.cpc_eval_variables.proofs.Walking.{kept_longer, kept_on, later_count, told_same, header_added, block_locals, block_addresses, for_locals, for_addresses, types_more, scope_more, addressed_more, both_types, scope_same, if_locals, if_added, while_added, while_locals, do_added, do_locals, label_locals, label_addresses}
+use Rattle.cpc_eval_variables.proofs.Nodes.{row_end}
 use Rattle.cpc_eval_variables.proofs.walk.Walk.+walked.Goals as goal
 
 pub inside-returns-in-Block-clause-types : goal.inside-returns-in-Block-clause-types
@@ -110,3 +113,243 @@ header-returns-clause-addressed t c = λ names told.
     let row = c.in_ok-row.ensures in
     both_added _ _ _ _ _ _ (row.addressed names told)
     (c.in_ok-add_addresses_if.ensures names (told_same names _ _ row.parameters told) ∙ ap (λ s. c.row.new.self.addressed.items ++ addresses_if s (option_map (expr_of names) c.args.test.now)) (row.scope names)) refl
+
+pub block-returns-in_err-row-clause-parameters : goal.block-returns-in_err-row-clause-parameters
+block-returns-in_err-row-clause-parameters t c = c.in_err-row.ensures.parameters
+
+pub counted-returns-in_err-inside-clause-parameters : goal.counted-returns-in_err-inside-clause-parameters
+counted-returns-in_err-inside-clause-parameters t c = c.in_err-inside.ensures.parameters
+
+pub header-returns-in_err-row-clause-parameters : goal.header-returns-in_err-row-clause-parameters
+header-returns-in_err-row-clause-parameters t c = c.in_err-row.ensures.parameters
+
+pub inside-returns-in_err-after-in-If-clause-parameters : goal.inside-returns-in_err-after-in-If-clause-parameters
+inside-returns-in_err-after-in-If-clause-parameters t c = c.in_err-after-in-If.ensures.parameters
+
+pub inside-returns-in_err-inside-in-DoWhile-clause-parameters : goal.inside-returns-in_err-inside-in-DoWhile-clause-parameters
+inside-returns-in_err-inside-in-DoWhile-clause-parameters t c = c.in_err-inside-in-DoWhile.ensures.parameters
+
+pub inside-returns-in_err-after-in-For-clause-parameters : goal.inside-returns-in_err-after-in-For-clause-parameters
+inside-returns-in_err-after-in-For-clause-parameters t c = c.in_err-after-in-For.ensures.parameters
+
+pub step-returns-in_err-arm-clause-parameters : goal.step-returns-in_err-arm-clause-parameters
+step-returns-in_err-arm-clause-parameters t c = c.in_err-arm.ensures.parameters
+
+pub header-returns-in_err-add_addresses_if-clause-parameters : goal.header-returns-in_err-add_addresses_if-clause-parameters
+header-returns-in_err-add_addresses_if-clause-parameters t c = c.in_ok-row.ensures.parameters
+
+pub inside-returns-in_err-add_addresses-in-If-clause-parameters : goal.inside-returns-in_err-add_addresses-in-If-clause-parameters
+inside-returns-in_err-add_addresses-in-If-clause-parameters t c = refl
+
+pub inside-returns-in_err-add_addresses-in-While-clause-parameters : goal.inside-returns-in_err-add_addresses-in-While-clause-parameters
+inside-returns-in_err-add_addresses-in-While-clause-parameters t c = refl
+
+pub inside-returns-in_err-step-in-For-clause-parameters : goal.inside-returns-in_err-step-in-For-clause-parameters
+inside-returns-in_err-step-in-For-clause-parameters t c = c.in_err-step-in-For.ensures.parameters ∙ c.in_ok-after-in-For.ensures.parameters
+
+pub inside-returns-in_err-inside-in-For-clause-parameters : goal.inside-returns-in_err-inside-in-For-clause-parameters
+inside-returns-in_err-inside-in-For-clause-parameters t c = c.in_err-inside-in-For.ensures.parameters ∙ (c.in_ok-step-in-For.ensures.parameters ∙ c.in_ok-after-in-For.ensures.parameters)
+
+pub row-returns-in_err-statement-clause-parameters : goal.row-returns-in_err-statement-clause-parameters
+row-returns-in_err-statement-clause-parameters t c = c.in_err-statement.ensures.parameters ∙ c.loop-s.invariant.parameters
+
+pub arm-returns-in-None-clause-parameters : goal.arm-returns-in-None-clause-parameters
+arm-returns-in-None-clause-parameters t c = refl
+
+pub arm-returns-in-None-clause-locals : goal.arm-returns-in-None-clause-locals
+arm-returns-in-None-clause-locals t c = refl
+
+pub block-returns-clause-parameters : goal.block-returns-clause-parameters
+block-returns-clause-parameters t c = c.leave.ensures.parameters ∙ c.in_ok-row.ensures.parameters
+
+pub block-returns-clause-locals : goal.block-returns-clause-locals
+block-returns-clause-locals t c = c.leave.ensures.items ∙ (ap (λ n. take n c.row.new.self.scope.locals.items) c.depth-depth.ensures ∙ c.in_ok-row.ensures.kept)
+
+pub block-returns-clause-counted : goal.block-returns-clause-counted
+block-returns-clause-counted t c = c.in_ok-row.ensures.counted
+
+pub block-returns-clause-types : goal.block-returns-clause-types
+block-returns-clause-types t c = c.in_ok-row.ensures.types
+
+pub block-returns-clause-addressed : goal.block-returns-clause-addressed
+block-returns-clause-addressed t c = c.in_ok-row.ensures.addressed
+
+pub counted-returns-clause-parameters : goal.counted-returns-clause-parameters
+counted-returns-clause-parameters t c = c.in_ok-inside.ensures.parameters
+
+pub counted-returns-clause-locals : goal.counted-returns-clause-locals
+counted-returns-clause-locals t c = c.in_ok-inside.ensures.locals
+
+pub counted-returns-clause-counted : goal.counted-returns-clause-counted
+counted-returns-clause-counted t c = c.in_ok-inside.ensures.counted
+
+pub counted-returns-clause-types : goal.counted-returns-clause-types
+counted-returns-clause-types t c = c.in_ok-inside.ensures.types
+
+pub counted-returns-clause-addressed : goal.counted-returns-clause-addressed
+counted-returns-clause-addressed t c = c.in_ok-inside.ensures.addressed
+
+pub counted-returns-clause-within : goal.counted-returns-clause-within
+counted-returns-clause-within t c = let longer = kept_longer c.inside.new.self.types.items c.args.self.now.types.items c.in_ok-inside.ensures.counted in omega arith
+
+pub header-returns-clause-parameters : goal.header-returns-clause-parameters
+header-returns-clause-parameters t c = c.in_ok-row.ensures.parameters
+
+pub header-returns-clause-kept : goal.header-returns-clause-kept
+header-returns-clause-kept t c = c.in_ok-row.ensures.kept
+
+pub header-returns-clause-scope : goal.header-returns-clause-scope
+header-returns-clause-scope t c = c.in_ok-row.ensures.scope
+
+pub header-returns-clause-counted : goal.header-returns-clause-counted
+header-returns-clause-counted t c = c.in_ok-row.ensures.counted
+
+pub header-returns-clause-types : goal.header-returns-clause-types
+header-returns-clause-types t c = c.in_ok-row.ensures.types
+
+pub header-returns-clause-behind : goal.header-returns-clause-behind
+header-returns-clause-behind t c = λ names.
+    later_count names c.args.self.now.types.items c.row.new.self.types.items (locals_in (list_of names c.args.first.now)) c.args.n c.len.result c.len-before.result (c.in_ok-row.ensures.types names) (omega arith) (omega arith)
+
+pub header-returns-clause-within : goal.header-returns-clause-within
+header-returns-clause-within t c = let longer = kept_longer c.row.new.self.types.items c.args.self.now.types.items c.in_ok-row.ensures.counted in omega arith
+
+pub header-returns-clause-longer : goal.header-returns-clause-longer
+header-returns-clause-longer t c = let longer = kept_longer c.row.new.self.types.items c.args.self.now.types.items c.in_ok-row.ensures.counted in omega arith
+
+pub inside-returns-in-Declare-clause-parameters : goal.inside-returns-in-Declare-clause-parameters
+inside-returns-in-Declare-clause-parameters t c = c.alone.ensures.parameters
+
+pub inside-returns-in-Declare-clause-locals : goal.inside-returns-in-Declare-clause-locals
+inside-returns-in-Declare-clause-locals t c = c.alone.ensures.locals
+
+pub inside-returns-in-Declare-clause-counted : goal.inside-returns-in-Declare-clause-counted
+inside-returns-in-Declare-clause-counted t c = c.alone.ensures.counted
+
+pub inside-returns-in-Declare-clause-types : goal.inside-returns-in-Declare-clause-types
+inside-returns-in-Declare-clause-types t c = on_ok_weaker c.alone.result (λ h names. h names ∙ ap (λ (q : Statement). types_of names c.args.self.now.types.items ++ types_in (locals (stmt_of names q))) (sym c.in-Declare.is)) c.alone.ensures.types
+
+pub inside-returns-in-Declare-clause-addressed : goal.inside-returns-in-Declare-clause-addressed
+inside-returns-in-Declare-clause-addressed t c = on_ok_weaker c.alone.result (λ h names told. h names told ∙ ap (λ (q : Statement). c.args.self.now.addressed.items ++ addresses_by (scope_of names c.args.self.now.scope) c.args.n (stmt_of names q)) (sym c.in-Declare.is)) c.alone.ensures.addressed
+
+pub inside-returns-in-Block-clause-parameters : goal.inside-returns-in-Block-clause-parameters
+inside-returns-in-Block-clause-parameters t c = c.block.ensures.parameters
+
+pub inside-returns-in-Block-clause-locals : goal.inside-returns-in-Block-clause-locals
+inside-returns-in-Block-clause-locals t c = c.block.ensures.locals
+
+pub inside-returns-in-Block-clause-counted : goal.inside-returns-in-Block-clause-counted
+inside-returns-in-Block-clause-counted t c = c.block.ensures.counted
+
+pub inside-returns-in_ok-after-in-If-clause-parameters : goal.inside-returns-in_ok-after-in-If-clause-parameters
+inside-returns-in_ok-after-in-If-clause-parameters t c = c.arm.ensures.parameters ∙ c.in_ok-after-in-If.ensures.parameters
+
+pub inside-returns-in_ok-after-in-If-clause-locals : goal.inside-returns-in_ok-after-in-If-clause-locals
+inside-returns-in_ok-after-in-If-clause-locals t c = on_ok_weaker c.arm.result (λ h. h ∙ c.in_ok-after-in-If.ensures.locals) c.arm.ensures.locals
+
+pub inside-returns-in_ok-after-in-If-clause-counted : goal.inside-returns-in_ok-after-in-If-clause-counted
+inside-returns-in_ok-after-in-If-clause-counted t c = on_ok_weaker c.arm.result (λ h. kept_on c.args.self.now.types.items c.counted.new.self.types.items c.arm.new.self.types.items h c.in_ok-after-in-If.ensures.counted) c.arm.ensures.counted
+
+pub inside-returns-in_ok-add_addresses-in-While-clause-parameters : goal.inside-returns-in_ok-add_addresses-in-While-clause-parameters
+inside-returns-in_ok-add_addresses-in-While-clause-parameters t c = c.inside.ensures.parameters
+
+pub inside-returns-in_ok-add_addresses-in-While-clause-locals : goal.inside-returns-in_ok-add_addresses-in-While-clause-locals
+inside-returns-in_ok-add_addresses-in-While-clause-locals t c = c.inside.ensures.locals
+
+pub inside-returns-in_ok-add_addresses-in-While-clause-counted : goal.inside-returns-in_ok-add_addresses-in-While-clause-counted
+inside-returns-in_ok-add_addresses-in-While-clause-counted t c = c.inside.ensures.counted
+
+pub inside-returns-in_ok-add_addresses-in-While-clause-types : goal.inside-returns-in_ok-add_addresses-in-While-clause-types
+inside-returns-in_ok-add_addresses-in-While-clause-types t c = on_ok_weaker c.inside.result (λ h names.
+    h names ∙ ap (λ l. types_of names c.args.self.now.types.items ++ types_in l) (while_locals names c.args.s.now _ c.in-While.test c.in-While.body c.deref-in-While.result.now c.in-While.is c.deref-in-While.ensures)) c.inside.ensures.types
+
+pub inside-returns-in_ok-inside-in-DoWhile-clause-parameters : goal.inside-returns-in_ok-inside-in-DoWhile-clause-parameters
+inside-returns-in_ok-inside-in-DoWhile-clause-parameters t c = c.in_ok-inside-in-DoWhile.ensures.parameters
+
+pub inside-returns-in_ok-inside-in-DoWhile-clause-locals : goal.inside-returns-in_ok-inside-in-DoWhile-clause-locals
+inside-returns-in_ok-inside-in-DoWhile-clause-locals t c = on_ok_weaker c.add_addresses-in-DoWhile.result (λ h. c.in_ok-inside-in-DoWhile.ensures.locals) c.add_addresses-in-DoWhile.ensures
+
+pub inside-returns-in_ok-inside-in-DoWhile-clause-counted : goal.inside-returns-in_ok-inside-in-DoWhile-clause-counted
+inside-returns-in_ok-inside-in-DoWhile-clause-counted t c = on_ok_weaker c.add_addresses-in-DoWhile.result (λ h. c.in_ok-inside-in-DoWhile.ensures.counted) c.add_addresses-in-DoWhile.ensures
+
+pub inside-returns-in_ok-inside-in-DoWhile-clause-types : goal.inside-returns-in_ok-inside-in-DoWhile-clause-types
+inside-returns-in_ok-inside-in-DoWhile-clause-types t c = on_ok_weaker c.add_addresses-in-DoWhile.result (λ h names.
+    c.in_ok-inside-in-DoWhile.ensures.types names ∙ ap (λ l. types_of names c.args.self.now.types.items ++ types_in l) (do_locals names c.args.s.now _ c.in-DoWhile.body c.in-DoWhile.test c.deref-in-DoWhile.result.now c.in-DoWhile.is c.deref-in-DoWhile.ensures)) c.add_addresses-in-DoWhile.ensures
+
+pub inside-returns-in_ok-inside-in-For-clause-parameters : goal.inside-returns-in_ok-inside-in-For-clause-parameters
+inside-returns-in_ok-inside-in-For-clause-parameters t c = c.leave.ensures.parameters ∙ (c.in_ok-inside-in-For.ensures.parameters ∙ (c.in_ok-step-in-For.ensures.parameters ∙ c.in_ok-after-in-For.ensures.parameters))
+
+pub inside-returns-in_ok-inside-in-For-clause-locals : goal.inside-returns-in_ok-inside-in-For-clause-locals
+inside-returns-in_ok-inside-in-For-clause-locals t c = c.leave.ensures.items ∙ (ap (λ n. take n c.inside-in-For.new.self.scope.locals.items) c.depth-depth.ensures ∙ (ap (take (length c.args.self.now.scope.locals.items)) (c.in_ok-inside-in-For.ensures.locals ∙ c.in_ok-step-in-For.ensures.locals) ∙ c.in_ok-after-in-For.ensures.kept))
+
+pub inside-returns-in_ok-inside-in-For-clause-counted : goal.inside-returns-in_ok-inside-in-For-clause-counted
+inside-returns-in_ok-inside-in-For-clause-counted t c =
+    let T : List (Bor CType) → Type 0 = λ l. take (length l) c.inside-in-For.new.self.types.items ≡ l in
+    kept_on c.args.self.now.types.items c.header.new.self.types.items c.inside-in-For.new.self.types.items (subst T c.in_ok-step-in-For.ensures.types c.in_ok-inside-in-For.ensures.counted) c.in_ok-after-in-For.ensures.counted
+
+pub inside-returns-in-Label-clause-parameters : goal.inside-returns-in-Label-clause-parameters
+inside-returns-in-Label-clause-parameters t c = c.inside-in-Label.ensures.parameters
+
+pub inside-returns-in-Label-clause-locals : goal.inside-returns-in-Label-clause-locals
+inside-returns-in-Label-clause-locals t c = c.inside-in-Label.ensures.locals
+
+pub inside-returns-in-Label-clause-counted : goal.inside-returns-in-Label-clause-counted
+inside-returns-in-Label-clause-counted t c = c.inside-in-Label.ensures.counted
+
+pub inside-returns-in-Label-clause-types : goal.inside-returns-in-Label-clause-types
+inside-returns-in-Label-clause-types t c = on_ok_weaker c.inside-in-Label.result (λ h names.
+    h names ∙ ap (λ l. types_of names c.args.self.now.types.items ++ types_in l) (label_locals names c.args.s.now c.in-Label.label c.in-Label.inner c.deref-in-Label.result.now c.in-Label.is c.deref-in-Label.ensures)) c.inside-in-Label.ensures.types
+
+pub inside-returns-in-Label-clause-addressed : goal.inside-returns-in-Label-clause-addressed
+inside-returns-in-Label-clause-addressed t c = on_ok_weaker c.inside-in-Label.result (λ h names told.
+    h names told ∙ ap (λ l. c.args.self.now.addressed.items ++ l) (label_addresses names c.args.s.now (scope_of names c.args.self.now.scope) c.args.n c.in-Label.label c.in-Label.inner c.deref-in-Label.result.now c.in-Label.is c.deref-in-Label.ensures)) c.inside-in-Label.ensures.addressed
+
+pub row-returns-clause-parameters : goal.row-returns-clause-parameters
+row-returns-clause-parameters t c = c.loop-s.invariant.parameters
+
+pub row-returns-clause-kept : goal.row-returns-clause-kept
+row-returns-clause-kept t c = c.loop-s.invariant.kept
+
+pub row-returns-clause-counted : goal.row-returns-clause-counted
+row-returns-clause-counted t c = c.loop-s.invariant.counted
+
+pub row-returns-clause-scope : goal.row-returns-clause-scope
+row-returns-clause-scope t c = λ names.
+    sym (ap (extended_all (scope_of names c.loop-s.self.scope) c.loop-s.n) (row_end names c.args.row.now c.loop-s.s-index c.loop-s-test.false)) ∙ c.loop-s.invariant.scope names
+
+pub row-returns-clause-types : goal.row-returns-clause-types
+row-returns-clause-types t c = λ names.
+    let ts = types_of names c.loop-s.self.types.items in
+    sym (append-nil ts) ∙ (sym (ap (λ ss. ts ++ types_in (locals_in ss)) (row_end names c.args.row.now c.loop-s.s-index c.loop-s-test.false)) ∙ c.loop-s.invariant.types names)
+
+pub row-returns-clause-addressed : goal.row-returns-clause-addressed
+row-returns-clause-addressed t c = λ names told.
+    let xs = c.loop-s.self.addressed.items in
+    sym (append-nil xs) ∙ (sym (ap (λ ss. xs ++ addresses_in (scope_of names c.loop-s.self.scope) c.loop-s.n ss) (row_end names c.args.row.now c.loop-s.s-index c.loop-s-test.false)) ∙ c.loop-s.invariant.addressed names told)
+
+pub statement-returns-in-Declare-clause-parameters : goal.statement-returns-in-Declare-clause-parameters
+statement-returns-in-Declare-clause-parameters t c = c.declare.ensures.parameters
+
+pub statement-returns-in-Declare-clause-kept : goal.statement-returns-in-Declare-clause-kept
+statement-returns-in-Declare-clause-kept t c = c.declare.ensures.kept
+
+pub statement-returns-in-Declare-clause-scope : goal.statement-returns-in-Declare-clause-scope
+statement-returns-in-Declare-clause-scope t c = on_ok_weaker c.declare.result (λ h names. h names ∙ ap (λ (q : Statement). extended (scope_of names c.args.self.now.scope) c.args.n (stmt_of names q)) (sym c.in-Declare.is)) c.declare.ensures.scope
+
+pub statement-returns-in-Declare-clause-counted : goal.statement-returns-in-Declare-clause-counted
+statement-returns-in-Declare-clause-counted t c = c.declare.ensures.counted
+
+pub statement-returns-in-Declare-clause-types : goal.statement-returns-in-Declare-clause-types
+statement-returns-in-Declare-clause-types t c = on_ok_weaker c.declare.result (λ h names. h names ∙ ap (λ (q : Statement). types_of names c.args.self.now.types.items ++ types_in (locals (stmt_of names q))) (sym c.in-Declare.is)) c.declare.ensures.types
+
+pub statement-returns-in-Declare-clause-addressed : goal.statement-returns-in-Declare-clause-addressed
+statement-returns-in-Declare-clause-addressed t c = on_ok_weaker c.declare.result (λ h names told. h names told ∙ ap (λ (q : Statement). c.args.self.now.addressed.items ++ addresses_by (scope_of names c.args.self.now.scope) c.args.n (stmt_of names q)) (sym c.in-Declare.is)) c.declare.ensures.addressed
+
+pub step-returns-clause-parameters : goal.step-returns-clause-parameters
+step-returns-clause-parameters t c = c.in_ok-arm.ensures.parameters
+
+pub step-returns-clause-locals : goal.step-returns-clause-locals
+step-returns-clause-locals t c = c.in_ok-arm.ensures.locals
+
+pub step-returns-clause-addressed : goal.step-returns-clause-addressed
+step-returns-clause-addressed t c = c.in_ok-arm.ensures.addressed
