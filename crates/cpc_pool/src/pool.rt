@@ -12,7 +12,6 @@ ghost use Rattle.cpc_pool_ends.specs.Views.{loops, Settled as DonesSettled};
 ghost use Rattle.cpc_pool.specs.Passes.{Submits, Pops};
 ghost use Rattle.cpc_pool.specs.Acts.{most_out, Ran, Submitted, SubmittedOut, Accepted, AcceptedOut};
 
-use super::bell::Bell;
 use super::completions::Completions;
 use super::gate::Gate;
 use super::staff::{Worker, join_all, start_all};
@@ -20,7 +19,7 @@ use super::worker::Crew;
 use cpc_pool_ends::{Done, DoneOf, DonePass};
 use cpc_pool_jobs::{JobPass, Message, Runner, Sender, send, send_stop};
 use std::alloc::{AllocError, Global};
-use std::sync::atomic::{AtomicBool, Ordering};
+use std::sync::atomic::Ordering;
 use std::sync::{Arc, Wait};
 use std::thread::Threads;
 
@@ -82,13 +81,7 @@ where
     {
         let (sender, receiver, mut jobs) = cpc_pool_jobs::begin::<W>(alloc, MESSAGES)?;
         let (queue, mut dones) = cpc_pool_ends::begin::<W>(alloc, MOST_OUT)?;
-        let crew = Crew {
-            runner,
-            gate,
-            dones: Arc::new(alloc, queue)?,
-            bell: Arc::new(alloc, Bell::new())?,
-            over: Arc::new(alloc, AtomicBool::new(false))?,
-        };
+        let crew = Crew::new(alloc, runner, gate, queue)?;
         let started = start_all(
             rt, alloc, &sender, &receiver, &crew, workers, &mut jobs, &mut dones,
         )?;

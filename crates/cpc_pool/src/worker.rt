@@ -52,6 +52,25 @@ impl<W: Runner + Drop, G: Gate + Drop> Drop for Crew<W, G> {
 }
 
 impl<W: Runner, G: Gate> Crew<W, G> {
+    /// What is shared over this queue, by workers whose completions are asked for. An error is want of memory.
+    pub fn new(
+        alloc: Global,
+        runner: Arc<W, Global>,
+        gate: Arc<G, Global>,
+        queue: Dones<W>,
+    ) -> Result<Crew<W, G>, AllocError>
+        ensures dones { IfOk result (λ c. arc_value c.dones ≡ queue) }
+        ensures others { IfOk result (λ c. (arc_value c.runner ≡ arc_value runner) × (arc_value c.gate ≡ arc_value gate)) }
+    {
+        Ok(Crew {
+            runner,
+            gate,
+            dones: Arc::new(alloc, queue)?,
+            bell: Arc::new(alloc, Bell::new())?,
+            over: Arc::new(alloc, AtomicBool::new(false))?,
+        })
+    }
+
     /// The same once more, for another thread. An error is want of memory.
     pub fn again(&self) -> Result<Crew<W, G>, AllocError>
         ensures dones { IfOk result (λ c. arc_value c.dones ≡ arc_value self.now.dones) }
