@@ -11,7 +11,7 @@ use Rattle.cpc_base.specs.Texts.{AreDistinct}
 use Rattle.cpc_base.specs.declared.stop.Dialect.{Dialect}
 use Rattle.cpc_base.specs.declared.stop.Dialect.TheVariants as D
 use Rattle.cpc_tree.specs.Erase.{Names, Table}
-use Rattle.cpc_check_rules.specs.FunctionRules.{holds_bars, is_reserved}
+use Rattle.cpc_check_rules.specs.FunctionRules.{holds_underscores, is_reserved}
 use Rattle.cpc_check_rules.specs.Apart.{IsUnknown, Spells}
 
 -- the bytes of all texts
@@ -28,13 +28,13 @@ spelling table name = get_or table name.0 (outside table name.0)
 
 -- ---- texts that mean nothing
 
-no_bars : (n : ℕ) → holds_bars (replicate n 0) ≡ false
-no_bars zero = refl
-no_bars (suc n) = no_bars n
+no_underscores : (n : ℕ) → holds_underscores (replicate n 0) ≡ false
+no_underscores zero = refl
+no_underscores (suc n) = no_underscores n
 
 unreserved : (dialect : Dialect) (n : ℕ) → is_reserved dialect (0 ∷ replicate n 0) ≡ false
 unreserved D.Event n = refl
-unreserved D.Cpc n = no_bars n
+unreserved D.Cpc n = no_underscores n
 
 unknown : (n : ℕ) → IsUnknown (0 ∷ replicate n 0)
 unknown n = record { reserved = λ dialect. unreserved dialect n; primitive = refl; main = refl }

@@ -112,7 +112,7 @@ pub fn native_text_is_plain()
 {}
 
 /// What a plain program may not do makes its runs differ: a spawn, a section, a yield, a primitive of the event loop; and where it
-/// fails, a name with two bars in a row, and one of a cps function that ends with a bar.
+/// fails, a name with two underscores in a row, and one of a cps function that ends with a underscore.
 pub fn plain_is_needed()
     ensures law { PlainIsNeeded }
 {}

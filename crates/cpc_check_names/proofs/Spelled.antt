@@ -8,7 +8,7 @@ use Rattle.std.proofs.lemmas.Option.{unwrap_or-slice_get}
 use Rattle.cpc_base.specs.Bytes.{Text}
 use Rattle.cpc_base.specs.declared.stop.Dialect.{Dialect}
 use Rattle.cpc_base.specs.declared.stop.Dialect.TheVariants as D
-use Rattle.cpc_check_rules.specs.FunctionRules.{begins_with, holds_bars, is_reserved}
+use Rattle.cpc_check_rules.specs.FunctionRules.{begins_with, holds_underscores, is_reserved}
 
 and_true : (a b : Bool) → (a && b) ≡ ((a && true) && b)
 and_true true b = refl
@@ -20,20 +20,20 @@ begins_is (b ∷ w) [] = refl
 begins_is (b ∷ w) (c ∷ x) = ap (λ t. eqb b c && t) (begins_is w x) ∙ and_true (eqb b c) (begins_with w x)
 
 -- two underscores here, or further on
-pub bars_more : (x : Text) (i : ℕ) → i < length x → holds_bars (drop i x) ≡ (begins_with (codes "__") (drop i x) || holds_bars (drop (i + 1) x))
-bars_more x i h =
-    ap holds_bars (drop_more x i 0 h)
-    ∙ ap (λ y. begins_with (codes "__") y || holds_bars (drop (i + 1) x)) (sym (drop_more x i 0 h))
+pub underscores_more : (x : Text) (i : ℕ) → i < length x → holds_underscores (drop i x) ≡ (begins_with (codes "__") (drop i x) || holds_underscores (drop (i + 1) x))
+underscores_more x i h =
+    ap holds_underscores (drop_more x i 0 h)
+    ∙ ap (λ y. begins_with (codes "__") y || holds_underscores (drop (i + 1) x)) (sym (drop_more x i 0 h))
 
 rest_whole : (x : Text) (i : ℕ) → take (length x - i) (drop i x) ≡ drop i x
 rest_whole x i = take_all (length x - i) (drop i x) (omega (arith, length-drop i x))
 
 -- none here, so what is further on decides
-pub bars_step : (x : Text) (i : ℕ) (t : Bool) → i < length x → t ≡ begins_with (codes "__") (take (length x - i) (drop i x)) → t ≡ false → holds_bars (drop i x) ≡ holds_bars x
-    → holds_bars (drop (i + 1) x) ≡ holds_bars x
-bars_step x i t h e f k =
+pub underscores_step : (x : Text) (i : ℕ) (t : Bool) → i < length x → t ≡ begins_with (codes "__") (take (length x - i) (drop i x)) → t ≡ false → holds_underscores (drop i x) ≡ holds_underscores x
+    → holds_underscores (drop (i + 1) x) ≡ holds_underscores x
+underscores_step x i t h e f k =
     let here : begins_with (codes "__") (drop i x) ≡ false = ap (begins_with (codes "__")) (sym (rest_whole x i)) ∙ (sym e ∙ f) in
-    sym (ap (λ b. b || holds_bars (drop (i + 1) x)) here) ∙ (sym (bars_more x i h) ∙ k)
+    sym (ap (λ b. b || holds_underscores (drop (i + 1) x)) here) ∙ (sym (underscores_more x i h) ∙ k)
 
 pub empty_kept : (dialect : Dialect) → false ≡ is_reserved dialect []
 empty_kept D.Event = refl

@@ -3,7 +3,7 @@ ghost use Rattle.std.specs.Prelude.{◌≡◌, map};
 ghost use Rattle.cpc_tree.specs.Erase.{Names as Spelling, in_table};
 ghost use Rattle.cpc_tree.specs.Locate.{ident};
 ghost use Rattle.cpc_check_rules.specs.Apart.{Spells};
-ghost use Rattle.cpc_check_rules.specs.FunctionRules.{begins_with, holds_bars, is_kept, is_reserved, reserved_breaks};
+ghost use Rattle.cpc_check_rules.specs.FunctionRules.{begins_with, holds_underscores, is_kept, is_reserved, reserved_breaks};
 ghost use Rattle.cpc_check_rules.specs.Noted.{noted, first_of};
 
 use cpc_base::{Dialect, Names};
@@ -18,8 +18,8 @@ fn begins_with(start: &[u8], text: &[u8]) -> bool
 }
 
 /// Whether a text holds two underscores in a row.
-fn holds_bars(text: &[u8]) -> bool
-    ensures { result ≡ holds_bars text.now }
+fn holds_underscores(text: &[u8]) -> bool
+    ensures { result ≡ holds_underscores text.now }
 {
     for start in 0..text.len() {
         if begins_with(b"__", &text[start..]) {
@@ -46,7 +46,7 @@ fn is_reserved(dialect: Dialect, text: &[u8]) -> bool
 {
     match dialect {
         Dialect::Event => is_kept(text),
-        Dialect::Cpc => is_kept(text) || holds_bars(text),
+        Dialect::Cpc => is_kept(text) || holds_underscores(text),
     }
 }
 

@@ -95,9 +95,9 @@ begins_with (b ∷ w) [] = false
 begins_with (b ∷ w) (c ∷ x) = bytes_eq (b ∷ []) (c ∷ []) && begins_with w x
 
 -- names that hold two underscores in a row
-abbrev pub holds_bars : Text → Bool
-holds_bars [] = false
-holds_bars (b ∷ x) = begins_with (codes "__") (b ∷ x) || holds_bars x
+abbrev pub holds_underscores : Text → Bool
+holds_underscores [] = false
+holds_underscores (b ∷ x) = begins_with (codes "__") (b ∷ x) || holds_underscores x
 
 -- The names that the language keeps for itself. A name that begins with `cpc__` or `rt__` is none of them: a translation makes such
 -- names for functions that are called `cpc` and `rt`.
@@ -108,7 +108,7 @@ is_kept x = (begins_with (codes "cpc_") x && not (begins_with (codes "cpc__") x)
 -- in the dialect Cpc also those that a translation makes
 abbrev pub is_reserved : Dialect → Text → Bool
 is_reserved D.Event x = is_kept x
-is_reserved D.Cpc x = is_kept x || holds_bars x
+is_reserved D.Cpc x = is_kept x || holds_underscores x
 
 abbrev pub reserved_breaks : Dialect → List Ident → Broken
 reserved_breaks dialect [] = []

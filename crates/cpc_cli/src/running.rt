@@ -28,7 +28,7 @@ use cpc_history_marks::Told;
 use cpc_hosts::{HostRule, HostTable, Kept};
 use cpc_pool::Gate;
 use cpc_run_workers::{
-    Ended, Limits, Outcome as RunOutcome, before_bars, missing_host, run_with_workers,
+    Ended, Limits, Outcome as RunOutcome, before_underscores, missing_host, run_with_workers,
 };
 use std::alloc::Global;
 use std::sync::{Arc, Wait};
@@ -109,7 +109,7 @@ fn over(alloc: Global, outcome: RunOutcome, polls: u64, names: &Names) -> Result
         RunOutcome::Ended(waiting) => Ok(Outcome::Ended(waiting)),
         RunOutcome::Exited(number) => Ok(Outcome::Exited(number)),
         RunOutcome::Failed(fault, function) => {
-            let shown = before_bars(text_of(names, function));
+            let shown = before_underscores(text_of(names, function));
             Ok(Outcome::Failed(fault, shown.to_vec(alloc)?))
         }
         RunOutcome::HistoryEnded => Ok(Outcome::HistoryEnded(polls)),

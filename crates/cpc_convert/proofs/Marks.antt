@@ -46,16 +46,16 @@ tail_marks c x h = go (c == 95) h
     go true k = weaker x k
     go false k = k
 
-pub record NoBar (d : Text) : Type 0 where
+pub record NoUnderscore (d : Text) : Type 0 where
   pub none : (e : Text) → d ≡ 95 ∷ e → ⊥
 
-short_first : (d e : Text) (c : ℕ) (g : Text) → NoBar d → has_marks (c ∷ g) ≡ false → 95 ∷ 95 ∷ d ≡ c ∷ (g ++ 95 ∷ 95 ∷ e) → ⊥
+short_first : (d e : Text) (c : ℕ) (g : Text) → NoUnderscore d → has_marks (c ∷ g) ≡ false → 95 ∷ 95 ∷ d ≡ c ∷ (g ++ 95 ∷ 95 ∷ e) → ⊥
 short_first d e c [] n h k = let g : d ≡ 95 ∷ e = cc in n.none e g
 short_first d e c (b ∷ g) n h k =
     let m : c ∷ b ∷ g ≡ 95 ∷ 95 ∷ g = cc in
     true_not_false (sym (ap has_marks m) ∙ h)
 
-pub marked_is : (f g d e : Text) → has_marks f ≡ false → has_marks g ≡ false → NoBar d → NoBar e → marked f d ≡ marked g e → (f ≡ g) × (d ≡ e)
+pub marked_is : (f g d e : Text) → has_marks f ≡ false → has_marks g ≡ false → NoUnderscore d → NoUnderscore e → marked f d ≡ marked g e → (f ≡ g) × (d ≡ e)
 marked_is [] [] d e hf hg nd ne k = (refl, cc)
 marked_is [] (c ∷ g) d e hf hg nd ne k = absurd (short_first d e c g nd hg k)
 marked_is (c ∷ f) [] d e hf hg nd ne k = absurd (short_first e d c f ne hf (sym k))
@@ -66,13 +66,13 @@ marked_is (a ∷ f) (b ∷ g) d e hf hg nd ne k =
 
 -- ---- what comes after the marks
 
-no_bar_of : (d : Text) → (get_or d 0 0 ≡ 95 → ⊥) → NoBar d
+no_bar_of : (d : Text) → (get_or d 0 0 ≡ 95 → ⊥) → NoUnderscore d
 no_bar_of d h = record { none = λ e k. h (ap (λ x. get_or x 0 0) k) }
 
 number_apart : (n : ℕ) → n ≡ 115 → n ≡ 95 → ⊥
 number_apart n h g = absurd (omega arith)
 
-pub no_bar_spawn : NoBar (codes "spawn")
+pub no_bar_spawn : NoUnderscore (codes "spawn")
 no_bar_spawn = no_bar_of (codes "spawn") (number_apart 115 refl)
 
 not_digits : (c : ℕ) (d e : Text) → (digit_value c < 10 → ⊥) → AllDigits 10 d → d ≡ c ∷ e → ⊥
@@ -81,7 +81,7 @@ not_digits c d e h a k = h (subst (AllDigits 10) k a).0
 digits_of : (n : ℕ) → n < 2 ^ 63 → AllDigits 10 (decimal n)
 digits_of n h = (decimal_is_IsNumeral n (omega arith)).0.1
 
-pub no_bar_decimal : (n : ℕ) → n < 2 ^ 63 → NoBar (decimal n)
+pub no_bar_decimal : (n : ℕ) → n < 2 ^ 63 → NoUnderscore (decimal n)
 no_bar_decimal n h = record { none = λ e k. not_digits 95 (decimal n) e (not_under_ten 36 (omega arith)) (digits_of n h) k }
 
 pub decimal_no_spawn : (n : ℕ) → n < 2 ^ 63 → decimal n ≡ codes "spawn" → ⊥
@@ -90,7 +90,7 @@ decimal_no_spawn n h k = not_digits 115 (decimal n) _ (not_under_ten 28 (omega a
 pub decimal_is : (m n : ℕ) → m < 2 ^ 63 → n < 2 ^ 63 → decimal m ≡ decimal n → m ≡ n
 decimal_is m n h g k = decimal_injective m n (omega arith) (omega arith) k
 
-no_bar_empty : NoBar []
+no_bar_empty : NoUnderscore []
 no_bar_empty = record { none = λ e k. absurd (cc) }
 
 decimal_some : (n : ℕ) → n < 2 ^ 63 → [] ≡ decimal n → ⊥

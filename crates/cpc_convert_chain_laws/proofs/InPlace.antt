@@ -16,7 +16,7 @@ use Rattle.cpc_meaning.specs.Requests.{Request}
 use Rattle.cpc_meaning.specs.Plain.{Frame as CallFrame}
 use Rattle.cpc_meaning.specs.Trees.{trees, first_point}
 use Rattle.cpc_meaning.specs.Machine.{next, ends, asked_by, reply, settled}
-use Rattle.cpc_meaning.specs.Start.{before_bars}
+use Rattle.cpc_meaning.specs.Start.{before_underscores}
 use Rattle.cpc_meaning.specs.Events.{callbacks}
 use Rattle.cpc_convert_chain_laws.specs.Flat.{point_at, standing, LineAt}
 use Rattle.cpc_convert_chain_laws.specs.Frames.{at}
@@ -55,13 +55,13 @@ module _ (q : Program) (w : World) (fn : Text) (g : Function) (body : Stmts) (be
 
   -- a test whose value faults, or cannot be tested
   pub test_faults : (t : Expr) (a : Stmt) (l : LineAt g body k scope n (If t a Absent) rest) (fault : Fault) → value (at q scope slots s) t ≡ Faults fault
-      → next (callbacks q) (at_line w fn below k (AndStmt l.statement rest) slots s) ≡ Some (ends (Failed fault (before_bars fn)) (at_line w fn below k (AndStmt l.statement rest) slots s))
+      → next (callbacks q) (at_line w fn below k (AndStmt l.statement rest) slots s) ≡ Some (ends (Failed fault (before_underscores fn)) (at_line w fn below k (AndStmt l.statement rest) slots s))
   test_faults t a l fault is_fault =
       let x = If t a Absent in
       step_faults q w fn g below is_g slots s (line_path g body k scope n x rest l) scope (line_scope g body k scope n x rest l _) (Test (Some t)) (line_found g body k scope n x rest l) fault (simp (is_fault) refl)
 
   pub test_unset : (t : Expr) (a : Stmt) (l : LineAt g body k scope n (If t a Absent) rest) (v : Value) (fault : Fault) → value (at q scope slots s) t ≡ Gives v → holds v ≡ Faults fault
-      → next (callbacks q) (at_line w fn below k (AndStmt l.statement rest) slots s) ≡ Some (ends (Failed fault (before_bars fn)) (at_line w fn below k (AndStmt l.statement rest) slots s))
+      → next (callbacks q) (at_line w fn below k (AndStmt l.statement rest) slots s) ≡ Some (ends (Failed fault (before_underscores fn)) (at_line w fn below k (AndStmt l.statement rest) slots s))
   test_unset t a l v fault is_value is_fault =
       let x = If t a Absent in
       step_faults q w fn g below is_g slots s (line_path g body k scope n x rest l) scope (line_scope g body k scope n x rest l _) (Test (Some t)) (line_found g body k scope n x rest l) fault (simp (is_value, is_fault) refl)

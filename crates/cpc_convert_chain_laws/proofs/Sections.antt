@@ -20,7 +20,7 @@ use Rattle.cpc_meaning.specs.Trees.{trees}
 use Rattle.cpc_meaning.specs.Requests.{Builtin, RtSleep, RtWait, RtDetach, all_taken, detach_takes}
 use Rattle.cpc_meaning.specs.Section.{Job}
 use Rattle.cpc_meaning.specs.Machine.{next, ends, reply, submits}
-use Rattle.cpc_meaning.specs.Start.{before_bars}
+use Rattle.cpc_meaning.specs.Start.{before_underscores}
 use Rattle.cpc_meaning.specs.Events.{Callback, CallWith, callbacks}
 use Rattle.cpc_convert_chain_laws.specs.Flat.{point_at, standing, LineAt}
 use Rattle.cpc_convert_chain_laws.specs.Frames.{at, Holds}
@@ -34,7 +34,7 @@ module _ (q : Program) (w : World) (fn : Text) (g : Function) (body : Stmts) (be
   -- a wait for a condition that is not live
   pub wait_fails : (e : Expr) (l : LineAt g body k scope n (waits e x) rest) → named q scope (codes "rt_wait") ≡ NotMeant → (u : Value) (c : ℕ) → value (at q scope slots s) e ≡ Gives u → at_type TyCondvar u ≡ Gives (Cond c)
       → (fault : Fault) → wait c (CallWith drive_name (At Frame b 0)) w.agenda ≡ Err fault
-      → next (callbacks q) (at_line w fn below k (AndStmt l.statement rest) slots s) ≡ Some (ends (Failed fault (before_bars fn)) (at_line w fn below k (AndStmt l.statement rest) slots s))
+      → next (callbacks q) (at_line w fn below k (AndStmt l.statement rest) slots s) ≡ Some (ends (Failed fault (before_underscores fn)) (at_line w fn below k (AndStmt l.statement rest) slots s))
   wait_fails e l is_named u c is_value is_cond fault is_fault =
       step_fails q w fn g below is_g slots s (line_path g body k scope n (waits e x) rest l) scope (line_scope g body k scope n (waits e x) rest l _) (Simple (waits e x)) (line_found g body k scope n (waits e x) rest l)
       (record { asked = Builtin RtWait; arguments = Cond c ∷ Code drive_name ∷ At Frame b 0 ∷ [] }) fault
@@ -43,7 +43,7 @@ module _ (q : Program) (w : World) (fn : Text) (g : Function) (body : Stmts) (be
   -- a sleep that the agenda refuses
   pub sleep_fails : (e : Expr) (l : LineAt g body k scope n (sleeps e x) rest) → named q scope (codes "rt_sleep") ≡ NotMeant → (u : Value) (z : ℤ) → value (at q scope slots s) e ≡ Gives u → at_type (TyInt Long) u ≡ Gives (Whole Long z)
       → (fault : Fault) → sleep z (CallWith drive_name (At Frame b 0)) w.agenda ≡ Err fault
-      → next (callbacks q) (at_line w fn below k (AndStmt l.statement rest) slots s) ≡ Some (ends (Failed fault (before_bars fn)) (at_line w fn below k (AndStmt l.statement rest) slots s))
+      → next (callbacks q) (at_line w fn below k (AndStmt l.statement rest) slots s) ≡ Some (ends (Failed fault (before_underscores fn)) (at_line w fn below k (AndStmt l.statement rest) slots s))
   sleep_fails e l is_named u z is_value is_long fault is_fault =
       step_fails q w fn g below is_g slots s (line_path g body k scope n (sleeps e x) rest l) scope (line_scope g body k scope n (sleeps e x) rest l _) (Simple (sleeps e x)) (line_found g body k scope n (sleeps e x) rest l)
       (record { asked = Builtin RtSleep; arguments = Whole Long z ∷ Code drive_name ∷ At Frame b 0 ∷ [] }) fault
@@ -51,7 +51,7 @@ module _ (q : Program) (w : World) (fn : Text) (g : Function) (body : Stmts) (be
 
   -- what a line evaluates faults
   pub line_faults : (y : Stmt) (l : LineAt g body k scope n y rest) → standing y ≡ Simple y → (fault : Fault) → simple_act (at q scope slots s) g.result y ≡ Faults fault
-      → next (callbacks q) (at_line w fn below k (AndStmt l.statement rest) slots s) ≡ Some (ends (Failed fault (before_bars fn)) (at_line w fn below k (AndStmt l.statement rest) slots s))
+      → next (callbacks q) (at_line w fn below k (AndStmt l.statement rest) slots s) ≡ Some (ends (Failed fault (before_underscores fn)) (at_line w fn below k (AndStmt l.statement rest) slots s))
   line_faults y l stands fault is_fault =
       step_faults q w fn g below is_g slots s (line_path g body k scope n y rest l) scope (line_scope g body k scope n y rest l _) (Simple y) (line_found g body k scope n y rest l ∙ stands) fault is_fault
 

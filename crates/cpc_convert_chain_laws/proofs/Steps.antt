@@ -17,7 +17,7 @@ use Rattle.cpc_meaning.specs.Plain.{Frame}
 use Rattle.cpc_meaning.specs.Trees.{trees, first_point}
 use Rattle.cpc_meaning.specs.Requests.{Request}
 use Rattle.cpc_meaning.specs.Machine.{next, asked_by, reply, ends}
-use Rattle.cpc_meaning.specs.Start.{before_bars}
+use Rattle.cpc_meaning.specs.Start.{before_underscores}
 use Rattle.cpc_meaning.specs.Events.{callbacks}
 use Rattle.cpc_convert_chain_laws.specs.Frames.{at}
 use Rattle.cpc_convert_chain_laws.specs.Walks.{World, Here, running, idle, frame_at, in_function}
@@ -38,12 +38,12 @@ module _ (q : Program) (w : World) (fn : Text) (g : Function) (below : List (Fra
     -- the machine is asked, and faults
     pub step_fails : (r : Request) (fault : Fault) → found_act (at q scope slots s) g.result x ≡ Gives (AsksFor r)
         → asked_by (callbacks q) (record { frames = frame_at fn (P.Here path) slots ∷ below; arriving = None }) (in_function w fn below (P.Here path) slots s) r.asked r.arguments ≡ Faults fault
-        → next (callbacks q) (in_function w fn below (P.Here path) slots s) ≡ Some (ends (Failed fault (before_bars fn)) (in_function w fn below (P.Here path) slots s))
+        → next (callbacks q) (in_function w fn below (P.Here path) slots s) ≡ Some (ends (Failed fault (before_underscores fn)) (in_function w fn below (P.Here path) slots s))
     step_fails r fault is_act is_answer = simp (is_g, is_found, is_scope, is_act, is_answer) refl
 
     -- what is done there faults
     pub step_faults : (fault : Fault) → found_act (at q scope slots s) g.result x ≡ Faults fault
-        → next (callbacks q) (in_function w fn below (P.Here path) slots s) ≡ Some (ends (Failed fault (before_bars fn)) (in_function w fn below (P.Here path) slots s))
+        → next (callbacks q) (in_function w fn below (P.Here path) slots s) ≡ Some (ends (Failed fault (before_underscores fn)) (in_function w fn below (P.Here path) slots s))
     step_faults fault is_act = simp (is_g, is_found, is_scope, is_act) refl
 
     -- a function is entered

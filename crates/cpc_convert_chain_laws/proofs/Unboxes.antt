@@ -16,7 +16,7 @@ use Rattle.cpc_meaning.specs.Section.{freed}
 use Rattle.cpc_meaning.specs.Plain.{Frame as CallFrame}
 use Rattle.cpc_meaning.specs.Trees.{trees}
 use Rattle.cpc_meaning.specs.Machine.{next, ends, replies}
-use Rattle.cpc_meaning.specs.Start.{before_bars}
+use Rattle.cpc_meaning.specs.Start.{before_underscores}
 use Rattle.cpc_meaning.specs.Events.{callbacks}
 use Rattle.cpc_convert_chain_laws.specs.Flat.{before, Stands, LineAt}
 use Rattle.cpc_convert_chain_laws.specs.Walks.{World, at_line, Walk, FaultsAfter, frame_at}
@@ -48,7 +48,7 @@ module _ (q : Program) (w : World) (fn : Text) (g : Function) (body : Stmts) (be
 
   -- one that cannot be given back
   unbox_faults : (k : ℕ) (y : Text) (left : Stmts) (s : Store) (u : Ty) (b : ℕ) (fault : Fault) → Holds q scope slots y u (At Auto b 0) → Stands g body k scope n (AndStmt (unboxes_one y) left) → free Auto (At Auto b 0) s ≡ Err fault
-      → next (callbacks q) (at_line w fn below k (AndStmt (unboxes_one y) left) slots s) ≡ Some (ends (Failed fault (before_bars fn)) (at_line w fn below k (AndStmt (unboxes_one y) left) slots s))
+      → next (callbacks q) (at_line w fn below k (AndStmt (unboxes_one y) left) slots s) ≡ Some (ends (Failed fault (before_underscores fn)) (at_line w fn below k (AndStmt (unboxes_one y) left) slots s))
   unbox_faults k y left s u b fault h st is_free =
       let l : LineAt g body k scope n (unboxes_one y) left = record { statement = unboxes_one y; stands = st; is_bare = refl; is_line = refl } in
       let answer : freed Auto (At Auto b 0) s ≡ Faults fault = ap (λ r. of_result r >>= λ t. Gives (t, Unset)) is_free in

@@ -21,7 +21,7 @@ use Rattle.cpc_meaning.specs.Trees.{trees, first_point}
 use Rattle.cpc_meaning.specs.Requests.{Request, all_taken, detach_takes}
 use Rattle.cpc_meaning.specs.Section.{Job}
 use Rattle.cpc_meaning.specs.Machine.{next, ends, asked_by, reply, settled, submits}
-use Rattle.cpc_meaning.specs.Start.{before_bars}
+use Rattle.cpc_meaning.specs.Start.{before_underscores}
 use Rattle.cpc_meaning.specs.Events.{Callback, CallWith, callbacks}
 use Rattle.cpc_convert_chain_laws.specs.Boxes.{AllRegisters}
 use Rattle.cpc_convert_chain_laws.specs.Chains.{Saved, frame_cells, count, Top, Owns}
@@ -89,13 +89,13 @@ PiecesAreLeft =
 -- a line faults, also a wait that the agenda refuses; and a section is submitted
 pub record LinesFault (q : Program) (w : World) (fn : Text) (g : Function) (body : Stmts) (below : List (CallFrame Point)) (k : ℕ) (scope : Scope) (n : ℕ) (rest : Stmts) (slots : List Slot) (s : Store) (x : Text) (b : ℕ) : Type 0 where
   pub faults : (y : Stmt) (l : LineAt g body k scope n y rest) → standing y ≡ Simple y → (fault : Fault) → simple_act (at q scope slots s) g.result y ≡ Faults fault
-      → next (callbacks q) (at_line w fn below k (AndStmt l.statement rest) slots s) ≡ Some (ends (Failed fault (before_bars fn)) (at_line w fn below k (AndStmt l.statement rest) slots s))
+      → next (callbacks q) (at_line w fn below k (AndStmt l.statement rest) slots s) ≡ Some (ends (Failed fault (before_underscores fn)) (at_line w fn below k (AndStmt l.statement rest) slots s))
   pub waits : (e : Expr) (l : LineAt g body k scope n (waits e x) rest) → named q scope (codes "rt_wait") ≡ NotMeant → (u : Value) (c : ℕ) → value (at q scope slots s) e ≡ Gives u → at_type TyCondvar u ≡ Gives (Cond c)
       → (fault : Fault) → wait c (CallWith drive_name (At Frame b 0)) w.agenda ≡ Err fault
-      → next (callbacks q) (at_line w fn below k (AndStmt l.statement rest) slots s) ≡ Some (ends (Failed fault (before_bars fn)) (at_line w fn below k (AndStmt l.statement rest) slots s))
+      → next (callbacks q) (at_line w fn below k (AndStmt l.statement rest) slots s) ≡ Some (ends (Failed fault (before_underscores fn)) (at_line w fn below k (AndStmt l.statement rest) slots s))
   pub sleeps : (e : Expr) (l : LineAt g body k scope n (sleeps e x) rest) → named q scope (codes "rt_sleep") ≡ NotMeant → (u : Value) (z : ℤ) → value (at q scope slots s) e ≡ Gives u → at_type (TyInt Long) u ≡ Gives (Whole Long z)
       → (fault : Fault) → sleep z (CallWith drive_name (At Frame b 0)) w.agenda ≡ Err fault
-      → next (callbacks q) (at_line w fn below k (AndStmt l.statement rest) slots s) ≡ Some (ends (Failed fault (before_bars fn)) (at_line w fn below k (AndStmt l.statement rest) slots s))
+      → next (callbacks q) (at_line w fn below k (AndStmt l.statement rest) slots s) ≡ Some (ends (Failed fault (before_underscores fn)) (at_line w fn below k (AndStmt l.statement rest) slots s))
   pub detaches : (f : Text) (es : Exprs) (l : LineAt g body k scope n (detaches x f es) rest) → named q scope (codes "rt_detach") ≡ NotMeant → (r : Ty) (ps : List Ty) → named q scope f ≡ AFunction Detached r ps
       → (vs ws : List Value) → values (at q scope slots s) es ≡ Gives vs → all_taken (detach_takes (function_named q f)) (Code f ∷ vs) ≡ Gives (Code f ∷ ws)
       → (a : Agenda Callback) (jobs : List Job) (marks : List Mark)
@@ -124,7 +124,7 @@ pub record LinesAct (q : Program) (w : World) (fn : Text) (g : Function) (body :
   pub answers : (target : Option Expr) (f : Expr) (es : Exprs) (l : LineAt g body k scope n (Call target f es) rest) (v : Value) (t u : Store) (slots' : List Slot) → deliver (at q scope slots t) target v ≡ Gives (slots', u)
       → reply (trees q) (line_stack fn below k l.statement slots) v (at_line w fn below k (AndStmt l.statement rest) slots t) ≡ Gives (at_line w fn below (suc k) rest slots' u)
   pub faults : (t : Expr) (a : Stmt) (l : LineAt g body k scope n (If t a Absent) rest) (fault : Fault) → value (at q scope slots s) t ≡ Faults fault
-      → next (callbacks q) (at_line w fn below k (AndStmt l.statement rest) slots s) ≡ Some (ends (Failed fault (before_bars fn)) (at_line w fn below k (AndStmt l.statement rest) slots s))
+      → next (callbacks q) (at_line w fn below k (AndStmt l.statement rest) slots s) ≡ Some (ends (Failed fault (before_underscores fn)) (at_line w fn below k (AndStmt l.statement rest) slots s))
 
 abbrev pub LinesActInPlace : Type 0
 LinesActInPlace =

@@ -13,7 +13,7 @@ use Rattle.cpc_meaning.specs.History.{History}
 use Rattle.cpc_meaning.specs.Section.{Job}
 use Rattle.cpc_meaning.specs.Machine.{State, next, ends}
 use Rattle.cpc_meaning.specs.Runs.{live_cells}
-use Rattle.cpc_meaning.specs.Start.{before_bars}
+use Rattle.cpc_meaning.specs.Start.{before_underscores}
 use Rattle.cpc_num.specs.declared.kinds.Fault.{Fault}
 use Rattle.cpc_convert_chain_laws.specs.Flat.{point_at}
 use Rattle.cpc_meaning.specs.Events.{Callback, callbacks}
@@ -105,4 +105,4 @@ pub record FaultsAfter (q : Program) (trace : List Mark) (f : Text) (fault : Fau
   pub grown : ℕ
   pub last : Here
   pub leads : Rise q trace steps grown s last
-  pub faults : next (callbacks q) last ≡ Some (ends (Failed fault (before_bars f)) last)
+  pub faults : next (callbacks q) last ≡ Some (ends (Failed fault (before_underscores f)) last)

@@ -2,12 +2,12 @@
 use Rattle.std.proofs.Common.{◌≡◌, ℕ, ◌<◌, ◌^◌, [], ◌++◌, get_or, decimal, refl, ap, codes, arith}
 use Rattle.cpc_base.specs.Bytes.{Text}
 use Rattle.cpc_convert.specs.Converted.{marked, spawner_name}
-use Rattle.cpc_convert.proofs.Marks.{NoBar, decimal_is}
+use Rattle.cpc_convert.proofs.Marks.{NoUnderscore, decimal_is}
 use Rattle.cpc_forms.specs.Flow.{Place, Start, At}
 use Rattle.cpc_convert_chain_laws.specs.Driver.{drive_name, frame_tag}
 use Rattle.cpc_convert_event.specs.Names.{start_name, leader_name, piece_name, value_tag, box_tag}
 
--- what stands behind the bars of a piece's name
+-- what stands behind the underscores of a piece's name
 abbrev pub behind : Place → Text
 behind Start = codes "start"
 behind (At n) = codes "at" ++ decimal n
@@ -35,24 +35,24 @@ frame_is = refl
 pub driver_is : drive_name ≡ marked (codes "drive") (codes "")
 driver_is = refl
 
-pub no_bar : (d : Text) → (get_or d 0 0 ≡ 95 → ⊥) → NoBar d
-no_bar d h = record { none = λ e k. h (ap (λ x. get_or x 0 0) k) }
+pub no_underscore : (d : Text) → (get_or d 0 0 ≡ 95 → ⊥) → NoUnderscore d
+no_underscore d h = record { none = λ e k. h (ap (λ x. get_or x 0 0) k) }
 
-pub no_bar_behind : (l : Place) → NoBar (behind l)
-no_bar_behind Start = no_bar _ (λ k. absurd (omega arith))
-no_bar_behind (At n) = no_bar _ (λ k. absurd (omega arith))
+pub no_underscore_behind : (l : Place) → NoUnderscore (behind l)
+no_underscore_behind Start = no_underscore _ (λ k. absurd (omega arith))
+no_underscore_behind (At n) = no_underscore _ (λ k. absurd (omega arith))
 
-pub no_bar_spawn : NoBar (codes "spawn")
-no_bar_spawn = no_bar _ (λ k. absurd (omega arith))
+pub no_bar_spawn : NoUnderscore (codes "spawn")
+no_bar_spawn = no_underscore _ (λ k. absurd (omega arith))
 
-pub no_bar_nothing : NoBar (codes "")
-no_bar_nothing = no_bar _ (λ k. absurd (omega arith))
+pub no_bar_nothing : NoUnderscore (codes "")
+no_bar_nothing = no_underscore _ (λ k. absurd (omega arith))
 
 -- texts with different bytes at one place are apart
 pub differ_at : (i : ℕ) (x y : Text) → (get_or x i 0 ≡ get_or y i 0 → ⊥) → x ≡ y → ⊥
 differ_at i x y h k = h (ap (λ z. get_or z i 0) k)
 
--- the texts behind the bars are apart
+-- the texts behind the underscores are apart
 pub piece_spawn : (l : Place) → behind l ≡ codes "spawn" → ⊥
 piece_spawn Start k = differ_at 1 (codes "start") (codes "spawn") (λ e. absurd (omega arith)) k
 piece_spawn (At n) k = differ_at 0 (codes "at" ++ decimal n) (codes "spawn") (λ e. absurd (omega arith)) k

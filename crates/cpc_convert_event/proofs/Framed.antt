@@ -8,7 +8,7 @@ use Rattle.cpc_meaning.specs.Threads.{is_cps_mode}
 use Rattle.cpc_convert.specs.Marks.{has_marks}
 use Rattle.cpc_convert.specs.Converted.{marked}
 use Rattle.cpc_convert.specs.Members.{Has, OnTop, Below}
-use Rattle.cpc_convert.proofs.Marks.{NoBar, marked_is, decimal_is}
+use Rattle.cpc_convert.proofs.Marks.{NoUnderscore, marked_is, decimal_is}
 use Rattle.cpc_convert.proofs.Members.{has_left, has_right, has_either}
 use Rattle.cpc_tree.specs.Lists.{holds_number}
 use Rattle.cpc_lift_laws.specs.Lift.{boxes}
@@ -21,7 +21,7 @@ use Rattle.cpc_convert_event.specs.Routines.{routine_of}
 use Rattle.cpc_convert_event.specs.Frames.{any_frame, value_struct, value_struct_if, start_struct, leader_struct, structs_of, box_of, boxes_of}
 use Rattle.cpc_convert_event.specs.Converted.{routine_if, routines_in, all_structs, all_boxes}
 use Rattle.cpc_convert_event.specs.NameLaws.{IsNamed, IsCps}
-use Rattle.cpc_convert_event.proofs.Apart.{behind, piece_is, value_is, box_is, frame_is, no_bar, differ_at, no_bar_behind, no_bar_nothing, piece_nothing, Small, StartIsSmall, NumberIsSmall, behind_is}
+use Rattle.cpc_convert_event.proofs.Apart.{behind, piece_is, value_is, box_is, frame_is, no_underscore, differ_at, no_underscore_behind, no_bar_nothing, piece_nothing, Small, StartIsSmall, NumberIsSmall, behind_is}
 use Rattle.cpc_convert_event.proofs.Made.{Mapped, OfNumber, map_has, has_map}
 
 -- a struct that is made
@@ -128,8 +128,8 @@ abbrev pub tag_of : Item → Text
 tag_of (StructItem tag fs) = tag
 tag_of item = []
 
-no_bar_box : (k : ℕ) → NoBar (codes "box" ++ decimal k)
-no_bar_box k = no_bar _ (λ e. absurd (omega arith))
+no_bar_box : (k : ℕ) → NoUnderscore (codes "box" ++ decimal k)
+no_bar_box k = no_underscore _ (λ e. absurd (omega arith))
 
 box_nothing : (k : ℕ) → codes "box" ++ decimal k ≡ codes "" → ⊥
 box_nothing k e = differ_at 0 (codes "box" ++ decimal k) [] (λ i. absurd (omega arith)) e
@@ -146,8 +146,8 @@ held : (k : ℕ) (ks : List ℕ) → Has k ks → holds_number ks k ≡ true
 held k _ (OnTop _ ks) = ap (λ b. b || holds_number ks k) (eq_reflexive k)
 held k _ (Below _ j ks h) = or_by_second (j == k) (holds_number ks k) (held k ks h)
 
-no_bar_value : NoBar (codes "value")
-no_bar_value = no_bar _ (λ k. absurd (omega arith))
+no_bar_value : NoUnderscore (codes "value")
+no_bar_value = no_underscore _ (λ k. absurd (omega arith))
 
 value_nothing : codes "value" ≡ codes "" → ⊥
 value_nothing k = differ_at 0 (codes "value") [] (λ e. absurd (omega arith)) k
@@ -167,22 +167,22 @@ module _ (p : Program) (ok : IsNamed p) where
   one_function f g h k e = let z : Some f ≡ Some g = sym (ok.found f h) ∙ ap (function_named p) e ∙ ok.found g k in cc
 
   -- tags of a word or a function with different texts behind them
-  differ : (f g d e : Text) → has_marks f ≡ false → has_marks g ≡ false → NoBar d → NoBar e → (d ≡ e → ⊥) → (t u : Text) → t ≡ marked f d → u ≡ marked g e → t ≡ u → ⊥
+  differ : (f g d e : Text) → has_marks f ≡ false → has_marks g ≡ false → NoUnderscore d → NoUnderscore e → (d ≡ e → ⊥) → (t u : Text) → t ≡ marked f d → u ≡ marked g e → t ≡ u → ⊥
   differ f g d e hf hg nd ne h t u i j k = h (marked_is f g d e hf hg nd ne (sym i ∙ k ∙ j)).1
 
   value_start : (f g : Function) (l : Place) → Has (FunctionItem f) p → Has (FunctionItem g) p → value_tag f.called ≡ piece_name g.called l → ⊥
-  value_start f g l h k e = differ f.called g.called (codes "value") (behind l) (unmarked f h) (unmarked g k) no_bar_value (no_bar_behind l) (value_piece l) _ _ (value_is f.called) (piece_is g.called l) e
+  value_start f g l h k e = differ f.called g.called (codes "value") (behind l) (unmarked f h) (unmarked g k) no_bar_value (no_underscore_behind l) (value_piece l) _ _ (value_is f.called) (piece_is g.called l) e
 
   value_any : (f : Function) → Has (FunctionItem f) p → value_tag f.called ≡ frame_tag → ⊥
   value_any f h e = differ f.called (codes "frame") (codes "value") (codes "") (unmarked f h) refl no_bar_value no_bar_nothing value_nothing _ _ (value_is f.called) frame_is e
 
   piece_any : (f : Function) (l : Place) → Has (FunctionItem f) p → piece_name f.called l ≡ frame_tag → ⊥
-  piece_any f l h e = differ f.called (codes "frame") (behind l) (codes "") (unmarked f h) refl (no_bar_behind l) no_bar_nothing (piece_nothing l) _ _ (piece_is f.called l) frame_is e
+  piece_any f l h e = differ f.called (codes "frame") (behind l) (codes "") (unmarked f h) refl (no_underscore_behind l) no_bar_nothing (piece_nothing l) _ _ (piece_is f.called l) frame_is e
 
   -- pieces of one name
   pieces_same : (f g : Function) (a b : Place) → Has (FunctionItem f) p → Has (FunctionItem g) p → Small a → Small b → piece_name f.called a ≡ piece_name g.called b → (f ≡ g) × (a ≡ b)
   pieces_same f g a b h k sa sb e =
-      let m = marked_is f.called g.called (behind a) (behind b) (unmarked f h) (unmarked g k) (no_bar_behind a) (no_bar_behind b) (sym (piece_is f.called a) ∙ e ∙ piece_is g.called b) in
+      let m = marked_is f.called g.called (behind a) (behind b) (unmarked f h) (unmarked g k) (no_underscore_behind a) (no_underscore_behind b) (sym (piece_is f.called a) ∙ e ∙ piece_is g.called b) in
       (one_function f g h k m.0, behind_is a b sa sb m.1)
 
   -- the number of a box is one of a variable
@@ -199,7 +199,7 @@ module _ (p : Program) (ok : IsNamed p) where
   box_no_value f g k h i e = differ f.called g.called (codes "box" ++ decimal k) (codes "value") (unmarked f h) (unmarked g i) (no_bar_box k) no_bar_value (box_value k) _ _ (box_is f.called k) (value_is g.called) e
 
   box_no_piece : (f g : Function) (k : ℕ) (l : Place) → Has (FunctionItem f) p → Has (FunctionItem g) p → box_tag f.called k ≡ piece_name g.called l → ⊥
-  box_no_piece f g k l h i e = differ f.called g.called (codes "box" ++ decimal k) (behind l) (unmarked f h) (unmarked g i) (no_bar_box k) (no_bar_behind l) (box_piece k l) _ _ (box_is f.called k) (piece_is g.called l) e
+  box_no_piece f g k l h i e = differ f.called g.called (codes "box" ++ decimal k) (behind l) (unmarked f h) (unmarked g i) (no_bar_box k) (no_underscore_behind l) (box_piece k l) _ _ (box_is f.called k) (piece_is g.called l) e
 
   boxes_same : (f g : Function) (j k : ℕ) → Has (FunctionItem f) p → Has (FunctionItem g) p → j < 2 ^ 63 → k < 2 ^ 63 → box_tag f.called j ≡ box_tag g.called k → (f ≡ g) × (j ≡ k)
   boxes_same f g j k h i sj sk e =

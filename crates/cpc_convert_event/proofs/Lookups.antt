@@ -9,7 +9,7 @@ use Rattle.cpc_meaning.proofs.Functions.{texts_differ}
 use Rattle.cpc_convert.specs.Marks.{has_marks}
 use Rattle.cpc_convert.specs.Converted.{marked, spawner_name, function_item}
 use Rattle.cpc_convert.specs.Members.{Has, OnTop, Below}
-use Rattle.cpc_convert.proofs.Marks.{NoBar, marked_is, marked_differs, differs_marked}
+use Rattle.cpc_convert.proofs.Marks.{NoUnderscore, marked_is, marked_differs, differs_marked}
 use Rattle.cpc_convert.proofs.Listed.{skip_prototypes, find_function, pass_functions}
 use Rattle.cpc_forms.specs.Flow.{Place}
 use Rattle.cpc_convert_chain_laws.specs.Driver.{drive_name, drive_function}
@@ -18,7 +18,7 @@ use Rattle.cpc_convert_event.specs.Routines.{Routine, routine_of}
 use Rattle.cpc_convert_event.specs.Pieces.{piece_function, spawner_function}
 use Rattle.cpc_convert_event.specs.Converted.{kept_function, item_unless, kept_items, routines, all_structs, all_boxes, all_made, main_function, main_if, converted_with, converted}
 use Rattle.cpc_convert_event.specs.NameLaws.{IsOwner, IsNamed, IsCps, IsKept, FunctionsAreFound}
-use Rattle.cpc_convert_event.proofs.Apart.{behind, piece_is, spawner_is, driver_is, piece_nothing, spawn_nothing, no_bar_behind, no_bar_spawn, no_bar_nothing}
+use Rattle.cpc_convert_event.proofs.Apart.{behind, piece_is, spawner_is, driver_is, piece_nothing, spawn_nothing, no_underscore_behind, no_bar_spawn, no_bar_nothing}
 use Rattle.cpc_convert_event.proofs.Structs.{skip_functions, all_structs_are, all_boxes_are}
 use Rattle.cpc_convert_event.proofs.Made.{made_one_name, made_marked, has_piece, has_spawner}
 
@@ -101,14 +101,14 @@ module _ (p : Program) (ok : IsNamed p) where
       ∙ find_function (all_made p (routines p)) (main_if (is_cps (function_named p main_name))) g h (made_one_name p ok g h))))
 
   -- the driver's name is none of a piece or a spawner
-  driver_differs : (f rest : Text) → has_marks f ≡ false → NoBar rest → (rest ≡ codes "" → ⊥) → bytes_eq drive_name (marked f rest) ≡ false
+  driver_differs : (f rest : Text) → has_marks f ≡ false → NoUnderscore rest → (rest ≡ codes "" → ⊥) → bytes_eq drive_name (marked f rest) ≡ false
   driver_differs f rest h n d =
       texts_differ drive_name (marked f rest) (λ (e : drive_name ≡ marked f rest). d (sym (marked_is (codes "drive") f (codes "") rest refl h no_bar_nothing n (sym driver_is ∙ e)).1))
 
   find_piece : (f : Function) → IsCps p f → (l : Place) → IsOwner (routine_of p f) l → function_named (converted p) (piece_name f.called l) ≡ Some (piece_function p (routine_of p f) l)
   find_piece f c l o =
       find_made (piece_function p (routine_of p f) l) f.called (behind l) (piece_is f.called l) (has_piece p f c l o)
-      (ap (bytes_eq drive_name) (piece_is f.called l) ∙ driver_differs f.called (behind l) (ok.unmarked (FunctionItem f) c.has) (no_bar_behind l) (piece_nothing l))
+      (ap (bytes_eq drive_name) (piece_is f.called l) ∙ driver_differs f.called (behind l) (ok.unmarked (FunctionItem f) c.has) (no_underscore_behind l) (piece_nothing l))
 
   find_spawner : (f : Function) → IsCps p f → function_named (converted p) (spawner_name f.called) ≡ Some (spawner_function f)
   find_spawner f c =

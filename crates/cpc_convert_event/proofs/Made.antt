@@ -14,7 +14,7 @@ use Rattle.cpc_convert_event.specs.Routines.{Routine, routine_of}
 use Rattle.cpc_convert_event.specs.Pieces.{piece_function, leader_function, spawner_function, made_of}
 use Rattle.cpc_convert_event.specs.Converted.{routine_if, routines_in, routines, all_made}
 use Rattle.cpc_convert_event.specs.NameLaws.{IsOwner, TheStart, ALeader, IsNamed, IsCps}
-use Rattle.cpc_convert_event.proofs.Apart.{behind, piece_is, spawner_is, no_bar_behind, no_bar_spawn, piece_spawn, Small, StartIsSmall, NumberIsSmall, behind_is}
+use Rattle.cpc_convert_event.proofs.Apart.{behind, piece_is, spawner_is, no_underscore_behind, no_bar_spawn, piece_spawn, Small, StartIsSmall, NumberIsSmall, behind_is}
 
 -- ---- what is made
 
@@ -109,13 +109,13 @@ module _ (p : Program) (ok : IsNamed p) where
       let m = marked_is e.called f.called (codes "spawn") (codes "spawn") (unmarked e has') (unmarked f has) no_bar_spawn no_bar_spawn (sym (spawner_is e.called) ∙ k ∙ spawner_is f.called) in
       ap spawner_function (one_function e f has' has m.0)
   made_once _ _ (MadeSpawner f has c) (MadePiece e l has' c' o) k =
-      let m = marked_is e.called f.called (behind l) (codes "spawn") (unmarked e has') (unmarked f has) (no_bar_behind l) no_bar_spawn (sym (piece_is e.called l) ∙ k ∙ spawner_is f.called) in
+      let m = marked_is e.called f.called (behind l) (codes "spawn") (unmarked e has') (unmarked f has) (no_underscore_behind l) no_bar_spawn (sym (piece_is e.called l) ∙ k ∙ spawner_is f.called) in
       absurd (piece_spawn l m.1)
   made_once _ _ (MadePiece f l has c o) (MadeSpawner e has' c') k =
-      let m = marked_is e.called f.called (codes "spawn") (behind l) (unmarked e has') (unmarked f has) no_bar_spawn (no_bar_behind l) (sym (spawner_is e.called) ∙ k ∙ piece_is f.called l) in
+      let m = marked_is e.called f.called (codes "spawn") (behind l) (unmarked e has') (unmarked f has) no_bar_spawn (no_underscore_behind l) (sym (spawner_is e.called) ∙ k ∙ piece_is f.called l) in
       absurd (piece_spawn l (sym m.1))
   made_once _ _ (MadePiece f l has c o) (MadePiece e n has' c' o') k =
-      let m = marked_is e.called f.called (behind n) (behind l) (unmarked e has') (unmarked f has) (no_bar_behind n) (no_bar_behind l) (sym (piece_is e.called n) ∙ k ∙ piece_is f.called l) in
+      let m = marked_is e.called f.called (behind n) (behind l) (unmarked e has') (unmarked f has) (no_underscore_behind n) (no_underscore_behind l) (sym (piece_is e.called n) ∙ k ∙ piece_is f.called l) in
       let same = behind_is n l (small e (record { has = has'; mode = c' }) n o') (small f (record { has = has; mode = c }) l o) m.1 in
       ap (λ x. piece_function p (routine_of p x) n) (one_function e f has' has m.0) ∙ ap (piece_function p (routine_of p f)) same
 

@@ -12,7 +12,7 @@ use Rattle.cpc_meaning.proofs.Functions.{texts_differ, same_text}
 use Rattle.cpc_convert.specs.Marks.{has_marks}
 use Rattle.cpc_convert.specs.Converted.{marked, function_item, prototype}
 use Rattle.cpc_convert.specs.Members.{Has, OnTop, Below}
-use Rattle.cpc_convert.proofs.Marks.{NoBar, marked_is, marked_differs}
+use Rattle.cpc_convert.proofs.Marks.{NoUnderscore, marked_is, marked_differs}
 use Rattle.cpc_convert.proofs.Listed.{find_prototype, pass_prototypes, pass_items}
 use Rattle.cpc_convert_image_laws.specs.InPlace.{is_cps}
 use Rattle.cpc_convert_chain_laws.specs.Driver.{drive_name, drive_function}
@@ -20,7 +20,7 @@ use Rattle.cpc_convert_event.specs.Routines.{Routine, routine_of}
 use Rattle.cpc_convert_event.specs.Pieces.{piece_function, spawner_function}
 use Rattle.cpc_convert_event.specs.Converted.{kept_function, item_unless, kept_items, routines, all_structs, all_boxes, all_made, main_function, main_if, converted_with, converted}
 use Rattle.cpc_convert_event.specs.NameLaws.{IsNamed, ItemsAreMeant}
-use Rattle.cpc_convert_event.proofs.Apart.{behind, piece_is, spawner_is, driver_is, piece_nothing, spawn_nothing, no_bar_behind, no_bar_spawn, no_bar_nothing}
+use Rattle.cpc_convert_event.proofs.Apart.{behind, piece_is, spawner_is, driver_is, piece_nothing, spawn_nothing, no_underscore_behind, no_bar_spawn, no_bar_nothing}
 use Rattle.cpc_convert_event.proofs.Structs.{skip_names, all_structs_are, all_boxes_are}
 use Rattle.cpc_convert_event.proofs.Made.{Made, MadeSpawner, MadePiece, made_is, made_one_name, made_marked, has_piece, has_spawner}
 
@@ -107,13 +107,13 @@ module _ (p : Program) (ok : IsNamed p) where
   not_driver : (h : Function) → Has h (all_made p (routines p)) → bytes_eq h.called drive_name ≡ false
   not_driver h j = go h (made_is p p h j)
     where
-      apart : (f rest : Text) → has_marks f ≡ false → NoBar rest → (rest ≡ codes "" → ⊥) → bytes_eq (marked f rest) drive_name ≡ false
+      apart : (f rest : Text) → has_marks f ≡ false → NoUnderscore rest → (rest ≡ codes "" → ⊥) → bytes_eq (marked f rest) drive_name ≡ false
       apart f rest e n d =
           texts_differ (marked f rest) drive_name (λ (k : marked f rest ≡ drive_name). d (marked_is f (codes "drive") rest (codes "") e refl n no_bar_nothing (k ∙ driver_is)).1)
 
       go : (h : Function) → Made p p h → bytes_eq h.called drive_name ≡ false
       go _ (MadeSpawner f has c) = ap (λ y. bytes_eq y drive_name) (spawner_is f.called) ∙ apart f.called (codes "spawn") (ok.unmarked (FunctionItem f) has) no_bar_spawn spawn_nothing
-      go _ (MadePiece f l has c o) = ap (λ y. bytes_eq y drive_name) (piece_is f.called l) ∙ apart f.called (behind l) (ok.unmarked (FunctionItem f) has) (no_bar_behind l) (piece_nothing l)
+      go _ (MadePiece f l has c o) = ap (λ y. bytes_eq y drive_name) (piece_is f.called l) ∙ apart f.called (behind l) (ok.unmarked (FunctionItem f) has) (no_underscore_behind l) (piece_nothing l)
 
   unlike_driver : (x : Text) → has_marks x ≡ false → bytes_eq drive_name x ≡ false
   unlike_driver x h = ap (λ y. bytes_eq y x) driver_is ∙ marked_differs (codes "drive") (codes "") x h

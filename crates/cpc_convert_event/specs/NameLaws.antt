@@ -21,7 +21,7 @@ use Rattle.cpc_convert_event.specs.Converted.{kept_function, main_function, conv
 
 -- ---- what is asked of a source
 
--- a name of an item does not hold two bars in a row
+-- a name of an item does not hold two underscores in a row
 abbrev pub IsUnmarked : Item → Type 0
 IsUnmarked (StructItem tag fs) = has_marks tag ≡ false
 IsUnmarked (GlobalItem x t start) = has_marks x ≡ false

@@ -55,7 +55,7 @@ impl Drop for Called<'_> {
     }
 }
 
-// The names of so many numbers: a text with two bars, a word and the number behind it. `NoMemory` is want of memory.
+// The names of so many numbers: a text with two underscores, a word and the number behind it. `NoMemory` is want of memory.
 fn numbered_names(
     alloc: Global,
     names: &mut Names,

@@ -30,7 +30,7 @@ fn bytes_of(alloc: Global, names: &Names, of: Name) -> Result<Vec<u8>, NoMemory>
     }
 }
 
-/// The name of a text with two bars and a rest behind it. `NoMemory` is want of memory.
+/// The name of a text with two underscores and a rest behind it. `NoMemory` is want of memory.
 pub(crate) fn marked_name(
     alloc: Global,
     names: &mut Names,
@@ -47,7 +47,7 @@ pub(crate) fn marked_name(
     Ok(name)
 }
 
-/// The name of a text with two bars, a word and a number behind it. `NoMemory` is want of memory.
+/// The name of a text with two underscores, a word and a number behind it. `NoMemory` is want of memory.
 pub(crate) fn numbered_name(
     alloc: Global,
     names: &mut Names,

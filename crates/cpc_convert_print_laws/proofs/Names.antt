@@ -24,7 +24,7 @@ use Rattle.cpc_convert_event.specs.Names.{start_name, leader_name, piece_name, v
 
 -- ---- no keyword
 
--- no keyword has two bars
+-- no keyword has two underscores
 keyword_plain : (k : Keyword) → has_marks (keyword_spelling k) ≡ false
 keyword_plain K.Auto = refl
 keyword_plain _ = refl
@@ -34,14 +34,14 @@ find_none : {A : Type 0} (p : A → Bool) → ((x : A) → p x ≡ false) → (x
 find_none p h [] = refl
 find_none p h (x ∷ xs) = rw (h x) (find_none p h xs)
 
--- a name with two bars is no keyword
+-- a name with two underscores is no keyword
 marked_no_keyword : (f rest : Text) → keyword_of (marked f rest) ≡ None
 unfolding keyword_of
 marked_no_keyword f rest = find_none (λ (k : Keyword). bytes_eq (marked f rest) (keyword_spelling k)) (λ k. marked_differs f rest (keyword_spelling k) (keyword_plain k)) keywords
 
 -- ---- bytes of a word
 
--- a bar is a byte of a word
+-- a underscore is a byte of a word
 bar_word : in_word 95 ≡ true
 unfolding in_word
 bar_word = refl
@@ -59,7 +59,7 @@ digits_word (c ∷ ds) all = let d = digit_from_value c all.0 in All-cons (λ b.
 decimal_word : (n : ℕ) → n < 2 ^ 64 → AllPass in_word (decimal n)
 decimal_word n h = digits_word (decimal n) (decimal_is_IsNumeral n h).0.1
 
--- a name, two bars and more
+-- a name, two underscores and more
 marked_word : (f rest : Text) → AllPass in_word f → AllPass in_word rest → AllPass in_word (marked f rest)
 marked_word f rest a b = All-append (λ c. in_word c ≡ true) f (95 ∷ 95 ∷ rest) a (All-cons (λ c. in_word c ≡ true) 95 (95 ∷ rest) bar_word (All-cons (λ c. in_word c ≡ true) 95 rest bar_word b))
 
@@ -84,7 +84,7 @@ marked_name f rest n all short =
       short = omega (arith, size, limit, short);
     }
 
--- a short text of letters, digits and bars that begins with none of the digits
+-- a short text of letters, digits and underscores that begins with none of the digits
 pub word_name : (x : Text) → 0 < length x → length x ≤ 60 → is_ascii_digit (get_or x 0 0) ≡ false → AllPass in_word x → keyword_of x ≡ None → IsName D.Event x
 word_name x some short begins word plain = record { some = some; begins = begins; word = word; no_keyword = plain; short = omega (arith, short) }
 

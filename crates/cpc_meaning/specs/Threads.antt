@@ -17,7 +17,7 @@ use Rattle.cpc_meaning.specs.Trees.{trees}
 use Rattle.cpc_meaning.specs.Agenda.{Agenda, ready_one, wait, sleep, io}
 use Rattle.cpc_meaning.specs.History.{History}
 use Rattle.cpc_meaning.specs.Machine.{State, Machine, marks, with_agenda, runs, reply, int_of, cond_of, direction_of, submits, step}
-use Rattle.cpc_meaning.specs.Start.{opening, before_bars, main_name}
+use Rattle.cpc_meaning.specs.Start.{opening, before_underscores, main_name}
 
 -- a thread: a function to be called, or a stack that waits for a value
 pub data Thread (P : Type 0) : Type 0 where
@@ -76,9 +76,9 @@ abbrev pub is_cps : Option Function → Bool
 is_cps None = false
 is_cps (Some f) = is_cps_mode f.mode
 
--- a fault names a cps function without the bars at the end of its name
+-- a fault names a cps function without the underscores at the end of its name
 abbrev pub shown_in : Program → Text → Text
-shown_in p f = if is_cps (function_named p f) then before_bars (f ++ codes "__") else f
+shown_in p f = if is_cps (function_named p f) then before_underscores (f ++ codes "__") else f
 
 -- the threaded machine of a program in any form
 abbrev pub threads_of : {P : Type 0} → Form P → Machine P (Thread P)

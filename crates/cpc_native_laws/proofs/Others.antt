@@ -8,10 +8,10 @@ use Rattle.cpc_base.specs.declared.names.Name.{Name}
 use Rattle.cpc_base.proofs.Truth.{lt_fails, lt_holds, or_neither}
 use Rattle.cpc_base.specs.declared.stop.Dialect.TheVariants as D
 use Rattle.cpc_tree.specs.Erase.{Names, Table}
-use Rattle.cpc_meaning.specs.Start.{begins_with_bars, cut_where, before_bars}
+use Rattle.cpc_meaning.specs.Start.{begins_with_underscores, cut_where, before_underscores}
 use Rattle.cpc_meaning.proofs.Functions.{text_same}
 use Rattle.cpc_check_rules.specs.Apart.{AreApart, IsUnknown, Spells}
-use Rattle.cpc_check_rules.specs.FunctionRules.{begins_with, holds_bars, is_kept}
+use Rattle.cpc_check_rules.specs.FunctionRules.{begins_with, holds_underscores, is_kept}
 use Rattle.cpc_native_laws.specs.Laws.{AreOthers}
 
 -- ---- numbers
@@ -28,11 +28,11 @@ apart_under a b n e f = grind (arith, nat_tests, e, f)
 not_next : (a : ℕ) → true ≡ (a == suc a) → ⊥
 not_next a e = grind (arith, nat_tests, e)
 
--- ---- texts without bars
+-- ---- texts without underscores
 
-no_bars_first : (b : ℕ) (bs : Text) → begins_with (codes "__") (b ∷ bs) ≡ false → begins_with_bars (b ∷ bs) ≡ false
-no_bars_first b [] e = refl
-no_bars_first b (c ∷ bs) e = go (b == 95) refl (c == 95) refl
+no_underscores_first : (b : ℕ) (bs : Text) → begins_with (codes "__") (b ∷ bs) ≡ false → begins_with_underscores (b ∷ bs) ≡ false
+no_underscores_first b [] e = refl
+no_underscores_first b (c ∷ bs) e = go (b == 95) refl (c == 95) refl
   where
     go : (s : Bool) → (b == 95) ≡ s → (t : Bool) → (c == 95) ≡ t → (s && t) ≡ false
     go true i true j =
@@ -42,16 +42,16 @@ no_bars_first b (c ∷ bs) e = go (b == 95) refl (c == 95) refl
     go true i false j = refl
     go false i t j = refl
 
--- a name without two bars in a row is shown whole
-whole : (x : Text) → holds_bars x ≡ false → before_bars x ≡ x
+-- a name without two underscores in a row is shown whole
+whole : (x : Text) → holds_underscores x ≡ false → before_underscores x ≡ x
 whole [] h = refl
 whole (b ∷ bs) h =
-    let e = or_neither (begins_with (codes "__") (b ∷ bs)) (holds_bars bs) h in
-    ap (λ here. cut_where here (b ∷ before_bars bs)) (no_bars_first b bs e.0) ∙ ap (λ t. b ∷ t) (whole bs e.1)
+    let e = or_neither (begins_with (codes "__") (b ∷ bs)) (holds_underscores bs) h in
+    ap (λ here. cut_where here (b ∷ before_underscores bs)) (no_underscores_first b bs e.0) ∙ ap (λ t. b ∷ t) (whole bs e.1)
 
 -- a text that means nothing is shown whole
-unknown_whole : (x : Text) → IsUnknown x → before_bars x ≡ x
-unknown_whole x h = whole x (or_neither (is_kept x) (holds_bars x) (h.reserved D.Cpc)).1
+unknown_whole : (x : Text) → IsUnknown x → before_underscores x ≡ x
+unknown_whole x h = whole x (or_neither (is_kept x) (holds_underscores x) (h.reserved D.Cpc)).1
 
 -- ---- the other texts
 

@@ -12,7 +12,7 @@ use Rattle.cpc_tree.specs.declared.program.Function.{Function}
 use Rattle.cpc_tree.specs.declared.program.Item.TheVariants as I
 use Rattle.cpc_tree.specs.declared.program.Program as GProgram
 use Rattle.cpc_check.specs.Accepted.{Accepts}
-use Rattle.cpc_meaning.specs.Start.{before_bars}
+use Rattle.cpc_meaning.specs.Start.{before_underscores}
 use Rattle.cpc_eval.specs.Numbers.{ProgramNumbers}
 use Rattle.cpc_eval_variables.specs.Told.{IsTold}
 
@@ -29,7 +29,7 @@ pub record IsSpelling (names : Names) (p : GProgram.Program) : Type 0 where
 
 -- Two spellings of names differ at each name that the table does not have, also in the part that a fault tells. So what both tell alike is in the table.
 pub record AreOthers (table : Table) (names other : Names) : Type 0 where
-  pub differ : (n : Name) → length table ≤ n.0 → before_bars (names n) ≡ before_bars (other n) → ⊥
+  pub differ : (n : Name) → length table ≤ n.0 → before_underscores (names n) ≡ before_underscores (other n) → ⊥
 
 -- Two such spellings of a program.
 pub record AreSpellings (names other : Names) (p : GProgram.Program) : Type 0 where

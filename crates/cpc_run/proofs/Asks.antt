@@ -23,7 +23,7 @@ use Rattle.cpc_meaning.specs.Machine.{acts, ends, fault_function, marks, after_d
 use Rattle.cpc_meaning.specs.Plain.{Form, Stack, Done, Went, Returned, Asks, answered, running_function}
 use Rattle.cpc_meaning.specs.Runs.{frames_registers, live_cells}
 use Rattle.cpc_meaning.specs.Section.{allocated, freed}
-use Rattle.cpc_meaning.specs.Start.{before_bars}
+use Rattle.cpc_meaning.specs.Start.{before_underscores}
 use Rattle.cpc_meaning.specs.Trees.{trees}
 use Rattle.cpc_meaning.proofs.Agendas.{SameAgenda, SameResult, made as cond_same}
 use Rattle.cpc_history_marks.specs.Views.{told_of}
@@ -257,4 +257,4 @@ pub refused_so : (names : Names) (l new : Loop) (f : Name) (before after : Text)
     → Acted names l f before s s → Did {E = NoMemory} names (Ok (Some (O.Failed fault f))) new after s (settles names l s (acts (trees (program_in names l)) (stack_in names l.machine) v t))
 refused_so names l new f before after s t u v fault same e h =
     subst (λ r. Did {E = NoMemory} names (Ok (Some (O.Failed fault f))) new after s (settles names l s (acts (trees (program_in names l)) (stack_in names l.machine) r t))) (sym (err_same (IsCallback names) u v same fault e))
-    (ap (λ x. ends (T.Failed fault (before_bars x)) s) (ap fault_function h.asks ∙ sym h.name))
+    (ap (λ x. ends (T.Failed fault (before_underscores x)) s) (ap fault_function h.asks ∙ sym h.name))

@@ -20,7 +20,7 @@ use Rattle.cpc_meaning.specs.Machine.{asked_by, code_step, primitive, runs_on, s
 use Rattle.cpc_meaning.specs.Plain.{Asks, Done, Stack, plain, running_function}
 use Rattle.cpc_meaning.specs.Requests.{Request}
 use Rattle.cpc_meaning.specs.Runs.{live_cells}
-use Rattle.cpc_meaning.specs.Start.{before_bars}
+use Rattle.cpc_meaning.specs.Start.{before_underscores}
 use Rattle.cpc_meaning.specs.Trees.{trees}
 use Rattle.cpc_meaning_laws.specs.Pointer.Made.{IsMadeCode}
 use Rattle.cpc_eval_values.specs.Shown.{value_of, values_of}
@@ -64,11 +64,11 @@ asked_goes q s t k r e h = sym (ap (λ a. settled (callbacks q) s (a >>= runs_on
 
 module _ (table : Table) (names other : Names) (others : AreOthers table names other) where
   -- what both tell alike is in the table
-  shown_in : (x : Name) → before_bars (names x) ≡ before_bars (other x) → x.0 < length table
+  shown_in : (x : Name) → before_underscores (names x) ≡ before_underscores (other x) → x.0 < length table
   shown_in x e = elim (cases_lt x.0 (length table)) [ inl h ↦ h | inr h ↦ absurd (others.differ x h e) ]
 
   told_in : (x : Name) → names x ≡ other x → x.0 < length table
-  told_in x e = shown_in x (ap before_bars e)
+  told_in x e = shown_in x (ap before_underscores e)
 
   code_known : (v : V.Value) (vs : List V.Value) (u w : V.Value) → values_of names (u ∷ w ∷ v ∷ vs) ≡ values_of other (u ∷ w ∷ v ∷ vs) → IsKnownCode table v
   code_known (W.Code x) vs u w e = let same : names x ≡ other x = cc e in told_in x same
@@ -96,7 +96,7 @@ module _ (table : Table) (names other : Names) (others : AreOthers table names o
   pub end_known : (o : Outcome) → outcome_of names o ≡ outcome_of other o → IsInTable table (E.Over o)
   end_known (O.Ended n) e = tt
   end_known (O.Exited z) e = tt
-  end_known (O.Failed fault f) e = let same : before_bars (names f) ≡ before_bars (other f) = cc e in shown_in f same
+  end_known (O.Failed fault f) e = let same : before_underscores (names f) ≡ before_underscores (other f) = cc e in shown_in f same
   end_known O.HistoryEnded e = tt
   end_known (O.BadHistory n) e = tt
 

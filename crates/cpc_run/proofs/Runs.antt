@@ -15,7 +15,7 @@ use Rattle.cpc_meaning.specs.Events.{callbacks}
 use Rattle.cpc_meaning.specs.History.{History}
 use Rattle.cpc_meaning.specs.Machine.{ends, try_step, unless_over, step}
 use Rattle.cpc_meaning.specs.Runs.{live_cells}
-use Rattle.cpc_meaning.specs.Start.{before_bars}
+use Rattle.cpc_meaning.specs.Start.{before_underscores}
 use Rattle.cpc_history_marks.specs.Views.{told_of}
 use Rattle.cpc_run.specs.declared.looped.Loop.{Loop}
 use Rattle.cpc_run.specs.declared.made.Made.{Made}
@@ -120,7 +120,7 @@ module _ (names : Names) (table : Table) (spells : Spells table names) (q : Prog
   pub left_in : (n : ℕ) (e : Ended) → IsInTable table e → IsLeft names q h limits n e → IsLeft (in_table table) q h limits n e
   left_in n (E.Over (O.Ended k)) i left = over_in n (O.Ended k) refl left
   left_in n (E.Over (O.Exited z)) i left = over_in n (O.Exited z) refl left
-  left_in n (E.Over (O.Failed fault f)) i left = over_in n (O.Failed fault f) (ap (λ t. T.Failed fault (before_bars t)) (spells.inside f i)) left
+  left_in n (E.Over (O.Failed fault f)) i left = over_in n (O.Failed fault f) (ap (λ t. T.Failed fault (before_underscores t)) (spells.inside f i)) left
   left_in n (E.Over O.HistoryEnded) i left = over_in n O.HistoryEnded refl left
   left_in n (E.Over (O.BadHistory k)) i left = over_in n (O.BadHistory k) refl left
   left_in n E.Steps i left = left

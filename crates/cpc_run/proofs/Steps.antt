@@ -18,7 +18,7 @@ use Rattle.cpc_meaning.specs.Events.{Callback, CallWith, callbacks, starts_callb
 use Rattle.cpc_meaning.specs.Machine.{ends, fault_function, settled, schedules, step_running, try_step, code_step, runs_on, asked_by, runs, with_agenda}
 use Rattle.cpc_meaning.specs.Plain.{Done, Asks, plain, running_function}
 use Rattle.cpc_meaning.specs.Runs.{live_cells}
-use Rattle.cpc_meaning.specs.Start.{before_bars}
+use Rattle.cpc_meaning.specs.Start.{before_underscores}
 use Rattle.cpc_meaning.specs.Requests.{Request}
 use Rattle.cpc_meaning.specs.Trees.{trees}
 use Rattle.cpc_meaning.proofs.Agendas.{SameAgenda, SameDue}
@@ -83,7 +83,7 @@ failed_so names l new printed s fault f NoAnswer e name running = tt
 failed_so names l new printed s fault f (Gives d) e name running = absurd (cc e)
 failed_so names l new printed s fault f (Faults other) e name running =
     let same : other ≡ fault = cc e in
-    ap (λ x. ends (T.Failed x (before_bars (fault_function s.running))) s) same ∙ ap (λ x. ends (T.Failed fault (before_bars x)) s) (ap fault_function running ∙ sym name)
+    ap (λ x. ends (T.Failed x (before_underscores (fault_function s.running))) s) same ∙ ap (λ x. ends (T.Failed fault (before_underscores x)) s) (ap fault_function running ∙ sym name)
 
 pub faulted_so : (names : Names) (l new : Loop) (before printed : Text) (s : States) (fault : Fault) (f : Name) → Stands names l before s → l.running ≡ true
     → names f ≡ running_function (stack_in names l.machine) → Same (Err fault) (plain (trees (program_in names l)) (store_in names l.machine) (stack_in names l.machine))

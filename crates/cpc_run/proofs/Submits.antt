@@ -22,7 +22,7 @@ use Rattle.cpc_meaning.specs.Events.{Callback}
 use Rattle.cpc_meaning.specs.Machine.{ends, fault_function, marks, reply}
 use Rattle.cpc_meaning.specs.Plain.{Stack, running_function}
 use Rattle.cpc_meaning.specs.Section.{Job}
-use Rattle.cpc_meaning.specs.Start.{before_bars}
+use Rattle.cpc_meaning.specs.Start.{before_underscores}
 use Rattle.cpc_meaning.specs.Trees.{trees}
 use Rattle.cpc_meaning.proofs.Agendas.{SameAgenda, SameResult, sectioned}
 use Rattle.cpc_history_marks.specs.Views.{told_of}
@@ -92,8 +92,8 @@ module _ (names : Names) (l new : Loop) (f called : Name) (item : Item) (vs : Li
   pub same : SameResult (IsCallback names) (A.section item (lists_in names l)) (A.section callback s.agenda)
   same = sectioned (IsCallback names) item callback (lists_in names l) s.agenda refl h.lists.agenda
 
-  fault_is : (fault : Fault) → ends (T.Failed fault (before_bars (fault_function s.running))) s ≡ ends (T.Failed fault (before_bars (names f))) s
-  fault_is fault = ap (λ x. ends (T.Failed fault (before_bars x)) s) (ap fault_function h.asks ∙ sym h.name)
+  fault_is : (fault : Fault) → ends (T.Failed fault (before_underscores (fault_function s.running))) s ≡ ends (T.Failed fault (before_underscores (names f))) s
+  fault_is fault = ap (λ x. ends (T.Failed fault (before_underscores x)) s) (ap fault_function h.asks ∙ sym h.name)
 
   -- too many are out
   pub submit_refused : (fault : Fault) → A.section item (lists_in names l) ≡ Err fault
@@ -127,7 +127,7 @@ module _ (names : Names) (l new : Loop) (f called : Name) (item : Item) (vs : Li
     broke fault e (Gives cells) i = absurd (subst (λ r. SubmitsAs names mid.jobs r s.jobs s.agenda.sections_made (A.out s.agenda) job (Gives cells)) e i)
     broke fault e (Faults other) i =
         let is = subst (λ r. SubmitsAs names mid.jobs r s.jobs s.agenda.sections_made (A.out s.agenda) job (Faults other)) e i in
-        subst (λ x. ends (T.Failed x (before_bars (fault_function s.running))) s ≡ ends (T.Failed fault (before_bars (names f))) s) is (fault_is fault)
+        subst (λ x. ends (T.Failed x (before_underscores (fault_function s.running))) s ≡ ends (T.Failed fault (before_underscores (names f))) s) is (fault_is fault)
     broke fault e NoAnswer i = tt
 
     pub submit_broke : (fault : Fault) → result ≡ Err (W.Fault fault) → Did {E = NoMemory} names (Ok (Some (O.Failed fault f))) new after s (settles names l s (submitted (trees p) (names called) vs callback k s))

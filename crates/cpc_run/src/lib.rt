@@ -14,6 +14,6 @@ mod sections;
 mod step;
 mod waits;
 
-pub use cpc_run_shown::{Ended, Limits, Outcome, RunReport, before_bars};
+pub use cpc_run_shown::{Ended, Limits, Outcome, RunReport, before_underscores};
 pub use hosts::missing_host;
 pub use run::run_event;

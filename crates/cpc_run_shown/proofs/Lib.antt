@@ -1,2 +1,2 @@
-pub mod Bars
+pub mod Underscores
 pub mod Marks

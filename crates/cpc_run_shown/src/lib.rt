@@ -4,5 +4,5 @@
 mod outcome;
 mod shown;
 
-pub use outcome::{Ended, Limits, Outcome, RunReport, before_bars};
+pub use outcome::{Ended, Limits, Outcome, RunReport, before_underscores};
 pub use shown::{put_host, put_last, put_output, put_poll, put_section, put_wait};

@@ -23,7 +23,7 @@ pub enum Outcome {
     Ended(u64),
     /// The program left with this number.
     Exited(i128),
-    /// A step failed, in the code of a function. A fault is told in the part of its name before the first two bars.
+    /// A step failed, in the code of a function. A fault is told in the part of its name before the first two underscores.
     Failed(Fault, Name),
     /// A poll was wanted, and the history has no more.
     HistoryEnded,
@@ -61,8 +61,8 @@ pub struct RunReport {
     pub polls: u64,
 }
 
-fn begins_with_bars(text: &[u8]) -> bool
-    ensures { result ≡ S.begins_with_bars text.now }
+fn begins_with_underscores(text: &[u8]) -> bool
+    ensures { result ≡ S.begins_with_underscores text.now }
 {
     match text {
         [first, second, ..] => *first == b'_' && *second == b'_',
@@ -70,12 +70,12 @@ fn begins_with_bars(text: &[u8]) -> bool
     }
 }
 
-/// What stands before the first two bars of a text, and the whole text where there are none.
-pub fn before_bars(text: &[u8]) -> &[u8]
-    ensures { result.now ≡ S.before_bars text.now }
+/// What stands before the first two underscores of a text, and the whole text where there are none.
+pub fn before_underscores(text: &[u8]) -> &[u8]
+    ensures { result.now ≡ S.before_underscores text.now }
 {
     for i in 0..text.len() {
-        if begins_with_bars(&text[i..]) {
+        if begins_with_underscores(&text[i..]) {
             return &text[..i];
         }
     }

@@ -10,7 +10,7 @@ ghost use Rattle.cpc_run_shown.specs.declared.outcome.Outcome.TheVariants.{Faile
 ghost use Rattle.cpc_run_shown.specs.Known.{IsInTable};
 ghost use Rattle.cpc_run_shown.specs.Shown.{shown_of, last_of};
 
-use crate::outcome::{Ended, Outcome, before_bars};
+use crate::outcome::{Ended, Outcome, before_underscores};
 use cpc_base::{Name, Names, NoMemory};
 use cpc_history::{history_text, mark_text, outcome_text};
 use cpc_history_marks::{Mark, Outcome as End, Told};
@@ -140,7 +140,7 @@ fn fault_text(
         unreachable!();
     };
     let mut name = Vec::new(alloc);
-    name.extend_from_slice(before_bars(text))?;
+    name.extend_from_slice(before_underscores(text))?;
     outcome_text(alloc, &End::Fault(fault, name))
 }
 

@@ -3,5 +3,5 @@
 
 mod run;
 
-pub use cpc_run::{Ended, Limits, Outcome, before_bars, missing_host};
+pub use cpc_run::{Ended, Limits, Outcome, before_underscores, missing_host};
 pub use run::run_with_workers;

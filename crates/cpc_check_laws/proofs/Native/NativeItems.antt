@@ -11,7 +11,7 @@ use Rattle.cpc_check_rules.specs.declared.rule.Rule.TheVariants.{Disagree, Incom
 use Rattle.cpc_check_rules.specs.Rule.{at_if}
 use Rattle.cpc_check_rules.specs.Operators.{is_cps}
 use Rattle.cpc_check_rules.specs.FunctionRules as F
-use Rattle.cpc_check_rules.specs.FunctionRules.{repeated, reserved_breaks, is_kept, is_reserved, holds_bars, parameter_names, locals, labels, label_breaks, stray_breaks, many_breaks, variables}
+use Rattle.cpc_check_rules.specs.FunctionRules.{repeated, reserved_breaks, is_kept, is_reserved, holds_underscores, parameter_names, locals, labels, label_breaks, stray_breaks, many_breaks, variables}
 use Rattle.cpc_check_rules.specs.ItemRules.{outside, struct_breaks, declared_breaks, is_item, global_breaks, global_start, is_extern, is_host_like, types, is_function, cps_breaks, parameters_breaks, prototype_breaks, sized_breaks, in_body, body_breaks, function_breaks, item_breaks, items_breaks}
 use Rattle.cpc_check_rules.specs.Rules.{breaks, has_main}
 use Rattle.cpc_check_laws.specs.Native.Native.{spawns_none, is_native_item, are_native}
@@ -24,7 +24,7 @@ use Rattle.cpc_check_laws.proofs.Native.NativeStatements.{start_native, stmts_na
 pub reserved_native : (xs : List Ident) → reserved_breaks D.Cpc xs ≡ [] → reserved_breaks D.Event xs ≡ []
 reserved_native [] h = refl
 reserved_native (x ∷ xs) h =
-    let fine : is_kept x.text ≡ false = or_not_first (is_kept x.text) (holds_bars x.text) (unbroken (is_reserved D.Cpc x.text) x.place Reserved (left_none _ _ h)) in
+    let fine : is_kept x.text ≡ false = or_not_first (is_kept x.text) (holds_underscores x.text) (unbroken (is_reserved D.Cpc x.text) x.place Reserved (left_none _ _ h)) in
     both_none _ _ (ap (λ b. at_if b x.place Reserved) fine) (reserved_native xs (right_none (at_if (is_reserved D.Cpc x.text) x.place Reserved) _ h))
 
 -- a row with no first has none

@@ -16,7 +16,7 @@ use Rattle.cpc_meaning.specs.Agenda.{Due, begin_round, needs_poll, completed, ou
 use Rattle.cpc_meaning.specs.History.{History}
 use Rattle.cpc_meaning.specs.Copies.{Collected, AllGave, NotClear, collect}
 use Rattle.cpc_meaning.specs.Machine.{State, ends, with_agenda, polled, takes_poll, next_poll, next_round, turns_where, turns, schedules, code_step, step_running, fault_function, settled, unless_over, next}
-use Rattle.cpc_meaning.specs.Start.{opening, before_bars, main_name}
+use Rattle.cpc_meaning.specs.Start.{opening, before_underscores, main_name}
 use Rattle.cpc_meaning.specs.Threads.{Thread, Pending, shown_in, threads_of}
 use Rattle.cpc_meaning.specs.Events.{Callback, CallMain, callbacks_of}
 use Rattle.cpc_meaning.specs.Matching.{thread_system, event_system}
@@ -98,7 +98,7 @@ module _ (p : Program) (plain_program : is_plain p ≡ true) where
 
   -- ---- what a step comes to
 
-  settled_meet : (x : State Point (Thread Point)) (y : State Point Callback) → StatesMeet x y → shown_in p (fault_function x.running) ≡ before_bars (fault_function y.running)
+  settled_meet : (x : State Point (Thread Point)) (y : State Point Callback) → StatesMeet x y → shown_in p (fault_function x.running) ≡ before_underscores (fault_function y.running)
       → (u : Answer (State Point (Thread Point))) (w : Answer (State Point Callback)) → Steps u w → BothSome StatesMeet (settled (threads_of f) x u) (settled (callbacks_of f) y w)
   settled_meet x y m e _ _ (BothGive s t r) = SomeBoth s t r
   settled_meet x y m e _ _ (BothFault fault) = subst (λ n. BothSome StatesMeet (Some (ends (Failed fault (shown_in p (fault_function x.running))) x)) (Some (ends (Failed fault n) y))) e (SomeBoth _ _ (ends_meet (Failed fault (shown_in p (fault_function x.running))) x y m))
@@ -117,7 +117,7 @@ module _ (p : Program) (plain_program : is_plain p ≡ true) where
       → (fn : Option Function) → function_named p frame.function ≡ fn → Ran (record { frames = frame ∷ below; arriving = arriving }) x y
   framed frame below arriving x y m i j None e = runs_nothing frame below arriving e x y
   framed frame below arriving x y m i j (Some fn) e =
-      let shown : shown_in p (fault_function x.running) ≡ before_bars (fault_function y.running) = ap (shown_in p) i ∙ shown_alike p plain_program frame.function fn e ∙ ap before_bars (sym j) in
+      let shown : shown_in p (fault_function x.running) ≡ before_underscores (fault_function y.running) = ap (shown_in p) i ∙ shown_alike p plain_program frame.function fn e ∙ ap before_underscores (sym j) in
       settled_meet x y m shown _ _ (code_step_meet p plain_program (record { frames = frame ∷ below; arriving = arriving }) x y m)
 
   running_meet : (frames : List (Frame Point)) (arriving : Option Value) (x : State Point (Thread Point)) (y : State Point Callback) → StatesMeet x y

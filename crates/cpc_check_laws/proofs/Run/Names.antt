@@ -12,7 +12,7 @@ use Rattle.cpc_check_rules.specs.declared.rule.Rule.TheVariants.{Reserved}
 use Rattle.cpc_check_rules.specs.Rule.{at_if}
 use Rattle.cpc_check_rules.specs.Scopes as S
 use Rattle.cpc_check_rules.specs.Scopes.{Scope, in_block, in_items, in_blocks, meant, with_name, with_block}
-use Rattle.cpc_check_rules.specs.FunctionRules.{is_kept, is_reserved, holds_bars, reserved_breaks, parameter_names}
+use Rattle.cpc_check_rules.specs.FunctionRules.{is_kept, is_reserved, holds_underscores, reserved_breaks, parameter_names}
 use Rattle.cpc_check_rules.specs.ItemRules.{parameter_block}
 use Rattle.cpc_meaning.proofs.Functions.{same_text}
 use Rattle.cpc_check_laws.proofs.Native.NativeValues.{left_none, right_none, unbroken}
@@ -47,10 +47,10 @@ first_unreserved : (x : Ident) (xs : List Ident) → Unreserved (x ∷ xs) → i
 first_unreserved x xs h = unbroken (is_reserved D.Cpc x.text) x.place Reserved (left_none (at_if (is_reserved D.Cpc x.text) x.place Reserved) _ h)
 
 pub first_unkept : (x : Ident) (xs : List Ident) → Unreserved (x ∷ xs) → is_kept x.text ≡ false
-first_unkept x xs h = (or_neither (is_kept x.text) (holds_bars x.text) (first_unreserved x xs h)).0
+first_unkept x xs h = (or_neither (is_kept x.text) (holds_underscores x.text) (first_unreserved x xs h)).0
 
-pub first_no_bars : (x : Ident) (xs : List Ident) → Unreserved (x ∷ xs) → holds_bars x.text ≡ false
-first_no_bars x xs h = (or_neither (is_kept x.text) (holds_bars x.text) (first_unreserved x xs h)).1
+pub first_no_underscores : (x : Ident) (xs : List Ident) → Unreserved (x ∷ xs) → holds_underscores x.text ≡ false
+first_no_underscores x xs h = (or_neither (is_kept x.text) (holds_underscores x.text) (first_unreserved x xs h)).1
 
 rest_unreserved : (x : Ident) (xs : List Ident) → Unreserved (x ∷ xs) → Unreserved xs
 rest_unreserved x xs h = right_none (at_if (is_reserved D.Cpc x.text) x.place Reserved) _ h

@@ -21,7 +21,7 @@ use Rattle.cpc_check_laws.proofs.Native.NativeValues.{left_none, right_none, unb
 use Rattle.cpc_check_laws.specs.Run.Plain.{is_shared, shares, calls_shared, is_plain_stmt, are_plain, is_plain_arm, is_plain_item, is_plain}
 use Rattle.cpc_check_laws.specs.Run.Shape.{is_step, is_shaped, all_shaped, is_shaped_arm, is_block, is_shaped_item, are_shaped}
 use Rattle.cpc_check_laws.specs.Run.Laws.{NativeIsPlain}
-use Rattle.cpc_check_laws.proofs.Run.Names.{primitive_kept, Unreserved, first_unkept, first_no_bars, front_unreserved, back_unreserved, NoneKept, block_none_kept, name_none_kept, parameters_apart, NoneDeclared, item_name, more_none_declared}
+use Rattle.cpc_check_laws.proofs.Run.Names.{primitive_kept, Unreserved, first_unkept, first_no_underscores, front_unreserved, back_unreserved, NoneKept, block_none_kept, name_none_kept, parameters_apart, NoneDeclared, item_name, more_none_declared}
 
 -- where native code of the dialect Cpc stands, in which no kept name stands for anything
 record Fine (w : Where) : Type 0 where
@@ -152,7 +152,7 @@ module _ (program before : Program) (none_declared : NoneDeclared before) where
       let e = right_none (sized_breaks (outside D.Cpc before).scope f.parameters) _ d in
       let i = right_none (body_breaks (in_body D.Cpc before f) f.body) _ e in
       let names : Unreserved (locals f.body ++ labels f.body) = left_none (reserved_breaks D.Cpc (locals f.body ++ labels f.body)) _ i in
-      and_holds _ _ (ap not native) (and_holds _ _ (ap not (first_no_bars f.called [] name))
+      and_holds _ _ (ap not native) (and_holds _ _ (ap not (first_no_underscores f.called [] name))
       (body_plain (in_body D.Cpc before f) (body_fine f native name parameters) f.body (and_first (is_block f.body) (is_shaped f.body) shape) (and_second (is_block f.body) (is_shaped f.body) shape)
       (front_unreserved (locals f.body) (labels f.body) names) (and_second (not (is_cps f.mode)) (spawns_none f.body) n) (left_none (body_breaks (in_body D.Cpc before f) f.body) _ e)))
 

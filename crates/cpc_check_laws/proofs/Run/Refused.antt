@@ -8,7 +8,7 @@ use Rattle.cpc_meaning.specs.Events.{CallMain, callbacks, event}
 use Rattle.cpc_meaning.specs.Threads.{threaded}
 use Rattle.cpc_meaning.specs.Runs.{SameRuns}
 use Rattle.cpc_meaning.proofs.Connect.{machine_ends}
-use Rattle.cpc_check_laws.specs.Run.Refusals.{barred, cps_named, PlainIsNeeded, ShapeIsNeeded}
+use Rattle.cpc_check_laws.specs.Run.Refusals.{underscored, cps_named, PlainIsNeeded, ShapeIsNeeded}
 
 -- nothing comes from outside
 abbrev nothing : History
@@ -36,7 +36,7 @@ plain_is_needed = record {
   detach = λ r. r.event_never_stuck nothing 2 (refl, refl);
   yield = λ r. r.event_never_stuck nothing 2 (refl, refl);
   box = λ r. r.threaded_never_stuck nothing 2 (refl, refl);
-  bars = other_names barred 1 4 refl refl (λ e. absurd (omega arith)) refl;
+  underscores = other_names underscored 1 4 refl refl (λ e. absurd (omega arith)) refl;
   cps = other_names cps_named 2 1 refl refl (λ e. absurd (omega arith)) refl;
 }
 

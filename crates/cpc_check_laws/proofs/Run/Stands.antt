@@ -7,10 +7,10 @@ use Rattle.cpc_tree.specs.Syntax.{Stmt, Block, Empty, Declare, Assign, Call, Det
 use Rattle.cpc_tree.specs.Typing.{function_named}
 use Rattle.cpc_tree.specs.Points.{Nth, TheTest, TheYes, TheNo, TheStep, TheBody, Path, Point, Here, Arrival, End, Found, Simple, Test, Nothing, found, found_in, found_arm}
 use Rattle.cpc_check_rules.specs.Operators.{is_cps}
-use Rattle.cpc_check_rules.specs.FunctionRules.{begins_with, holds_bars}
+use Rattle.cpc_check_rules.specs.FunctionRules.{begins_with, holds_underscores}
 use Rattle.cpc_meaning.specs.Act.{Stood, AtStatement, AtArrival, AtEnd}
 use Rattle.cpc_meaning.specs.Trees.{stood_at}
-use Rattle.cpc_meaning.specs.Start.{begins_with_bars, cut_where, before_bars}
+use Rattle.cpc_meaning.specs.Start.{begins_with_underscores, cut_where, before_underscores}
 use Rattle.cpc_meaning.specs.Threads as T
 use Rattle.cpc_meaning.specs.Threads.{shown_in}
 use Rattle.cpc_meaning.proofs.Functions.{named_so}
@@ -86,15 +86,15 @@ plain_stood p h x point = go (function_named p x) refl point
     go None e point = tt
     go (Some f) e (Here path) =
         let k = function_plain p h x f e in
-        plain_at f.body (and_second (not (holds_bars f.called)) (is_plain_stmt f.body) (and_second (not (is_cps f.mode)) (not (holds_bars f.called) && is_plain_stmt f.body) k)) path
+        plain_at f.body (and_second (not (holds_underscores f.called)) (is_plain_stmt f.body) (and_second (not (is_cps f.mode)) (not (holds_underscores f.called) && is_plain_stmt f.body) k)) path
     go (Some f) e (Arrival path) = tt
     go (Some f) e End = tt
 
 -- ---- names
 
-no_bars_first : (b : ℕ) (bs : Text) → begins_with (codes "__") (b ∷ bs) ≡ false → begins_with_bars (b ∷ bs) ≡ false
-no_bars_first b [] e = refl
-no_bars_first b (c ∷ bs) e = go (b == 95) refl (c == 95) refl
+no_underscores_first : (b : ℕ) (bs : Text) → begins_with (codes "__") (b ∷ bs) ≡ false → begins_with_underscores (b ∷ bs) ≡ false
+no_underscores_first b [] e = refl
+no_underscores_first b (c ∷ bs) e = go (b == 95) refl (c == 95) refl
   where
     go : (s : Bool) → (b == 95) ≡ s → (t : Bool) → (c == 95) ≡ t → (s && t) ≡ false
     go true i true j =
@@ -104,28 +104,28 @@ no_bars_first b (c ∷ bs) e = go (b == 95) refl (c == 95) refl
     go true i false j = refl
     go false i t j = refl
 
--- a name without two bars in a row is shown whole
-whole : (x : Text) → holds_bars x ≡ false → before_bars x ≡ x
+-- a name without two underscores in a row is shown whole
+whole : (x : Text) → holds_underscores x ≡ false → before_underscores x ≡ x
 whole [] h = refl
 whole (b ∷ bs) h =
-    let e = or_neither (begins_with (codes "__") (b ∷ bs)) (holds_bars bs) h in
-    ap (λ here. cut_where here (b ∷ before_bars bs)) (no_bars_first b bs e.0) ∙ ap (λ t. b ∷ t) (whole bs e.1)
+    let e = or_neither (begins_with (codes "__") (b ∷ bs)) (holds_underscores bs) h in
+    ap (λ here. cut_where here (b ∷ before_underscores bs)) (no_underscores_first b bs e.0) ∙ ap (λ t. b ∷ t) (whole bs e.1)
 
 -- a function of a plain program is shown alike in faults
-pub shown_alike : (p : Program) → is_plain p ≡ true → (x : Text) (f : Function) → function_named p x ≡ Some f → shown_in p x ≡ before_bars x
+pub shown_alike : (p : Program) → is_plain p ≡ true → (x : Text) (f : Function) → function_named p x ≡ Some f → shown_in p x ≡ before_underscores x
 shown_alike p h x f e =
     let k = function_plain p h x f e in
-    let native : is_cps f.mode ≡ false = not_holds (is_cps f.mode) (and_first (not (is_cps f.mode)) (not (holds_bars f.called) && is_plain_stmt f.body) k) in
-    let name : holds_bars f.called ≡ false = not_holds (holds_bars f.called) (and_first (not (holds_bars f.called)) (is_plain_stmt f.body) (and_second (not (is_cps f.mode)) (not (holds_bars f.called) && is_plain_stmt f.body) k)) in
+    let native : is_cps f.mode ≡ false = not_holds (is_cps f.mode) (and_first (not (is_cps f.mode)) (not (holds_underscores f.called) && is_plain_stmt f.body) k) in
+    let name : holds_underscores f.called ≡ false = not_holds (holds_underscores f.called) (and_first (not (holds_underscores f.called)) (is_plain_stmt f.body) (and_second (not (is_cps f.mode)) (not (holds_underscores f.called) && is_plain_stmt f.body) k)) in
     let is_x : f.called ≡ x = named_so p x f e in
-    ap (λ o. cond (T.is_cps o) (before_bars (x ++ codes "__")) x) e
-    ∙ ap (λ b. cond b (before_bars (x ++ codes "__")) x) native
-    ∙ sym (whole x (ap holds_bars (sym is_x) ∙ name))
+    ap (λ o. cond (T.is_cps o) (before_underscores (x ++ codes "__")) x) e
+    ∙ ap (λ b. cond b (before_underscores (x ++ codes "__")) x) native
+    ∙ sym (whole x (ap holds_underscores (sym is_x) ∙ name))
 
 -- nor is anything shown where no function runs
-pub nothing_shown : (p : Program) → shown_in p [] ≡ before_bars []
+pub nothing_shown : (p : Program) → shown_in p [] ≡ before_underscores []
 nothing_shown p = go (T.is_cps (function_named p []))
   where
-    go : (b : Bool) → cond b (before_bars (codes "__")) [] ≡ before_bars []
+    go : (b : Bool) → cond b (before_underscores (codes "__")) [] ≡ before_underscores []
     go true = refl
     go false = refl

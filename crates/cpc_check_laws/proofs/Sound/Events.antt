@@ -20,7 +20,7 @@ use Rattle.cpc_meaning.specs.Agenda.{ready_one, wait, sleep, io}
 use Rattle.cpc_meaning.specs.Section.{allocated, freed}
 use Rattle.cpc_meaning.specs.Machine.{State, marks, submits, direction_of}
 use Rattle.cpc_meaning.specs.Events.{Callback, CallMain, CallWith, starts_callback, event_primitive, callbacks}
-use Rattle.cpc_meaning.specs.Start.{main_name, before_bars}
+use Rattle.cpc_meaning.specs.Start.{main_name, before_underscores}
 use Rattle.cpc_check_rules.specs.Calls.{gives}
 use Rattle.cpc_check_laws.specs.Sound.Suits.{Comes, Suits}
 use Rattle.cpc_check_laws.specs.Sound.Typed.{TypedProgram, is_for}
@@ -129,4 +129,4 @@ module _ (p : Program) (typed : TypedProgram D.Event p) where
 
 pub callbacks_never_stuck : TypedCallbacksNeverStuck
 callbacks_never_stuck p typed h =
-    runs_on_and_on D.Event p typed (CallbackOk p typed) (starts_callback (trees p)) (event_primitive (trees p)) (λ f vs k s. NoAnswer) (λ f vs k s. NoAnswer) before_bars (own_ok p typed) CallMain tt h
+    runs_on_and_on D.Event p typed (CallbackOk p typed) (starts_callback (trees p)) (event_primitive (trees p)) (λ f vs k s. NoAnswer) (λ f vs k s. NoAnswer) before_underscores (own_ok p typed) CallMain tt h

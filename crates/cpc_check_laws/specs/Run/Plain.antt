@@ -4,7 +4,7 @@ use Rattle.cpc_tree.specs.Syntax.{Expr, ENamed, Stmt, Block, Call, Detach, Spawn
 use Rattle.cpc_tree.specs.Primitives.{Primitive, primitive_named}
 use Rattle.cpc_check_rules.specs.Operators.{is_cps}
 use Rattle.cpc_check_rules.specs.Calls.{gives_up, is_rt}
-use Rattle.cpc_check_rules.specs.FunctionRules.{holds_bars}
+use Rattle.cpc_check_rules.specs.FunctionRules.{holds_underscores}
 
 -- a primitive that does the same in both machines
 abbrev pub is_shared : Primitive → Bool
@@ -42,9 +42,9 @@ abbrev mutual
   is_plain_arm Absent = true
   is_plain_arm (Present s) = is_plain_stmt s
 
--- a native or detached function, whose name is as it is told in faults: it holds no two bars in a row
+-- a native or detached function, whose name is as it is told in faults: it holds no two underscores in a row
 abbrev pub is_plain_function : Function → Bool
-is_plain_function f = not (is_cps f.mode) && (not (holds_bars f.called) && is_plain_stmt f.body)
+is_plain_function f = not (is_cps f.mode) && (not (holds_underscores f.called) && is_plain_stmt f.body)
 
 abbrev pub is_plain_item : Item → Bool
 is_plain_item (PrototypeItem mode f r ps) = not (is_cps mode)

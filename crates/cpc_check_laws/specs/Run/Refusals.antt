@@ -48,11 +48,11 @@ boxing = main_of (call_of (codes "rt_box") (AndExpr (EInteger Long (pos 1)) NoEx
 abbrev pub failing : Mode → Text → Program
 failing mode x = int_function mode x (AndStmt (Declare (codes "x") (TyInt Int) None) (AndStmt (call_of (codes "cpc_print") (AndExpr (ENamed (codes "x")) NoExpr)) NoStmt)) ∷ main_of (call_of x NoExpr)
 
--- a native function whose name holds two bars: its event run tells the part before these
-abbrev pub barred : Program
-barred = failing Native (codes "f__g")
+-- a native function whose name holds two underscores: its event run tells the part before these
+abbrev pub underscored : Program
+underscored = failing Native (codes "f__g")
 
--- a cps function whose name ends with a bar: its threaded run tells the name without that
+-- a cps function whose name ends with a underscore: its threaded run tells the name without that
 abbrev pub cps_named : Program
 cps_named = failing Cps (codes "f_")
 
@@ -62,7 +62,7 @@ pub record PlainIsNeeded : Type 0 where
   pub detach : ¬ SameRuns detaching detaching
   pub yield : ¬ SameRuns yielding yielding
   pub box : ¬ SameRuns boxing boxing
-  pub bars : ¬ SameRuns barred barred
+  pub underscores : ¬ SameRuns underscored underscored
   pub cps : ¬ SameRuns cps_named cps_named
 
 -- ---- shape

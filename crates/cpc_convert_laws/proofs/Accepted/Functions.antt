@@ -10,12 +10,12 @@ use Rattle.cpc_tree.specs.Points.{Point, Here, Arrival, End}
 use Rattle.cpc_tree.specs.Registers.{variables}
 use Rattle.cpc_tree.specs.Syntax.{Ty, TyInt, Function, FunctionItem, Program}
 use Rattle.cpc_tree.specs.Typing.{Scope, ALocal, named, function_named}
-use Rattle.cpc_meaning.specs.Start.{begins_with_bars, cut_where, before_bars, main_name}
+use Rattle.cpc_meaning.specs.Start.{begins_with_underscores, cut_where, before_underscores, main_name}
 use Rattle.cpc_meaning.specs.Threads.{is_cps_mode, is_cps, shown_in}
 use Rattle.cpc_meaning.specs.Trees.{scope_from}
 use Rattle.cpc_meaning.proofs.Functions.{same_text}
 use Rattle.cpc_check_rules.specs.declared.rule.Rule.TheVariants.{NoMain}
-use Rattle.cpc_check_rules.specs.FunctionRules.{begins_with, holds_bars}
+use Rattle.cpc_check_rules.specs.FunctionRules.{begins_with, holds_underscores}
 use Rattle.cpc_check_rules.specs.ItemRules.{items_breaks}
 use Rattle.cpc_check_rules.specs.Rule.{at_if}
 use Rattle.cpc_check_rules.specs.Rules.{is_main, has_main}
@@ -47,43 +47,43 @@ scopes_mean_variables p x f a is = scopes_like p x Means (meant_that p f [] tt) 
 
 -- ---- names in faults
 
--- two characters that are no two bars
-two_bars : (b c : ℕ) (x : Text) → begins_with (95 ∷ 95 ∷ []) (b ∷ c ∷ x) ≡ false → begins_with_bars (b ∷ c ∷ x) ≡ false
-two_bars b c x h = go (b == 95) (c == 95) refl refl
+-- two characters that are no two underscores
+two_underscores : (b c : ℕ) (x : Text) → begins_with (95 ∷ 95 ∷ []) (b ∷ c ∷ x) ≡ false → begins_with_underscores (b ∷ c ∷ x) ≡ false
+two_underscores b c x h = go (b == 95) (c == 95) refl refl
   where
     go : (d e : Bool) → (b == 95) ≡ d → (c == 95) ≡ e → (d && e) ≡ false
     go true true i j = absurd (let k : begins_with (95 ∷ 95 ∷ []) (b ∷ c ∷ x) ≡ true = simp (bar_turned b, bar_turned c, i, j) refl in let l : true ≡ false = sym k ∙ h in cc)
     go true false i j = refl
     go false e i j = refl
 
--- a name without two bars is shown whole
-whole : (x : Text) → holds_bars x ≡ false → before_bars x ≡ x
+-- a name without two underscores is shown whole
+whole : (x : Text) → holds_underscores x ≡ false → before_underscores x ≡ x
 whole [] h = refl
 whole (b ∷ []) h = refl
 whole (b ∷ c ∷ x) h =
-    let k = or_neither (begins_with (95 ∷ 95 ∷ []) (b ∷ c ∷ x)) (holds_bars (c ∷ x)) h in
-    ap (λ d. cut_where d (b ∷ before_bars (c ∷ x))) (two_bars b c x k.0) ∙ ap (λ y. b ∷ y) (whole (c ∷ x) k.1)
+    let k = or_neither (begins_with (95 ∷ 95 ∷ []) (b ∷ c ∷ x)) (holds_underscores (c ∷ x)) h in
+    ap (λ d. cut_where d (b ∷ before_underscores (c ∷ x))) (two_underscores b c x k.0) ∙ ap (λ y. b ∷ y) (whole (c ∷ x) k.1)
 
--- what is behind the first two bars is not shown
-before_rest : (f rest : Text) → before_bars (f ++ 95 ∷ 95 ∷ rest) ≡ before_bars (f ++ 95 ∷ 95 ∷ [])
+-- what is behind the first two underscores is not shown
+before_rest : (f rest : Text) → before_underscores (f ++ 95 ∷ 95 ∷ rest) ≡ before_underscores (f ++ 95 ∷ 95 ∷ [])
 before_rest [] rest = refl
 before_rest (c ∷ []) rest = refl
-before_rest (c ∷ d ∷ f) rest = ap (λ t. cut_where (begins_with_bars (c ∷ d ∷ [])) (c ∷ t)) (before_rest (d ∷ f) rest)
+before_rest (c ∷ d ∷ f) rest = ap (λ t. cut_where (begins_with_underscores (c ∷ d ∷ [])) (c ∷ t)) (before_rest (d ∷ f) rest)
 
 module _ (p : Program) (names : HasNames p) where
-  native_shown : (x : Text) (f : Function) → function_named p x ≡ Some f → is_cps_mode f.mode ≡ false → before_bars x ≡ shown_in p x
+  native_shown : (x : Text) (f : Function) → function_named p x ≡ Some f → is_cps_mode f.mode ≡ false → before_underscores x ≡ shown_in p x
   native_shown x f e c =
       let there = names.there x f e in
       let plain = subst (λ y. has_marks y ≡ false) there.1 (names.items (FunctionItem f) there.0).unmarked in
-      whole x (sym (marks_are x) ∙ plain) ∙ sym (ap (λ o. cond (is_cps o) (before_bars (x ++ codes "__")) x) e ∙ ap (λ b. cond b (before_bars (x ++ codes "__")) x) c)
+      whole x (sym (marks_are x) ∙ plain) ∙ sym (ap (λ o. cond (is_cps o) (before_underscores (x ++ codes "__")) x) e ∙ ap (λ b. cond b (before_underscores (x ++ codes "__")) x) c)
 
-  made_shown : (x : Text) (f : Function) → function_named p x ≡ Some f → is_cps_mode f.mode ≡ true → (rest : Text) → before_bars (marked x rest) ≡ shown_in p x
-  made_shown x f e c rest = before_rest x rest ∙ sym (ap (λ o. cond (is_cps o) (before_bars (x ++ codes "__")) x) e ∙ ap (λ b. cond b (before_bars (x ++ codes "__")) x) c)
+  made_shown : (x : Text) (f : Function) → function_named p x ≡ Some f → is_cps_mode f.mode ≡ true → (rest : Text) → before_underscores (marked x rest) ≡ shown_in p x
+  made_shown x f e c rest = before_rest x rest ∙ sym (ap (λ o. cond (is_cps o) (before_underscores (x ++ codes "__")) x) e ∙ ap (λ b. cond b (before_underscores (x ++ codes "__")) x) c)
 
-  nobody_shown : before_bars [] ≡ shown_in p []
+  nobody_shown : before_underscores [] ≡ shown_in p []
   nobody_shown = go (is_cps (function_named p []))
     where
-      go : (b : Bool) → [] ≡ cond b (before_bars (codes "__")) []
+      go : (b : Bool) → [] ≡ cond b (before_underscores (codes "__")) []
       go true = refl
       go false = refl
 

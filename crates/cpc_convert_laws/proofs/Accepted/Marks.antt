@@ -1,4 +1,4 @@
--- Names that are not reserved: two bars stand in none, and none is one that the language keeps.
+-- Names that are not reserved: two underscores stand in none, and none is one that the language keeps.
 use Rattle.std.proofs.Common.{◌≡◌, ℕ, zero, suc, arith, Bool, true, false, ◌||◌, ◌==◌, List, [], ◌∷◌, ◌++◌, cond, map, slice_get, Some, refl, ◌∙◌, subst}
 use Rattle.cpc_base.specs.Bytes.{Text}
 use Rattle.cpc_base.specs.declared.stop.Dialect.TheVariants as D
@@ -7,40 +7,40 @@ use Rattle.cpc_base.proofs.Lists.{some_is}
 use Rattle.cpc_tree.specs.Located.{Ident}
 use Rattle.cpc_check_rules.specs.declared.rule.Rule.TheVariants.{Reserved}
 use Rattle.cpc_check_rules.specs.Rule.{at_if}
-use Rattle.cpc_check_rules.specs.FunctionRules.{begins_with, holds_bars, is_kept, is_reserved, reserved_breaks}
+use Rattle.cpc_check_rules.specs.FunctionRules.{begins_with, holds_underscores, is_kept, is_reserved, reserved_breaks}
 use Rattle.cpc_check_laws.proofs.Sound.Unbroken.{split, holds_not}
 use Rattle.cpc_convert.specs.Marks.{marks_in}
 use Rattle.cpc_convert_laws.specs.Accepted.Names.{IsPlain}
 
--- ---- two bars
+-- ---- two underscores
 
--- a bar is told from either side
+-- a underscore is told from either side
 pub bar_turned : (c : ℕ) → (95 == c) ≡ (c == 95)
 bar_turned c = grind arith
 
--- one more character, behind none and behind a bar
-after_none : (c : ℕ) (x : Text) (b : Bool) → (c == 95) ≡ b → marks_in false x ≡ holds_bars x → marks_in true x ≡ (begins_with (95 ∷ []) x || holds_bars x) → cond b (marks_in true x) (marks_in false x) ≡ holds_bars (c ∷ x)
+-- one more character, behind none and behind a underscore
+after_none : (c : ℕ) (x : Text) (b : Bool) → (c == 95) ≡ b → marks_in false x ≡ holds_underscores x → marks_in true x ≡ (begins_with (95 ∷ []) x || holds_underscores x) → cond b (marks_in true x) (marks_in false x) ≡ holds_underscores (c ∷ x)
 after_none c x true e h k = simp (bar_turned c, e) k
 after_none c x false e h k = simp (bar_turned c, e) h
 
-after_bar : (c : ℕ) (x : Text) (b : Bool) → (c == 95) ≡ b → marks_in false x ≡ holds_bars x → cond b true (marks_in false x) ≡ (begins_with (95 ∷ []) (c ∷ x) || holds_bars (c ∷ x))
+after_bar : (c : ℕ) (x : Text) (b : Bool) → (c == 95) ≡ b → marks_in false x ≡ holds_underscores x → cond b true (marks_in false x) ≡ (begins_with (95 ∷ []) (c ∷ x) || holds_underscores (c ∷ x))
 after_bar c x true e h = simp (bar_turned c, e) refl
 after_bar c x false e h = simp (bar_turned c, e) h
 
 mutual
-  -- two bars stand in a name by either test
-  pub marks_are : (x : Text) → marks_in false x ≡ holds_bars x
+  -- two underscores stand in a name by either test
+  pub marks_are : (x : Text) → marks_in false x ≡ holds_underscores x
   marks_are [] = refl
   marks_are (c ∷ x) = after_none c x (c == 95) refl (marks_are x) (marks_behind x)
 
-  marks_behind : (x : Text) → marks_in true x ≡ (begins_with (95 ∷ []) x || holds_bars x)
+  marks_behind : (x : Text) → marks_in true x ≡ (begins_with (95 ∷ []) x || holds_underscores x)
   marks_behind [] = refl
   marks_behind (c ∷ x) = after_bar c x (c == 95) refl (marks_are x)
 
 -- ---- plain names
 
 plain : (x : Text) → is_reserved D.Cpc x ≡ false → IsPlain x
-plain x h = let k = or_neither (is_kept x) (holds_bars x) h in record { unmarked = marks_are x ∙ k.1; unkept = k.0 }
+plain x h = let k = or_neither (is_kept x) (holds_underscores x) h in record { unmarked = marks_are x ∙ k.1; unkept = k.0 }
 
 -- names of which none is reserved
 abbrev pub Unreserved : List Ident → Type 0

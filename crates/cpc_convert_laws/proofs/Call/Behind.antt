@@ -12,7 +12,7 @@ use Rattle.cpc_tree.specs.Syntax.{Stmt, Stmts, Function, Program}
 use Rattle.cpc_tree.specs.Typing.{function_named}
 use Rattle.cpc_meaning.specs.Eval.{Slot}
 use Rattle.cpc_meaning.specs.Plain.{Frame as CallFrame}
-use Rattle.cpc_meaning.specs.Start.{before_bars}
+use Rattle.cpc_meaning.specs.Start.{before_underscores}
 use Rattle.cpc_meaning.specs.Threads.{shown_in}
 use Rattle.cpc_meaning.specs.Ways.{ByFrame}
 use Rattle.cpc_forms.specs.Flow.{Place, At, is_leader, owner_by, as_list}
@@ -52,7 +52,7 @@ use Rattle.cpc_convert_laws.proofs.Piece.Ways.{Next, way_next, own_stays, other_
 
 -- the call stands at n, and its value arrives at m
 module _ (p : Program) (fine : CallFrame Position → Option Value → Type 0) (given : Text → List Value → Type 0) (bounds : Bounds) (f : Function) (known : CpsKnown p f) (enough : 5 + length (variables f) ≤ bounds.onward) (begins : 0 < bounds.leads) (l : Place) (owner : IsOwner (routine_of p f) l)
-    (shown : before_bars (piece_name f.called l) ≡ shown_in p f.called) (lower pointer result frame : Value)
+    (shown : before_underscores (piece_name f.called l) ≡ shown_in p f.called) (lower pointer result frame : Value)
     (n : ℕ) (at : NodeAt p f l n) (has : has_row (routine_of p f).split n ≡ true) (row : RowAt p (routine_of p f) l n)
     (framed : at.node.manner ≡ ByFrame) (m : ℕ) (arrival : at.node.arrival ≡ Some m) (there : NodeAt p f l m) where
   abbrev r : Routine

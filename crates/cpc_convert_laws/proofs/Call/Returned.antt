@@ -16,7 +16,7 @@ use Rattle.cpc_meaning.specs.Eval.{Slot}
 use Rattle.cpc_meaning.specs.Events.{Callback, callbacks}
 use Rattle.cpc_meaning.specs.Machine.{next, ends}
 use Rattle.cpc_meaning.specs.Plain.{Frame as CallFrame}
-use Rattle.cpc_meaning.specs.Start.{before_bars}
+use Rattle.cpc_meaning.specs.Start.{before_underscores}
 use Rattle.cpc_meaning.specs.Threads.{shown_in}
 use Rattle.cpc_meaning.specs.Ways.{ByFrame}
 use Rattle.cpc_convert_image_laws.specs.Held.{IsHeld, IsHeldSlot, IsHeldStore, BoxesLive, beside}
@@ -73,7 +73,7 @@ module _ (p : Program) (facts : ProgramKnown p) (fine : CallFrame Position → O
     (n m : ℕ) (there : NodeAt p f l m) (row : RowAt p (routine_of p f) l n) (call : CallAt p f l n row) (arrival : call.node.node.arrival ≡ Some m)
     (w : Shared) (bs : Blocks) (c : Agenda Callback) (slots slots' : List Slot) (stands : LocalsStand p (routine_of p f) l slots slots' lower) (v : Value) (is_held : IsHeld (Stays p) v)
     (store : IsHeldStore (Stays p) w.store) (held : All (IsHeldSlot (Stays p)) slots) (live : BoxesLive w.store slots) where
-  abbrev shown : before_bars (piece_name f.called l) ≡ shown_in p f.called
+  abbrev shown : before_underscores (piece_name f.called l) ≡ shown_in p f.called
   shown = piece_shown p facts f known l
 
   abbrev r : Routine
@@ -184,12 +184,12 @@ module _ (p : Program) (facts : ProgramKnown p) (fine : CallFrame Position → O
 
   step_faults : (fault : Fault) → taken_there ≡ Faults fault
       → next (callbacks q) (running (world_of w c) (beside bs w.store) (waiting ∷ driving pointer result frame ∷ []) (Some v))
-      ≡ Some (ends (Failed fault (before_bars (piece_name f.called l))) (running (world_of w c) (beside bs w.store) (waiting ∷ driving pointer result frame ∷ []) (Some v)))
+      ≡ Some (ends (Failed fault (before_underscores (piece_name f.called l))) (running (world_of w c) (beside bs w.store) (waiting ∷ driving pointer result frame ∷ []) (Some v)))
   step_faults fault e =
       let bd = body p f known l owner in
       let j = piece_count p r l in
       at_waiting (λ piece. next (callbacks q) (running (world_of w c) (beside bs w.store) (piece ∷ driving pointer result frame ∷ []) (Some v))
-      ≡ Some (ends (Failed fault (before_bars (piece_name f.called l))) (running (world_of w c) (beside bs w.store) (piece ∷ driving pointer result frame ∷ []) (Some v))))
+      ≡ Some (ends (Failed fault (before_underscores (piece_name f.called l))) (running (world_of w c) (beside bs w.store) (piece ∷ driving pointer result frame ∷ []) (Some v))))
       (arrival_faults q (piece_name f.called l) fn (driving pointer result frame ∷ []) (is_code p f known l owner) slots' (beside bs w.store) (line_path fn bd k here j x left line.line) here (line_scope fn bd k here j x left line.line (enter line.line.statement)) (Simple x)
       (line_found fn bd k here j x left line.line) (world_of w c) v fault e)
 

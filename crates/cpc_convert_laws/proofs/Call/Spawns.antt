@@ -20,7 +20,7 @@ use Rattle.cpc_meaning.specs.Machine.{next}
 use Rattle.cpc_meaning.specs.Plain.{Frame as CallFrame, context}
 use Rattle.cpc_meaning.specs.Requests.{Request, ToSpawn, arguments}
 use Rattle.cpc_meaning.specs.Runs.{slots_registers}
-use Rattle.cpc_meaning.specs.Start.{before_bars}
+use Rattle.cpc_meaning.specs.Start.{before_underscores}
 use Rattle.cpc_meaning.specs.Threads.{shown_in}
 use Rattle.cpc_meaning.specs.Trees.{trees}
 use Rattle.cpc_meaning.specs.Ways.{InPlace}
@@ -81,7 +81,7 @@ few_steps n v steps leads a b c = omega (arith, a, b, c)
 -- ---- what is spawned
 
 module _ (p : Program) (facts : ProgramKnown p) (h : Convertible p) (fine : CallFrame Position → Option Value → Type 0) (given : Text → List Value → Type 0) (bounds : Bounds) (wide : (g : Function) → IsCps p g → 16 + 3 * length (variables g) ≤ bounds.leads) (f : Function) (known : CpsKnown p f) (enough : 5 + length (variables f) ≤ bounds.onward) (begins : 0 < bounds.leads) (l : Place) (owner : IsOwner (routine_of p f) l)
-    (shown : before_bars (piece_name f.called l) ≡ shown_in p f.called) (lower pointer result frame : Value)
+    (shown : before_underscores (piece_name f.called l) ≡ shown_in p f.called) (lower pointer result frame : Value)
     (n : ℕ) (at : NodeAt p f l n) (has : has_row (routine_of p f).split n ≡ true) (row : RowAt p (routine_of p f) l n)
     (w : Shared) (bs : Blocks) (c : Agenda Callback) (slots slots' : List Slot) (stands : LocalsStand p (routine_of p f) l slots slots' lower) (o : Option Value)
     (store : IsHeldStore (Stays p) w.store) (held : All (IsHeldSlot (Stays p)) slots) (live : BoxesLive w.store slots) (manner : at.node.manner ≡ InPlace) where

@@ -16,7 +16,7 @@ use Rattle.cpc_meaning.specs.Events.{callbacks}
 use Rattle.cpc_meaning.specs.Machine.{next, ends}
 use Rattle.cpc_meaning.specs.Plain.{Frame, Went, Asks, frames_step, answered}
 use Rattle.cpc_meaning.specs.Requests.{Request}
-use Rattle.cpc_meaning.specs.Start.{before_bars}
+use Rattle.cpc_meaning.specs.Start.{before_underscores}
 use Rattle.cpc_meaning.specs.Trees.{trees}
 use Rattle.cpc_convert_chain_laws.specs.Frames.{at}
 use Rattle.cpc_convert_chain_laws.specs.Walks.{World, running, frame_at}
@@ -29,7 +29,7 @@ module _ (q : Program) (fn : Text) (g : Function) (below : List (Frame Point)) (
 
   -- the arrival faults
   pub arrival_faults : (w : World) (v : Value) (fault : Fault) → arrives (at q scope slots s) x (Some v) ≡ Faults fault
-      → next (callbacks q) (running w s (frame_at fn (Arrival path) slots ∷ below) (Some v)) ≡ Some (ends (Failed fault (before_bars fn)) (running w s (frame_at fn (Arrival path) slots ∷ below) (Some v)))
+      → next (callbacks q) (running w s (frame_at fn (Arrival path) slots ∷ below) (Some v)) ≡ Some (ends (Failed fault (before_underscores fn)) (running w s (frame_at fn (Arrival path) slots ∷ below) (Some v)))
   arrival_faults w v fault is_act = simp (is_g, is_found, is_scope, is_act) refl
 
   -- the statement asks

@@ -20,7 +20,7 @@ use Rattle.cpc_check_rules.specs.Operators.{Where, first, is_detached, is_cps}
 use Rattle.cpc_check_rules.specs.Calls.{Wanted, Of, Callee, Takes, NoCallee, spawn_callee, gives_up, named_breaks, named_callee, number_breaks, wanted, result, callee, count, is_callee}
 use Rattle.cpc_check_rules.specs.ExprRules.{expr_breaks, called_breaks, arg_breaks, args_breaks, call_breaks}
 use Rattle.cpc_check_rules.specs.StmtRules.{variable, behind, all_behind, to_breaks, test_breaks, maybe_test, start_breaks, wrong_name, return_breaks, stmt_breaks, stmts_breaks, maybe_breaks}
-use Rattle.cpc_check_rules.specs.FunctionRules.{is_kept, is_reserved, holds_bars, reserved_breaks, locals, locals_in, locals_maybe}
+use Rattle.cpc_check_rules.specs.FunctionRules.{is_kept, is_reserved, holds_underscores, reserved_breaks, locals, locals_in, locals_maybe}
 use Rattle.cpc_check_laws.proofs.Native.NativeValues.{both_none, cpc, event}
 use Rattle.cpc_check_laws.proofs.Native.OnePlace.{here, ident_here, expr_here, exprs_here, stmt_here, stmts_here, maybe_here}
 use Rattle.cpc_check_laws.proofs.Sound.Agreement.{used_taken}
@@ -44,8 +44,8 @@ reserved_both (x ∷ xs) ys h =
     let l = reserved_both xs ys k.1 in
     (both_none _ _ k.0 l.0, l.1)
 
-pub barless : (x : Ident) (xs : List Ident) → reserved_breaks D.Cpc (x ∷ xs) ≡ [] → holds_bars x.text ≡ false
-barless x xs h = (or_neither (is_kept x.text) (holds_bars x.text) (holds_not (is_reserved D.Cpc x.text) x.place Reserved (split (at_if (is_reserved D.Cpc x.text) x.place Reserved) _ h).0)).1
+pub barless : (x : Ident) (xs : List Ident) → reserved_breaks D.Cpc (x ∷ xs) ≡ [] → holds_underscores x.text ≡ false
+barless x xs h = (or_neither (is_kept x.text) (holds_underscores x.text) (holds_not (is_reserved D.Cpc x.text) x.place Reserved (split (at_if (is_reserved D.Cpc x.text) x.place Reserved) _ h).0)).1
 
 -- ---- arguments
 

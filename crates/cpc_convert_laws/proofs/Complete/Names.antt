@@ -7,7 +7,7 @@ use Rattle.cpc_tree.specs.Syntax.{Ty, Expr, ENamed, EInteger, ECharacter, EText,
 use Rattle.cpc_tree.specs.Typing.{Meant, ALocal, AFunction}
 use Rattle.cpc_meaning.proofs.Functions.{texts_differ}
 use Rattle.cpc_check_rules.specs.Scopes.{Scope, Block, in_block, in_blocks, meant, with_name}
-use Rattle.cpc_check_rules.specs.FunctionRules.{begins_with, holds_bars}
+use Rattle.cpc_check_rules.specs.FunctionRules.{begins_with, holds_underscores}
 use Rattle.cpc_convert.specs.Converted.{spawner_name}
 use Rattle.cpc_convert_image_laws.specs.Images.{Readings, image, images, image_if}
 use Rattle.cpc_convert_laws.specs.Complete.Reads.{Reads, StaysLocal, StaysGlobal, StaysFunction, IsCps, StaysNothing}
@@ -80,20 +80,20 @@ function_below x (b ∷ bs) m mode r ps h = go (in_block b x) refl (λ k. functi
 abbrev pub HidesNone : List Block → Type 0
 HidesNone blocks = (x : Text) (m : Meant) → in_blocks blocks m (spawner_name x) ≡ m
 
-bars_in : (f rest : Text) → holds_bars (f ++ 95 ∷ 95 ∷ rest) ≡ true
-bars_in [] rest = refl
-bars_in (c ∷ f) rest = either (begins_with (codes "__") (c ∷ (f ++ 95 ∷ 95 ∷ rest))) (holds_bars (f ++ 95 ∷ 95 ∷ rest)) (bars_in f rest)
+underscores_in : (f rest : Text) → holds_underscores (f ++ 95 ∷ 95 ∷ rest) ≡ true
+underscores_in [] rest = refl
+underscores_in (c ∷ f) rest = either (begins_with (codes "__") (c ∷ (f ++ 95 ∷ 95 ∷ rest))) (holds_underscores (f ++ 95 ∷ 95 ∷ rest)) (underscores_in f rest)
   where
     either : (a b : Bool) → b ≡ true → (a || b) ≡ true
     either true b e = refl
     either false b e = e
 
--- a name without bars is none of a spawner
-no_spawner : (y x : Text) → holds_bars y ≡ false → bytes_eq y (spawner_name x) ≡ false
+-- a name without underscores is none of a spawner
+no_spawner : (y x : Text) → holds_underscores y ≡ false → bytes_eq y (spawner_name x) ≡ false
 unfolding spawner_name
-no_spawner y x h = texts_differ y (spawner_name x) (λ (e : y ≡ spawner_name x). by_false_true (sym h ∙ ap holds_bars e ∙ bars_in x (codes "spawn")))
+no_spawner y x h = texts_differ y (spawner_name x) (λ (e : y ≡ spawner_name x). by_false_true (sym h ∙ ap holds_underscores e ∙ underscores_in x (codes "spawn")))
 
--- one more name without bars
-pub hides_none_more : (items : _) (blocks : List Block) (v : Variable) → holds_bars v.called ≡ false → HidesNone blocks → HidesNone (with_name (record { items = items; blocks = blocks }) v).blocks
+-- one more name without underscores
+pub hides_none_more : (items : _) (blocks : List Block) (v : Variable) → holds_underscores v.called ≡ false → HidesNone blocks → HidesNone (with_name (record { items = items; blocks = blocks }) v).blocks
 hides_none_more items [] v h k x m = simp (no_spawner v.called x h) refl
 hides_none_more items (b ∷ bs) v h k x m = simp (no_spawner v.called x h) (k x m)

@@ -16,7 +16,7 @@ use Rattle.cpc_meaning.specs.Machine.{State, marks, with_agenda, with_store, aft
 use Rattle.cpc_meaning.specs.Plain.{Form, Stack, Done, Went, Returned, Asks, plain, answered, make_frame}
 use Rattle.cpc_meaning.specs.Requests.{Asked, Builtin, Host, ToSpawn, Section, Primitive, Print, Putc, Puts, Now, CondNew, CondFree, Signal, SignalAll, Exit, Malloc, Free, RtFrame, RtBox, RtFrameFree, RtUnbox, RtReady, RtWait, RtSleep, RtIo, RtDetach}
 use Rattle.cpc_meaning.specs.Runs.{live_cells}
-use Rattle.cpc_meaning.specs.Start.{main_name, before_bars}
+use Rattle.cpc_meaning.specs.Start.{main_name, before_underscores}
 use Rattle.cpc_meaning.specs.Eval.{assigned}
 use Rattle.cpc_meaning.specs.Events.{Callback, CallMain, CallWith, starts_callback, event_primitive, callbacks_of}
 use Rattle.cpc_meaning.specs.Section.{allocated, freed}
@@ -125,7 +125,7 @@ module _ {P : Type 0} (p : Form P) where
 
   settled_ends : (s t : State P Callback) (a : Answer (State P Callback)) → Only (Ends s) a → settled (callbacks_of p) s a ≡ Some t → Ends s t
   settled_ends s t (Gives u) h e = let i : u ≡ t = cc in subst (Ends s) i h
-  settled_ends s t (Faults fault) h e = let i : ends (Failed fault (before_bars (fault_function s.running))) s ≡ t = cc in subst (Ends s) i (λ over. inr (refl, refl))
+  settled_ends s t (Faults fault) h e = let i : ends (Failed fault (before_underscores (fault_function s.running))) s ≡ t = cc in subst (Ends s) i (λ over. inr (refl, refl))
   settled_ends s t NoAnswer h e = absurd (cc)
 
   pub step_ends : (s t : State P Callback) → Goes s → try_step (callbacks_of p) s ≡ Some t → Ends s t

@@ -13,7 +13,7 @@ use Rattle.cpc_meaning.specs.Events.{Callback, callbacks}
 use Rattle.cpc_meaning.specs.Machine.{next, settled, schedules, turns, runs, ends}
 use Rattle.cpc_meaning.specs.Plain.{Stack}
 use Rattle.cpc_meaning.specs.Slots.{call_slots}
-use Rattle.cpc_meaning.specs.Start.{before_bars}
+use Rattle.cpc_meaning.specs.Start.{before_underscores}
 use Rattle.cpc_meaning.specs.Threads.{Thread, Pending, Suspended, starts_thread, shown_in, threads_of}
 use Rattle.cpc_meaning.proofs.Both.{Both, Ends, Goes as And}
 use Rattle.cpc_meaning.proofs.Agendas.{SameDue}
@@ -111,7 +111,7 @@ module _ (z : Setting) (native : NativeFacts z) (w : Shared) (bs : Blocks) (a : 
       subst EndsBoth same (record { last = t; steps = e; stand = r; agenda = kx.agenda; source = kx.store; store = ky.store; rests = ky.running })
   turned s _ _ i j (BothFault fault) e f over =
       let s' : Source = ends (Failed fault (shown_in z.source [])) x in
-      let t : Target = ends (Failed fault (before_bars [])) y in
+      let t : Target = ends (Failed fault (before_underscores [])) y in
       let same : s' ≡ s = cc in
       subst EndsBoth same (record { last = t; steps = e; stand = IsOver s' t refl refl (ap (λ name. Failed fault name) native.nobody); agenda = refl; source = refl; store = refl; rests = refl })
   turned s _ _ i j (Stuck v) e f over = absurd (cc)

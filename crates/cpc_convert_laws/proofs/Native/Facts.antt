@@ -12,7 +12,7 @@ use Rattle.cpc_tree.specs.declared.program.Mode.{Mode}
 use Rattle.cpc_tree.specs.declared.program.Mode.TheVariants.{Extern, Native, Cps, Detached}
 use Rattle.cpc_meaning.specs.Act.{AtStatement}
 use Rattle.cpc_meaning.specs.Plain.{Frame}
-use Rattle.cpc_meaning.specs.Start.{before_bars}
+use Rattle.cpc_meaning.specs.Start.{before_underscores}
 use Rattle.cpc_meaning.specs.Threads.{is_cps_mode, shown_in}
 use Rattle.cpc_meaning.specs.Trees.{trees, stood_at}
 use Rattle.cpc_forms.specs.Split.{Position, InTree, split_form}
@@ -60,7 +60,7 @@ module _ (p : Program) (h : Convertible p) where
       ap (λ o. cond (not (is_some o)) true (holds_number (closure_in (split_form p) (lifting p) f ((lifting p).owner f (InTree point))) k)) (no_graph p f found.function found.named found.kept.mode)
 
   -- faults there are shown alike
-  shown_alike : (f : Text) → is_whole p f ≡ true → before_bars f ≡ shown_in p f
+  shown_alike : (f : Text) → is_whole p f ≡ true → before_underscores f ≡ shown_in p f
   shown_alike f w = let found = wholes_are_found p h.names h.named f w in h.shown.native f found.function found.named found.kept.mode
 
   -- it is entered alike

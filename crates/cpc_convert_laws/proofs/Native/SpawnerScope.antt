@@ -17,7 +17,7 @@ use Rattle.cpc_convert_chain_laws.specs.Driver.{drive_name}
 use Rattle.cpc_convert_chain_laws.specs.Structs.{NotCalled, NoneSo, NotSo}
 use Rattle.cpc_convert_event.specs.Names.{piece_name, frame_name, variable_name}
 use Rattle.cpc_convert_event.specs.Pieces.{parameter_of}
-use Rattle.cpc_convert_event.proofs.Apart.{behind, piece_is, driver_is, no_bar_behind, no_bar_nothing, piece_nothing}
+use Rattle.cpc_convert_event.proofs.Apart.{behind, piece_is, driver_is, no_underscore_behind, no_bar_nothing, piece_nothing}
 use Rattle.cpc_convert_event.proofs.Fields.{word_apart, Rising, NoneRises, OneRises}
 
 -- ---- texts
@@ -54,13 +54,13 @@ module _ (low : ℕ) (vs : List Variable) (rising : Rising low vs) where
   pub no_piece : (f : Text) → has_marks f ≡ false → NotCalled (piece_name f Start) vs
   no_piece f hf =
       none_called (piece_name f Start) (λ k x hk hx. texts_differ (piece_name f Start) (variable_name k x)
-      (λ (e : piece_name f Start ≡ variable_name k x). no_start k hk (sym (marked_is f x (behind Start) (decimal k) hf hx (no_bar_behind Start) (no_bar_decimal k hk) (sym (piece_is f Start) ∙ e ∙ variable_is k x)).1))) low vs rising
+      (λ (e : piece_name f Start ≡ variable_name k x). no_start k hk (sym (marked_is f x (behind Start) (decimal k) hf hx (no_underscore_behind Start) (no_bar_decimal k hk) (sym (piece_is f Start) ∙ e ∙ variable_is k x)).1))) low vs rising
 
 -- nor has the frame
 pub frame_piece : (f : Text) → has_marks f ≡ false → bytes_eq frame_name (piece_name f Start) ≡ false
 frame_piece f hf =
     texts_differ (marked (codes "e") []) (piece_name f Start)
-    (λ (e : marked (codes "e") [] ≡ piece_name f Start). piece_nothing Start (sym (marked_is (codes "e") f [] (behind Start) refl hf no_bar_nothing (no_bar_behind Start) (e ∙ piece_is f Start)).1))
+    (λ (e : marked (codes "e") [] ≡ piece_name f Start). piece_nothing Start (sym (marked_is (codes "e") f [] (behind Start) refl hf no_bar_nothing (no_underscore_behind Start) (e ∙ piece_is f Start)).1))
 
 -- ---- scopes
 

@@ -14,7 +14,7 @@ use Rattle.cpc_meaning.specs.Answer.{Answer, Gives, ◌>>=◌, needed}
 use Rattle.cpc_meaning.specs.Eval.{Slot, Register, Context}
 use Rattle.cpc_meaning.specs.Events.{Callback}
 use Rattle.cpc_meaning.specs.Plain.{Frame as CallFrame, context}
-use Rattle.cpc_meaning.specs.Start.{before_bars}
+use Rattle.cpc_meaning.specs.Start.{before_underscores}
 use Rattle.cpc_meaning.specs.Threads.{shown_in}
 use Rattle.cpc_meaning.specs.Ways.{AsCps}
 use Rattle.cpc_convert_image_laws.specs.Held.{IsHeld, IsHeldSlot, IsHeldStore, BoxesLive}
@@ -69,7 +69,7 @@ pub value_index : (p : Program) (r : Routine) (l : Place) → takes_value r l �
 value_index p r l takes = ap (λ b. slice_get (variable_if b (called_so value_name (arriving_type p r l)) (locals_of r (loaded r l) ++ (words_of p r l ++ locals_of r (begun r l)))) 0) takes
 
 module _ (p : Program) (facts : ProgramKnown p) (fine : CallFrame Position → Option Value → Type 0) (given : Text → List Value → Type 0) (bounds : Bounds) (f : Function) (known : CpsKnown p f) (enough : 5 + length (variables f) ≤ bounds.onward) (begins : 0 < bounds.leads) (l : Place) (owner : IsOwner (routine_of p f) l)
-    (shown : before_bars (piece_name f.called l) ≡ shown_in p f.called) (lower pointer result frame : Value)
+    (shown : before_underscores (piece_name f.called l) ≡ shown_in p f.called) (lower pointer result frame : Value)
     (n : ℕ) (at : NodeAt p f l n) (has : has_row (routine_of p f).split n ≡ true) (row : RowAt p (routine_of p f) l n)
     (w : Shared) (bs : Blocks) (c : Agenda Callback) (slots slots' : List Slot) (stands : LocalsStand p (routine_of p f) l slots slots' lower)
     (store : IsHeldStore (Stays p) w.store) (held : All (IsHeldSlot (Stays p)) slots) (live : BoxesLive w.store slots)

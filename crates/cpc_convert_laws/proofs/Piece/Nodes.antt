@@ -11,7 +11,7 @@ use Rattle.cpc_meaning.specs.Agenda.{Agenda}
 use Rattle.cpc_meaning.specs.Eval.{Slot}
 use Rattle.cpc_meaning.specs.Events.{Callback}
 use Rattle.cpc_meaning.specs.Plain.{Frame as CallFrame, context}
-use Rattle.cpc_meaning.specs.Start.{before_bars}
+use Rattle.cpc_meaning.specs.Start.{before_underscores}
 use Rattle.cpc_meaning.specs.Threads.{shown_in}
 use Rattle.cpc_meaning.specs.Ways.{Manner, InPlace, ByFrame, AsCps}
 use Rattle.cpc_convert_image_laws.specs.Held.{IsHeld, IsHeldSlot, IsHeldStore, BoxesLive}
@@ -40,15 +40,15 @@ use Rattle.cpc_convert_laws.proofs.Piece.Tests.{tests_there}
 use Rattle.cpc_convert_laws.proofs.Piece.TestWays.{test_goes}
 
 -- a fault names a piece as it names its function
-pub piece_shown : (p : Program) → ProgramKnown p → (f : Function) → CpsKnown p f → (l : Place) → before_bars (piece_name f.called l) ≡ shown_in p f.called
-piece_shown p facts f known l = ap before_bars (piece_is f.called l) ∙ facts.shown.made f.called f known.found.named known.found.cps.mode (behind l)
+pub piece_shown : (p : Program) → ProgramKnown p → (f : Function) → CpsKnown p f → (l : Place) → before_underscores (piece_name f.called l) ≡ shown_in p f.called
+piece_shown p facts f known l = ap before_underscores (piece_is f.called l) ∙ facts.shown.made f.called f known.found.named known.found.cps.mode (behind l)
 
 module _ (p : Program) (facts : ProgramKnown p) (fine : CallFrame Position → Option Value → Type 0) (given : Text → List Value → Type 0) (bounds : Bounds) (f : Function) (known : CpsKnown p f) (enough : 5 + length (variables f) ≤ bounds.onward) (begins : 0 < bounds.leads) (l : Place) (owner : IsOwner (routine_of p f) l)
     (lower pointer result frame : Value)
     (n : ℕ) (at : NodeAt p f l n) (has : has_row (routine_of p f).split n ≡ true) (row : RowAt p (routine_of p f) l n)
     (w : Shared) (bs : Blocks) (c : Agenda Callback) (slots slots' : List Slot) (stands : LocalsStand p (routine_of p f) l slots slots' lower) (o : Option Value) (arrives : Arrives p (routine_of p f) l n slots' o)
     (store : IsHeldStore (Stays p) w.store) (held : All (IsHeldSlot (Stays p)) slots) (live : BoxesLive w.store slots) where
-  abbrev shown : before_bars (piece_name f.called l) ≡ shown_in p f.called
+  abbrev shown : before_underscores (piece_name f.called l) ≡ shown_in p f.called
   shown = piece_shown p facts f known l
 
   -- the piece does what the source does, in a function with this result

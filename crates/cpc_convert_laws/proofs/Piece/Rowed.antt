@@ -16,7 +16,7 @@ use Rattle.cpc_meaning.specs.Eval.{Slot}
 use Rattle.cpc_meaning.specs.Events.{Callback, callbacks}
 use Rattle.cpc_meaning.specs.Machine.{next, ends}
 use Rattle.cpc_meaning.specs.Plain.{Frame as CallFrame}
-use Rattle.cpc_meaning.specs.Start.{before_bars}
+use Rattle.cpc_meaning.specs.Start.{before_underscores}
 use Rattle.cpc_meaning.specs.Threads.{shown_in}
 use Rattle.cpc_convert_image_laws.specs.Held.{beside}
 use Rattle.cpc_convert_image_laws.specs.Relations.{Meets, BothGive, BothFault, Stuck, SameAct, BothGo, BothEnter, BothLeave, BothAsk}
@@ -61,7 +61,7 @@ abbrev pub OnlyGoes : Answer Act → Type 0
 OnlyGoes u = (a : Act) → u ≡ Gives a → (t : Store) × (changed : List Slot) × (a ≡ GoesOn true t changed)
 
 module _ (p : Program) (fine : CallFrame Position → Option Value → Type 0) (given : Text → List Value → Type 0) (bounds : Bounds) (f : Function) (known : CpsKnown p f) (enough : 5 + length (variables f) ≤ bounds.onward) (begins : 0 < bounds.leads) (l : Place) (owner : IsOwner (routine_of p f) l)
-    (shown : before_bars (piece_name f.called l) ≡ shown_in p f.called) (lower pointer result frame : Value)
+    (shown : before_underscores (piece_name f.called l) ≡ shown_in p f.called) (lower pointer result frame : Value)
     (n : ℕ) (at : NodeAt p f l n) (has : has_row (routine_of p f).split n ≡ true) (row : RowAt p (routine_of p f) l n) where
   abbrev r : Routine
   r = routine_of p f
@@ -122,13 +122,13 @@ module _ (p : Program) (fine : CallFrame Position → Option Value → Type 0) (
   -- one that faults
   pub first_fault : (x : Stmt) (more : List Stmt) (left : Stmts) (line : FirstLine p f l n row x more left) → (w : World) (slots' : List Slot) (s : Store) (s' : Found) → standing x ≡ s' → (fault : Fault)
       → found_act (Here_at q (scope p f known l owner) slots' s) (code p f known l owner).result s' ≡ Faults fault
-      → next (callbacks q) (running w s (standing_piece slots' ∷ driving pointer result frame ∷ []) None) ≡ Some (ends (Failed fault (before_bars (piece_name f.called l))) (running w s (standing_piece slots' ∷ driving pointer result frame ∷ []) None))
+      → next (callbacks q) (running w s (standing_piece slots' ∷ driving pointer result frame ∷ []) None) ≡ Some (ends (Failed fault (before_underscores (piece_name f.called l))) (running w s (standing_piece slots' ∷ driving pointer result frame ∷ []) None))
   first_fault x more left line w slots' s s' stood fault is_act =
       let g = code p f known l owner in
       let bd = body p f known l owner in
       let sc = scope p f known l owner in
       let m = piece_count p r l in
-      subst (λ ss. next (callbacks q) (running w s (frame_at (piece_name f.called l) (point_at k ss) slots' ∷ driving pointer result frame ∷ []) None) ≡ Some (ends (Failed fault (before_bars (piece_name f.called l))) (running w s (frame_at (piece_name f.called l) (point_at k ss) slots' ∷ driving pointer result frame ∷ []) None))) (sym line.is_rest)
+      subst (λ ss. next (callbacks q) (running w s (frame_at (piece_name f.called l) (point_at k ss) slots' ∷ driving pointer result frame ∷ []) None) ≡ Some (ends (Failed fault (before_underscores (piece_name f.called l))) (running w s (frame_at (piece_name f.called l) (point_at k ss) slots' ∷ driving pointer result frame ∷ []) None))) (sym line.is_rest)
       (step_faults q w (piece_name f.called l) g (driving pointer result frame ∷ []) (is_code p f known l owner) slots' s (line_path g bd k sc m x left line.line) sc (line_scope g bd k sc m x left line.line (enter line.line.statement)) s' (line_found g bd k sc m x left line.line ∙ stood) fault is_act)
 
   -- ---- behind it

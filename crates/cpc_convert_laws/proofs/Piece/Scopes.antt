@@ -31,7 +31,7 @@ use Rattle.cpc_convert_event.specs.Converted.{converted}
 use Rattle.cpc_convert_event.specs.FlatLaws.{piece_scope}
 use Rattle.cpc_convert_event.specs.LocalLaws.{piece_locals, MeansLocals}
 use Rattle.cpc_convert_event.specs.NameLaws.{IsCps, IsOwner}
-use Rattle.cpc_convert_event.proofs.Apart.{behind, piece_is, no_bar_behind, no_bar_nothing, piece_nothing}
+use Rattle.cpc_convert_event.proofs.Apart.{behind, piece_is, no_underscore_behind, no_bar_nothing, piece_nothing}
 use Rattle.cpc_convert_event.proofs.Locals.{NoneCalled, closure_rise, loaded_below, locals_meant}
 use Rattle.cpc_convert_event.proofs.Meanings.{items_meant}
 use Rattle.cpc_convert_event.proofs.Numbers.{AllBelow, NoneBelow, OneBelow, below_append, below_chosen, Rises, rises_below}
@@ -43,7 +43,7 @@ use Rattle.cpc_convert_laws.specs.Piece.Stood.{LocalsStand}
 
 -- ---- names that are made, apart
 
--- what stands behind the bars of a piece's name is no number
+-- what stands behind the underscores of a piece's name is no number
 piece_number : (k : ℕ) (m : Place) → k < 2 ^ 63 → decimal k ≡ behind m → ⊥
 piece_number k Start h e = not_digits 115 (decimal k) _ (not_under_ten 28 (omega arith)) (decimal_is_IsNumeral k (omega arith)).0.1 e
 piece_number k (At n) h e = not_digits 97 (decimal k) _ (not_under_ten 10 (omega arith)) (decimal_is_IsNumeral k (omega arith)).0.1 e
@@ -51,11 +51,11 @@ piece_number k (At n) h e = not_digits 97 (decimal k) _ (not_under_ten 10 (omega
 variable_piece : (k : ℕ) (x f : Text) (m : Place) → k < 2 ^ 63 → has_marks x ≡ false → has_marks f ≡ false → bytes_eq (variable_name k x) (marked f (behind m)) ≡ false
 variable_piece k x f m h hx hf =
     texts_differ (variable_name k x) (marked f (behind m))
-    (λ (e : variable_name k x ≡ marked f (behind m)). piece_number k m h (marked_is x f (decimal k) (behind m) hx hf (no_bar_decimal k h) (no_bar_behind m) (sym (variable_is k x) ∙ e)).1)
+    (λ (e : variable_name k x ≡ marked f (behind m)). piece_number k m h (marked_is x f (decimal k) (behind m) hx hf (no_bar_decimal k h) (no_underscore_behind m) (sym (variable_is k x) ∙ e)).1)
 
 word_piece : (w f : Text) (m : Place) → has_marks w ≡ false → has_marks f ≡ false → bytes_eq (marked w (codes "")) (marked f (behind m)) ≡ false
 word_piece w f m hw hf =
-    texts_differ (marked w (codes "")) (marked f (behind m)) (λ (e : marked w (codes "") ≡ marked f (behind m)). piece_nothing m (sym (marked_is w f (codes "") (behind m) hw hf no_bar_nothing (no_bar_behind m) e).1))
+    texts_differ (marked w (codes "")) (marked f (behind m)) (λ (e : marked w (codes "") ≡ marked f (behind m)). piece_nothing m (sym (marked_is w f (codes "") (behind m) hw hf no_bar_nothing (no_underscore_behind m) e).1))
 
 -- ---- scopes
 

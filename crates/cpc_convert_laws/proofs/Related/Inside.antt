@@ -20,7 +20,7 @@ use Rattle.cpc_meaning.specs.Plain.{Frame as CallFrame, Went, Asks, context, fra
 use Rattle.cpc_meaning.specs.Requests.{Request, Primitive, Builtin, ToSpawn, Section}
 use Rattle.cpc_meaning.specs.Runs.{slots_registers}
 use Rattle.cpc_meaning.specs.Slots.{call_slots}
-use Rattle.cpc_meaning.specs.Start.{before_bars}
+use Rattle.cpc_meaning.specs.Start.{before_underscores}
 use Rattle.cpc_meaning.specs.Threads.{shown_in}
 use Rattle.cpc_meaning.specs.Events.{Callback, CallWith, callbacks}
 use Rattle.cpc_forms.specs.Flow.{Place, At}
@@ -179,11 +179,11 @@ module _ (z : Setting) (bounds : Bounds) (f : Text) (l : Place) (lower pointer r
       pub within : steps ≤ bounds.leads
       pub asker : CallFrame Point
       pub leads : Walk z.target w.trace steps inside (asks_wait back asker)
-      pub shown : before_bars asker.function ≡ shown_in z.source f
+      pub shown : before_underscores asker.function ≡ shown_in z.source f
 
     -- it faults where it asks
     abbrev pub FaultsAsking : Prepares → Fault → Type 0
-    FaultsAsking p fault = next (callbacks z.target) (asks_wait p.back p.asker) ≡ Some (ends (Failed fault (before_bars p.asker.function)) (asks_wait p.back p.asker))
+    FaultsAsking p fault = next (callbacks z.target) (asks_wait p.back p.asker) ≡ Some (ends (Failed fault (before_underscores p.asker.function)) (asks_wait p.back p.asker))
 
     -- a wait
     pub record WaitsFor (q : Awaited) : Type 0 where
@@ -213,7 +213,7 @@ module _ (z : Setting) (bounds : Bounds) (f : Text) (l : Place) (lower pointer r
 
     pub data Does : Answer Act → Type 0 where
       Sticks : Does NoAnswer
-      Breaks : (fault : Fault) (name : Text) → before_bars name ≡ shown_in z.source f → (a : FaultsAfter z.target w.trace name fault inside) → a.steps < bounds.leads → a.grown ≤ bounds.leads → Does (Faults fault)
+      Breaks : (fault : Fault) (name : Text) → before_underscores name ≡ shown_in z.source f → (a : FaultsAfter z.target w.trace name fault inside) → a.steps < bounds.leads → a.grown ≤ bounds.leads → Does (Faults fault)
       Moves : (h : Bool) (t : Store) (changed : List Slot) → ((to : Position) → (from_form z).code.goes f (InGraph l n) h ≡ Some to → GoesTo t changed to) → Does (Gives (GoesOn h t changed))
       Requests : (r : Request) → is_answered r.asked ≡ true → All (IsHeld z.codes) r.arguments → frames_step (to_form z) (beside bs w.store) o' (over piece) ≡ Gives (Asks r) → Replies → Does (Gives (AsksFor r))
       SpawnsOne : (g : Text) (vs : List Value) → SpawnsCall g vs → Does (Gives (AsksFor (record { asked = ToSpawn g; arguments = vs })))
@@ -225,6 +225,6 @@ module _ (z : Setting) (bounds : Bounds) (f : Text) (l : Place) (lower pointer r
 
     -- what is known where the piece stands
     pub record PieceAt : Type 0 where
-      pub shown : before_bars piece.function ≡ shown_in z.source f
+      pub shown : before_underscores piece.function ≡ shown_in z.source f
       pub does : (g : Function) → function_named z.source f ≡ Some g
           → Does (act (context (from_form z) w.store (frame_of f (InGraph l n) slots)) g.result o ((from_form z).code.stood f (InGraph l n)))

@@ -17,7 +17,7 @@ use Rattle.cpc_meaning.specs.Machine.{next, ends, settled, runs_on, fault_functi
 use Rattle.cpc_meaning.specs.Plain.{Frame as CallFrame, Stack, Asks, frames_step, answered, asking}
 use Rattle.cpc_meaning.specs.Requests.{Request, ToSpawn}
 use Rattle.cpc_meaning.specs.Runs.{registers, slots_registers}
-use Rattle.cpc_meaning.specs.Start.{before_bars}
+use Rattle.cpc_meaning.specs.Start.{before_underscores}
 use Rattle.cpc_meaning.specs.Threads.{Thread, Pending, threads_of, shown_in}
 use Rattle.cpc_meaning.specs.Events.{Callback, callbacks, callbacks_of}
 use Rattle.cpc_forms.specs.Flow.{Place}
@@ -58,12 +58,12 @@ module _ (z : Setting) (k n g c : ℕ) (fits : c + g ≤ k) (x x' : Source) (y :
       subst (λ t. RowFor z k x t (suc n) y) same (row_marked z k x (tidy z.kept s) y u n g (store_cells u.store) c e quiet r (omega (arith, few)) fits)
 
   -- a step of each, that settles their answers
-  pub answer_row : (u : Answer Source) (v : Answer Target) → Meets (Then z n g c) u v → x.trace ≡ y.trace → before_bars (fault_function y.running) ≡ shown_in z.source (fault_function x.running)
+  pub answer_row : (u : Answer Source) (v : Answer Target) → Meets (Then z n g c) u v → x.trace ≡ y.trace → before_underscores (fault_function y.running) ≡ shown_in z.source (fault_function x.running)
       → option_map (tidy z.kept) (settled (threads_of (from_form z)) x u) ≡ Some x' → next (callbacks z.target) y ≡ settled (callbacks z.target) y v → RowFor z k x x' (suc n) y
   answer_row _ _ (BothGive s u r) tr shown e i = then_row s u i r (cc)
   answer_row _ _ (BothFault fault) tr shown e i =
       let s : Source = ends (Failed fault (shown_in z.source (fault_function x.running))) x in
-      let t : Target = ends (Failed fault (before_bars (fault_function y.running))) y in
+      let t : Target = ends (Failed fault (before_underscores (fault_function y.running))) y in
       let same : tidy z.kept s ≡ x' = cc in
       Last (suc n) y t i (omega arith) (subst (λ r. Related z.codes z.cut z.there r t) same (IsOver (tidy z.kept s) t refl (sym tr) (ap (λ f. Failed fault f) shown)))
   answer_row _ _ (Stuck v) tr shown e i = absurd (cc)
@@ -106,7 +106,7 @@ module _ (z : Setting) (native : NativeFacts z) (keeps : KeepsFacts z) (bounds :
           (record { is_trace = refl; goes = refl; runs = refl }) onto (let j = r.same in omega (arith, j, thin)) enough.in_place))
 
   -- a fault
-  pub breaks_row : (fault : Fault) (name : Text) → before_bars name ≡ shown_in z.source f → (r : FaultsAfter z.target w.trace name fault to) → r.steps < bounds.leads → r.grown ≤ bounds.leads
+  pub breaks_row : (fault : Fault) (name : Text) → before_underscores name ≡ shown_in z.source f → (r : FaultsAfter z.target w.trace name fault to) → r.steps < bounds.leads → r.grown ≤ bounds.leads
       → (x' : Source) → StepsTo (Faults fault) x' → RowFor z bounds.rise from x' most to
   breaks_row fault name shown r less few x' stepped =
       let same : tidy z.kept (ends (Failed fault (shown_in z.source f)) from) ≡ x' = cc in
@@ -150,7 +150,7 @@ module _ (z : Setting) (native : NativeFacts z) (keeps : KeepsFacts z) (bounds :
         go (Some g) e = by (arrives_at z f (InGraph l n) slots o below v b u g) (replies v.store u g held boxes is_held e)
 
     pub requests_row : (r : Request) → is_answered r.asked ≡ true → All (IsHeld z.codes) r.arguments → frames_step (to_form z) (beside bs w.store) o' (over z bounds f l lower pointer result frame piece) ≡ Gives (Asks r)
-        → before_bars piece.function ≡ shown_in z.source f → IsHeldStore z.codes w.store → (x' : Source) → StepsTo (Gives (AsksFor r)) x' → Known z x' → RowFor z bounds.rise from x' most to
+        → before_underscores piece.function ≡ shown_in z.source f → IsHeldStore z.codes w.store → (x' : Source) → StepsTo (Gives (AsksFor r)) x' → Known z x' → RowFor z bounds.rise from x' most to
     requests_row r answered held e shown source x' stepped known =
         path_wider most (let i = enough.goes in let j : suc rest ≤ most = omega arith in j)
         (answer_row z bounds.rise rest more_cells (3 + bounds.piece) enough.in_place from x' to refl known (asked_by (threads_of (from_form z)) (stack z f (InGraph l n) slots o w a below) from r.asked r.arguments) (asked_by (callbacks_of (to_form z)) there to r.asked r.arguments)

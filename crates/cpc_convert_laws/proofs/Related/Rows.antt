@@ -8,7 +8,7 @@ use Rattle.cpc_meaning.specs.Agenda.{begin_round}
 use Rattle.cpc_meaning.specs.Answer.{Answer}
 use Rattle.cpc_meaning.specs.Machine.{next, settled, fault_function}
 use Rattle.cpc_meaning.specs.Runs.{live_cells}
-use Rattle.cpc_meaning.specs.Start.{before_bars, main_name}
+use Rattle.cpc_meaning.specs.Start.{before_underscores, main_name}
 use Rattle.cpc_meaning.specs.Threads.{Pending, threads_of, shown_in}
 use Rattle.cpc_meaning.specs.Events.{callbacks}
 use Rattle.cpc_lift_laws.specs.Lifted.{tidy}
@@ -68,7 +68,7 @@ pub data BothStep (R : Source → Target → Type 0) : Option Source → Option 
 
 -- an answer that is settled
 pub settled_alike : (z : Setting) (x : Source) (y : Target) → x.trace ≡ y.trace
-    → shown_in z.source (fault_function x.running) ≡ before_bars (fault_function y.running)
+    → shown_in z.source (fault_function x.running) ≡ before_underscores (fault_function y.running)
     → (u : Answer Source) (v : Answer Target) → Meets (Related z.codes z.cut z.there) u v
     → BothStep (Related z.codes z.cut z.there) (settled (threads_of (from_form z)) x u) (settled (callbacks z.target) y v)
 settled_alike z x y tr e _ _ (BothGive s t r) = BothTo s t r

@@ -20,7 +20,7 @@ use Rattle.cpc_meaning.specs.Plain.{Frame as CallFrame, Stack, Done, make_frame,
 use Rattle.cpc_meaning.specs.Requests.{Asked, Builtin, Host, ToSpawn, Section, Malloc, Free}
 use Rattle.cpc_meaning.specs.Section.{Job, SectionEnd, Gave, Broke, NoEnd, all_integers, section_asks, section_done, section_gave, copy_left, section_next, section_run, copy_store, copy_pointer, section_from, section_frame, section_end}
 use Rattle.cpc_meaning.specs.Slots.{make_slots}
-use Rattle.cpc_meaning.specs.Start.{before_bars}
+use Rattle.cpc_meaning.specs.Start.{before_underscores}
 use Rattle.cpc_meaning.specs.Threads.{shown_in}
 use Rattle.cpc_forms.specs.Split.{Position, InTree}
 use Rattle.cpc_convert_image_laws.specs.Held.{IsShared, IsHeld, IsHeldSlot, IsHeldStore, beside}
@@ -42,7 +42,7 @@ InSection z f a b = (a ≡ InTree b) × z.sections f
 pub record SectionFacts (z : Setting) (pairs : Function → Function → Type 0) : Type 0 where
   pub common : Common z.sections pairs z.source z.target
   pub enters : (f g : Function) → pairs f g → EntersAlike (InSection z) (from_form z) (to_form z) f g
-  pub shown : (f : Text) → z.sections f → before_bars f ≡ shown_in z.source f
+  pub shown : (f : Text) → z.sections f → before_underscores f ≡ shown_in z.source f
   pub points : (s : Store) (f : Text) (b : Point) (slots : List Slot) → z.sections f → NativePoint z.sections pairs (InSection z) (z.used f b) (from_form z) (to_form z) s f (InTree b) b slots
   pub written : (s : Store) (f : Text) (b : Point) (slots : List Slot) (g : Found) → z.sections f → asking ((from_form z).code.stood f (InTree b)) ≡ Some g → IsArrival (context (from_form z) s (frame_of f (InTree b) slots)) g
 
@@ -66,10 +66,10 @@ ints_held C (v ∷ vs) e = let h = int_held C v vs e in All-cons (IsHeld C) v vs
 -- the same integers, the same fault of a function that is shown alike; where the source is stuck nothing is said
 data EndsAlike (z : Setting) : SectionEnd → SectionEnd → Type 0 where
   SameGave : (v : Value) (cells : List Value) → all_integers cells ≡ true → EndsAlike z (Gave v cells) (Gave v cells)
-  SameBroke : (fault : Fault) (f : Text) → before_bars f ≡ shown_in z.source f → EndsAlike z (Broke fault f) (Broke fault f)
+  SameBroke : (fault : Fault) (f : Text) → before_underscores f ≡ shown_in z.source f → EndsAlike z (Broke fault f) (Broke fault f)
   NothingSaid : (e : SectionEnd) → EndsAlike z NoEnd e
 
-gave_alike : (z : Setting) (f : Text) (v : Value) (o : Option (List Value)) → before_bars f ≡ shown_in z.source f → EndsAlike z (section_gave f v o) (section_gave f v o)
+gave_alike : (z : Setting) (f : Text) (v : Value) (o : Option (List Value)) → before_underscores f ≡ shown_in z.source f → EndsAlike z (section_gave f v o) (section_gave f v o)
 gave_alike z f v None shown = NothingSaid _
 gave_alike z f v (Some cells) shown = go (all_integers cells) refl
   where
@@ -172,11 +172,11 @@ module _ (z : Setting) (pairs : Function → Function → Type 0) (facts : Secti
 
   -- ---- runs
 
-  module _ (job : Text) (shown : before_bars job ≡ shown_in z.source job) (no_copy : Bool) where
+  module _ (job : Text) (shown : before_underscores job ≡ shown_in z.source job) (no_copy : Bool) where
     abbrev Going : (Store → Stack Position → SectionEnd) → (Store → Stack Point → SectionEnd) → Type 0
     Going x y = (s : Store) (xs : List (CallFrame Position)) (ys : List (CallFrame Point)) (o : Option Value) → IsHeldStore z.sections s → IsHeldIf z.sections o → Stacks xs ys → EndsAlike z (x s (record { frames = xs; arriving = o })) (y (beside [] s) (record { frames = ys; arriving = o }))
 
-    next_alike : (x : Store → Stack Position → SectionEnd) (y : Store → Stack Point → SectionEnd) → Going x y → (f : Text) → before_bars f ≡ shown_in z.source f → (m : Answer (Done Position)) (n : Answer (Done Point)) → Meets Alike m n → EndsAlike z (section_next x job no_copy f m) (section_next y job no_copy f n)
+    next_alike : (x : Store → Stack Position → SectionEnd) (y : Store → Stack Point → SectionEnd) → Going x y → (f : Text) → before_underscores f ≡ shown_in z.source f → (m : Answer (Done Position)) (n : Answer (Done Point)) → Meets Alike m n → EndsAlike z (section_next x job no_copy f m) (section_next y job no_copy f n)
     next_alike x y go f is_shown _ _ (BothGive _ _ (BothWent t us vs p h l r)) = go t us vs p h l r
     next_alike x y go f is_shown _ _ (BothGive _ _ (BothReturned v t h l)) = subst (λ cells. EndsAlike z (section_gave job v (copy_left no_copy t)) (section_gave job v cells)) (sym (left_alike no_copy t)) (gave_alike z job v (copy_left no_copy t) shown)
     next_alike x y go f is_shown _ _ (BothGive _ _ (BothAsked r h)) = NothingSaid _
@@ -199,7 +199,7 @@ module _ (z : Setting) (pairs : Function → Function → Type 0) (facts : Secti
   abbrev framed : {P : Type 0} → Text → P → List Slot × Store → Answer (CallFrame P × Store)
   framed f point r = Gives (frame_of f point r.0, r.1)
 
-  from_alike : (job : Job) (bound : ℕ) → before_bars job.function ≡ shown_in z.source job.function → (f : Text) (a : Position) (b : Point) → InSection z f a b → (m n : Answer (List Slot × Store)) → Meets (Entered z.sections []) m n → Ended job bound (m >>= framed f a) (n >>= framed f b)
+  from_alike : (job : Job) (bound : ℕ) → before_underscores job.function ≡ shown_in z.source job.function → (f : Text) (a : Position) (b : Point) → InSection z f a b → (m n : Answer (List Slot × Store)) → Meets (Entered z.sections []) m n → Ended job bound (m >>= framed f a) (n >>= framed f b)
   from_alike job bound shown f a b same _ _ (BothGive _ _ (SlotsMade t slots h l)) = run_alike job.function shown (is_empty job.cells) bound t (frame_of f a slots ∷ []) (frame_of f b slots ∷ []) None h tt (OneMore f a b slots [] [] same l (NoMore [] [] BareEnds))
   from_alike job bound shown f a b same _ _ (BothFault fault) = SameBroke fault job.function shown
   from_alike job bound shown f a b same _ _ (Stuck n) = NothingSaid _
@@ -218,7 +218,7 @@ module _ (z : Setting) (pairs : Function → Function → Type 0) (facts : Secti
   end_alike : (job : Job) (bound : ℕ) → HeldJob z job → EndsAlike z (section_end (from_form z) job bound) (section_end (to_form z) job bound)
   end_alike job bound h = found (function_named z.source job.function) (function_named z.target job.function) (facts.common.codes job.function h.function)
     where
-      shown : before_bars job.function ≡ shown_in z.source job.function
+      shown : before_underscores job.function ≡ shown_in z.source job.function
       shown = facts.shown job.function h.function
 
       store : Store
@@ -264,7 +264,7 @@ module _ (z : Setting) (pairs : Function → Function → Type 0) (facts : Secti
     abbrev Rest : (Store → Collected) → (Store → Collected) → Type 0
     Rest x y = (t : Store) → IsHeldStore z.codes t → CollectedAlike z bs (x t) (y (beside bs t))
 
-    written_alike : (v : Value) (f : Text) → before_bars f ≡ shown_in z.source f → (x y : Store → Collected) → Rest x y → (m n : Answer Store) → Meets (StoreBeside z.codes bs) m n → CollectedAlike z bs (written x v f m) (written y v f n)
+    written_alike : (v : Value) (f : Text) → before_underscores f ≡ shown_in z.source f → (x y : Store → Collected) → Rest x y → (m n : Answer Store) → Meets (StoreBeside z.codes bs) m n → CollectedAlike z bs (written x v f m) (written y v f n)
     written_alike v f shown x y rest _ _ (BothGive _ _ (InBoth t h)) = and_alike v (x t) (y (beside bs t)) (rest t h)
     written_alike v f shown x y rest _ _ (BothFault fault) = BothFailed fault f shown
     written_alike v f shown x y rest _ _ (Stuck n) = SourceStuck _

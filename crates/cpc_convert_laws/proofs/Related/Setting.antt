@@ -16,7 +16,7 @@ use Rattle.cpc_meaning.specs.Requests.{Request, Asked, Builtin, Host, ToSpawn, S
 use Rattle.cpc_tree.specs.Points.{Found}
 use Rattle.cpc_convert_image_laws.specs.Native.{IsArrival}
 use Rattle.cpc_meaning.specs.Section.{Job, all_integers}
-use Rattle.cpc_meaning.specs.Start.{before_bars}
+use Rattle.cpc_meaning.specs.Start.{before_underscores}
 use Rattle.cpc_meaning.specs.Threads.{Thread, Pending, shown_in}
 use Rattle.cpc_meaning.specs.Trees.{trees}
 use Rattle.cpc_forms.specs.Split.{Position, InTree, InGraph, split_form}
@@ -57,7 +57,7 @@ to_form z = trees z.target
 -- what the sections of a poll come to in both: the same values, and stores that differ in the frames alone; the same fault, shown alike; where the source is stuck nothing is said
 pub data CollectedAlike (z : Setting) (bs : Blocks) : Collected → Collected → Type 0 where
   BothGave : (vs : List Value) (t : Store) → CollectedAlike z bs (AllGave vs t) (AllGave vs (beside bs t))
-  BothFailed : (fault : Fault) (f : Text) → before_bars f ≡ shown_in z.source f → CollectedAlike z bs (OneFailed fault f) (OneFailed fault f)
+  BothFailed : (fault : Fault) (f : Text) → before_underscores f ≡ shown_in z.source f → CollectedAlike z bs (OneFailed fault f) (OneFailed fault f)
   SourceStuck : (c : Collected) → CollectedAlike z bs NotClear c
 
 -- a section that is out runs one of the functions for that, on integers, and its pointer is one of the source
@@ -81,8 +81,8 @@ pub record NativeFacts (z : Setting) : Type 0 where
   pub common : Common z.codes z.pairs z.source z.target
   pub enters : (f g : Function) → z.pairs f g → EntersAlike (SamePoint z.cut) (from_form z) (to_form z) f g
   pub whole : (f : Text) (point : Point) (k : ℕ) → z.cut.whole f ≡ true → z.kept f (InTree point) k ≡ true
-  pub shown : (f : Text) → z.cut.whole f ≡ true → before_bars f ≡ shown_in z.source f
-  pub nobody : before_bars [] ≡ shown_in z.source []
+  pub shown : (f : Text) → z.cut.whole f ≡ true → before_underscores f ≡ shown_in z.source f
+  pub nobody : before_underscores [] ≡ shown_in z.source []
   pub sections : (bound : ℕ) (jobs : List Job) (ns : List ℕ) (s : Store) (bs : Blocks) → IsHeldStore z.codes s → All (HeldJob z) jobs
       → CollectedAlike z bs (collect (from_form z) bound jobs ns s) (collect (to_form z) bound jobs ns (beside bs s))
 

@@ -13,7 +13,7 @@ use Rattle.cpc_meaning.specs.Agenda.{Agenda, ready_one}
 use Rattle.cpc_meaning.specs.Eval.{Slot}
 use Rattle.cpc_meaning.specs.Machine.{ends, next}
 use Rattle.cpc_meaning.specs.Plain.{Frame as CallFrame}
-use Rattle.cpc_meaning.specs.Start.{before_bars}
+use Rattle.cpc_meaning.specs.Start.{before_underscores}
 use Rattle.cpc_meaning.specs.Threads.{Thread, Pending, threads_of}
 use Rattle.cpc_meaning.specs.Events.{Callback, CallWith}
 use Rattle.cpc_forms.specs.Split.{Position, InTree}
@@ -55,14 +55,14 @@ walk_row z k native keeps x s x' y t n grown going i r e walk le =
     (subst (λ s. Related z.codes z.cut z.there s t) j (related_tidied z native keeps s t r))
 
 -- some steps to a fault that the source has in this step
-pub fault_row : (z : Setting) (k : ℕ) (x x' : Source) (y : Target) (f : Text) (fault : Fault) → x.outcome ≡ Going → Quiet x.trace y → x'.trace ≡ x.trace → x'.outcome ≡ Failed fault (before_bars f)
+pub fault_row : (z : Setting) (k : ℕ) (x x' : Source) (y : Target) (f : Text) (fault : Fault) → x.outcome ≡ Going → Quiet x.trace y → x'.trace ≡ x.trace → x'.outcome ≡ Failed fault (before_underscores f)
     → (a : FaultsAfter z.target x.trace f fault y) → a.grown ≤ k → RowFor z k x x' (a.steps + 1) y
 fault_row z k x x' y f fault going quiet same failed a le =
     let last = rise_quiet z.target x.trace a.steps a.grown y a.last quiet a.leads in
     climb_then {q = z.target} {trace = x.trace} (Related z.codes z.cut z.there x') (Midway z k x x' y) (λ u q few. AtFirst (near_quiet z x u going q) (omega (arith, few, le))) a.steps 1 y a.last
     (whole_climb a.steps a.grown y a.last a.leads)
-    (Last 1 a.last (ends (Failed fault (before_bars f)) a.last) a.faults (omega arith)
-    (IsOver x' (ends (Failed fault (before_bars f)) a.last) (ap is_over failed) (last.is_trace ∙ sym same) (sym failed)))
+    (Last 1 a.last (ends (Failed fault (before_underscores f)) a.last) a.faults (omega arith)
+    (IsOver x' (ends (Failed fault (before_underscores f)) a.last) (ap is_over failed) (last.is_trace ∙ sym same) (sym failed)))
 
 -- ---- spawns
 

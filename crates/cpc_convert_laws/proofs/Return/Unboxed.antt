@@ -16,7 +16,7 @@ use Rattle.cpc_meaning.specs.Section.{freed}
 use Rattle.cpc_meaning.specs.Plain.{Frame as CallFrame}
 use Rattle.cpc_meaning.specs.Trees.{trees}
 use Rattle.cpc_meaning.specs.Machine.{next, ends, replies}
-use Rattle.cpc_meaning.specs.Start.{before_bars}
+use Rattle.cpc_meaning.specs.Start.{before_underscores}
 use Rattle.cpc_meaning.specs.Events.{callbacks}
 use Rattle.cpc_convert_chain_laws.specs.Flat.{before, Stands, LineAt}
 use Rattle.cpc_convert_chain_laws.specs.Walks.{World, Here, at_line, Walk, FaultsAfter, frame_at}
@@ -58,7 +58,7 @@ module _ (q : Program) (w : World) (fn : Text) (g : Function) (body : Stmts) (be
 
   -- one that cannot be given back
   one_faults : (k : ℕ) (y : Text) (left : Stmts) (s : Store) (u : Ty) (b : ℕ) (fault : Fault) → Holds q scope slots y u (At Auto b 0) → (l : LineAt g body k scope n (unboxes_one y) left) → free Auto (At Auto b 0) s ≡ Err fault
-      → next (callbacks q) (at_line w fn below k (AndStmt l.statement left) slots s) ≡ Some (ends (Failed fault (before_bars fn)) (at_line w fn below k (AndStmt l.statement left) slots s))
+      → next (callbacks q) (at_line w fn below k (AndStmt l.statement left) slots s) ≡ Some (ends (Failed fault (before_underscores fn)) (at_line w fn below k (AndStmt l.statement left) slots s))
   one_faults k y left s u b fault h l is_free =
       let answer : freed Auto (At Auto b 0) s ≡ Faults fault = ap (λ r. of_result r >>= λ t. Gives (t, Unset)) is_free in
       let is_act = asks_unbox q scope slots s g.result None (ENamed y) Auto b is_named (held q scope slots s y u (At Auto b 0) h) in

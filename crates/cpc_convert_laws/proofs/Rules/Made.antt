@@ -11,7 +11,7 @@ use Rattle.cpc_convert.specs.Marks.{has_marks}
 use Rattle.cpc_convert.specs.Converted.{marked, spawner_name}
 use Rattle.cpc_convert.specs.Members.{Has, OnTop, Below}
 use Rattle.cpc_convert.proofs.Members.{has_right}
-use Rattle.cpc_convert.proofs.Marks.{NoBar, marked_is}
+use Rattle.cpc_convert.proofs.Marks.{NoUnderscore, marked_is}
 use Rattle.cpc_forms.specs.Flow.{Place, Start, At, flow_of}
 use Rattle.cpc_forms.specs.Graph.{graph_of}
 use Rattle.cpc_forms.specs.Pieces as P
@@ -20,7 +20,7 @@ use Rattle.cpc_convert_event.specs.Routines.{Routine, routine_of}
 use Rattle.cpc_convert_event.specs.Pieces.{piece_function, leader_function, spawner_function, made_of}
 use Rattle.cpc_convert_event.specs.Converted.{routine_if, routines_in, routines, all_made}
 use Rattle.cpc_convert_event.specs.NameLaws.{IsNamed, IsCps}
-use Rattle.cpc_convert_event.proofs.Apart.{behind, piece_is, spawner_is, no_bar_behind, no_bar_spawn, piece_spawn, Small, StartIsSmall, NumberIsSmall, behind_is}
+use Rattle.cpc_convert_event.proofs.Apart.{behind, piece_is, spawner_is, no_underscore_behind, no_bar_spawn, piece_spawn, Small, StartIsSmall, NumberIsSmall, behind_is}
 use Rattle.cpc_convert_event.proofs.Labels.{leaders_rise}
 use Rattle.cpc_convert_event.proofs.Made.{Made, MadeSpawner, MadePiece, Mapped, OfNumber, map_has, made_is}
 use Rattle.cpc_convert_event.proofs.Numbers.{rises_once}
@@ -79,11 +79,11 @@ pub record MadeOf (items : Program) (name : Text) : Type 0 where
   pub mode : is_cps_mode function.mode ≡ true
   pub rest : Text
   pub is : name ≡ marked function.called rest
-  pub bar : NoBar rest
+  pub underscore : NoUnderscore rest
 
 pub of_made : (p : Program) (items : Program) (g : Function) → Made p items g → MadeOf items g.called
-of_made p items _ (MadeSpawner f h c) = record { function = f; has = h; mode = c; rest = codes "spawn"; is = spawner_is f.called; bar = no_bar_spawn }
-of_made p items _ (MadePiece f l h c o) = record { function = f; has = h; mode = c; rest = behind l; is = piece_is f.called l; bar = no_bar_behind l }
+of_made p items _ (MadeSpawner f h c) = record { function = f; has = h; mode = c; rest = codes "spawn"; is = spawner_is f.called; underscore = no_bar_spawn }
+of_made p items _ (MadePiece f l h c o) = record { function = f; has = h; mode = c; rest = behind l; is = piece_is f.called l; underscore = no_underscore_behind l }
 
 abbrev pub called : Function → Text
 called f = f.called
@@ -96,11 +96,11 @@ module _ (p : Program) (ok : IsNamed p) (fine : rows D.Cpc p [] p ≡ []) where
   small f c n h = NumberIsSmall n (ok.small f c n h)
 
   -- names of two functions are apart
-  pub apart_of : (front : Program) (f : Function) (back : Program) → p ≡ front ++ FunctionItem f ∷ back → (x y rest : Text) → x ≡ marked f.called rest → NoBar rest → MadeOf back y → x ≡ y → ⊥
+  pub apart_of : (front : Program) (f : Function) (back : Program) → p ≡ front ++ FunctionItem f ∷ back → (x y rest : Text) → x ≡ marked f.called rest → NoUnderscore rest → MadeOf back y → x ≡ y → ⊥
   apart_of front f back e x y rest i n m k =
       let in_p : Has (FunctionItem m.function) p = subst (Has (FunctionItem m.function)) (sym e) (has_right _ front (FunctionItem f ∷ back) (Below _ _ _ m.has)) in
       let f_in : Has (FunctionItem f) p = subst (Has (FunctionItem f)) (sym e) (has_at front back (FunctionItem f)) in
-      functions_apart p fine front f back e m.function m.has (marked_is f.called m.function.called rest m.rest (plain f f_in) (plain m.function in_p) n m.bar (sym i ∙ k ∙ m.is)).0
+      functions_apart p fine front f back e m.function m.has (marked_is f.called m.function.called rest m.rest (plain f f_in) (plain m.function in_p) n m.underscore (sym i ∙ k ∙ m.is)).0
 
   -- what is made of one function
   module _ (f : Function) (c : IsCps p f) where
@@ -109,19 +109,19 @@ module _ (p : Program) (ok : IsNamed p) (fine : rows D.Cpc p [] p ≡ []) where
 
     pub leaders_told : (m n : ℕ) → Has m r.split.leaders → Has n r.split.leaders → piece_name f.called (At m) ≡ piece_name f.called (At n) → m ≡ n
     leaders_told m n h g k =
-        let i = marked_is f.called f.called (behind (At m)) (behind (At n)) (plain f c.has) (plain f c.has) (no_bar_behind (At m)) (no_bar_behind (At n)) (sym (piece_is f.called (At m)) ∙ k ∙ piece_is f.called (At n)) in
+        let i = marked_is f.called f.called (behind (At m)) (behind (At n)) (plain f c.has) (plain f c.has) (no_underscore_behind (At m)) (no_underscore_behind (At n)) (sym (piece_is f.called (At m)) ∙ k ∙ piece_is f.called (At n)) in
         let e = behind_is (At m) (At n) (small f c m h) (small f c n g) i.1 in
         (cc)
 
     pub start_told : (n : ℕ) → Has n r.split.leaders → piece_name f.called Start ≡ piece_name f.called (At n) → ⊥
     start_told n h k =
-        let i = marked_is f.called f.called (behind Start) (behind (At n)) (plain f c.has) (plain f c.has) (no_bar_behind Start) (no_bar_behind (At n)) (sym (piece_is f.called Start) ∙ k ∙ piece_is f.called (At n)) in
+        let i = marked_is f.called f.called (behind Start) (behind (At n)) (plain f c.has) (plain f c.has) (no_underscore_behind Start) (no_underscore_behind (At n)) (sym (piece_is f.called Start) ∙ k ∙ piece_is f.called (At n)) in
         let e = behind_is Start (At n) StartIsSmall (small f c n h) i.1 in
         absurd (cc)
 
     spawner_told : (l : Place) → spawner_name f.called ≡ piece_name f.called l → ⊥
     spawner_told l k =
-        piece_spawn l (sym (marked_is f.called f.called (codes "spawn") (behind l) (plain f c.has) (plain f c.has) no_bar_spawn (no_bar_behind l) (sym (spawner_is f.called) ∙ k ∙ piece_is f.called l)).1)
+        piece_spawn l (sym (marked_is f.called f.called (codes "spawn") (behind l) (plain f c.has) (plain f c.has) no_bar_spawn (no_underscore_behind l) (sym (spawner_is f.called) ∙ k ∙ piece_is f.called l)).1)
 
     no_leader : (x : Text) → ((n : ℕ) → Has n r.split.leaders → x ≡ piece_name f.called (At n) → ⊥) → (y : Function) → Mapped (leader_function p r) r.split.leaders y → x ≡ y.called → ⊥
     no_leader x h _ (OfNumber n k) e = h n k e
@@ -136,13 +136,13 @@ module _ (p : Program) (ok : IsNamed p) (fine : rows D.Cpc p [] p ≡ []) where
     pub one_once : Once called (made_of p r)
     one_once = AndOnce _ _ spawner_first (AndOnce _ _ start_first (once_map called (leader_function p r) r.split.leaders (leaders_once p f) leaders_told))
 
-  of_one : (f : Function) (items : Program) → is_cps_mode f.mode ≡ true → (g : Function) → Has g (made_of p (routine_of p f)) → (rest : Text) × (g.called ≡ marked f.called rest) × NoBar rest
+  of_one : (f : Function) (items : Program) → is_cps_mode f.mode ≡ true → (g : Function) → Has g (made_of p (routine_of p f)) → (rest : Text) × (g.called ≡ marked f.called rest) × NoUnderscore rest
   of_one f items e _ (OnTop _ _) = (codes "spawn", spawner_is f.called, no_bar_spawn)
-  of_one f items e _ (Below _ _ _ (OnTop _ _)) = (behind Start, piece_is f.called Start, no_bar_behind Start)
+  of_one f items e _ (Below _ _ _ (OnTop _ _)) = (behind Start, piece_is f.called Start, no_underscore_behind Start)
   of_one f items e g (Below _ _ _ (Below _ _ _ h)) = by_number g (map_has (leader_function p (routine_of p f)) g (routine_of p f).split.leaders h)
     where
-      by_number : (g : Function) → Mapped (leader_function p (routine_of p f)) (routine_of p f).split.leaders g → (rest : Text) × (g.called ≡ marked f.called rest) × NoBar rest
-      by_number _ (OfNumber n k) = (behind (At n), piece_is f.called (At n), no_bar_behind (At n))
+      by_number : (g : Function) → Mapped (leader_function p (routine_of p f)) (routine_of p f).split.leaders g → (rest : Text) × (g.called ≡ marked f.called rest) × NoUnderscore rest
+      by_number _ (OfNumber n k) = (behind (At n), piece_is f.called (At n), no_underscore_behind (At n))
 
   once_from : (front items : Program) → p ≡ front ++ items → Once called (all_made p (routines_in p items))
   once_from front [] e = NoneOnce

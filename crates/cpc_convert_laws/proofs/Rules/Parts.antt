@@ -14,13 +14,13 @@ use Rattle.cpc_convert.specs.Marks.{has_marks}
 use Rattle.cpc_convert.specs.Converted.{marked, prototype, function_item}
 use Rattle.cpc_convert.specs.Members.{Has, OnTop, Below}
 use Rattle.cpc_convert.proofs.Members.{has_either}
-use Rattle.cpc_convert.proofs.Marks.{NoBar, marked_has, marked_is}
+use Rattle.cpc_convert.proofs.Marks.{NoUnderscore, marked_has, marked_is}
 use Rattle.cpc_convert_chain_laws.specs.Driver.{drive_name, drive_function, any_pointer, frame_tag}
 use Rattle.cpc_convert_event.specs.Routines.{Routine}
 use Rattle.cpc_convert_event.specs.Frames.{any_frame}
 use Rattle.cpc_convert_event.specs.Converted.{kept_items, routines, all_structs, all_boxes, all_made, main_function, main_if, converted_with, converted}
 use Rattle.cpc_convert_event.specs.NameLaws.{IsNamed}
-use Rattle.cpc_convert_event.proofs.Apart.{behind, frame_is, driver_is, spawner_is, piece_is, no_bar_nothing, no_bar_spawn, no_bar_behind, spawn_nothing, piece_nothing}
+use Rattle.cpc_convert_event.proofs.Apart.{behind, frame_is, driver_is, spawner_is, piece_is, no_bar_nothing, no_bar_spawn, no_underscore_behind, spawn_nothing, piece_nothing}
 use Rattle.cpc_convert_event.proofs.Made.{Made, MadeSpawner, MadePiece, made_is, made_one_name}
 use Rattle.cpc_convert_event.proofs.Structs.{AreStructs, NoneAre, OneIs, all_structs_are, all_boxes_are}
 use Rattle.cpc_convert_laws.specs.Accepted.Names.{HasNames}
@@ -215,12 +215,12 @@ module _ (p : Program) (names : HasNames p) (ok : IsNamed p) where
   pub driver_apart : (g : Function) → Has g made → bytes_eq drive_name g.called ≡ false
   driver_apart g h = texts_differ drive_name g.called (λ (e : drive_name ≡ g.called). go g (made_is p p g h) e)
     where
-      other : (f rest : Text) → has_marks f ≡ false → NoBar rest → (rest ≡ codes "" → ⊥) → (x : Text) → x ≡ marked f rest → drive_name ≡ x → ⊥
+      other : (f rest : Text) → has_marks f ≡ false → NoUnderscore rest → (rest ≡ codes "" → ⊥) → (x : Text) → x ≡ marked f rest → drive_name ≡ x → ⊥
       other f rest h n d x i e = d (sym (marked_is (codes "drive") f (codes "") rest refl h no_bar_nothing n (sym driver_is ∙ e ∙ i)).1)
 
       go : (g : Function) → Made p p g → drive_name ≡ g.called → ⊥
       go _ (MadeSpawner f k c) e = other f.called (codes "spawn") (names.items (FunctionItem f) k).unmarked no_bar_spawn spawn_nothing _ (spawner_is f.called) e
-      go _ (MadePiece f l k c o) e = other f.called (behind l) (names.items (FunctionItem f) k).unmarked (no_bar_behind l) (piece_nothing l) _ (piece_is f.called l) e
+      go _ (MadePiece f l k c o) e = other f.called (behind l) (names.items (FunctionItem f) k).unmarked (no_underscore_behind l) (piece_nothing l) _ (piece_is f.called l) e
 
   -- a name that is made stands for what is made, wherever its prototype stands
   pub made_said : (g : Function) → Has g made → (i : Item) → Part p i → Declares g.called i → said i ≡ AFunction g.mode g.result (map parameter_type g.parameters)

@@ -11,7 +11,7 @@ use Rattle.cpc_tree.specs.Typing.{AFunction, NotMeant, function_named, parameter
 use Rattle.cpc_check_rules.specs.declared.rule.Rule.TheVariants.{Reserved, Twice, Disagree, Undeclared}
 use Rattle.cpc_check_rules.specs.Rule.{at_if}
 use Rattle.cpc_check_rules.specs.Scopes.{in_items}
-use Rattle.cpc_check_rules.specs.FunctionRules.{is_kept, is_reserved, holds_bars, reserved_breaks}
+use Rattle.cpc_check_rules.specs.FunctionRules.{is_kept, is_reserved, holds_underscores, reserved_breaks}
 use Rattle.cpc_check_rules.specs.ItemRules.{Signature, is_struct, is_item, is_function, is_clash, is_disagreeing, is_extern, is_host_like, types, cps_breaks, declared_breaks, item_breaks}
 use Rattle.cpc_check_laws.proofs.Native.NativeValues.{left_none, right_none}
 use Rattle.cpc_check_laws.proofs.Native.OnePlace.{here, ident_here, parameter_here, item_here}
@@ -47,7 +47,7 @@ signature m r ps is_defined = record { mode = m; result = r; parameters = types 
 
 -- a name that is not reserved
 pub free_name : (x : Text) → reserved_breaks D.Cpc (ident_here x ∷ []) ≡ [] → is_kept x ≡ false
-free_name x h = (or_neither (is_kept x) (holds_bars x) (holds_not (is_reserved D.Cpc x) here Reserved (left_none _ _ h))).0
+free_name x h = (or_neither (is_kept x) (holds_underscores x) (holds_not (is_reserved D.Cpc x) here Reserved (left_none _ _ h))).0
 
 -- what a name may be declared beside
 pub settles : (before : Program) (x : Text) (new : Signature) → declared_breaks before (ident_here x) new ≡ [] → (is_clash x new before ≡ false) × (is_disagreeing x new before ≡ false)

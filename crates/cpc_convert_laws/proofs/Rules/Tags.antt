@@ -9,7 +9,7 @@ use Rattle.cpc_convert.specs.Marks.{has_marks}
 use Rattle.cpc_convert.specs.Converted.{marked}
 use Rattle.cpc_convert.specs.Members.{Has, OnTop, Below}
 use Rattle.cpc_convert.proofs.Members.{has_either}
-use Rattle.cpc_convert.proofs.Marks.{NoBar, marked_is, decimal_is}
+use Rattle.cpc_convert.proofs.Marks.{NoUnderscore, marked_is, decimal_is}
 use Rattle.cpc_forms.specs.Flow.{Place, Start, At}
 use Rattle.cpc_forms.specs.Pieces as P
 use Rattle.cpc_lift_laws.specs.Boxes.{is_box}
@@ -22,7 +22,7 @@ use Rattle.cpc_convert_event.specs.Routines.{routine_of}
 use Rattle.cpc_convert_event.specs.Frames.{any_frame, value_struct_if, start_struct, leader_struct, structs_of, box_of, boxes_of}
 use Rattle.cpc_convert_event.specs.Converted.{routine_if, routines_in, routines, all_structs, all_boxes}
 use Rattle.cpc_convert_event.specs.NameLaws.{IsNamed, IsCps}
-use Rattle.cpc_convert_event.proofs.Apart.{behind, piece_is, value_is, box_is, frame_is, no_bar, differ_at, no_bar_behind, no_bar_nothing}
+use Rattle.cpc_convert_event.proofs.Apart.{behind, piece_is, value_is, box_is, frame_is, no_underscore, differ_at, no_underscore_behind, no_bar_nothing}
 use Rattle.cpc_convert_event.proofs.Framed.{tag_of}
 use Rattle.cpc_convert_event.proofs.Made.{Mapped, OfNumber, map_has}
 use Rattle.cpc_convert_event.proofs.Numbers.{rises_once}
@@ -30,18 +30,18 @@ use Rattle.cpc_convert_laws.proofs.Accepted.Below.{boxes_rise}
 use Rattle.cpc_convert_laws.proofs.Rules.Made.{held, once_map, leaders_once, MadeOf, apart_of, leaders_told, start_told}
 use Rattle.cpc_convert_laws.proofs.Rules.Rows.{rows, Once, NoneOnce, AndOnce, once_both, has_at}
 
--- a text behind the bars of a tag: a frame's begins with a letter that no box's does
+-- a text behind the underscores of a tag: a frame's begins with a letter that no box's does
 pub record FrameEnd (rest : Text) : Type 0 where
-  pub bar : NoBar rest
+  pub underscore : NoUnderscore rest
   pub some : rest ≡ codes "" → ⊥
   pub no_box : get_or rest 0 0 ≡ 98 → ⊥
 
 pub piece_end : (l : Place) → FrameEnd (behind l)
-piece_end Start = record { bar = no_bar_behind Start; some = λ k. differ_at 0 (behind Start) [] (λ e. absurd (omega arith)) k; no_box = λ e. absurd (omega arith) }
-piece_end (At n) = record { bar = no_bar_behind (At n); some = λ k. differ_at 0 (behind (At n)) [] (λ e. absurd (omega arith)) k; no_box = λ e. absurd (omega arith) }
+piece_end Start = record { underscore = no_underscore_behind Start; some = λ k. differ_at 0 (behind Start) [] (λ e. absurd (omega arith)) k; no_box = λ e. absurd (omega arith) }
+piece_end (At n) = record { underscore = no_underscore_behind (At n); some = λ k. differ_at 0 (behind (At n)) [] (λ e. absurd (omega arith)) k; no_box = λ e. absurd (omega arith) }
 
 pub value_end : FrameEnd (codes "value")
-value_end = record { bar = no_bar _ (λ k. absurd (omega arith)); some = λ k. differ_at 0 (codes "value") [] (λ e. absurd (omega arith)) k; no_box = λ e. absurd (omega arith) }
+value_end = record { underscore = no_underscore _ (λ k. absurd (omega arith)); some = λ k. differ_at 0 (codes "value") [] (λ e. absurd (omega arith)) k; no_box = λ e. absurd (omega arith) }
 
 value_piece : (l : Place) → codes "value" ≡ behind l → ⊥
 value_piece Start k = differ_at 0 (codes "value") (codes "start") (λ e. absurd (omega arith)) k
@@ -58,7 +58,7 @@ pub record BoxTag (items : Program) (tag : Text) : Type 0 where
   pub is_box : get_or made.rest 0 0 ≡ 98
 
 abbrev made_later : (x : Item) (items : Program) (tag : Text) → MadeOf items tag → MadeOf (x ∷ items) tag
-made_later x items tag m = record { function = m.function; has = Below _ x items m.has; mode = m.mode; rest = m.rest; is = m.is; bar = m.bar }
+made_later x items tag m = record { function = m.function; has = Below _ x items m.has; mode = m.mode; rest = m.rest; is = m.is; underscore = m.underscore }
 
 frame_later : (x : Item) (items : Program) (tag : Text) → FrameTag items tag → FrameTag (x ∷ items) tag
 frame_later x items tag t = record { made = made_later x items tag t.made; end = t.end }
@@ -66,12 +66,12 @@ frame_later x items tag t = record { made = made_later x items tag t.made; end =
 box_later : (x : Item) (items : Program) (tag : Text) → BoxTag items tag → BoxTag (x ∷ items) tag
 box_later x items tag t = record { made = made_later x items tag t.made; is_box = t.is_box }
 
-no_bar_box : (k : ℕ) → NoBar (codes "box" ++ decimal k)
-no_bar_box k = no_bar _ (λ e. absurd (omega arith))
+no_bar_box : (k : ℕ) → NoUnderscore (codes "box" ++ decimal k)
+no_bar_box k = no_underscore _ (λ e. absurd (omega arith))
 
 module _ (p : Program) where
   frame_of : (f : Function) (items : Program) → is_cps_mode f.mode ≡ true → (tag rest : Text) → tag ≡ marked f.called rest → FrameEnd rest → FrameTag (FunctionItem f ∷ items) tag
-  frame_of f items c tag rest i e = record { made = record { function = f; has = OnTop _ items; mode = c; rest = rest; is = i; bar = e.bar }; end = e }
+  frame_of f items c tag rest i e = record { made = record { function = f; has = OnTop _ items; mode = c; rest = rest; is = i; underscore = e.underscore }; end = e }
 
   piece_tag : (f : Function) (items : Program) → is_cps_mode f.mode ≡ true → (x : Item) → Has x (start_struct f ∷ map (leader_struct p (routine_of p f)) (routine_of p f).split.leaders) → (l : Place) × (tag_of x ≡ piece_name f.called l)
   piece_tag f items c _ (OnTop _ _) = (Start, refl)
@@ -105,7 +105,7 @@ module _ (p : Program) where
 
   box_one : (f : Function) (items : Program) → is_cps_mode f.mode ≡ true → (x : Item) → Mapped (box_of (routine_of p f)) (routine_of p f).boxes x → BoxTag (FunctionItem f ∷ items) (tag_of x)
   box_one f items c _ (OfNumber k h) = record {
-    made = record { function = f; has = OnTop _ items; mode = c; rest = codes "box" ++ decimal k; is = box_is f.called k; bar = no_bar_box k };
+    made = record { function = f; has = OnTop _ items; mode = c; rest = codes "box" ++ decimal k; is = box_is f.called k; underscore = no_bar_box k };
     is_box = refl;
   }
 
@@ -133,7 +133,7 @@ module _ (p : Program) (ok : IsNamed p) (fine : rows D.Cpc p [] p ≡ []) where
     value_first x y h g e =
         let k = piece_tag p f [] c.mode y g in
         let i = sym (value_is f.called) ∙ sym (value_tagged p (is_scalar f.result) f.called f.result x h) ∙ e ∙ k.1 ∙ piece_is f.called k.0 in
-        value_piece k.0 (marked_is f.called f.called (codes "value") (behind k.0) (plain f c.has) (plain f c.has) value_end.bar (no_bar_behind k.0) i).1
+        value_piece k.0 (marked_is f.called f.called (codes "value") (behind k.0) (plain f c.has) (plain f c.has) value_end.underscore (no_underscore_behind k.0) i).1
 
     value_once : (b : Bool) (g : Text) (t : Ty) → Once tag_of (value_struct_if b g t)
     value_once true g t = AndOnce _ [] (λ y h e. elim h [ ]) NoneOnce
@@ -179,7 +179,7 @@ module _ (p : Program) (ok : IsNamed p) (fine : rows D.Cpc p [] p ≡ []) where
       apart c x y h k i =
           let w = (frame_one p f [] c x h).made in
           let same = only f w.function w.has in
-          apart_of p ok fine front f items e (tag_of x) (tag_of y) w.rest (w.is ∙ ap (λ (g : Function). marked g.called w.rest) same) w.bar (frame_in p items y k).made i
+          apart_of p ok fine front f items e (tag_of x) (tag_of y) w.rest (w.is ∙ ap (λ (g : Function). marked g.called w.rest) same) w.underscore (frame_in p items y k).made i
         where
           only : (f g : Function) → Has (FunctionItem g) (FunctionItem f ∷ []) → g ≡ f
           only f _ (OnTop _ _) = refl
@@ -204,7 +204,7 @@ module _ (p : Program) (ok : IsNamed p) (fine : rows D.Cpc p [] p ≡ []) where
       apart c x y h k i =
           let w = (box_one p f [] c x (map_has (box_of (routine_of p f)) x (routine_of p f).boxes h)).made in
           let same = only f w.function w.has in
-          apart_of p ok fine front f items e (tag_of x) (tag_of y) w.rest (w.is ∙ ap (λ (g : Function). marked g.called w.rest) same) w.bar (box_in p items y k).made i
+          apart_of p ok fine front f items e (tag_of x) (tag_of y) w.rest (w.is ∙ ap (λ (g : Function). marked g.called w.rest) same) w.underscore (box_in p items y k).made i
 
       go : (b : Bool) → is_cps_mode f.mode ≡ b → Once tag_of (all_boxes (routines_in p items)) → Once tag_of (all_boxes (routine_if b p f (routines_in p items)))
       go false c o = o
@@ -213,7 +213,7 @@ module _ (p : Program) (ok : IsNamed p) (fine : rows D.Cpc p [] p ≡ []) where
   any_first : (y : Item) → Has y (all_structs p (routines p)) → frame_tag ≡ tag_of y → ⊥
   any_first y h e =
       let t = frame_in p p y h in
-      t.end.some (sym (marked_is (codes "frame") t.made.function.called (codes "") t.made.rest refl (plain t.made.function t.made.has) no_bar_nothing t.made.bar (sym frame_is ∙ e ∙ t.made.is)).1)
+      t.end.some (sym (marked_is (codes "frame") t.made.function.called (codes "") t.made.rest refl (plain t.made.function t.made.has) no_bar_nothing t.made.underscore (sym frame_is ∙ e ∙ t.made.is)).1)
 
   -- the structs of frames
   pub frames_once : Once tag_of (any_frame ∷ all_structs p (routines p))
@@ -227,10 +227,10 @@ module _ (p : Program) (ok : IsNamed p) (fine : rows D.Cpc p [] p ≡ []) where
   pub box_frame : (x y : Item) → Has x (any_frame ∷ all_structs p (routines p)) → Has y (all_boxes (routines p)) → tag_of x ≡ tag_of y → ⊥
   box_frame _ y (OnTop _ _) h e =
       let t = box_in p p y h in
-      let i = (marked_is (codes "frame") t.made.function.called (codes "") t.made.rest refl (plain t.made.function t.made.has) no_bar_nothing t.made.bar (sym frame_is ∙ e ∙ t.made.is)).1 in
+      let i = (marked_is (codes "frame") t.made.function.called (codes "") t.made.rest refl (plain t.made.function t.made.has) no_bar_nothing t.made.underscore (sym frame_is ∙ e ∙ t.made.is)).1 in
       differ_at 0 (codes "") t.made.rest (λ k. absurd (let z = t.is_box in omega (arith, z, k))) i
   box_frame x y (Below _ _ _ g) h e =
       let t = box_in p p y h in
       let u = frame_in p p x g in
-      let i = (marked_is u.made.function.called t.made.function.called u.made.rest t.made.rest (plain u.made.function u.made.has) (plain t.made.function t.made.has) u.made.bar t.made.bar (sym u.made.is ∙ e ∙ t.made.is)).1 in
+      let i = (marked_is u.made.function.called t.made.function.called u.made.rest t.made.rest (plain u.made.function u.made.has) (plain t.made.function t.made.has) u.made.underscore t.made.underscore (sym u.made.is ∙ e ∙ t.made.is)).1 in
       u.end.no_box (ap (λ z. get_or z 0 0) i ∙ t.is_box)

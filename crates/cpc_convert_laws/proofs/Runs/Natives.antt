@@ -10,7 +10,7 @@ use Rattle.cpc_tree.specs.Syntax.{Stmt, Stmts, NoStmt, AndStmt, MaybeStmt, Absen
 use Rattle.cpc_tree.specs.Typing.{Scope, function_named}
 use Rattle.cpc_meaning.specs.Threads.{is_cps_mode}
 use Rattle.cpc_check_rules.specs.ItemRules.{item_breaks, items_breaks}
-use Rattle.cpc_check_rules.specs.FunctionRules.{holds_bars}
+use Rattle.cpc_check_rules.specs.FunctionRules.{holds_underscores}
 use Rattle.cpc_check_rules.specs.Operators.{is_cps}
 use Rattle.cpc_check_laws.specs.Native.Native.{spawns_none, all_spawn_none, maybe_spawns_none, is_native_item, are_native}
 use Rattle.cpc_check_laws.specs.Sound.Typed.{StepTyped, BodyTyped, AllTyped, ArmTyped, TypedProgram}
@@ -197,7 +197,7 @@ same_items (PrototypeItem m x r ps ∷ items) h =
 same_items (FunctionItem f ∷ items) h =
     let k = and_first (is_plain_function f) (is_plain items) h in
     let mode = and_first (not (is_cps f.mode)) _ k in
-    let body = and_second (not (holds_bars f.called)) (is_plain_stmt f.body) (and_second (not (is_cps f.mode)) _ k) in
+    let body = and_second (not (holds_underscores f.called)) (is_plain_stmt f.body) (and_second (not (is_cps f.mode)) _ k) in
     ap (λ b. item_unless b (FunctionItem (kept_function f)) (kept_items items)) (cps_same f.mode ∙ not_holds (is_cps f.mode) mode)
     ∙ (ap (λ s. FunctionItem (record f { body = s }) ∷ kept_items items) (same_stmt f.body body) ∙ ap (λ xs. FunctionItem f ∷ xs) (same_items items (and_second (is_plain_function f) (is_plain items) h)))
 

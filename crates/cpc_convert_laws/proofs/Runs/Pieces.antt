@@ -10,7 +10,7 @@ use Rattle.cpc_tree.specs.Typing.{function_named, parameter_types}
 use Rattle.cpc_meaning.specs.Agenda.{Agenda}
 use Rattle.cpc_meaning.specs.Eval.{Slot}
 use Rattle.cpc_meaning.specs.Events.{Callback}
-use Rattle.cpc_meaning.specs.Start.{before_bars}
+use Rattle.cpc_meaning.specs.Start.{before_underscores}
 use Rattle.cpc_meaning.specs.Threads.{is_cps_mode, shown_in}
 use Rattle.cpc_forms.specs.Flow.{Place, At}
 use Rattle.cpc_forms.specs.Split.{InGraph}
@@ -100,7 +100,7 @@ module _ (p : Program) (had : Had p) where
     arrived = λ x i v e. nodes_take_values p f known.found.named known.found.cps.mode l n slots o fine at.node x at.is_node i has v e;
   }
     where
-      shown : before_bars (piece_name f.called l) ≡ shown_in p f.called
+      shown : before_underscores (piece_name f.called l) ≡ shown_in p f.called
       shown = piece_shown p had.known f known l
 
       wide : 16 + 3 * length (variables f) ≤ (bounds_of p).leads

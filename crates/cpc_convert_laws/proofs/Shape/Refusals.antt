@@ -30,7 +30,7 @@ use Rattle.cpc_convert_event.specs.Converted.{kept_function}
 use Rattle.cpc_convert_event.specs.NameLaws.{IsCps, IsKept}
 use Rattle.cpc_convert_event.specs.Names.{piece_name, pointer_name, frame_name, next_name}
 use Rattle.cpc_convert_event.specs.Pieces.{spawner_function}
-use Rattle.cpc_convert_event.proofs.Apart.{behind, piece_is as piece_named, spawner_is, driver_is, no_bar_behind, no_bar_spawn, no_bar_nothing, piece_spawn, piece_nothing, StartIsSmall, NumberIsSmall, behind_is}
+use Rattle.cpc_convert_event.proofs.Apart.{behind, piece_is as piece_named, spawner_is, driver_is, no_underscore_behind, no_bar_spawn, no_bar_nothing, piece_spawn, piece_nothing, StartIsSmall, NumberIsSmall, behind_is}
 use Rattle.cpc_convert_laws.specs.Shape.Help.{Between, Done, Helps, Stands}
 use Rattle.cpc_convert_laws.specs.Shape.Images.{IsQuiet, AnEmpty, ADeclare, AGoto, ABreak, AContinue, IsImage, ATest, AnAssign, ACall, AStart, ASpawn, Quietly, NoTest, AWait, ASection, ACpsCall, AnArrival, NoArrival, AResult, AReturn, AnEnd, Images, NoImage, AnImage, WithArrival}
 use Rattle.cpc_convert_laws.specs.Shape.Refusals.{prints, f_name, f_function, idle_main, two_prints, first_print, second_print, one_print, EveryStatementAFunction, AStatementIsDropped}
@@ -95,8 +95,8 @@ module _ (made : Function → C.Node → Function) where
   piece_is l _ KindMain e = absurd
       (let same : bytes_eq (marked f_name (behind l)) main_name ≡ true = ap (λ x. bytes_eq x main_name) (sym (e ∙ piece_named f_name l)) ∙ text_same main_name in
       let other = marked_differs f_name (behind l) main_name refl in let w : true ≡ false = sym same ∙ other in cc)
-  piece_is l _ KindSpawner e = absurd (piece_spawn l (sym (marked_is f_name f_name (codes "spawn") (behind l) refl refl no_bar_spawn (no_bar_behind l) (sym (spawner_is f_name) ∙ (e ∙ piece_named f_name l))).1))
-  piece_is l _ KindDriver e = absurd (piece_nothing l (sym (marked_is (codes "drive") f_name (codes "") (behind l) refl refl no_bar_nothing (no_bar_behind l) (sym driver_is ∙ (e ∙ piece_named f_name l))).1))
+  piece_is l _ KindSpawner e = absurd (piece_spawn l (sym (marked_is f_name f_name (codes "spawn") (behind l) refl refl no_bar_spawn (no_underscore_behind l) (sym (spawner_is f_name) ∙ (e ∙ piece_named f_name l))).1))
+  piece_is l _ KindDriver e = absurd (piece_nothing l (sym (marked_is (codes "drive") f_name (codes "") (behind l) refl refl no_bar_nothing (no_underscore_behind l) (sym driver_is ∙ (e ∙ piece_named f_name l))).1))
   piece_is l _ KindPiece e = refl
 
 -- ---- a function for each statement
@@ -108,7 +108,7 @@ every_statement_a_function s =
     let a = piece_is s.made Start first_print (kind_of s.made first_print is_first) refl in
     let b = piece_is s.made (At 2) second_print (kind_of s.made second_print is_second) refl in
     let e : piece_name f_name Start ≡ piece_name f_name (At 2) = ap (λ g. g.called) (a ∙ sym b) in
-    let same : Start ≡ At 2 = behind_is Start (At 2) StartIsSmall (NumberIsSmall 2 (omega arith)) (marked_is f_name f_name (behind Start) (behind (At 2)) refl refl (no_bar_behind Start) (no_bar_behind (At 2)) (sym (piece_named f_name Start) ∙ (e ∙ piece_named f_name (At 2)))).1 in
+    let same : Start ≡ At 2 = behind_is Start (At 2) StartIsSmall (NumberIsSmall 2 (omega arith)) (marked_is f_name f_name (behind Start) (behind (At 2)) refl refl (no_underscore_behind Start) (no_underscore_behind (At 2)) (sym (piece_named f_name Start) ∙ (e ∙ piece_named f_name (At 2)))).1 in
     absurd (cc)
 
 -- ---- a statement that is missing

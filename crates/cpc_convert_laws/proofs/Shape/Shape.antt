@@ -26,7 +26,7 @@ use Rattle.cpc_convert_event.specs.Converted.{converted}
 use Rattle.cpc_convert_event.specs.NameLaws.{IsOwner, TheStart, ALeader, IsNamed, IsCps, FindsFunctions}
 use Rattle.cpc_convert_event.specs.Pieces.{piece_function}
 use Rattle.cpc_convert_event.specs.Routines.{routine_of}
-use Rattle.cpc_convert_event.proofs.Apart.{behind, piece_is, no_bar_behind, Small, StartIsSmall, NumberIsSmall, behind_is}
+use Rattle.cpc_convert_event.proofs.Apart.{behind, piece_is, no_underscore_behind, Small, StartIsSmall, NumberIsSmall, behind_is}
 use Rattle.cpc_convert_event.proofs.Lookups.{functions_found}
 use Rattle.cpc_convert_event.proofs.Made.{Made, MadeSpawner, MadePiece}
 use Rattle.cpc_convert_laws.specs.Accepted.Names.{HasNames}
@@ -96,7 +96,7 @@ module _ (p : Program) (named : IsNamed p) (names : HasNames p) (typed : TypedPr
   apart f g a b c i d j e =
       let k = place_of f.body a in
       let l = place_of g.body b in
-      let m = marked_is f.called g.called (behind k) (behind l) (named.unmarked (FunctionItem f) c.has) (named.unmarked (FunctionItem g) d.has) (no_bar_behind k) (no_bar_behind l) (sym (piece_is f.called k) ∙ (e ∙ piece_is g.called l)) in
+      let m = marked_is f.called g.called (behind k) (behind l) (named.unmarked (FunctionItem f) c.has) (named.unmarked (FunctionItem g) d.has) (no_underscore_behind k) (no_underscore_behind l) (sym (piece_is f.called k) ∙ (e ∙ piece_is g.called l)) in
       let same = one_function f g c d m.0 in
       let places : k ≡ l = behind_is k l (small f c k (owner_of f a i)) (small g d l (owner_of g b j)) m.1 in
       let there : is_node f.body b ≡ true = subst (λ h. is_node h.body b ≡ true) (sym same) (owner_in g b j) in

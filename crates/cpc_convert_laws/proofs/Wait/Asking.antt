@@ -19,7 +19,7 @@ use Rattle.cpc_meaning.specs.Events.{Callback, CallWith, callbacks}
 use Rattle.cpc_meaning.specs.Machine.{State, next, ends, asked_by, acts, reply, direction_of}
 use Rattle.cpc_meaning.specs.Plain.{Frame as CallFrame, Stack}
 use Rattle.cpc_meaning.specs.Requests.{Request, Builtin}
-use Rattle.cpc_meaning.specs.Start.{before_bars}
+use Rattle.cpc_meaning.specs.Start.{before_underscores}
 use Rattle.cpc_meaning.specs.Trees.{trees}
 use Rattle.cpc_meaning.specs.Ways.{AsCps, primitive_manner}
 use Rattle.cpc_convert.specs.Marks.{has_marks}
@@ -55,14 +55,14 @@ module _ (q : Program) (w : World) (fn : Text) (g : Function) (body : Stmts) (be
   -- it refuses
   pub asked_fault : (r : Request) (fault : Fault) → simple_act (at q scope slots s) g.result (Call None e es) ≡ Gives (AsksFor r)
       → asked_by (callbacks q) asking_stack (at_line w fn below k (AndStmt l.statement rest) slots s) r.asked r.arguments ≡ Faults fault
-      → next (callbacks q) (at_line w fn below k (AndStmt l.statement rest) slots s) ≡ Some (ends (Failed fault (before_bars fn)) (at_line w fn below k (AndStmt l.statement rest) slots s))
+      → next (callbacks q) (at_line w fn below k (AndStmt l.statement rest) slots s) ≡ Some (ends (Failed fault (before_underscores fn)) (at_line w fn below k (AndStmt l.statement rest) slots s))
   asked_fault r fault is_act is_answer =
       let x = Call None e es in
       step_fails q w fn g below is_g slots s (line_path g body k scope n x rest l) scope (line_scope g body k scope n x rest l _) (Simple x) (line_found g body k scope n x rest l) r fault is_act is_answer
 
   -- what is evaluated faults
   pub argument_fault : (fault : Fault) → simple_act (at q scope slots s) g.result (Call None e es) ≡ Faults fault
-      → next (callbacks q) (at_line w fn below k (AndStmt l.statement rest) slots s) ≡ Some (ends (Failed fault (before_bars fn)) (at_line w fn below k (AndStmt l.statement rest) slots s))
+      → next (callbacks q) (at_line w fn below k (AndStmt l.statement rest) slots s) ≡ Some (ends (Failed fault (before_underscores fn)) (at_line w fn below k (AndStmt l.statement rest) slots s))
   argument_fault fault is_act =
       let x = Call None e es in
       step_faults q w fn g below is_g slots s (line_path g body k scope n x rest l) scope (line_scope g body k scope n x rest l _) (Simple x) (line_found g body k scope n x rest l) fault is_act

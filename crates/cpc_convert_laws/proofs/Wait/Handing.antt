@@ -14,7 +14,7 @@ use Rattle.cpc_meaning.specs.Eval.{Slot}
 use Rattle.cpc_meaning.specs.Events.{Callback, callbacks}
 use Rattle.cpc_meaning.specs.Machine.{next, ends}
 use Rattle.cpc_meaning.specs.Plain.{Frame as CallFrame}
-use Rattle.cpc_meaning.specs.Start.{before_bars}
+use Rattle.cpc_meaning.specs.Start.{before_underscores}
 use Rattle.cpc_meaning.specs.Threads.{shown_in}
 use Rattle.cpc_convert_image_laws.specs.Held.{beside}
 use Rattle.cpc_forms.specs.Flow.{Place, At}
@@ -53,7 +53,7 @@ use Rattle.cpc_convert_laws.proofs.Wait.Behind.{Behind}
 use Rattle.cpc_convert_laws.proofs.Wait.Preparing as P
 
 module _ (p : Program) (fine : CallFrame Position → Option Value → Type 0) (given : Text → List Value → Type 0) (bounds : Bounds) (wide : IsWide p bounds.leads) (f : Function) (known : CpsKnown p f) (enough : 5 + length (variables f) ≤ bounds.onward) (begins : 0 < bounds.leads) (l : Place) (owner : IsOwner (routine_of p f) l)
-    (shown : before_bars (piece_name f.called l) ≡ shown_in p f.called) (lower pointer result frame : Value)
+    (shown : before_underscores (piece_name f.called l) ≡ shown_in p f.called) (lower pointer result frame : Value)
     (n : ℕ) (at : NodeAt p f l n) (has : has_row (routine_of p f).split n ≡ true) (row : RowAt p (routine_of p f) l n)
     (behind : Behind p f known l n at) (jt : ℕ) (to_is : slice_get (piece_locals p (routine_of p f) l) jt ≡ Some (called_so to_name to_frame)) (e : Expr) (es : Exprs)
     (lines : node_lines p (routine_of p f) at.node ≡ all_do (frame_lines (routine_of p f) to_name (At behind.back) ++ (Call None e es ∷ hands_nothing ∷ [])))
@@ -132,7 +132,7 @@ module _ (p : Program) (fine : CallFrame Position → Option Value → Type 0) (
   walk = P.prepares p fine given bounds f known enough begins l owner shown lower pointer result frame n at has row behind to_name jt word more second refl lines slots slots' stands (world_of w c) bs w.store
 
   -- the question itself may fault
-  pub faults_after : (fault : Fault) → next (callbacks q) (asks_there (world_of w c) mid) ≡ Some (ends (Failed fault (before_bars fn)) (asks_there (world_of w c) mid))
+  pub faults_after : (fault : Fault) → next (callbacks q) (asks_there (world_of w c) mid) ≡ Some (ends (Failed fault (before_underscores fn)) (asks_there (world_of w c) mid))
       → (a : FaultsAfter q w.trace fn fault (running (world_of w c) (beside bs w.store) (frame_at fn (row_point p r l n row) slots' ∷ below) None)) × (a.steps < bounds.leads) × (a.grown ≤ bounds.leads)
   faults_after fault is_fault = (record { steps = first_steps; grown = first_steps; last = asks_there (world_of w c) mid; leads = walk; faults = is_fault }, (let a = few in let b = wide f known.found.cps in omega (arith, a, b)), (let a = few in let b = wide f known.found.cps in omega (arith, a, b)))
 
@@ -171,6 +171,6 @@ module _ (p : Program) (fine : CallFrame Position → Option Value → Type 0) (
   }
 
   -- or it refuses
-  pub refuses : (fault : Fault) → next (callbacks q) (asks_there (world_of w c) mid) ≡ Some (ends (Failed fault (before_bars fn)) (asks_there (world_of w c) mid))
+  pub refuses : (fault : Fault) → next (callbacks q) (asks_there (world_of w c) mid) ≡ Some (ends (Failed fault (before_underscores fn)) (asks_there (world_of w c) mid))
       → FaultsAsking (z p fine given bounds) bounds f.called l lower pointer result frame w bs c n slots o (standing_piece p fine given bounds f known enough begins l owner shown lower pointer result frame n at has row slots') None prepared fault
-  refuses fault is_fault = subst (λ k. next (callbacks q) (asks_there (world_of w c) (saved_by k)) ≡ Some (ends (Failed fault (before_bars fn)) (asks_there (world_of w c) (saved_by k)))) (sym known.found.named) is_fault
+  refuses fault is_fault = subst (λ k. next (callbacks q) (asks_there (world_of w c) (saved_by k)) ≡ Some (ends (Failed fault (before_underscores fn)) (asks_there (world_of w c) (saved_by k)))) (sym known.found.named) is_fault

@@ -26,7 +26,7 @@ use Rattle.cpc_convert_event.specs.NameLaws.{IsCps, IsOwner, TheStart}
 use Rattle.cpc_convert_event.specs.Names.{start_name, piece_name, variable_name}
 use Rattle.cpc_convert_event.specs.Pieces.{takes_value, value_load, loaded, loads_of, words_if, words_of, begun, declares_of, piece_function}
 use Rattle.cpc_convert_event.specs.Routines.{Routine, routine_of, variable_of, locals_of, is_parameter, is_plain, closure_of}
-use Rattle.cpc_convert_event.proofs.Apart.{behind, piece_is, no_bar_behind, no_bar_nothing, piece_nothing}
+use Rattle.cpc_convert_event.proofs.Apart.{behind, piece_is, no_underscore_behind, no_bar_nothing, piece_nothing}
 use Rattle.cpc_convert_event.proofs.Fields.{word_apart}
 use Rattle.cpc_convert_event.proofs.Locals.{NoneCalled}
 use Rattle.cpc_convert_event.proofs.Meanings.{items_meant}
@@ -124,7 +124,7 @@ module _ (p : Program) (f : Function) (known : CpsKnown p f) (l : Place) (owner 
 
     word_start : (w : Text) → has_marks w ≡ false → bytes_eq (marked w (codes "")) its ≡ false
     word_start w hw =
-        texts_differ (marked w (codes "")) its (λ (e : marked w (codes "") ≡ its). piece_nothing Start (sym (marked_is w g.called (codes "") (behind Start) hw unmarked no_bar_nothing (no_bar_behind Start) e).1))
+        texts_differ (marked w (codes "")) its (λ (e : marked w (codes "") ≡ its). piece_nothing Start (sym (marked_is w g.called (codes "") (behind Start) hw unmarked no_bar_nothing (no_underscore_behind Start) e).1))
 
     no_number : (k : ℕ) → k < 2 ^ 63 → decimal k ≡ codes "start" → ⊥
     no_number k h e = let digits = (decimal_is_IsNumeral k (omega (arith, h))).0.1 in let d = subst (AllDigits 10) e digits in let i = d.0 in absurd (omega (arith, i))
@@ -132,7 +132,7 @@ module _ (p : Program) (f : Function) (known : CpsKnown p f) (l : Place) (owner 
     variable_start : (k : ℕ) (x : Text) → has_marks x ≡ false → k < 2 ^ 63 → bytes_eq (variable_name k x) its ≡ false
     unfolding variable_name
     variable_start k x hx h =
-        texts_differ (marked x (decimal k)) its (λ (e : marked x (decimal k) ≡ its). no_number k h (marked_is x g.called (decimal k) (behind Start) hx unmarked (no_bar_decimal k h) (no_bar_behind Start) e).1)
+        texts_differ (marked x (decimal k)) its (λ (e : marked x (decimal k) ≡ its). no_number k h (marked_is x g.called (decimal k) (behind Start) hx unmarked (no_bar_decimal k h) (no_underscore_behind Start) e).1)
 
     start_other : IsOther its
     start_other = record {

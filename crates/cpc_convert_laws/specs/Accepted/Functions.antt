@@ -6,7 +6,7 @@ use Rattle.cpc_tree.specs.declared.program.Mode.TheVariants.{Native, Cps}
 use Rattle.cpc_tree.specs.Registers.{variables}
 use Rattle.cpc_tree.specs.Syntax.{Ty, TyInt, Function, Program}
 use Rattle.cpc_tree.specs.Typing.{ALocal, named, function_named}
-use Rattle.cpc_meaning.specs.Start.{before_bars, main_name}
+use Rattle.cpc_meaning.specs.Start.{before_underscores, main_name}
 use Rattle.cpc_meaning.specs.Threads.{is_cps_mode, shown_in}
 use Rattle.cpc_convert.specs.Converted.{marked}
 use Rattle.cpc_forms.specs.Split.{Position, split_form}
@@ -20,9 +20,9 @@ ScopesMeanVariables =
 
 -- a fault names a native function, and nobody, as the event machine does, and a cps function as the event machine names whatever is made of it
 pub record IsShown (p : Program) : Type 0 where
-  pub native : (x : Text) (f : Function) → function_named p x ≡ Some f → is_cps_mode f.mode ≡ false → before_bars x ≡ shown_in p x
-  pub made : (x : Text) (f : Function) → function_named p x ≡ Some f → is_cps_mode f.mode ≡ true → (rest : Text) → before_bars (marked x rest) ≡ shown_in p x
-  pub nobody : before_bars [] ≡ shown_in p []
+  pub native : (x : Text) (f : Function) → function_named p x ≡ Some f → is_cps_mode f.mode ≡ false → before_underscores x ≡ shown_in p x
+  pub made : (x : Text) (f : Function) → function_named p x ≡ Some f → is_cps_mode f.mode ≡ true → (rest : Text) → before_underscores (marked x rest) ≡ shown_in p x
+  pub nobody : before_underscores [] ≡ shown_in p []
 
 abbrev pub AcceptedIsShown : Type 0
 AcceptedIsShown = OfAccepted IsShown

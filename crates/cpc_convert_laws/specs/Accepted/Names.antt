@@ -13,7 +13,7 @@ use Rattle.cpc_forms.specs.Order.{points}
 use Rattle.cpc_convert_event.specs.NameLaws.{IsNamed}
 use Rattle.cpc_convert_laws.specs.Accepted.Accepted.{OfAccepted}
 
--- a name in which no two bars stand side by side, and which the language does not keep for itself
+-- a name in which no two underscores stand side by side, and which the language does not keep for itself
 pub record IsPlain (x : Text) : Type 0 where
   pub unmarked : has_marks x ≡ false
   pub unkept : is_kept x ≡ false

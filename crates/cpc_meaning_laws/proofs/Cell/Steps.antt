@@ -19,7 +19,7 @@ use Rattle.cpc_meaning.specs.Section.{allocated, freed}
 use Rattle.cpc_meaning.specs.Copies.{copy_of}
 use Rattle.cpc_meaning.specs.Machine.{State, marks, with_agenda, with_store, after_done, int_of, cond_of, byte_of, reply, replies, acts, primitive, ints_of, first_answer, ends, fault_function, asked_by, direction_of, submits, runs_on, code_step, step_running, settled}
 use Rattle.cpc_meaning.specs.Events.{Callback, CallWith, event_primitive, callbacks_of}
-use Rattle.cpc_meaning.specs.Start.{before_bars}
+use Rattle.cpc_meaning.specs.Start.{before_underscores}
 use Rattle.cpc_meaning.specs.Runs.{slots_registers, frames_registers, registers, live_cells}
 use Rattle.cpc_meaning.proofs.Functions.{gives_then}
 use Rattle.cpc_meaning_laws.specs.Cell.Cells.{call_cells, code_cells, done_cells, acted_cells, request_cells, after_plain, step_cells}
@@ -176,7 +176,7 @@ steps_leave P p s t k is_k e =
     go : (a : Answer (State P Callback)) → settled (callbacks_of p) s a ≡ Some t → Left p (code_cells s.store k) (step_cells p s.store k) a → step_cells p s.store k ≡ Some (live_cells t)
     go (Gives u) f h = let i : u ≡ t = cc in h ∙ ap (λ u. Some (live_cells u)) i
     go (Faults fault) f h =
-        let i : ends (Failed fault (before_bars (fault_function s.running))) s ≡ t = cc in
+        let i : ends (Failed fault (before_underscores (fault_function s.running))) s ≡ t = cc in
         h ∙ ap (λ o. Some (store_cells s.store + registers o)) (sym is_k) ∙ ap (λ u. Some (live_cells u)) i
     go NoAnswer f h = absurd (cc)
 

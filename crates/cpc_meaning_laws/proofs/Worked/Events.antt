@@ -125,7 +125,7 @@ below_the_cap = refl
 abbrev pub freeing_its_own_box : Program
 freeing_its_own_box = ((FunctionItem (record { mode = Native; called = (codes "f__2"); result = TyVoid; parameters = ([]); body = (Block (AndStmt (Declare (codes "x") (TyInt Int) None) (AndStmt (Declare (codes "p") (TyPointer (TyInt Int)) None) (AndStmt (Assign (ENamed (codes "p")) None (EUnary AddressOf (ENamed (codes "x")))) (AndStmt (Call None (ENamed (codes "cpc_puts")) (AndExpr (EText (103 ∷ 111 ∷ 110 ∷ 101 ∷ [])) NoExpr)) (AndStmt (Call None (ENamed (codes "rt_unbox")) (AndExpr (ENamed (codes "p")) NoExpr)) NoStmt)))))) })) ∷ (FunctionItem (record { mode = Native; called = (codes "main"); result = (TyInt Int); parameters = ([]); body = (Block (AndStmt (Call None (ENamed (codes "f__2")) NoExpr) (AndStmt (Return (Some (EInteger Int (pos 0)))) NoStmt))) })) ∷ [])
 
--- which is `badfree`; the name is shown up to its first two bars
+-- which is `badfree`; the name is shown up to its first two underscores
 pub a_return_finds_its_block_freed : EventRunsTo freeing_its_own_box no_polls 30 (codes "gone") (Failed F.BadFree (codes "f"))
 unfolding digits settle divided
 a_return_finds_its_block_freed = record { output = refl; outcome = refl }

@@ -121,25 +121,25 @@ pub no_mark_of_a_negative_sleep : Traces negative_sleep no_polls 30 (codes "faul
 unfolding digits settle divided
 no_mark_of_a_negative_sleep = refl
 
--- a function of one name with bars at its end
+-- a function of one name with underscores at its end
 -- cps void f_(void){ int z; z = 0; cpc_print(1 / z); }
 -- int main(void){ cpc_spawn f_(); return 0; }
-abbrev pub barred_name : Program
-barred_name = ((FunctionItem (record { mode = Cps; called = (codes "f_"); result = TyVoid; parameters = ([]); body = (Block (AndStmt (Declare (codes "z") (TyInt Int) None) (AndStmt (Assign (ENamed (codes "z")) None (EInteger Int (pos 0))) (AndStmt (Call None (ENamed (codes "cpc_print")) (AndExpr (EBinary Div (EInteger Int (pos 1)) (ENamed (codes "z"))) NoExpr)) NoStmt)))) })) ∷ (FunctionItem (record { mode = Native; called = (codes "main"); result = (TyInt Int); parameters = ([]); body = (Block (AndStmt (Spawn (codes "f_") NoExpr) (AndStmt (Return (Some (EInteger Int (pos 0)))) NoStmt))) })) ∷ [])
+abbrev pub underscored_name : Program
+underscored_name = ((FunctionItem (record { mode = Cps; called = (codes "f_"); result = TyVoid; parameters = ([]); body = (Block (AndStmt (Declare (codes "z") (TyInt Int) None) (AndStmt (Assign (ENamed (codes "z")) None (EInteger Int (pos 0))) (AndStmt (Call None (ENamed (codes "cpc_print")) (AndExpr (EBinary Div (EInteger Int (pos 1)) (ENamed (codes "z"))) NoExpr)) NoStmt)))) })) ∷ (FunctionItem (record { mode = Native; called = (codes "main"); result = (TyInt Int); parameters = ([]); body = (Block (AndStmt (Spawn (codes "f_") NoExpr) (AndStmt (Return (Some (EInteger Int (pos 0)))) NoStmt))) })) ∷ [])
 
 -- in the line of a fault
-pub a_cps_function_is_shown_without_its_last_bars : RunsTo barred_name no_polls 30 (codes "") (Failed F.Divide (codes "f"))
+pub a_cps_function_is_shown_without_its_last_underscores : RunsTo underscored_name no_polls 30 (codes "") (Failed F.Divide (codes "f"))
 unfolding digits settle divided
-a_cps_function_is_shown_without_its_last_bars = record { output = refl; outcome = refl }
+a_cps_function_is_shown_without_its_last_underscores = record { output = refl; outcome = refl }
 
 -- the same of a native function
 -- void f_(void){ int z; z = 0; cpc_print(1 / z); }
 -- int main(void){ f_(); return 0; }
-abbrev pub barred_native : Program
-barred_native = ((FunctionItem (record { mode = Native; called = (codes "f_"); result = TyVoid; parameters = ([]); body = (Block (AndStmt (Declare (codes "z") (TyInt Int) None) (AndStmt (Assign (ENamed (codes "z")) None (EInteger Int (pos 0))) (AndStmt (Call None (ENamed (codes "cpc_print")) (AndExpr (EBinary Div (EInteger Int (pos 1)) (ENamed (codes "z"))) NoExpr)) NoStmt)))) })) ∷ (FunctionItem (record { mode = Native; called = (codes "main"); result = (TyInt Int); parameters = ([]); body = (Block (AndStmt (Call None (ENamed (codes "f_")) NoExpr) (AndStmt (Return (Some (EInteger Int (pos 0)))) NoStmt))) })) ∷ [])
+abbrev pub underscored_native : Program
+underscored_native = ((FunctionItem (record { mode = Native; called = (codes "f_"); result = TyVoid; parameters = ([]); body = (Block (AndStmt (Declare (codes "z") (TyInt Int) None) (AndStmt (Assign (ENamed (codes "z")) None (EInteger Int (pos 0))) (AndStmt (Call None (ENamed (codes "cpc_print")) (AndExpr (EBinary Div (EInteger Int (pos 1)) (ENamed (codes "z"))) NoExpr)) NoStmt)))) })) ∷ (FunctionItem (record { mode = Native; called = (codes "main"); result = (TyInt Int); parameters = ([]); body = (Block (AndStmt (Call None (ENamed (codes "f_")) NoExpr) (AndStmt (Return (Some (EInteger Int (pos 0)))) NoStmt))) })) ∷ [])
 
 -- in the line of a fault
-pub a_native_function_is_shown_by_its_whole_name : RunsTo barred_native no_polls 30 (codes "") (Failed F.Divide (codes "f_"))
+pub a_native_function_is_shown_by_its_whole_name : RunsTo underscored_native no_polls 30 (codes "") (Failed F.Divide (codes "f_"))
 unfolding digits settle divided
 a_native_function_is_shown_by_its_whole_name = record { output = refl; outcome = refl }
 

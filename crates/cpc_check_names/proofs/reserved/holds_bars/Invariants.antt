@@ -1,7 +1,0 @@
-use Rattle.std.proofs.Common.{◌≡◌, drop}
-use Rattle.cpc_check_rules.specs.FunctionRules.{holds_bars}
-use Rattle.cpc_check_names.proofs.reserved.holds_bars.Given as goal
-
--- what is left holds two where the text does
-abbrev pub invariant-loop-start : goal.invariant-loop-start
-invariant-loop-start l = holds_bars (drop l.start l.text) ≡ holds_bars l.text
