@@ -2,15 +2,10 @@
 use Rattle.std.specs.Prelude.{ℕ, ℤ, Result, Ok, Err, map, filter}
 use Rattle.cpc_base.specs.declared.poll.Direction.{Direction}
 use Rattle.cpc_base.specs.declared.stop.Stop.{Stop}
-use Rattle.cpc_base.specs.declared.stop.Stop.TheVariants.{Memory, Fault}
+use Rattle.cpc_base.specs.declared.stop.Stop.TheVariants.{Fault}
 use Rattle.cpc_base.specs.Waiting.{waits_on, waits_for, without}
+pub use Rattle.cpc_base.specs.Stops.{IfFault}
 use Rattle.cpc_meaning.specs.Agenda as A
-
--- what is said of a fault; want of memory says nothing
-abbrev pub IfFault : {X F : Type 0} → Result X (Stop F) → (F → Type 0) → Type 0
-IfFault (Ok x) P = Unit {0}
-IfFault (Err Memory) P = Unit {0}
-IfFault (Err (Fault fault)) P = P fault
 
 -- the same of a refusal that hands an item back
 abbrev pub IfFaultBack : {X T F : Type 0} → Result X (T × Stop F) → (F → Type 0) → Type 0

@@ -6,16 +6,10 @@ use Rattle.cpc_meaning.specs.Agenda as A
 use Rattle.cpc_conds.specs.Conditions.{Conditions}
 use Rattle.cpc_descr.specs.Descriptors.{Descriptors}
 use Rattle.cpc_timers.specs.Timing.{Timing}
-use Rattle.cpc_store.specs.Store as S
-use Rattle.cpc_store.specs.Codes.{map_value}
-use Rattle.cpc_store.specs.Seen.{seen}
 use Rattle.cpc_store.specs.declared.values.Value.{Value}
+pub use Rattle.cpc_meaning.specs.Values.{value_of}
 use Rattle.cpc_agenda.specs.Sectioning.{Sectioning}
 use Rattle.cpc_agenda.specs.declared.agenda.Agenda.{Agenda}
-
--- a value, where names have these texts
-abbrev pub value_of : Names → Value → S.Value
-value_of names v = map_value names (seen v)
 
 -- an item with the result of its wait
 abbrev pub due_of : {T : Type 0} → Names → T × Value → A.Due T

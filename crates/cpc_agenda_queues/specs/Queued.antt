@@ -1,5 +1,5 @@
 -- Items that wait in queues as contracts see them, and how they are found.
-use Rattle.std.specs.Prelude.{◌≡◌, ◌+◌, ◌<◌, ℕ, Bool, List, [], ◌∷◌, ◌++◌, map, filter, Option, Some, None}
+use Rattle.std.specs.Prelude.{◌≡◌, ◌+◌, ◌<◌, ℕ, Bool, List, [], ◌∷◌, ◌++◌, map, filter}
 use Rattle.std.specs.List.{AllByRecursion}
 use Rattle.std.specs.declared.cmp.Ordering.{Ordering}
 use Rattle.std.specs.Ordering.{nat_cmp, match_ordering}
@@ -7,17 +7,8 @@ use Rattle.std.specs.List.Sorted.{IsStrictlySortedBy}
 use Rattle.std.specs.BTreeMap.{is_at}
 use Rattle.std.specs.Map.{keys_of}
 use Rattle.cpc_base.specs.Waiting.{first_passing, without_first}
+pub use Rattle.cpc_base.specs.Lists.{first_of, rest_of}
 use Rattle.cpc_agenda_queues.specs.Numbers.{queue_at}
-
--- the first of these, if there is one
-abbrev pub first_of : {X : Type 0} → List X → Option X
-first_of [] = None
-first_of (x ∷ xs) = Some x
-
--- all but the first
-abbrev pub rest_of : {X : Type 0} → List X → List X
-rest_of [] = []
-rest_of (x ∷ xs) = xs
 
 -- the items that wait, each with the key of its queue, in order of arrival; the keys that have a queue, in order; and how many arrived
 pub record Queued (K T : Type 0) : Type 0 where

@@ -3,7 +3,7 @@ use Rattle.std.proofs.Common.{◌≡◌, ℕ, suc, ◌+◌, Bool, true, false, L
 use Rattle.std.proofs.lemmas.List.{length-map, map-append}
 use Rattle.cpc_base.specs.Bytes.{Text}
 use Rattle.cpc_base.specs.declared.names.Name.{Name}
-use Rattle.cpc_base.proofs.Lists.{appended_empty}
+use Rattle.cpc_base.proofs.Lists.{appended_empty, get_last}
 use Rattle.cpc_tree.specs.Erase.{Names}
 use Rattle.cpc_tree.specs.Syntax as S
 use Rattle.cpc_tree.specs.Typing as T
@@ -16,7 +16,7 @@ use Rattle.cpc_box.specs.declared.walk.Walk.{Walk}
 use Rattle.cpc_tree.specs.Points.{Test}
 use Rattle.cpc_box.specs.Outline.{declares, declares_in, declares_arm, behind_all, here, outline, outline_in, outline_arm}
 use Rattle.cpc_box.specs.Walked.{Chain, Inner, IsSeen, AreSeen, marked_by, mark_of, Walked, Stands, Came}
-use Rattle.cpc_box.proofs.Scopes.{get_either, get_last, chain_more, chain_before, seen_more, seen_last}
+use Rattle.cpc_box.proofs.Scopes.{get_either, chain_more, chain_before, seen_more, seen_last}
 
 module _ (names : Names) (ms : List V.Variable) where
   abbrev marked : S.Variable → Bool → Marked

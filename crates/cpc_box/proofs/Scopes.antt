@@ -11,12 +11,6 @@ use Rattle.cpc_forms_code.specs.Seen.{manner_seen, local_seen, scope_within, sco
 use Rattle.cpc_forms_code.specs.Points.{BoxedPoint, point_seen}
 use Rattle.cpc_box.specs.Walked.{IsBefore, Chain, NoLocal, Inner, IsSeen, AreSeen}
 
-pub get_last : {A : Type 0} (xs : List A) (n : ℕ) (x : A) → n ≡ length xs → slice_get (xs ++ x ∷ []) n ≡ Some x
-get_last [] zero x e = refl
-get_last [] (suc n) x e = absurd (let h : suc n ≡ 0 = e in omega arith)
-get_last (a ∷ xs) zero x e = absurd (let h : 0 ≡ length (a ∷ xs) = e in omega arith)
-get_last (a ∷ xs) (suc n) x e = get_last xs n x (let h : suc n ≡ length (a ∷ xs) = e in omega arith)
-
 -- an element of a list with one more is one of it, or that one
 pub get_either : {A : Type 0} (P : A → Type 0) (xs : List A) (y : A) → ((k : ℕ) (x : A) → slice_get xs k ≡ Some x → P x) → P y → (k : ℕ) (x : A) → slice_get (xs ++ y ∷ []) k ≡ Some x → P x
 get_either P [] y f q zero x e = let h : y ≡ x = some_is y x e in subst P h q

@@ -11,14 +11,11 @@ use Rattle.cpc_tree.specs.Typing as Y
 use Rattle.cpc_tree.specs.Points.{Simple}
 use Rattle.cpc_tree.specs.Syntax.{Block, If, While, DoWhile, For}
 use Rattle.cpc_tree.specs.Erase.{Names, expr_of, stmt_of, list_of, maybe_at}
+use Rattle.cpc_tree.proofs.Nodes.{if_seen, for_seen}
 use Rattle.cpc_eval_locals.specs.declared.variables.Variable as V
-use Rattle.cpc_eval_variables.proofs.Nodes.{block_seen, if_seen, for_seen}
 use Rattle.cpc_box.specs.declared.walk.Walk.{Walk}
 use Rattle.cpc_box.specs.Outline.{declares, declares_in, here, outline, outline_in}
 use Rattle.cpc_box.specs.Walked.{Walked}
-
-pub block_row : (names : Names) (e : Statement) (place : Place) (inner : Vec Statement Global) (row : List Statement) → e ≡ T.Block place inner → row ≡ inner.items → Block (list_of names row) ≡ stmt_of names e
-block_row names e place inner row is rows = ap (λ r. Block (list_of names r)) rows ∙ sym (block_seen names e place inner is)
 
 -- a block, from its row
 module _ (names : Names) (ms : List V.Variable) (p : S.Program) (fixed : Bool) (sc : Y.Scope) (n : ℕ) (a b : Walk) where

@@ -1,6 +1,7 @@
 -- What a walk through a body has come to.
-use Rattle.std.specs.Prelude.{◌≡◌, ℕ, suc, ◌<◌, Bool, false, List, [], ◌∷◌, ◌++◌, map, length, slice_get, Option, Some, None}
+use Rattle.std.specs.Prelude.{◌≡◌, ℕ, suc, Bool, false, List, [], ◌∷◌, ◌++◌, map, length, slice_get, Option, Some, None}
 use Rattle.cpc_base.specs.Bytes.{Text}
+pub use Rattle.cpc_base.specs.Lists.{IsBefore}
 use Rattle.cpc_tree.specs.Syntax as S
 use Rattle.cpc_tree.specs.Typing as T
 use Rattle.cpc_tree.specs.Erase.{Names}
@@ -13,10 +14,6 @@ use Rattle.cpc_forms_code.specs.Points.{Marked, BoxedPoint, variable_seen}
 use Rattle.cpc_box.specs.declared.walk.Walk.{Walk}
 
 -- ---- scopes that do not change where more variables come
-
-abbrev pub IsBefore : Option ℕ → ℕ → Type 0
-IsBefore None k = Unit {0}
-IsBefore (Some j) k = j < k
 
 -- the names in scope where a variable of these is the innermost one, each before those inside of it
 pub data Chain (names : Names) (vs : List Variable) : Option ℕ → T.Scope → Type 0 where

@@ -1,5 +1,5 @@
 -- Parts of items together, and the scope in which a body stands.
-use Rattle.std.proofs.Common.{◌≡◌, ℕ, ◌+◌, ◌<◌, ◌≤◌, not, List, [], ◌∷◌, ◌++◌, length, suc, add-one, take, drop, map, Option, Some, None, option_map, refl, ap, sym, ◌∙◌}
+use Rattle.std.proofs.Common.{◌≡◌, ℕ, ◌+◌, ◌<◌, ◌≤◌, not, List, [], ◌∷◌, ◌++◌, length, suc, add-one, take, drop, map, Option, Some, None, refl, ap, sym, ◌∙◌}
 use Rattle.std.specs.Prelude.{slice_get}
 use Rattle.std.proofs.lemmas.List.{take_more, map-append}
 use Rattle.std.proofs.lemmas.Option.{slice_get_within, get_or_from_slice_get}
@@ -7,19 +7,17 @@ use Rattle.std.proofs.Math.Seq.{drop-cons}
 use Rattle.std.proofs.Math.ListN.{drop_of_length-le}
 use Rattle.cpc_base.specs.declared.stop.Place.{Place}
 use Rattle.cpc_base.specs.declared.stop.Dialect.{Dialect}
-use Rattle.cpc_tree.specs.Erase.{Names, item_of, type_of, parameter_of, field_of, expr_of}
-use Rattle.cpc_tree.specs.Locate.{located_parameter, located_field, located_expr, located_function, located_item}
+use Rattle.cpc_tree.specs.Erase.{Names, item_of, type_of, parameter_of}
+use Rattle.cpc_tree.specs.Locate.{located_parameter, located_function, located_item}
 use Rattle.cpc_tree.specs.Syntax.{StructItem, GlobalItem, PrototypeItem, Program}
 use Rattle.cpc_tree.specs.declared.program.Item.{Item}
 use Rattle.cpc_tree.specs.declared.program.Item.TheVariants as I
 use Rattle.cpc_tree.specs.declared.program.Parameter.{Parameter}
 use Rattle.cpc_tree.specs.declared.program.Word.{Word}
 use Rattle.cpc_tree.specs.declared.program.CType.{CType}
-use Rattle.cpc_tree.specs.declared.program.Field.{Field}
-use Rattle.cpc_tree.specs.declared.program.Expr.{Expr}
-use Rattle.cpc_tree.proofs.Places.{bare_located, bare_statement}
+use Rattle.cpc_tree.proofs.Places.{bare_statement, bare_parameters, bare_fields, bare_option, bare_items}
 use Rattle.cpc_tree.specs.declared.program.Function as GFunction
-use Rattle.cpc_tree.specs.Located.{LFunction, LFunctionItem, bare_item, bare_parameter, bare_variable, bare_expr}
+use Rattle.cpc_tree.specs.Located.{LFunction, LFunctionItem, bare_item, bare_parameter}
 use Rattle.cpc_check_rules.specs.declared.rule.Rule.{Rule}
 use Rattle.cpc_check_rules.specs.declared.rule.Rule.TheVariants.{NoMain}
 use Rattle.cpc_check_rules.specs.Rule.{Broken, at_if}
@@ -75,30 +73,14 @@ one_again : (names : Names) (w : Option Word) (t : CType) → bare_parameter (lo
 one_again names None t = refl
 one_again names (Some w) t = refl
 
-parameters_again : (names : Names) (ps : List Parameter) → map bare_parameter (map (located_parameter names) ps) ≡ map (parameter_of names) ps
-parameters_again names [] = refl
-parameters_again names (p ∷ ps) = let head = one_again names p.word p.of in let rest = parameters_again names ps in λ j. head j ∷ rest j
-
-fields_again : (names : Names) (fs : List Field) → map bare_variable (map (located_field names) fs) ≡ map (field_of names) fs
-fields_again names [] = refl
-fields_again names (f ∷ fs) = ap (λ r. field_of names f ∷ r) (fields_again names fs)
-
-start_again : (names : Names) (start : Option Expr) → option_map bare_expr (option_map (located_expr names) start) ≡ option_map (expr_of names) start
-start_again names None = refl
-start_again names (Some e) = ap Some (bare_located names e)
-
 pub item_again : (names : Names) (x : Item) → bare_item (located_item names x) ≡ item_of names x
-item_again names (I.Struct tag fields) = ap (StructItem (names tag.name)) (fields_again names fields.items)
-item_again names (I.Global w t start) = ap (GlobalItem (names w.name) (type_of names t)) (start_again names start)
-item_again names (I.Prototype p mode w result ps) = ap (PrototypeItem mode (names w.name) (type_of names result)) (parameters_again names ps.items)
-item_again names (I.Function f) = rw (parameters_again names f.parameters.items, bare_statement names f.body) refl
+item_again names (I.Struct tag fields) = ap (StructItem (names tag.name)) (bare_fields names fields.items)
+item_again names (I.Global w t start) = ap (GlobalItem (names w.name) (type_of names t)) (bare_option names start)
+item_again names (I.Prototype p mode w result ps) = ap (PrototypeItem mode (names w.name) (type_of names result)) (bare_parameters names ps.items)
+item_again names (I.Function f) = rw (bare_parameters names f.parameters.items, bare_statement names f.body) refl
 
 bare_function : (names : Names) (f : GFunction.Function) → bare_item (LFunctionItem (located_function names f)) ≡ item_of names (I.Function f)
 bare_function names f = item_again names (I.Function f)
-
-pub items_again : (names : Names) (xs : List Item) → map bare_item (map (located_item names) xs) ≡ map (item_of names) xs
-items_again names [] = refl
-items_again names (x ∷ xs) = let head = item_again names x in let rest = items_again names xs in λ j. head j ∷ rest j
 
 -- ---- items, one by one
 
@@ -148,7 +130,7 @@ pub noted_program : (dialect : Dialect) (names : Names) (xs : List Item) (end : 
     → q ≡ noted None (breaks dialect (record { items = map (located_item names) xs; end = end }))
 noted_program dialect names xs end o p q ys zs same_ys same_zs e f g =
     let items : o ≡ noted None (R.items_breaks dialect (map bare_item (map (located_item names) xs)) [] (map (located_item names) xs)) =
-    e ∙ ap (λ b. noted None (R.items_breaks dialect b [] (map (located_item names) xs))) (sym (items_again names xs)) in
+    e ∙ ap (λ b. noted None (R.items_breaks dialect b [] (map (located_item names) xs))) (sym (bare_items names xs)) in
     let mains : p ≡ noted o (at_if (not (has_main (map (located_item names) xs))) end NoMain) = f ∙ ap (λ y. noted o (at_if (not (has_main (map (located_item names) y))) end NoMain)) same_ys in
     let broad : q ≡ noted p (breadth_breaks dialect (map (located_item names) xs)) = g ∙ ap (λ z. noted p (breadth_breaks dialect (map (located_item names) z))) same_zs in
     noted_two None o q (R.items_breaks dialect (map bare_item (map (located_item names) xs)) [] (map (located_item names) xs))

@@ -25,10 +25,10 @@ noted_whole dialect p o distinct within told =
     let s = spells p.names distinct in
     told (spelling p.names) s ∙ ap (λ items. noted None (breaks dialect (record { items = items; end = p.end }))) (within.alike (spelling p.names) s.inside)
 
-error_is : {X E : Type 0} (x y : E) → ◌≡◌ {A = Result X E} (Err x) (Err y) → x ≡ y
+pub error_is : {X E : Type 0} (x y : E) → ◌≡◌ {A = Result X E} (Err x) (Err y) → x ≡ y
 error_is x y e = cc
 
-fault_is : {F : Type 0} (a b : F) → ◌≡◌ {A = Stop F} (Fault a) (Fault b) → a ≡ b
+pub fault_is : {F : Type 0} (a b : F) → ◌≡◌ {A = Stop F} (Fault a) (Fault b) → a ≡ b
 fault_is a b e = cc
 
 -- what a refusal tells

@@ -7,7 +7,7 @@ use Rattle.cpc_base.specs.Bytes.{Text}
 use Rattle.cpc_base.specs.declared.stop.Place.{Place}
 use Rattle.cpc_base.specs.declared.stop.Dialect.{Dialect}
 use Rattle.cpc_base.proofs.Truth.{or_regrouped, or_exchanged}
-use Rattle.cpc_base.proofs.Lists.{drop_to_item}
+use Rattle.cpc_base.proofs.Lists.{drop_to_item, some_seen}
 use Rattle.cpc_tree.specs.declared.program.Word.{Word}
 use Rattle.cpc_tree.specs.declared.program.Field as GField
 use Rattle.cpc_tree.specs.declared.program.Item as GItem
@@ -18,6 +18,7 @@ use Rattle.cpc_tree.specs.Typing as T
 use Rattle.cpc_tree.specs.Typing.{◌>>=◌}
 use Rattle.cpc_tree.specs.Erase.{Names, item_of, field_of}
 use Rattle.cpc_tree.specs.Locate.{ident, located_field}
+use Rattle.cpc_tree.proofs.Places.{bare_fields}
 use Rattle.cpc_check_rules.specs.declared.rule.Rule.{Rule}
 use Rattle.cpc_check_rules.specs.declared.rule.Rule.TheVariants.{Incomplete, Reserved}
 use Rattle.cpc_check_rules.specs.Rule.{Broken, at_if}
@@ -85,10 +86,6 @@ words_more names ws vs fs i f h is e =
 pub words_end : (names : Names) (row : List Ident) (fs : List GField.Field) (i : ℕ) → length fs ≤ i → row ++ R.field_names (map (located_field names) (drop i fs)) ≡ row
 words_end names row fs i h = ap (λ l. row ++ R.field_names (map (located_field names) l)) (drop_all i fs h) ∙ append-nil row
 
-fields_are : (names : Names) (fs : List GField.Field) → map bare_variable (map (located_field names) fs) ≡ map (field_of names) fs
-fields_are names [] = refl
-fields_are names (f ∷ fs) = ap (λ l. field_of names f ∷ l) (fields_are names fs)
-
 -- the cells of a struct are those of its fields
 struct_count : (p : Program) (tag : Text) (fs : List Variable) → bytes_eq tag tag ≡ true → T.size (p ++ StructItem tag fs ∷ []) (TyStruct tag) ≡ fields_count p fs
 struct_count p tag fs e =
@@ -98,7 +95,7 @@ struct_count p tag fs e =
 pub oversized_is : (names : Names) (p : Program) (tag : Text) (fs : List GField.Field) → bytes_eq tag tag ≡ true
     → R.is_oversized (fields_count p (map (field_of names) fs)) ≡ R.is_oversized (T.size (p ++ StructItem tag (map bare_variable (map (located_field names) fs)) ∷ []) (TyStruct tag))
 oversized_is names p tag fs e =
-    ap (λ l. R.is_oversized (fields_count p l)) (sym (fields_are names fs))
+    ap (λ l. R.is_oversized (fields_count p l)) (sym (bare_fields names fs))
     ∙ ap R.is_oversized (sym (struct_count p tag (map bare_variable (map (located_field names) fs)) e))
 
 -- ---- tags
@@ -129,13 +126,9 @@ fields_known tag (GlobalItem g t start ∷ xs) = fields_known tag xs
 fields_known tag (PrototypeItem mode f r ps ∷ xs) = fields_known tag xs
 fields_known tag (FunctionItem f ∷ xs) = fields_known tag xs
 
-mapped : {A B : Type 0} (f : A → B) (o : Option A) → is_some (option_map f o) ≡ is_some o
-mapped f None = refl
-mapped f (Some x) = refl
-
 -- a tag has fields where a struct declares it
 pub tag_known : {A : Type 0} (f : A → List Variable) (o : Option A) (p : Program) (tag : Text) → option_map f o ≡ T.fields p tag → is_some o ≡ R.is_struct tag p
-tag_known f o p tag e = sym (mapped f o) ∙ ap is_some e ∙ fields_known tag (reverse p) ∙ struct_back tag p
+tag_known f o p tag e = sym (some_seen f o) ∙ ap is_some e ∙ fields_known tag (reverse p) ∙ struct_back tag p
 
 -- ---- parameters
 

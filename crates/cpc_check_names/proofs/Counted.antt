@@ -6,8 +6,8 @@ use Rattle.cpc_tree.specs.declared.program.Statement.{Statement}
 use Rattle.cpc_tree.specs.declared.program.Statement.TheVariants as T
 use Rattle.cpc_tree.specs.Erase.{Names}
 use Rattle.cpc_tree.specs.Locate.{located_stmt, located_list}
+use Rattle.cpc_tree.proofs.LocatedNodes.{block_seen, for_seen, row_end, row_more}
 use Rattle.cpc_check_rules.specs.FunctionRules.{statements, statements_in}
-use Rattle.cpc_check_names.proofs.Nodes.{block_seen, for_seen, row_end, row_more}
 
 pub counted_block : (names : Names) (e : Statement) (place : Place) (inner : Vec Statement Global) → e ≡ T.Block place inner
     → statements (located_stmt names e) ≡ suc (statements_in (located_list names inner.items))

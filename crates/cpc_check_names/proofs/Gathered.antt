@@ -7,11 +7,11 @@ use Rattle.cpc_tree.specs.declared.program.Statement.TheVariants as T
 use Rattle.cpc_tree.specs.Located.{Ident, Block, LStmts}
 use Rattle.cpc_tree.specs.Erase.{Names}
 use Rattle.cpc_tree.specs.Locate.{located_stmt, located_list}
+use Rattle.cpc_tree.proofs.LocatedNodes.{block_seen, for_seen}
 use Rattle.cpc_check_rules.specs.FunctionRules.{locals, locals_in}
 use Rattle.cpc_check_names.specs.declared.words.Wanted.{Wanted}
 use Rattle.cpc_check_names.specs.declared.words.Wanted.TheVariants.{Labels, Jumps, Locals}
 use Rattle.cpc_check_names.specs.Words.{words_of, words_in}
-use Rattle.cpc_check_names.proofs.Nodes.{block_seen, for_seen}
 
 in_block : (w : Wanted) (place : Place) (ss : LStmts) → words_of w (Block place ss) ≡ words_in w ss
 in_block Labels place ss = refl

@@ -1,4 +1,3 @@
-pub mod Nodes
 pub mod Strays
 pub mod Gathered
 pub mod Parameters

@@ -1,13 +1,14 @@
 -- What texts begin with and hold, and the names that are kept.
-use Rattle.std.proofs.Common.{◌≡◌, ℕ, ◌+◌, ◌-◌, ◌<◌, Bool, true, false, ◌&&◌, ◌||◌, eqb, List, [], ◌∷◌, length, get_or, take, drop, refl, sym, ap, ◌∙◌, arith, None}
+use Rattle.std.proofs.Common.{◌≡◌, ℕ, ◌+◌, ◌-◌, ◌<◌, Bool, true, false, ◌&&◌, ◌||◌, eqb, List, [], ◌∷◌, length, get_or, take, drop, refl, sym, ap, ◌∙◌, None}
 use Rattle.std.specs.Prelude.{codes, slice_get}
 use Rattle.std.specs.Option.{unwrap_or}
 use Rattle.std.specs.List.{starts_with}
-use Rattle.std.proofs.lemmas.List.{drop_more, take_all, length-drop}
+use Rattle.std.proofs.lemmas.List.{drop_more}
 use Rattle.std.proofs.lemmas.Option.{unwrap_or-slice_get}
 use Rattle.cpc_base.specs.Bytes.{Text}
 use Rattle.cpc_base.specs.declared.stop.Dialect.{Dialect}
 use Rattle.cpc_base.specs.declared.stop.Dialect.TheVariants as D
+use Rattle.cpc_base.proofs.Lists.{rest_whole}
 use Rattle.cpc_check_rules.specs.FunctionRules.{begins_with, holds_underscores, is_reserved}
 
 and_true : (a b : Bool) → (a && b) ≡ ((a && true) && b)
@@ -24,9 +25,6 @@ pub underscores_more : (x : Text) (i : ℕ) → i < length x → holds_underscor
 underscores_more x i h =
     ap holds_underscores (drop_more x i 0 h)
     ∙ ap (λ y. begins_with (codes "__") y || holds_underscores (drop (i + 1) x)) (sym (drop_more x i 0 h))
-
-rest_whole : (x : Text) (i : ℕ) → take (length x - i) (drop i x) ≡ drop i x
-rest_whole x i = take_all (length x - i) (drop i x) (omega (arith, length-drop i x))
 
 -- none here, so what is further on decides
 pub underscores_step : (x : Text) (i : ℕ) (t : Bool) → i < length x → t ≡ begins_with (codes "__") (take (length x - i) (drop i x)) → t ≡ false → holds_underscores (drop i x) ≡ holds_underscores x

@@ -6,11 +6,11 @@ use Rattle.cpc_tree.specs.declared.program.Statement.{Statement}
 use Rattle.cpc_tree.specs.declared.program.Statement.TheVariants as T
 use Rattle.cpc_tree.specs.Erase.{Names}
 use Rattle.cpc_tree.specs.Locate.{located_stmt, located_list}
+use Rattle.cpc_tree.proofs.LocatedNodes.{block_seen, if_seen, row_end, row_more}
 use Rattle.cpc_check_rules.specs.declared.rule.Rule.{Rule}
 use Rattle.cpc_check_rules.specs.FunctionRules.{stray_breaks, stray_in}
 use Rattle.cpc_check_rules.specs.Noted.{noted}
 use Rattle.cpc_check_rules.proofs.Firsts.{noted_both}
-use Rattle.cpc_check_names.proofs.Nodes.{block_seen, if_seen, row_end, row_more}
 
 abbrev Firsts : Type 0
 Firsts = Option (Place × Rule)

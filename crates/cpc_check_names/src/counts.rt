@@ -6,7 +6,7 @@ ghost use Rattle.cpc_tree.specs.Locate.{located_stmt, located_list, located_func
 ghost use Rattle.cpc_check_rules.specs.FunctionRules.{statements, statements_in};
 ghost use Rattle.cpc_check_rules.specs.Rules.{breadth, breadth_limit, broad_breaks, breadth_breaks};
 ghost use Rattle.cpc_check_rules.specs.Noted.{noted, first_of};
-ghost use Rattle.cpc_check_names.specs.Counts.{capped};
+ghost use Rattle.cpc_base.specs.Counts.{capped};
 
 use crate::variables::variable_words;
 use cpc_base::{Dialect, NoMemory};

@@ -7,6 +7,7 @@ use Rattle.cpc_tree.specs.declared.program.Mode.{Mode}
 use Rattle.cpc_tree.specs.declared.program.Mode.TheVariants.{Native, Cps}
 use Rattle.cpc_tree.specs.Syntax.{Ty, TyInt}
 use Rattle.cpc_tree.specs.Located.{LFunction, LItem, LFunctionItem, LProgram, bare}
+use Rattle.cpc_tree.specs.Lists.{is_empty}
 use Rattle.cpc_check_rules.specs.declared.rule.Rule.TheVariants.{NoMain, TooBroad}
 use Rattle.cpc_check_rules.specs.Rule.{Broken, at_if}
 use Rattle.cpc_check_rules.specs.Operators.{is_cps}
@@ -21,10 +22,6 @@ runs_alone mode = false
 abbrev is_int : Ty → Bool
 is_int (TyInt Int) = true
 is_int t = false
-
-abbrev is_empty : {A : Type 0} → List A → Bool
-is_empty [] = true
-is_empty (x ∷ xs) = false
 
 -- a native or cps function `main` with result `int` and no parameters
 abbrev pub is_main : LFunction → Bool

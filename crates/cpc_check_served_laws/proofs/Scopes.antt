@@ -1,5 +1,5 @@
 -- No name that the language keeps for itself stands for anything in an event program that breaks no rule.
-use Rattle.std.proofs.Common.{◌≡◌, ◌∙◌, Bool, true, false, cond, List, [], ◌∷◌, ◌++◌, reverse, Option, Some, None, bytes_eq, refl, sym, ap}
+use Rattle.std.proofs.Common.{◌≡◌, ◌∙◌, Bool, true, false, cond, List, [], ◌∷◌, ◌++◌, reverse, Option, Some, None, bytes_eq, refl, ap}
 use Rattle.cpc_base.specs.Bytes.{Text}
 use Rattle.cpc_base.specs.declared.stop.Dialect.TheVariants as D
 use Rattle.cpc_tree.specs.Syntax.{Ty, Variable, Item, Program}
@@ -14,10 +14,11 @@ use Rattle.cpc_check_rules.specs.Calls.{is_event}
 use Rattle.cpc_check_rules.specs.FunctionRules.{is_kept, locals, locals_in, parameter_names, reserved_breaks}
 use Rattle.cpc_check_rules.specs.ItemRules.{item_breaks, parameter_block}
 use Rattle.cpc_check_rules.specs.StmtRules.{all_behind, behind, inner, variable}
-use Rattle.cpc_meaning.proofs.Functions.{same_text}
 use Rattle.cpc_check_laws.proofs.Sound.Items.{last_first}
-use Rattle.cpc_check_laws.proofs.Sound.Unbroken.{holds_not, split}
+use Rattle.cpc_check_laws.proofs.Sound.Unbroken.{split}
 use Rattle.cpc_check_laws.proofs.Sound.Bodies.{meant_later}
+use Rattle.cpc_check_laws.proofs.Native.NativeValues.{unbroken}
+use Rattle.cpc_check_laws.proofs.Run.Names.{other_name}
 
 -- ---- names that are not kept
 
@@ -29,7 +30,7 @@ pub free_names : (xs : List Ident) → reserved_breaks D.Event xs ≡ [] → Are
 free_names [] h = tt
 free_names (x ∷ xs) h =
     let k = split (at_if (is_kept x.text) x.place Reserved) _ h in
-    (holds_not (is_kept x.text) x.place Reserved k.0, free_names xs k.1)
+    (unbroken (is_kept x.text) x.place Reserved k.0, free_names xs k.1)
 
 pub first_free : (xs ys : List Ident) → AreFree (xs ++ ys) → AreFree xs
 first_free [] ys h = tt
@@ -38,14 +39,6 @@ first_free (x ∷ xs) ys h = (h.0, first_free xs ys h.1)
 pub last_free : (xs ys : List Ident) → AreFree (xs ++ ys) → AreFree ys
 last_free [] ys h = h
 last_free (x ∷ xs) ys h = last_free xs ys h.1
-
--- another name is none that is kept
-differs : (y x : Text) → is_kept y ≡ false → is_kept x ≡ true → bytes_eq y x ≡ false
-differs y x free kept = go (bytes_eq y x) refl
-  where
-    go : (b : Bool) → bytes_eq y x ≡ b → b ≡ false
-    go true e = absurd (let z : true ≡ false = sym kept ∙ (ap is_kept (sym (same_text y x e)) ∙ free) in cc)
-    go false e = refl
 
 -- ---- items
 
@@ -64,13 +57,13 @@ pub item_free : (program before : Program) (x : LItem) → ItemsFree before → 
 item_free program before (LStruct tag fs) free h = one_more before (bare_item (LStruct tag fs)) free
 item_free program before (LGlobal y t start) free h =
     let own = (free_names (y ∷ []) (split (reserved_breaks D.Event (y ∷ [])) _ h).0).0 in
-    one_more before (bare_item (LGlobal y t start)) (λ x kept. passed (bytes_eq y.text x) _ _ (differs y.text x own kept) (free x kept))
+    one_more before (bare_item (LGlobal y t start)) (λ x kept. passed (bytes_eq y.text x) _ _ (other_name y.text x own kept) (free x kept))
 item_free program before (LPrototype q mode y r ps) free h =
     let own = (free_names (y ∷ []) (split (reserved_breaks D.Event (y ∷ [])) _ h).0).0 in
-    one_more before (bare_item (LPrototype q mode y r ps)) (λ x kept. passed (bytes_eq y.text x) _ _ (differs y.text x own kept) (free x kept))
+    one_more before (bare_item (LPrototype q mode y r ps)) (λ x kept. passed (bytes_eq y.text x) _ _ (other_name y.text x own kept) (free x kept))
 item_free program before (LFunctionItem f) free h =
     let own = (free_names (f.called ∷ []) (split (reserved_breaks D.Event (f.called ∷ [])) _ h).0).0 in
-    one_more before (bare_item (LFunctionItem f)) (λ x kept. passed (bytes_eq f.called.text x) _ _ (differs f.called.text x own kept) (free x kept))
+    one_more before (bare_item (LFunctionItem f)) (λ x kept. passed (bytes_eq f.called.text x) _ _ (other_name f.called.text x own kept) (free x kept))
 
 -- ---- blocks
 
@@ -78,7 +71,7 @@ abbrev BlockFree : S.Block → Type 0
 BlockFree block = (x : Text) → is_kept x ≡ true → in_block block x ≡ None
 
 with_free : (v : Variable) (block : S.Block) → is_kept v.called ≡ false → BlockFree block → BlockFree (v ∷ block)
-with_free v block own free x kept = go (bytes_eq v.called x) (differs v.called x own kept)
+with_free v block own free x kept = go (bytes_eq v.called x) (other_name v.called x own kept)
   where
     go : (b : Bool) → b ≡ false → cond b (Some v.type) (in_block block x) ≡ None
     go true e = absurd cc
@@ -109,7 +102,7 @@ pub inside_inner : (w : Where) → Inside w → Inside (inner w)
 inside_inner w i = record { free = i.free; event = i.event }
 
 pub inside_behind : (w : Where) (s : LStmt) → AreFree (locals s) → Inside w → Inside (behind w s)
-inside_behind w (Declare q y t start) own i = record { free = λ x kept. meant_later w.scope.items w.scope.blocks (variable y t) x (differs y.text x own.0 kept) ∙ i.free x kept; event = i.event }
+inside_behind w (Declare q y t start) own i = record { free = λ x kept. meant_later w.scope.items w.scope.blocks (variable y t) x (other_name y.text x own.0 kept) ∙ i.free x kept; event = i.event }
 inside_behind w (Block q ss) own i = i
 inside_behind w (Empty q) own i = i
 inside_behind w (Assign q o v op e) own i = i

@@ -19,10 +19,11 @@ use Rattle.cpc_check_rules.specs.FunctionRules.{labels, locals, locals_in, local
 use Rattle.cpc_check_rules.specs.ItemRules.{body_breaks, cps_breaks, declared_breaks, function_breaks, in_body, item_breaks, items_breaks, outside, parameter_block, parameters_breaks, sized_breaks, types}
 use Rattle.cpc_check_laws.proofs.Sound.Agendas.{Each}
 use Rattle.cpc_check_laws.proofs.Sound.Grammar.{items_shape}
-use Rattle.cpc_check_laws.proofs.Sound.Knowing.{primitive_kept}
 use Rattle.cpc_check_laws.proofs.Sound.Programs.{BodyShape, ItemShape}
 use Rattle.cpc_check_laws.proofs.Sound.Shapes.{AllWritten, MaybeWritten, StepWritten, Written, all_first_written}
-use Rattle.cpc_check_laws.proofs.Sound.Unbroken.{holds_not, split}
+use Rattle.cpc_check_laws.proofs.Sound.Unbroken.{split}
+use Rattle.cpc_check_laws.proofs.Run.Names.{primitive_kept}
+use Rattle.cpc_check_laws.proofs.Native.NativeValues.{unbroken}
 use Rattle.cpc_native_builtins.specs.Served.{are_served, calls_served, is_served, is_served_arm, is_served_item, is_served_program, is_served_stmt, serves}
 use Rattle.cpc_check_served_laws.specs.Laws.{AcceptedAreServed}
 use Rattle.cpc_check_served_laws.proofs.Scopes.{AreFree, Inside, ItemsFree, block_passed, first_free, free_names, inside_all_behind, inside_behind, inside_inner, item_free, last_free, parameters_free}
@@ -62,7 +63,7 @@ primitive_served w q prim event h =
     let k = split (at_if (gives_up prim && not (is_cps w.mode)) q CpsInNative) _ h in
     let l = split (at_if (is_detached w.mode && not (is_closed prim)) q NotClosed) _ k.1 in
     let m = split (at_if (is_rt prim && not (is_event w.dialect)) q RtCall) (at_if (gives_up prim && is_event w.dialect) q CpsForm) l.1 in
-    unless_waits prim (alone (gives_up prim) (is_event w.dialect) event (holds_not (gives_up prim && is_event w.dialect) q CpsForm m.1))
+    unless_waits prim (alone (gives_up prim) (is_event w.dialect) event (unbroken (gives_up prim && is_event w.dialect) q CpsForm m.1))
 
 name_served : (w : Where) → Inside w → (f : LExpr) (q : Place) (parts : Broken) (x : Text) → named_breaks w f q parts (meant w.scope x) (primitive_named x) ≡ []
     → serves (primitive_named x) ≡ true
@@ -93,7 +94,7 @@ call_served w i (LCall q f vs) es h = refl
 
 -- no form of the dialect Cpc stands here
 no_form : {A : Type 0} (w : Where) (q : Place) (rest : Broken) → Inside w → at_if (is_event w.dialect) q CpsForm ++ rest ≡ [] → A
-no_form w q rest i h = by_true_false (is_event w.dialect) i.event (holds_not (is_event w.dialect) q CpsForm (split (at_if (is_event w.dialect) q CpsForm) rest h).0)
+no_form w q rest i h = by_true_false (is_event w.dialect) i.event (unbroken (is_event w.dialect) q CpsForm (split (at_if (is_event w.dialect) q CpsForm) rest h).0)
 
 no_section : {A : Type 0} (w : Where) (k : Place) (x : Ident) (es : LExprs) → Inside w → section_breaks w k x es ≡ [] → A
 no_section w k x es i h = no_form w k _ i (split (at_if (not (is_cps w.mode)) k CpsInNative) _ h).1

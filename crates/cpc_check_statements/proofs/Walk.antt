@@ -1,6 +1,5 @@
 -- What statements break that hold others, by what was noted of these.
 use Rattle.std.proofs.Common.{◌≡◌, ℕ, ◌+◌, ◌<◌, ◌≤◌, List, [], ◌∷◌, length, get_or, drop, refl, sym, ap, ◌∙◌, Vec, Box, Global, Option, option_map}
-use Rattle.std.proofs.lemmas.List.{drop_more, drop_all}
 use Rattle.cpc_base.specs.declared.stop.Place.{Place}
 use Rattle.cpc_tree.specs.declared.program.CType as GType
 use Rattle.cpc_tree.specs.declared.program.Expr as GExpr
@@ -12,7 +11,7 @@ use Rattle.cpc_tree.specs.Located as L
 use Rattle.cpc_tree.specs.Located.{LStmt, LStmts, NoLStmt, AndLStmt, Declare}
 use Rattle.cpc_tree.specs.Erase.{Names}
 use Rattle.cpc_tree.specs.Locate.{located_expr, located_stmt, located_list, located_at}
-use Rattle.cpc_tree.proofs.LocatedClauses.{located_block_is, located_for_is, located_if_is}
+use Rattle.cpc_tree.proofs.LocatedNodes.{block_seen, if_seen, for_seen, row_end, row_more}
 use Rattle.cpc_check_rules.specs.declared.rule.Rule.{Rule}
 use Rattle.cpc_check_rules.specs.Noted.{noted}
 use Rattle.cpc_check_rules.specs.Scopes.{Scope, with_name, with_block}
@@ -29,28 +28,11 @@ Firsts = Option (Place × Rule)
 
 -- ---- statements with their places
 
-block_seen : (names : Names) (s : Statement) (place : Place) (row : Vec Statement Global) → s ≡ T.Block place row → located_stmt names s ≡ L.Block place (located_list names row.items)
-block_seen names s place row h = ap (located_stmt names) h ∙ located_block_is names place row
-
-if_seen : (names : Names) (s : Statement) (place : Place) (test : GExpr.Expr) (a : Box Statement Global) (b : Option (Box Statement Global)) → s ≡ T.If place test a b
-    → located_stmt names s ≡ L.If place (located_expr names test) (located_stmt names a.value) (located_at names b)
-if_seen names s place test a b h = ap (located_stmt names) h ∙ sym (located_if_is names place test a b)
-
-for_seen : (names : Names) (s : Statement) (place : Place) (first : Vec Statement Global) (test : Option GExpr.Expr) (step : Option (Box Statement Global)) (body : Box Statement Global) → s ≡ T.For place first test step body
-    → located_stmt names s ≡ L.For place (located_list names first.items) (option_map (located_expr names) test) (located_at names step) (located_stmt names body.value)
-for_seen names s place first test step body h = ap (located_stmt names) h ∙ sym (located_for_is names place first test step body)
-
 while_seen : (names : Names) (s : Statement) (place : Place) (test : GExpr.Expr) (a : Box Statement Global) → s ≡ T.While place test a → located_stmt names s ≡ L.While place (located_expr names test) (located_stmt names a.value)
 while_seen names s place test a h = ap (located_stmt names) h
 
 do_seen : (names : Names) (s : Statement) (place : Place) (a : Box Statement Global) (test : GExpr.Expr) → s ≡ T.DoWhile place a test → located_stmt names s ≡ L.DoWhile place (located_stmt names a.value) (located_expr names test)
 do_seen names s place a test h = ap (located_stmt names) h
-
-row_end : (names : Names) (xs : List Statement) (i : ℕ) → length xs ≤ i → located_list names (drop i xs) ≡ NoLStmt
-row_end names xs i h = ap (located_list names) (drop_all i xs h)
-
-row_more : (names : Names) (xs : List Statement) (i : ℕ) (x : Statement) → i < length xs → x ≡ get_or xs i x → located_list names (drop i xs) ≡ AndLStmt (located_stmt names x) (located_list names (drop (i + 1) xs))
-row_more names xs i x h e = ap (located_list names) (drop_more xs i x h ∙ ap (λ y. y ∷ drop (i + 1) xs) (sym e))
 
 -- ---- what is in scope
 

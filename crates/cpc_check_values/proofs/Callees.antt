@@ -10,6 +10,7 @@ use Rattle.cpc_tree.specs.Locate.{located_expr, located_exprs}
 use Rattle.cpc_tree.specs.Primitives as P
 use Rattle.cpc_tree.specs.Syntax.{Ty, TyCode}
 use Rattle.cpc_tree.specs.Typing as T
+use Rattle.cpc_tree.proofs.TypeRows.{list_back}
 use Rattle.cpc_check_rules.specs.Scopes.{Scope}
 use Rattle.cpc_check_rules.specs.Calls as C
 use Rattle.cpc_shapes.specs.Listed.{optional_of}
@@ -18,15 +19,11 @@ use Rattle.cpc_check_values.specs.declared.primitives.Primitive.TheVariants as R
 use Rattle.cpc_check_values.proofs.Arguments.{counted}
 use Rattle.cpc_check_values.specs.Wants.{primitive_of, primitive_wants, section_wants, section_callee_of}
 
-listed : (ts : List Ty) → T.list_of_tys (T.tys_of ts) ≡ ts
-listed [] = refl
-listed (t ∷ ts) = ap (λ us. t ∷ us) (listed ts)
-
 -- the function of a pointer, by what its type is taken apart to
 pub code_taken : (t : Ty) (r : Ty) (ps : List Ty) → Some (T.function_type r ps) ≡ T.code_type t → C.Takes (map (λ p. C.Of p) ps) r ≡ C.code_callee (Some t)
 code_taken (TyCode s qs) r ps e =
     let g : TyCode r (T.tys_of ps) ≡ TyCode s qs = cc in
-    ap (λ us. C.Takes (map (λ p. C.Of p) us) r) (sym (listed ps)) ∙ ap (λ t. C.code_callee (Some t)) g
+    ap (λ us. C.Takes (map (λ p. C.Of p) us) r) (sym (list_back ps)) ∙ ap (λ t. C.code_callee (Some t)) g
 code_taken t r ps e = cc
 
 pub code_taken_at : (names : Names) (o : Option CType) (x : CType) (b : Box CType Global) (ts : Vec CType Global) → o ≡ Some x

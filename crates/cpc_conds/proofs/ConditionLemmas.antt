@@ -1,32 +1,22 @@
 -- Queues by condition, and what contracts see of them.
-use Rattle.std.proofs.Common.{◌≡◌, ℕ, ◌+◌, ◌<◌, Bool, true, false, List, [], ◌∷◌, ◌++◌, map, inl, inr, refl, sym, ap, ◌∙◌, arith, nat_lt}
+use Rattle.std.proofs.Common.{◌≡◌, ℕ, ◌+◌, ◌<◌, Bool, true, false, List, [], ◌∷◌, ◌++◌, map, inl, inr, refl, sym, ap, ◌∙◌, arith}
 use Rattle.std.specs.Prelude.{◌==◌, ◌↔◌}
 use Rattle.std.specs.Option.{option_map}
 use Rattle.std.specs.List.{AllByRecursion, list_any}
 use Rattle.std.specs.List.Sorted.{IsStrictlySortedBy}
 use Rattle.std.specs.BTreeMap.{is_at}
 use Rattle.std.specs.Ordering.{nat_cmp, is_eq}
-use Rattle.std.specs.declared.cmp.Ordering.TheVariants.{Less, Greater}
+use Rattle.std.specs.declared.cmp.Ordering.TheVariants.{Less}
 use Rattle.std.proofs.lemmas.List.{map-append}
 use Rattle.std.proofs.lemmas.Bool.Decides.{nat_tests}
 use Rattle.std.proofs.lemmas.Map.Keys.{sorted_head, sorted_tail}
 use Rattle.cpc_base.specs.Waiting.{OnCondition, waits_on, without_first, without}
-use Rattle.cpc_base.proofs.Truth.{true_or_false}
+use Rattle.cpc_base.proofs.Truth.{true_or_false, same_number, order_above}
 use Rattle.cpc_agenda_queues.specs.Queued as Q
 use Rattle.cpc_agenda_queues.specs.Queued.{Queued, first_of, put_key}
 use Rattle.cpc_agenda_queues.proofs.SeenLemmas.{first_map, without_map, any_same}
 use Rattle.cpc_conds.specs.Conditions as M
 use Rattle.cpc_conds.specs.Conditions.{waiter_of, conditions_of, AreMade}
-
--- the tests of the map and of the definitions
-pub same_number : (c n : ℕ) → is_at (nat_cmp c) n ≡ (n == c)
-same_number c n = elim (true_or_false (nat_lt c n)) [
-  | inl t ↦ (let e : (n == c) ≡ false = grind (arith, nat_tests) in rw (t, e) refl)
-  | inr f ↦ elim (true_or_false (n == c)) [
-    | inl t ↦ (let e : (c == n) ≡ true = grind (arith, nat_tests) in rw (f, e, t) refl)
-    | inr h ↦ (let e : (c == n) ≡ false = grind (arith, nat_tests) in rw (f, e, h) refl)
-  ]
-]
 
 pub live_is : {T : Type 0} (c made : ℕ) (q : Queued ℕ T) → list_any (is_at (nat_cmp c)) q.keys ≡ M.is_live c (conditions_of q made)
 live_is c made q = any_same (is_at (nat_cmp c)) (λ n. n == c) (same_number c) q.keys
@@ -60,19 +50,16 @@ waited_is {T} c made x q =
 
 -- ---- the conditions that are live
 
-above : (n m : ℕ) → m < n → nat_cmp n m ≡ Greater
-above n m l = grind (arith, nat_tests)
-
 below : (n m : ℕ) → m < n → nat_cmp m n ≡ Less
 below n m l = grind (arith, nat_tests)
 
 put_last : (n : ℕ) (ms : List ℕ) → AllByRecursion (λ m. m < n) ms → put_key nat_cmp n ms ≡ ms ++ n ∷ []
 put_last n [] h = refl
-put_last n (m ∷ ms) h = rw (above n m h.0) (ap (λ ks. m ∷ ks) (put_last n ms h.1))
+put_last n (m ∷ ms) h = rw (order_above n m h.0) (ap (λ ks. m ∷ ks) (put_last n ms h.1))
 
 pub not_made : (n : ℕ) (ms : List ℕ) → AllByRecursion (λ m. m < n) ms → list_any (is_at (nat_cmp n)) ms ≡ false
 not_made n [] h = refl
-not_made n (m ∷ ms) h = rw (above n m h.0) (not_made n ms h.1)
+not_made n (m ∷ ms) h = rw (order_above n m h.0) (not_made n ms h.1)
 
 pub made_is : {T : Type 0} (made : ℕ) (q : Queued ℕ T) → AreMade q.keys made → conditions_of (Q.open_key nat_cmp made q) (made + 1) ≡ M.make (conditions_of q made)
 made_is {T} made q h =

@@ -66,7 +66,7 @@ marked_is (a ∷ f) (b ∷ g) d e hf hg nd ne k =
 
 -- ---- what comes after the marks
 
-no_bar_of : (d : Text) → (get_or d 0 0 ≡ 95 → ⊥) → NoUnderscore d
+pub no_bar_of : (d : Text) → (get_or d 0 0 ≡ 95 → ⊥) → NoUnderscore d
 no_bar_of d h = record { none = λ e k. h (ap (λ x. get_or x 0 0) k) }
 
 number_apart : (n : ℕ) → n ≡ 115 → n ≡ 95 → ⊥
@@ -75,7 +75,7 @@ number_apart n h g = absurd (omega arith)
 pub no_bar_spawn : NoUnderscore (codes "spawn")
 no_bar_spawn = no_bar_of (codes "spawn") (number_apart 115 refl)
 
-not_digits : (c : ℕ) (d e : Text) → (digit_value c < 10 → ⊥) → AllDigits 10 d → d ≡ c ∷ e → ⊥
+pub not_digits : (c : ℕ) (d e : Text) → (digit_value c < 10 → ⊥) → AllDigits 10 d → d ≡ c ∷ e → ⊥
 not_digits c d e h a k = h (subst (AllDigits 10) k a).0
 
 digits_of : (n : ℕ) → n < 2 ^ 63 → AllDigits 10 (decimal n)

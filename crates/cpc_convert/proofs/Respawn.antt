@@ -1,11 +1,12 @@
 -- A spawn as a call of the spawner leaves every point where it is.
-use Rattle.std.proofs.Common.{◌≡◌, ℕ, zero, suc, Bool, true, false, List, [], ◌∷◌, refl, ap, ◌++◌, ◌||◌, length, ◌+◌, ◌==◌}
+use Rattle.std.proofs.Common.{◌≡◌, ℕ, zero, suc, Bool, [], ◌∷◌, refl, ap, length, ◌+◌}
 use Rattle.cpc_base.specs.Bytes.{Text}
 use Rattle.cpc_tree.specs.Syntax.{Stmt, Block, Declare, Spawn, If, While, DoWhile, For, Label, Stmts, NoStmt, AndStmt, MaybeStmt, Absent, Present}
 use Rattle.cpc_tree.specs.Lists.{holds_number}
 use Rattle.cpc_tree.specs.Typing.{Scope}
 use Rattle.cpc_tree.specs.Points.{Nth, TheTest, TheYes, TheNo, TheStep, TheBody, Path, Found, Simple, Test, Nothing, found, found_in, found_arm, enter, enter_rest, enter_arm, enter_step, after, after_all, after_arm, locals, locals_in, locals_arm, labelled, labelled_in, labelled_arm, scope_at, scope_in, scope_arm, extended, extended_all, declared}
 use Rattle.cpc_tree.specs.Registers.{addresses_by, addresses_in, addresses_arm}
+use Rattle.cpc_tree.proofs.Holding.{holds_both}
 use Rattle.cpc_convert.specs.Converted.{respawned, respawned_all, respawned_arm}
 
 pub enters : (s : Stmt) → enter (respawned s) ≡ enter s
@@ -168,23 +169,15 @@ mutual
   same_scope_arm scope n Absent p = refl
   same_scope_arm scope n (Present s) p = same_scope scope n s p
 
-holds-append : (xs ys : List ℕ) (n : ℕ) → holds_number (xs ++ ys) n ≡ (holds_number xs n || holds_number ys n)
-holds-append [] ys n = refl
-holds-append (x ∷ xs) ys n = rw (holds-append xs ys n) (or_assoc (x == n) (holds_number xs n) (holds_number ys n))
-  where
-    or_assoc : (a b c : Bool) → (a || (b || c)) ≡ ((a || b) || c)
-    or_assoc true b c = refl
-    or_assoc false b c = refl
-
 mutual
   pub takes : (scope : Scope) (n k : ℕ) (s : Stmt) → holds_number (addresses_by scope n (respawned s)) k ≡ holds_number (addresses_by scope n s) k
   takes scope n k (Block ss) = takes_in scope n k ss
-  takes scope n k (If t a b) = simp (holds-append, same_locals a, takes scope n k a, takes_arm scope (n + declared a) k b) refl
-  takes scope n k (While t s) = simp (holds-append, takes scope n k s) refl
-  takes scope n k (DoWhile s t) = simp (holds-append, takes scope n k s) refl
+  takes scope n k (If t a b) = simp (holds_both, same_locals a, takes scope n k a, takes_arm scope (n + declared a) k b) refl
+  takes scope n k (While t s) = simp (holds_both, takes scope n k s) refl
+  takes scope n k (DoWhile s t) = simp (holds_both, takes scope n k s) refl
   takes scope n k (For first t step s) =
       simp (
-        holds-append,
+        holds_both,
         same_extended_all scope n first,
         same_locals_in first,
         takes_in scope n k first,
@@ -197,7 +190,7 @@ mutual
   takes_in : (scope : Scope) (n k : ℕ) (ss : Stmts) → holds_number (addresses_in scope n (respawned_all ss)) k ≡ holds_number (addresses_in scope n ss) k
   takes_in scope n k NoStmt = refl
   takes_in scope n k (AndStmt s ss) =
-      simp (holds-append, same_extended scope n s, same_locals s, takes scope n k s, takes_in (extended scope n s) (n + declared s) k ss) refl
+      simp (holds_both, same_extended scope n s, same_locals s, takes scope n k s, takes_in (extended scope n s) (n + declared s) k ss) refl
 
   takes_arm : (scope : Scope) (n k : ℕ) (o : MaybeStmt) → holds_number (addresses_arm scope n (respawned_arm o)) k ≡ holds_number (addresses_arm scope n o) k
   takes_arm scope n k Absent = refl

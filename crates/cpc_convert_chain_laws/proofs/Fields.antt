@@ -12,7 +12,7 @@ use Rattle.cpc_meaning.specs.Answer.{Gives}
 use Rattle.cpc_meaning.specs.Eval.{Slot, InCell, place, place_type, value, assigned, moved_within}
 use Rattle.cpc_meaning.specs.Act.{assign}
 use Rattle.cpc_meaning.proofs.Stores.{save_there}
-use Rattle.cpc_convert_chain_laws.specs.Fits.{Fits}
+use Rattle.cpc_meaning.specs.Eval.{Fits}
 use Rattle.cpc_convert_chain_laws.specs.Frames.{Holds, PointsTo, at}
 use Rattle.cpc_convert_chain_laws.proofs.Fits.{read_fits}
 

@@ -1,10 +1,9 @@
 -- What is assigned to a type fits it, and what fits a scalar type is loaded as it is.
 use Rattle.std.proofs.Common.{◌≡◌, ℕ, true, List, slice_get, Some, refl, sym, ◌∙◌, ap}
 use Rattle.cpc_base.specs.Bytes.{Text}
-use Rattle.cpc_num.specs.declared.kinds.Kind.{Kind}
-use Rattle.cpc_num.specs.declared.kinds.Kind.TheVariants.{Char, UChar, Int, UInt, Long, ULong}
+use Rattle.cpc_num.specs.declared.kinds.Kind.TheVariants.{Int}
 use Rattle.cpc_num.specs.Number.{convert, same_kind}
-use Rattle.cpc_num.proofs.KindLemmas.{convert-convert}
+use Rattle.cpc_num.proofs.KindLemmas.{convert-convert, same_kind-refl}
 use Rattle.cpc_tree.specs.Syntax.{Ty, TyVoid, TyInt, TyCondvar, TyPointer, TyCode, TyStruct, TyArray}
 use Rattle.cpc_tree.specs.Typing.{is_scalar}
 use Rattle.cpc_store.specs.declared.values.Class.{Class}
@@ -14,7 +13,8 @@ use Rattle.cpc_store.specs.Store.{Value, Unset, Whole, Null, At, Code, Cond, Sto
 use Rattle.cpc_meaning.specs.Answer.{Gives, of_result}
 use Rattle.cpc_meaning.specs.Layout.{scalar_of}
 use Rattle.cpc_meaning.specs.Eval.{Slot, assigned, InCell, read}
-use Rattle.cpc_convert_chain_laws.specs.Fits.{Fits}
+use Rattle.cpc_meaning.specs.Eval.{Fits}
+use Rattle.cpc_meaning.proofs.Scalars.{scalar_there}
 
 -- what is assigned fits
 pub assigned_fits : (t : Ty) (v w : Value) → assigned t v ≡ Gives w → Fits t w
@@ -31,21 +31,13 @@ assigned_fits (TyCode r ps) (Code g) w e = let f : Code g ≡ w = cc in ap (λ u
 assigned_fits TyCondvar (Cond n) w e = let f : Cond n ≡ w = cc in ap (λ u. assigned TyCondvar u) (sym f) ∙ ap Gives f
 assigned_fits _ _ w e = absurd (cc)
 
-same_itself : (k : Kind) → same_kind k k ≡ true
-same_itself Char = refl
-same_itself UChar = refl
-same_itself Int = refl
-same_itself UInt = refl
-same_itself Long = refl
-same_itself ULong = refl
-
 -- what fits a scalar type suits its cell
 pub fits_suits : (t : Ty) (x : Scalar) (v : Value) → scalar_of t ≡ Some x → Fits t v → suits x v ≡ true
 fits_suits t x Unset e f = refl
 fits_suits (TyInt kind) x (Whole j z) e f =
     let a : Sc.Int kind ≡ x = cc in
     let b : kind ≡ j = cc in
-    ap (λ y. suits {C = Text} y (Whole j z)) (sym a) ∙ ap (λ k. same_kind kind k) (sym b) ∙ same_itself kind
+    ap (λ y. suits {C = Text} y (Whole j z)) (sym a) ∙ ap (λ k. same_kind kind k) (sym b) ∙ same_kind-refl kind
 fits_suits (TyPointer t) x Null e f = let a : Sc.Pointer ≡ x = cc in ap (λ y. suits {C = Text} y Null) (sym a)
 fits_suits (TyPointer t) x (At c n k) e f = let a : Sc.Pointer ≡ x = cc in ap (λ y. suits {C = Text} y (At c n k)) (sym a)
 fits_suits (TyCode r ps) x Null e f = let a : Sc.Code ≡ x = cc in ap (λ y. suits {C = Text} y Null) (sym a)
@@ -72,16 +64,6 @@ fits_suits TyVoid x (Code g) e f = absurd (cc)
 fits_suits TyVoid x (Cond n) e f = absurd (cc)
 fits_suits (TyStruct tag) x v e f = absurd (cc)
 fits_suits (TyArray t m) x v e f = absurd (cc)
-
--- a scalar type has one cell
-pub scalar_there : (t : Ty) → is_scalar t ≡ true → (x : Scalar) × (scalar_of t ≡ Some x)
-scalar_there (TyInt kind) e = (Sc.Int kind, refl)
-scalar_there TyCondvar e = (Sc.Cond, refl)
-scalar_there (TyPointer t) e = (Sc.Pointer, refl)
-scalar_there (TyCode r ps) e = (Sc.Code, refl)
-scalar_there TyVoid e = absurd (cc)
-scalar_there (TyStruct tag) e = absurd (cc)
-scalar_there (TyArray t m) e = absurd (cc)
 
 read_cell : (t : Ty) (x : Scalar) (slots : List Slot) (s : Store) (c : Class) (n k : ℕ) → scalar_of t ≡ Some x → read slots s (Some t) (InCell c n k) ≡ of_result (load x c n k s)
 read_cell (TyInt kind) x slots s c n k e = let f : Sc.Int kind ≡ x = cc in ap (λ y. of_result (load y c n k s)) f

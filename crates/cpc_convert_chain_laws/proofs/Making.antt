@@ -43,10 +43,6 @@ pub length_one : (done : List Value) (v : Value) → length (done ++ v ∷ []) �
 length_one [] v = refl
 length_one (x ∷ done) v = ap suc (length_one done v)
 
-append_none : (done : List Value) → done ++ [] ≡ done
-append_none [] = refl
-append_none (x ∷ done) = ap (λ xs. x ∷ xs) (append_none done)
-
 -- a variable in another slot than the one that is set
 pub holds_set : (q : Program) (scope : Scope) (slots : List Slot) (x : Text) (t : Ty) (v : Value) (i : ℕ) (new : Slot) → (h : Holds q scope slots x t v) → ¬ (i ≡ h.slot) → Holds q scope (slice_set slots i new) x t v
 holds_set q scope slots x t v i new h other = record { slot = h.slot; is_local = h.is_local; is_slot = get_other slots i h.slot new other ∙ h.is_slot }

@@ -1,13 +1,12 @@
 -- Pieces: they are called with registers alone, and they give a pointer to the driver, which goes on.
 use Rattle.std.proofs.Common.{◌≡◌, ◌+◌, ◌≤◌, ℕ, zero, suc, true, not, ◌&&◌, List, [], ◌∷◌, ◌++◌, length, map, Some, refl, ◌∙◌, ap, arith}
 use Rattle.cpc_base.specs.Bytes.{Text}
-use Rattle.cpc_base.proofs.Truth.{and_both}
 use Rattle.cpc_num.specs.declared.kinds.Kind.TheVariants.{Int}
 use Rattle.cpc_tree.specs.Syntax.{TyInt, Expr, Return, Stmts, AndStmt, Variable, Function, Program}
 use Rattle.cpc_tree.specs.Typing.{Scope, function_named, is_scalar}
 use Rattle.cpc_tree.specs.Lists.{rest_of, holds_number}
 use Rattle.cpc_tree.specs.Points.{Point, Simple}
-use Rattle.cpc_tree.specs.Registers.{variables, is_register, addressed}
+use Rattle.cpc_tree.specs.Registers.{variables, addressed}
 use Rattle.cpc_store.specs.declared.values.Class.TheVariants.{Frame}
 use Rattle.cpc_store.specs.Store.{Value, Unset, Null, At, Store}
 use Rattle.cpc_meaning.specs.Answer.{Gives}
@@ -20,6 +19,7 @@ use Rattle.cpc_convert_chain_laws.specs.Chains.{Saved, frame_cells, Top}
 use Rattle.cpc_convert_chain_laws.specs.Flat.{LineAt}
 use Rattle.cpc_convert_chain_laws.specs.Frames.{at, register_slots, AreRegisters, NoneAre, AndRegister, Scalars, NoScalars, AndScalar, blank}
 use Rattle.cpc_meaning.proofs.Stores.{save_there}
+use Rattle.cpc_meaning.proofs.Functions.{scalar_size, register_scalar}
 use Rattle.cpc_store.proofs.CellLemmas.{store_cells-save}
 use Rattle.cpc_meaning_laws.specs.Cell.Cells.{call_cells}
 use Rattle.cpc_meaning_laws.proofs.Cell.Calls.{call_takes, leaving_gives_back}
@@ -29,14 +29,10 @@ use Rattle.cpc_convert_chain_laws.proofs.AtLine.{line_path, line_found, line_sco
 use Rattle.cpc_convert_chain_laws.proofs.Steps.{step_returns}
 use Rattle.cpc_convert_chain_laws.proofs.Walks.{rise_one, rise_cons, level_cons, walk_one, walk_cons}
 use Rattle.cpc_convert_chain_laws.proofs.Fits.{assigned_fits}
-use Rattle.cpc_convert_chain_laws.proofs.Structs.{scalar_size}
 use Rattle.cpc_convert_chain_laws.proofs.Chains.{chain_patched}
 use Rattle.cpc_convert_chain_laws.proofs.Driver.{drive_taken, drive_declares, drive_writes, drive_tests, drive_calls, drive_arrives, drive_stops, drive_ends}
 
 -- ---- calls of functions whose variables are registers
-
-register_scalar : (f : Function) (n : ℕ) (x : Variable) → is_register f n x ≡ true → is_scalar x.type ≡ true
-register_scalar f n x e = (and_both (is_scalar x.type) (not (holds_number (addressed f) n)) e).0
 
 make_registers : (q : Program) (f : Function) (n : ℕ) (xs : List Variable) (vs : List Value) (s : Store) → AreRegisters f n xs → make_slots q f n xs vs s ≡ Gives (register_slots (length xs) vs, s)
 make_registers q f _ _ vs s (NoneAre n) = refl

@@ -4,7 +4,7 @@ use Rattle.std.proofs.lemmas.List.{reverse-append}
 use Rattle.cpc_base.specs.Bytes.{Text}
 use Rattle.cpc_tree.specs.Syntax.{Ty, TyVoid, TyInt, TyCondvar, TyPointer, TyCode, TyStruct, TyArray, Item, StructItem, GlobalItem, PrototypeItem, FunctionItem, Variable, Program}
 use Rattle.cpc_tree.specs.Typing.{Cells, cells_in, fields_cells, struct_cells, cells, size, is_scalar, fields_in, fields, field_from, field, both, ◌>>=◌}
-use Rattle.cpc_meaning.proofs.Functions.{text_same}
+use Rattle.cpc_meaning.proofs.Functions.{text_same, scalar_size}
 use Rattle.cpc_convert_chain_laws.specs.Structs.{NoStruct, NoneHere, NotThis, NotCalled, NoneSo, NotSo, ScalarFields, NoFields, AndField, IsStruct}
 
 -- ---- items
@@ -42,7 +42,7 @@ reverse_at x xs ys =
 
 -- ---- scalar fields
 
-scalar_cells : (tags : Text → Cells) (t : Ty) → is_scalar t ≡ true → cells_in tags t ≡ Some (t ∷ [])
+pub scalar_cells : (tags : Text → Cells) (t : Ty) → is_scalar t ≡ true → cells_in tags t ≡ Some (t ∷ [])
 scalar_cells tags (TyInt kind) e = refl
 scalar_cells tags TyCondvar e = refl
 scalar_cells tags (TyPointer t) e = refl
@@ -51,11 +51,7 @@ scalar_cells tags TyVoid e = absurd (cc)
 scalar_cells tags (TyStruct tag) e = absurd (cc)
 scalar_cells tags (TyArray t n) e = absurd (cc)
 
--- a scalar type has one cell
-pub scalar_size : (q : Program) (t : Ty) → is_scalar t ≡ true → size q t ≡ Some 1
-scalar_size q t e = ap (λ o. o >>= λ xs. Some (length xs)) (scalar_cells (struct_cells (reverse q)) t e)
-
-abbrev type_of : Variable → Ty
+abbrev pub type_of : Variable → Ty
 type_of v = v.type
 
 all_cells : (tags : Text → Cells) (fs : List Variable) → ScalarFields fs → fields_cells tags fs ≡ Some (map type_of fs)

@@ -1,6 +1,7 @@
 -- A frame is taken up: its fields are loaded into locals, one declaration for each.
 use Rattle.std.proofs.Common.{◌≡◌, ℕ, zero, suc, ◌+◌, false, cond, List, [], ◌∷◌, ◌++◌, length, map, slice_get, slice_set, bytes_eq, Some, refl, sym, ◌∙◌, ap, subst, arith}
 use Rattle.cpc_base.specs.Bytes.{Text}
+use Rattle.cpc_base.proofs.Lists.{append_empty}
 use Rattle.cpc_tree.specs.Syntax.{Ty, TyPointer, TyStruct, Expr, ENamed, EArrow, Declare, Stmts, AndStmt, Function, Program}
 use Rattle.cpc_tree.specs.Typing.{Scope, ALocal, named, function_named}
 use Rattle.cpc_tree.specs.Points.{Point}
@@ -42,10 +43,6 @@ pub slots_length : (done : List Slot) (x : Slot) → length (done ++ x ∷ []) �
 slots_length [] x = refl
 slots_length (y ∷ done) x = ap suc (slots_length done x)
 
-pub slots_none : (done : List Slot) → done ++ [] ≡ done
-slots_none [] = refl
-slots_none (y ∷ done) = ap (λ xs. y ∷ xs) (slots_none done)
-
 -- a name is not hidden by a variable of another name
 pub not_hidden : (q : Program) (scope : Scope) (x e : Text) (t u : Ty) (n i : ℕ) → bytes_eq x e ≡ false → named q scope e ≡ ALocal i u → named q (record { called = x; type = t; slot = n } ∷ scope) e ≡ ALocal i u
 not_hidden q scope x e t u n i d is = ap (λ b. cond b (ALocal n t) (named q scope e)) d ∙ is
@@ -76,7 +73,7 @@ module _ (q : Program) (w : World) (fn : Text) (g : Function) (body : Stmts) (be
       (at_line w fn below (k + length ls) rest ((done ++ map Register vs) ++ more) s)
   loads_walk tag e b cells live k scope n rest done more i _ _ len is_e is_slot NoLoading st =
       let start = at_line w fn below k rest (done ++ more) s in
-      subst (λ xs. Rise q w.trace 0 0 start (at_line w fn below (k + 0) rest (xs ++ more) s)) (sym (slots_none done))
+      subst (λ xs. Rise q w.trace 0 0 start (at_line w fn below (k + 0) rest (xs ++ more) s)) (sym (append_empty done))
       (subst (λ j. Rise q w.trace 0 0 start (at_line w fn below j rest (done ++ more) s)) (let z : k ≡ k + 0 = omega arith in z) (stay _))
   loads_walk tag e b cells live k scope n rest done more i _ _ len is_e is_slot (AndLoading l t j v ls vs apart is_field sc is_cell fits fits' others) st =
       let left = before (map (loads_one e) ls) rest in

@@ -11,7 +11,7 @@ use Rattle.cpc_store.specs.Store.{Value, Unset, Whole, At, Store}
 use Rattle.cpc_meaning.specs.Answer.{Gives}
 use Rattle.cpc_meaning.specs.Eval.{Slot, Register, Boxed, value}
 use Rattle.cpc_meaning.specs.Slots.{make_slots}
-use Rattle.cpc_convert_chain_laws.specs.Fits.{Fits}
+use Rattle.cpc_meaning.specs.Eval.{Fits}
 use Rattle.cpc_convert_chain_laws.specs.Frames.{Holds, at}
 
 -- `x = rt_box(size);`

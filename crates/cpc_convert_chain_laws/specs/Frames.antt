@@ -10,7 +10,7 @@ use Rattle.cpc_store.specs.Store.{Value, Unset, At, Store, alloc}
 use Rattle.cpc_num.specs.declared.kinds.Fault.{Fault}
 use Rattle.cpc_meaning.specs.Answer.{Gives, Faults}
 use Rattle.cpc_meaning.specs.Eval.{Slot, Register, Context, value, assigned}
-use Rattle.cpc_convert_chain_laws.specs.Fits.{Fits}
+use Rattle.cpc_meaning.specs.Eval.{Fits}
 use Rattle.cpc_convert_chain_laws.specs.Flat.{before}
 
 -- ---- a frame is made

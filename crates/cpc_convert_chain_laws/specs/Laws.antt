@@ -15,7 +15,7 @@ use Rattle.cpc_meaning.specs.Eval.{Slot, assigned, InCell, read}
 use Rattle.cpc_meaning.specs.Machine.{next}
 use Rattle.cpc_meaning.specs.Events.{callbacks}
 use Rattle.cpc_convert_chain_laws.specs.Chains.{Saved, frame_cells, count, lives, Chain, Top, Chains, Owns}
-use Rattle.cpc_convert_chain_laws.specs.Fits.{Fits}
+use Rattle.cpc_meaning.specs.Eval.{Fits}
 use Rattle.cpc_convert_chain_laws.specs.Structs.{NoStruct, ScalarFields, IsStruct}
 use Rattle.cpc_convert_chain_laws.specs.Flat.{point_at, dropped, bare, standing, onward, is_test, arm, label_in, Stands, LineAt}
 use Rattle.cpc_convert_chain_laws.specs.Walks.{Here as State, Quiet, Walk}

@@ -1,6 +1,5 @@
 -- What is written is the event program.
 use Rattle.std.proofs.Common.{◌≡◌, List, [], ◌∷◌, ◌++◌, map, get_or, All, append_assoc, refl, sym, ap, subst, ◌∙◌}
-use Rattle.std.proofs.lemmas.List.{append-nil}
 use Rattle.std.proofs.lemmas.Simd.{map-map}
 use Rattle.std.proofs.Math.ListN.{get_or-append}
 use Rattle.std.proofs.Math.Logic.{∥∥₁_elim}
@@ -76,9 +75,6 @@ module _ (l : LiftedProgram) (from to : Names) (b : Book) (is : map (λ (c : Cal
   }
 
 -- ---- names
-
-pub grown_none : (a : Table) → HasGrown a a
-grown_none a = record { more = []; is = sym (append-nil a) }
 
 -- a name of the first table means the same in one that has grown
 spells_first : (a b : Table) → HasGrown a b → Spells a (in_table b)

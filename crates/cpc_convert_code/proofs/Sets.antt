@@ -1,26 +1,19 @@
 -- Programs are a set: any two proofs of one equation of programs are equal. Types, expressions and statements are each a copy of one type, of which this is
 -- derived.
-use Rattle.std.proofs.Common.{◌≡◌, ℕ, ℤ, pos, Option, refl, sym, ◌∙◌, ap}
+use Rattle.std.proofs.Common.{◌≡◌, ℕ, ℤ, pos, Option, refl, ap}
 use Rattle.std.proofs.Math.Nat.{ℕ_set}
 use Rattle.std.proofs.Math.IntN.{ℤ_set}
 use Rattle.std.proofs.Props.{props}
-use mathlib.Core.HLevel.{collapsible→set}
 use Rattle.cpc_base.specs.Bytes.{Text}
+use Rattle.cpc_base.proofs.Sets.{retract_set}
 use Rattle.cpc_num.specs.declared.kinds.Kind.{Kind}
 use Rattle.cpc_num.specs.declared.kinds.Op.{Op}
+use Rattle.cpc_num.proofs.KindSets.{kind_set}
 use Rattle.cpc_tree.specs.declared.program.UnaryOp.{UnaryOp}
 use Rattle.cpc_tree.specs.Syntax.{Ty, TyVoid, TyInt, TyCondvar, TyPointer, TyCode, TyStruct, TyArray, Tys, NoTy, AndTy}
 use Rattle.cpc_tree.specs.Syntax.{Expr, ENamed, EInteger, ECharacter, EText, EUnary, EBinary, EAnd, EOr, EChoose, ECast, ESizeOf, EIndex, EMember, EArrow, ECall, Exprs, NoExpr, AndExpr}
 use Rattle.cpc_tree.specs.Syntax.{Stmt, Block, Empty, Declare, Assign, Call, Detach, Spawn, If, While, DoWhile, For, Goto, Label, Break, Continue, Return, Stmts, NoStmt, AndStmt, MaybeStmt, Absent, Present}
 use Rattle.cpc_tree.specs.Syntax.{Item, Program}
-
--- a type that maps into a set and back is a set
-retract_set : {A B : Type 0} (to : A → B) (from : B → A) → ((x : A) → from (to x) ≡ x) → IsSet B → IsSet A
-retract_set to from back set = collapsible→set (λ x y p. sym (back x) ∙ (ap from (ap to p) ∙ back y))
-    (λ x y p q. ap (λ z. sym (back x) ∙ (ap from z ∙ back y)) (set (to x) (to y) (ap to p) (ap to q)))
-
-kind_set : IsSet Kind
-kind_set = hlevel props
 
 op_set : IsSet Op
 op_set = hlevel props

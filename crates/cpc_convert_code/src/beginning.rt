@@ -19,7 +19,7 @@ use cpc_convert_names::{Book, Called};
 use std::alloc::Global;
 
 // Whether a name is `main`. A name that the table does not have is not.
-#[tactic(auto, using(crate::proofs::Naming::bytes_there, crate::proofs::Naming::bytes_absent))]
+#[tactic(auto, using(cpc_convert_names::proofs::Growing::bytes_there, cpc_convert_names::proofs::Growing::bytes_absent))]
 fn is_named_main(names: &Names, name: Name) -> bool
     ensures { result ≡ bytes_eq (in_table names.now name) main_name }
 {

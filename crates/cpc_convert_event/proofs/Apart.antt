@@ -2,7 +2,7 @@
 use Rattle.std.proofs.Common.{◌≡◌, ℕ, ◌<◌, ◌^◌, [], ◌++◌, get_or, decimal, refl, ap, codes, arith}
 use Rattle.cpc_base.specs.Bytes.{Text}
 use Rattle.cpc_convert.specs.Converted.{marked, spawner_name}
-use Rattle.cpc_convert.proofs.Marks.{NoUnderscore, decimal_is}
+use Rattle.cpc_convert.proofs.Marks.{NoUnderscore, decimal_is, no_bar_of}
 use Rattle.cpc_forms.specs.Flow.{Place, Start, At}
 use Rattle.cpc_convert_chain_laws.specs.Driver.{drive_name, frame_tag}
 use Rattle.cpc_convert_event.specs.Names.{start_name, leader_name, piece_name, value_tag, box_tag}
@@ -35,18 +35,12 @@ frame_is = refl
 pub driver_is : drive_name ≡ marked (codes "drive") (codes "")
 driver_is = refl
 
-pub no_underscore : (d : Text) → (get_or d 0 0 ≡ 95 → ⊥) → NoUnderscore d
-no_underscore d h = record { none = λ e k. h (ap (λ x. get_or x 0 0) k) }
-
 pub no_underscore_behind : (l : Place) → NoUnderscore (behind l)
-no_underscore_behind Start = no_underscore _ (λ k. absurd (omega arith))
-no_underscore_behind (At n) = no_underscore _ (λ k. absurd (omega arith))
-
-pub no_bar_spawn : NoUnderscore (codes "spawn")
-no_bar_spawn = no_underscore _ (λ k. absurd (omega arith))
+no_underscore_behind Start = no_bar_of _ (λ k. absurd (omega arith))
+no_underscore_behind (At n) = no_bar_of _ (λ k. absurd (omega arith))
 
 pub no_bar_nothing : NoUnderscore (codes "")
-no_bar_nothing = no_underscore _ (λ k. absurd (omega arith))
+no_bar_nothing = no_bar_of _ (λ k. absurd (omega arith))
 
 -- texts with different bytes at one place are apart
 pub differ_at : (i : ℕ) (x y : Text) → (get_or x i 0 ≡ get_or y i 0 → ⊥) → x ≡ y → ⊥

@@ -10,6 +10,7 @@ use Rattle.cpc_tree.specs.Typing.{Scope, ALocal, named, is_scalar, size, field}
 use Rattle.cpc_store.specs.Store.{Value, Whole, Store}
 use Rattle.cpc_meaning.specs.Answer.{Gives}
 use Rattle.cpc_meaning.specs.Eval.{Slot, value}
+use Rattle.cpc_meaning.proofs.Functions.{scalar_size}
 use Rattle.cpc_convert.specs.Members.{Has, OnTop, Below}
 use Rattle.cpc_forms.specs.Flow.{Start}
 use Rattle.cpc_lift_laws.specs.Boxes.{is_box, is_box_in, has_block}
@@ -19,9 +20,8 @@ use Rattle.cpc_convert_image_laws.specs.Locals.{local_type}
 use Rattle.cpc_convert_image_laws.specs.Relations.{Less, AsIs, Untold}
 use Rattle.cpc_convert_chain_laws.specs.Boxes.{boxes_one, Boxing, NoBoxing, PassRegister, BoxLocal, BoxParameter}
 use Rattle.cpc_convert_chain_laws.specs.Chains.{frame_cells}
-use Rattle.cpc_convert_chain_laws.specs.Fits.{Fits}
+use Rattle.cpc_meaning.specs.Eval.{Fits}
 use Rattle.cpc_convert_chain_laws.specs.Frames.{at}
-use Rattle.cpc_convert_chain_laws.proofs.Structs.{scalar_size}
 use Rattle.cpc_convert_event.specs.Names.{piece_name, frame_name, variable_name, box_tag}
 use Rattle.cpc_convert_event.specs.Routines.{Routine, routine_of, is_plain, variable_of, variable_or, local_of, passed_from, passed, variable_if, is_parameter}
 use Rattle.cpc_convert_event.specs.Pieces.{box_lines, fills_if, boxing_lines, boxing_of}
@@ -38,7 +38,7 @@ use Rattle.cpc_convert_event.proofs.Locals.{meant, box_stands, locals_count, cou
 use Rattle.cpc_convert_event.proofs.Filling.{passed_at}
 
 -- a number that is held stands in the list
-held_has : (ks : List ℕ) (k : ℕ) → holds_number ks k ≡ true → Has k ks
+pub held_has : (ks : List ℕ) (k : ℕ) → holds_number ks k ≡ true → Has k ks
 held_has [] k h = absurd (cc)
 held_has (j ∷ ks) k h = go (j == k) refl h (λ i. held_has ks k i)
   where
@@ -47,7 +47,7 @@ held_has (j ∷ ks) k h = go (j == k) refl h (λ i. held_has ks k i)
     go false e i deeper = Below k j ks (deeper i)
 
 -- the size of a type that is complete
-size_known : {A : Type 0} (a b : Option A) (x : A) → Less a b → a ≡ Some x → b ≡ Some x
+pub size_known : {A : Type 0} (a b : Option A) (x : A) → Less a b → a ≡ Some x → b ≡ Some x
 size_known _ _ x (AsIs o) e = e
 size_known _ _ x (Untold o) e = absurd (cc)
 

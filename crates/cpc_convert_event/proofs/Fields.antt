@@ -26,7 +26,7 @@ use Rattle.cpc_convert_event.specs.NameLaws.{IsNamed, IsCps}
 
 -- ---- names
 
-variable_is : (k : ℕ) (x : Text) → variable_name k x ≡ marked x (decimal k)
+pub variable_is : (k : ℕ) (x : Text) → variable_name k x ≡ marked x (decimal k)
 unfolding variable_name
 variable_is k x = refl
 

@@ -15,7 +15,7 @@ use Rattle.cpc_forms.specs.Flow.{Place, Start, At}
 use Rattle.cpc_convert_image_laws.specs.Locals.{local_type}
 use Rattle.cpc_convert_chain_laws.specs.Chains.{frame_cells}
 use Rattle.cpc_convert_chain_laws.specs.Driver.{any_pointer, head_fields}
-use Rattle.cpc_convert_chain_laws.specs.Fits.{Fits}
+use Rattle.cpc_meaning.specs.Eval.{Fits}
 use Rattle.cpc_convert_chain_laws.specs.Frames.{Saving, NoSaving, AndSaving, Load, Loading, NoLoading, AndLoading, Scalars, AndScalar}
 use Rattle.cpc_convert_chain_laws.specs.Structs.{IsStruct}
 use Rattle.cpc_convert_event.specs.Names.{piece_name, value_tag, frame_name, variable_name, box_tag}
@@ -48,7 +48,7 @@ below_fits false f v e = e
 -- ---- fields
 
 -- the fields of these variables, the first of which is at this offset
-abbrev FieldsFrom : Program → Text → ℕ → List Variable → Type 0
+abbrev pub FieldsFrom : Program → Text → ℕ → List Variable → Type 0
 FieldsFrom q tag base xs = (i : ℕ) (x : Variable) → slice_get xs i ≡ Some x → field q tag x.called ≡ Some (base + i, x.type)
 
 fields_later : (q : Program) (tag : Text) (base : ℕ) (x : Variable) (xs : List Variable) → FieldsFrom q tag base (x ∷ xs) → FieldsFrom q tag (suc base) xs
@@ -63,7 +63,7 @@ struct_fields q tag t xs s i x e = s.field (suc (suc (suc i))) x e ∙ ap (λ n.
 
 -- ---- saves and loads
 
-saving_from : (q : Program) (scope : Scope) (slots : List Slot) (tag : Text) (base : ℕ) (xs : List Variable) (vs : List Value) → FieldsFrom q tag base xs → AllHold q scope slots xs vs → Saving q scope slots tag base (map save_of xs) vs
+pub saving_from : (q : Program) (scope : Scope) (slots : List Slot) (tag : Text) (base : ℕ) (xs : List Variable) (vs : List Value) → FieldsFrom q tag base xs → AllHold q scope slots xs vs → Saving q scope slots tag base (map save_of xs) vs
 saving_from q scope slots tag base _ _ fs NoneHold = NoSaving base
 saving_from q scope slots tag base _ _ fs (OneHolds x v xs vs h fits more) =
     AndSaving base (save_of x) x.type x.type v (map save_of xs) vs (first_field q tag base x xs fs) h fits (saving_from q scope slots tag (suc base) xs vs (fields_later q tag base x xs fs) more)

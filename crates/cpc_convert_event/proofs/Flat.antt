@@ -13,6 +13,7 @@ use Rattle.cpc_convert_chain_laws.proofs.Lines.{line_flat}
 use Rattle.cpc_convert_chain_laws.proofs.Scopes.{all_lines, past_lines, lines_flat}
 use Rattle.cpc_convert_chain_laws.proofs.Taking.{past_loads}
 use Rattle.cpc_convert_chain_laws.proofs.Prologue.{past_declares}
+use Rattle.cpc_convert_chain_laws.proofs.Rows.{before_append}
 use Rattle.cpc_convert_event.specs.Names.{piece_name, pointer_name, frame_name}
 use Rattle.cpc_convert_event.specs.Routines.{Routine, variable_of}
 use Rattle.cpc_convert_event.specs.Rows.{piece_statements}
@@ -36,7 +37,7 @@ boxes_done r (At n) = tt
 
 -- ---- rows of statements
 
-all_true : (ss : List Stmt) → AreLines ss → all_lines ss ≡ true
+pub all_true : (ss : List Stmt) → AreLines ss → all_lines ss ≡ true
 all_true [] h = refl
 all_true (s ∷ ss) h = and_holds (is_line s) (all_lines ss) h.0 (all_true ss h.1)
 
@@ -51,10 +52,6 @@ flat_before (s ∷ ss) rest h e = and_holds (is_flat s) (are_flat (before ss res
 flat_map : {X : Type 0} (f : X → Stmt) → ((x : X) → is_flat (f x) ≡ true) → (xs : List X) (rest : Stmts) → are_flat rest ≡ true → are_flat (before (map f xs) rest) ≡ true
 flat_map f h [] rest e = e
 flat_map f h (x ∷ xs) rest e = and_holds (is_flat (f x)) (are_flat (before (map f xs) rest)) (h x) (flat_map f h xs rest e)
-
-pub before_append : (xs ys : List Stmt) (rest : Stmts) → before (xs ++ ys) rest ≡ before xs (before ys rest)
-before_append [] ys rest = refl
-before_append (x ∷ xs) ys rest = ap (AndStmt x) (before_append xs ys rest)
 
 front_lines : (xs ys : List Stmt) → AreLines (xs ++ ys) → AreLines xs
 front_lines [] ys h = tt

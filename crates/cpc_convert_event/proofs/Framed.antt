@@ -8,7 +8,7 @@ use Rattle.cpc_meaning.specs.Threads.{is_cps_mode}
 use Rattle.cpc_convert.specs.Marks.{has_marks}
 use Rattle.cpc_convert.specs.Converted.{marked}
 use Rattle.cpc_convert.specs.Members.{Has, OnTop, Below}
-use Rattle.cpc_convert.proofs.Marks.{NoUnderscore, marked_is, decimal_is}
+use Rattle.cpc_convert.proofs.Marks.{NoUnderscore, marked_is, decimal_is, no_bar_of}
 use Rattle.cpc_convert.proofs.Members.{has_left, has_right, has_either}
 use Rattle.cpc_tree.specs.Lists.{holds_number}
 use Rattle.cpc_lift_laws.specs.Lift.{boxes}
@@ -21,7 +21,7 @@ use Rattle.cpc_convert_event.specs.Routines.{routine_of}
 use Rattle.cpc_convert_event.specs.Frames.{any_frame, value_struct, value_struct_if, start_struct, leader_struct, structs_of, box_of, boxes_of}
 use Rattle.cpc_convert_event.specs.Converted.{routine_if, routines_in, all_structs, all_boxes}
 use Rattle.cpc_convert_event.specs.NameLaws.{IsNamed, IsCps}
-use Rattle.cpc_convert_event.proofs.Apart.{behind, piece_is, value_is, box_is, frame_is, no_underscore, differ_at, no_underscore_behind, no_bar_nothing, piece_nothing, Small, StartIsSmall, NumberIsSmall, behind_is}
+use Rattle.cpc_convert_event.proofs.Apart.{behind, piece_is, value_is, box_is, frame_is, differ_at, no_underscore_behind, no_bar_nothing, piece_nothing, Small, StartIsSmall, NumberIsSmall, behind_is}
 use Rattle.cpc_convert_event.proofs.Made.{Mapped, OfNumber, map_has, has_map}
 
 -- a struct that is made
@@ -128,8 +128,8 @@ abbrev pub tag_of : Item → Text
 tag_of (StructItem tag fs) = tag
 tag_of item = []
 
-no_bar_box : (k : ℕ) → NoUnderscore (codes "box" ++ decimal k)
-no_bar_box k = no_underscore _ (λ e. absurd (omega arith))
+pub no_bar_box : (k : ℕ) → NoUnderscore (codes "box" ++ decimal k)
+no_bar_box k = no_bar_of _ (λ e. absurd (omega arith))
 
 box_nothing : (k : ℕ) → codes "box" ++ decimal k ≡ codes "" → ⊥
 box_nothing k e = differ_at 0 (codes "box" ++ decimal k) [] (λ i. absurd (omega arith)) e
@@ -142,17 +142,17 @@ box_piece k Start e = differ_at 0 (codes "box" ++ decimal k) (codes "start") (λ
 box_piece k (At n) e = differ_at 0 (codes "box" ++ decimal k) (codes "at" ++ decimal n) (λ i. absurd (omega arith)) e
 
 -- a number of a list is held by it
-held : (k : ℕ) (ks : List ℕ) → Has k ks → holds_number ks k ≡ true
+pub held : (k : ℕ) (ks : List ℕ) → Has k ks → holds_number ks k ≡ true
 held k _ (OnTop _ ks) = ap (λ b. b || holds_number ks k) (eq_reflexive k)
 held k _ (Below _ j ks h) = or_by_second (j == k) (holds_number ks k) (held k ks h)
 
 no_bar_value : NoUnderscore (codes "value")
-no_bar_value = no_underscore _ (λ k. absurd (omega arith))
+no_bar_value = no_bar_of _ (λ k. absurd (omega arith))
 
 value_nothing : codes "value" ≡ codes "" → ⊥
 value_nothing k = differ_at 0 (codes "value") [] (λ e. absurd (omega arith)) k
 
-value_piece : (l : Place) → codes "value" ≡ behind l → ⊥
+pub value_piece : (l : Place) → codes "value" ≡ behind l → ⊥
 value_piece Start k = differ_at 0 (codes "value") (codes "start") (λ e. absurd (omega arith)) k
 value_piece (At n) k = differ_at 0 (codes "value") (codes "at" ++ decimal n) (λ e. absurd (omega arith)) k
 

@@ -7,17 +7,20 @@ use Rattle.cpc_base.proofs.Truth.{eq_reflexive, and_both, or_by_second, false_un
 use Rattle.cpc_base.proofs.Lists.{length_of_map}
 use Rattle.cpc_tree.specs.Lists.{holds_number}
 use Rattle.cpc_tree.specs.Syntax.{TyPointer, TyStruct, ENamed, Stmt, Block, Empty, Declare, Assign, Call, Detach, Spawn, If, While, DoWhile, For, Goto, Label, Break, Continue, Return, Stmts, NoStmt, AndStmt, Function, Program}
+use Rattle.cpc_tree.proofs.Holding.{holds_both}
 use Rattle.cpc_meaning.proofs.Functions.{text_same, texts_differ}
 use Rattle.cpc_convert.specs.Converted.{marked}
 use Rattle.cpc_convert.proofs.Marks.{decimal_is}
 use Rattle.cpc_forms.specs.Graph.{graph_of}
 use Rattle.cpc_forms.specs.Flow.{Place, Flow, flow_of, is_leader}
-use Rattle.cpc_forms.specs.Split.{Split, number_if, owners_from, leaders_from}
+use Rattle.cpc_forms.specs.Split.{Split, number_if, leaders_from}
 use Rattle.cpc_forms.specs.Pieces.{is_owned_by, owned_from, without, fronted, first_of, piece_nodes, Once, NoNumber, AndOther}
+use Rattle.cpc_forms.proofs.Owners.{owners_long}
 use Rattle.cpc_graph_laws.proofs.Owning.{pieces_hold_once}
 use Rattle.cpc_convert_chain_laws.specs.Flat.{before, has_label, label_in}
 use Rattle.cpc_convert_chain_laws.specs.Frames.{loads_one, declares_one, frees_frame}
 use Rattle.cpc_convert_chain_laws.proofs.Labels.{NoLabel, NoneLeft, NotHere, label_behind, label_first}
+use Rattle.cpc_convert_chain_laws.proofs.Rows.{before_append}
 use Rattle.cpc_convert_event.specs.Names.{piece_name, node_label, pointer_name, frame_name}
 use Rattle.cpc_convert_event.specs.Routines.{Routine, routine_of, chosen}
 use Rattle.cpc_convert_event.specs.Rows.{owner_at, is_own, has_row, turned, rows_nodes, reached, stubs_of, Row, row_of, falls, number_where, stub_behind, numbers_from, numbers_of, rows_of, Put, first_number, PutRow, put_rows, put_statement, is_wanted, label_if, row_statements, rows_statements, piece_statements}
@@ -25,8 +28,8 @@ use Rattle.cpc_convert_event.specs.Pieces.{loads_of, declares_of, boxing_of, pie
 use Rattle.cpc_convert_event.specs.FlatLaws.{opening}
 use Rattle.cpc_convert_event.specs.LabelLaws.{put_in, AllRowsStandOnce, LabelsLead}
 use Rattle.cpc_convert_event.proofs.Lines.{is_bare, AreBare, AllRows, rows_map, lines_done, puts_done}
-use Rattle.cpc_convert_event.proofs.Flat.{boxes_done, before_append}
-use Rattle.cpc_convert_event.proofs.Numbers.{held_append, held_either, not_in_append, once_append, chosen_is, chosen_has, chosen_out, once_chosen, Rises, NoneRise, OneRise, rises_lower, rises_once}
+use Rattle.cpc_convert_event.proofs.Flat.{boxes_done}
+use Rattle.cpc_convert_event.proofs.Numbers.{held_either, not_in_append, once_append, chosen_is, chosen_has, chosen_out, once_chosen, Rises, NoneRise, OneRise, rises_lower, rises_once}
 
 -- ---- nodes and leaders of a piece
 
@@ -61,7 +64,7 @@ without_is m (k ∷ ns) n h = go (not (k == m)) h (λ i. without_is m ns n i)
         first false j deeper = deeper j
     go false i deeper = or_by_second (k == n) (holds_number ns n) (deeper i)
 
-fronted_is : (m : ℕ) (ns : List ℕ) (n : ℕ) → holds_number (fronted m ns) n ≡ true → holds_number ns n ≡ true
+pub fronted_is : (m : ℕ) (ns : List ℕ) (n : ℕ) → holds_number (fronted m ns) n ≡ true → holds_number ns n ≡ true
 fronted_is m ns n h = go (holds_number ns m) refl h
   where
     first : holds_number ns m ≡ true → (b : Bool) → (m == n) ≡ b → (b || holds_number (without m ns) n) ≡ true → holds_number ns n ≡ true
@@ -82,7 +85,7 @@ own_is s l n h =
 le_lt : (m n : ℕ) → nat_le m n ≡ true → nat_lt n m ≡ false
 le_lt m n h = false_unless_true (nat_lt n m) (λ g. absurd (grind (arith, nat_tests)))
 
-turned_is : (m : ℕ) (ns : List ℕ) (n : ℕ) → holds_number (turned m ns) n ≡ true → holds_number ns n ≡ true
+pub turned_is : (m : ℕ) (ns : List ℕ) (n : ℕ) → holds_number (turned m ns) n ≡ true → holds_number ns n ≡ true
 turned_is m ns n h = held_either (chosen (λ k. nat_le m k) ns) (chosen (λ k. nat_lt k m) ns) n (holds_number ns n ≡ true) h (λ i. (chosen_is (λ k. nat_le m k) ns n i).0) (λ i. (chosen_is (λ k. nat_lt k m) ns n i).0)
 
 once_turned : (m : ℕ) (ns : List ℕ) → Once ns → Once (turned m ns)
@@ -135,7 +138,7 @@ module _ (p : Program) (r : Routine) (l : Place) (stubs : List ℕ) where
 
       rest : (holds_number (numbers_from p r l stubs (b ++ placed) ns) m ≡ true → (holds_number ns m ≡ true) ⊎ ((holds_number stubs m ≡ true) × (holds_number (b ++ placed) m ≡ false)))
           → holds_number (numbers_from p r l stubs (b ++ placed) ns) m ≡ true → (holds_number ns m ≡ true) ⊎ ((holds_number stubs m ≡ true) × (holds_number placed m ≡ false))
-      rest deeper i = ⊎_elim (λ a. inl a) (λ a. inr (a.0, (or_neither (holds_number b m) (holds_number placed m) (sym (held_append b placed m) ∙ a.1)).1)) (deeper i)
+      rest deeper i = ⊎_elim (λ a. inl a) (λ a. inr (a.0, (or_neither (holds_number b m) (holds_number placed m) (sym (holds_both b placed m) ∙ a.1)).1)) (deeper i)
 
       go : (c : Bool) → (n == m) ≡ c → (c || holds_number (b ++ numbers_from p r l stubs (b ++ placed) ns) m) ≡ true
           → (holds_number (numbers_from p r l stubs (b ++ placed) ns) m ≡ true → (holds_number ns m ≡ true) ⊎ ((holds_number stubs m ≡ true) × (holds_number (b ++ placed) m ≡ false)))
@@ -170,7 +173,7 @@ module _ (p : Program) (r : Routine) (l : Place) (stubs : List ℕ) where
       not_twice : (m : ℕ) → holds_number b m ≡ true → holds_number xs m ≡ true → ⊥
       not_twice m h i =
           ⊎_elim (λ a. let z : true ≡ false = sym a ∙ (or_neither (n == m) (holds_number ns m) (apart m (behind_is stubs placed o' m h).0)).1 in absurd (cc))
-          (λ a. let z : true ≡ false = sym h ∙ (or_neither (holds_number b m) (holds_number placed m) (sym (held_append b placed m) ∙ a.1)).0 in absurd (cc))
+          (λ a. let z : true ≡ false = sym h ∙ (or_neither (holds_number b m) (holds_number placed m) (sym (holds_both b placed m) ∙ a.1)).0 in absurd (cc))
           (from_is (b ++ placed) ns m i)
 
   -- the nodes are listed
@@ -183,7 +186,7 @@ module _ (p : Program) (r : Routine) (l : Place) (stubs : List ℕ) where
 
       go : (c : Bool) → (c || holds_number ns m) ≡ true → (holds_number ns m ≡ true → holds_number (numbers_from p r l stubs (b ++ placed) ns) m ≡ true) → (c || holds_number (b ++ numbers_from p r l stubs (b ++ placed) ns) m) ≡ true
       go true i deeper = refl
-      go false i deeper = held_append b _ m ∙ or_by_second (holds_number b m) _ (deeper i)
+      go false i deeper = holds_both b _ m ∙ or_by_second (holds_number b m) _ (deeper i)
 
 not_own : (a b : Bool) → (a && not b) ≡ true → b ≡ false
 not_own a true e = absurd (let z = and_both a false e in cc)
@@ -205,10 +208,6 @@ held_below high low m _ (OneRise _ n ns a b more) h = go (n == m) refl h (λ i. 
     go true e i deeper = let z = eq_means n m e in omega (arith, z, b)
     go false e i deeper = deeper i
 
-owners_length : (flow : Flow) (k n : ℕ) → length (owners_from flow k n) ≡ n
-owners_length flow k zero = refl
-owners_length flow k (suc n) = ap suc (owners_length flow (suc k) n)
-
 module _ (p : Program) (f : Function) (l : Place) where
   abbrev r : Routine
   r = routine_of p f
@@ -228,7 +227,7 @@ module _ (p : Program) (f : Function) (l : Place) where
   node_is : (n : ℕ) → holds_number (rows_nodes r.split l) n ≡ true → (is_own r.split l n ≡ true) × (n < size)
   node_is n h =
       let d = own_is r.split l n (rows_node_is r.split l n h) in
-      let e = owners_length (flow_of (graph_of p f)) 0 size in
+      let e = owners_long (flow_of (graph_of p f)) 0 size in
       let b = d.1 in
       (d.0, omega (arith, b, e))
 
@@ -251,10 +250,10 @@ module _ (p : Program) (f : Function) (l : Place) where
       (λ i. (stub_is n (chosen_is (λ n. not (holds_number listed n)) (stubs_of r l) n i).0).1)
 
   numbers_nodes : (n : ℕ) → holds_number (rows_nodes r.split l) n ≡ true → holds_number (numbers_of p r l) n ≡ true
-  numbers_nodes n h = held_append listed _ n ∙ ap (λ b. b || holds_number (chosen (λ n. not (holds_number listed n)) (stubs_of r l)) n) (from_has p r l (stubs_of r l) [] (rows_nodes r.split l) n h)
+  numbers_nodes n h = holds_both listed _ n ∙ ap (λ b. b || holds_number (chosen (λ n. not (holds_number listed n)) (stubs_of r l)) n) (from_has p r l (stubs_of r l) [] (rows_nodes r.split l) n h)
 
   numbers_leaders : (n : ℕ) → holds_number (stubs_of r l) n ≡ true → holds_number (numbers_of p r l) n ≡ true
-  numbers_leaders n h = held_append listed _ n ∙ go (holds_number listed n) refl
+  numbers_leaders n h = holds_both listed _ n ∙ go (holds_number listed n) refl
     where
       go : (b : Bool) → holds_number listed n ≡ b → (b || holds_number (chosen (λ n. not (holds_number listed n)) (stubs_of r l)) n) ≡ true
       go true e = refl
@@ -307,7 +306,7 @@ behind_label x y e =
     sym (reverse-reverse x) ∙ (ap reverse same ∙ reverse-reverse y)
 
 -- labels of different numbers
-labels_apart : (m n : ℕ) → m < 2 ^ 63 → n < 2 ^ 63 → (m ≡ n → ⊥) → bytes_eq (node_label m) (node_label n) ≡ false
+pub labels_apart : (m n : ℕ) → m < 2 ^ 63 → n < 2 ^ 63 → (m ≡ n → ⊥) → bytes_eq (node_label m) (node_label n) ≡ false
 labels_apart m n hm hn d =
     texts_differ (node_label m) (node_label n)
     (λ (e : node_label m ≡ node_label n).
@@ -315,7 +314,7 @@ labels_apart m n hm hn d =
     let digits : decimal m ≡ decimal n = cc in d (decimal_is m n hm hn digits))
 
 -- the numbers of rows
-abbrev numbers : List PutRow → List ℕ
+abbrev pub numbers : List PutRow → List ℕ
 numbers rs = map (λ (r : PutRow). r.number) rs
 
 row_numbers : (rs : List Row) → numbers (put_rows rs) ≡ map (λ (r : Row). r.number) rs
@@ -332,7 +331,7 @@ numbers_append (x ∷ xs) ys = ap (λ ns. x.number ∷ ns) (numbers_append xs ys
 
 once_middle : (xs : List ℕ) (n : ℕ) (ys : List ℕ) → Once (xs ++ n ∷ ys) → holds_number xs n ≡ false
 once_middle [] n ys o = refl
-once_middle (x ∷ xs) n ys (AndOther _ _ e o) = or_both_fail (x == n) (holds_number xs n) (eq_fails x n (λ (i : x ≡ n). let z : true ≡ false = sym (held_append xs (n ∷ ys) x ∙ or_by_second (holds_number xs x) _ (ap (λ b. b || holds_number ys x) (ap (λ m. m == x) (sym i) ∙ eq_reflexive x))) ∙ e in absurd (cc))) (once_middle xs n ys o)
+once_middle (x ∷ xs) n ys (AndOther _ _ e o) = or_both_fail (x == n) (holds_number xs n) (eq_fails x n (λ (i : x ≡ n). let z : true ≡ false = sym (holds_both xs (n ∷ ys) x ∙ or_by_second (holds_number xs x) _ (ap (λ b. b || holds_number ys x) (ap (λ m. m == x) (sym i) ∙ eq_reflexive x))) ∙ e in absurd (cc))) (once_middle xs n ys o)
 
 -- the lines of rows have no labels
 abbrev BarePuts : List PutRow → Type 0
@@ -365,7 +364,7 @@ append_assoc : (xs ys zs : List Stmt) → (xs ++ ys) ++ zs ≡ xs ++ (ys ++ zs)
 append_assoc [] ys zs = refl
 append_assoc (x ∷ xs) ys zs = ap (λ us. x ∷ us) (append_assoc xs ys zs)
 
-rows_apart : (all front back : List PutRow) → rows_statements all (front ++ back) ≡ rows_statements all front ++ rows_statements all back
+pub rows_apart : (all front back : List PutRow) → rows_statements all (front ++ back) ≡ rows_statements all front ++ rows_statements all back
 rows_apart all [] back = refl
 rows_apart all (r ∷ front) back = ap (λ ss. row_statements all r ++ ss) (rows_apart all front back) ∙ sym (append_assoc (row_statements all r) (rows_statements all front) (rows_statements all back))
 
@@ -393,10 +392,10 @@ module _ (p : Program) (f : Function) (l : Place) (few : length (graph_of p f).n
 
   front_none : all ≡ front ++ row ∷ back → NoLabel (node_label n) before_it
   front_none e =
-      none_front all front n (held_front e n (held_append (numbers front) (n ∷ numbers back) n ∙ or_by_second (holds_number (numbers front) n) _ (ap (λ b. b || holds_number (numbers back) n) (eq_reflexive n))))
+      none_front all front n (held_front e n (holds_both (numbers front) (n ∷ numbers back) n ∙ or_by_second (holds_number (numbers front) n) _ (ap (λ b. b || holds_number (numbers back) n) (eq_reflexive n))))
       (bare_front front (row ∷ back) (subst BarePuts e (bare_puts (rows_of p (routine_of p f) l) (rows_map (row_of p (routine_of p f) l) (λ m. lines_done (is_own (routine_of p f).split l m) p (routine_of p f) m) (numbers_of p (routine_of p f) l)))))
       (once_middle (numbers front) n (numbers back) (subst Once (numbers_are e) (numbers_once p f l)))
-      (λ m h. held_front e m (held_append (numbers front) (n ∷ numbers back) m ∙ ap (λ b. b || holds_number (n ∷ numbers back) m) h))
+      (λ m h. held_front e m (holds_both (numbers front) (n ∷ numbers back) m ∙ ap (λ b. b || holds_number (n ∷ numbers back) m) h))
 
   pub label_leads : all ≡ front ++ row ∷ back → is_wanted n all ≡ true → label_in (node_label n) (piece_body p (routine_of p f) l) ≡ Some (opening p (routine_of p f) l + length before_it)
   label_leads e wanted =

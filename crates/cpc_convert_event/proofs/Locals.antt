@@ -3,12 +3,14 @@ use Rattle.std.proofs.Common.{◌≡◌, ℕ, zero, suc, ◌+◌, ◌<◌, ◌�
 use Rattle.std.proofs.lemmas.Option.{slice_get-get_or, slice_get_within}
 use Rattle.cpc_base.specs.Bytes.{Text}
 use Rattle.cpc_base.proofs.Truth.{eq_reflexive, and_both, or_by_second, or_neither, eq_means, bytes_eq_fails_back}
+use Rattle.cpc_base.proofs.Lists.{append_empty}
 use Rattle.cpc_num.specs.declared.kinds.Kind.TheVariants.{Int}
 use Rattle.cpc_tree.specs.Lists.{holds_number, is_empty}
 use Rattle.cpc_tree.specs.Syntax.{Ty, TyPointer, TyStruct, TyInt, Stmt, Stmts, NoStmt, AndStmt, Variable, Function, Program}
 use Rattle.cpc_tree.specs.Points.{locals_in}
 use Rattle.cpc_tree.specs.Registers.{variables}
 use Rattle.cpc_tree.specs.Typing.{Scope, ALocal, named, is_scalar}
+use Rattle.cpc_tree.proofs.Holding.{holds_both}
 use Rattle.cpc_meaning.proofs.Functions.{text_same}
 use Rattle.cpc_convert.specs.Marks.{has_marks}
 use Rattle.cpc_convert.specs.Converted.{marked}
@@ -33,7 +35,7 @@ use Rattle.cpc_convert_event.proofs.Fields.{variables_apart, word_apart, local_s
 use Rattle.cpc_convert_event.proofs.Lines.{AreLines, bare_lines, piece_lines}
 use Rattle.cpc_convert_event.proofs.Flat.{boxes_done}
 use Rattle.cpc_convert_event.proofs.StructsThere.{arriving_scalar}
-use Rattle.cpc_convert_event.proofs.Numbers.{held_append, not_in_append, once_append, chosen_is, chosen_has, chosen_out, once_chosen, AllBelow, NoneBelow, OneBelow, below_append, below_chosen, Rises, NoneRise, OneRise, rises_lower, rises_below, rises_once}
+use Rattle.cpc_convert_event.proofs.Numbers.{not_in_append, once_append, chosen_is, chosen_has, chosen_out, once_chosen, AllBelow, NoneBelow, OneBelow, below_append, below_chosen, Rises, NoneRise, OneRise, rises_lower, rises_below, rises_once}
 
 -- ---- names apart
 
@@ -47,7 +49,7 @@ abbrev pub Apart : List Variable → Type 0
 Apart [] = Unit {0}
 Apart (v ∷ vs) = NoneCalled v.called vs × Apart vs
 
-none_append : (y : Text) (xs ys : List Variable) → NoneCalled y xs → NoneCalled y ys → NoneCalled y (xs ++ ys)
+pub none_append : (y : Text) (xs ys : List Variable) → NoneCalled y xs → NoneCalled y ys → NoneCalled y (xs ++ ys)
 none_append y [] ys h g = g
 none_append y (x ∷ xs) ys h g = (h.0, none_append y xs ys h.1 g)
 
@@ -61,7 +63,7 @@ apart_if false x rest h g = g
 
 -- ---- scopes
 
-passes : (q : Program) (y : Text) (scope : Scope) (n : ℕ) (vs : List Variable) → NoneCalled y vs → named q (declared_scope scope n vs) y ≡ named q scope y
+pub passes : (q : Program) (y : Text) (scope : Scope) (n : ℕ) (vs : List Variable) → NoneCalled y vs → named q (declared_scope scope n vs) y ≡ named q scope y
 passes q y scope n [] h = refl
 passes q y scope n (v ∷ vs) h = passes q y (record { called = v.called; type = v.type; slot = n } ∷ scope) (suc n) vs h.1 ∙ ap (λ b. cond b (ALocal n v.type) (named q scope y)) h.0
 
@@ -102,10 +104,6 @@ length_append : (xs ys : List Variable) → length (xs ++ ys) ≡ length xs + le
 length_append [] ys = let z : length ys ≡ 0 + length ys = omega arith in z
 length_append (x ∷ xs) ys = let h = length_append xs ys in let z : suc (length (xs ++ ys)) ≡ suc (length xs) + length ys = omega (arith, h) in z
 
-append_nil : (xs : List Variable) → xs ++ [] ≡ xs
-append_nil [] = refl
-append_nil (x ∷ xs) = ap (λ us. x ∷ us) (append_nil xs)
-
 lines_locals : (ss : List Stmt) (rest : Stmts) → AreLines ss → locals_in (before ss rest) ≡ locals_in rest
 lines_locals [] rest h = refl
 lines_locals (s ∷ ss) rest h = ap (λ vs. vs ++ locals_in (before ss rest)) (line_one s h.0).declares ∙ lines_locals ss rest h.1
@@ -128,7 +126,7 @@ in_front x xs ys h = (h.0, go xs h.0 h.1)
     go (z ∷ xs) zero e = e
     go (z ∷ xs) (suc i) e = go xs i e
 
-in_back : (x : Variable) (xs ys : List Variable) → StandsIn x ys → StandsIn x (xs ++ ys)
+pub in_back : (x : Variable) (xs ys : List Variable) → StandsIn x ys → StandsIn x (xs ++ ys)
 in_back x [] ys h = h
 in_back x (z ∷ xs) ys h = let i = in_back x xs ys h in (suc i.0, i.1)
 
@@ -136,7 +134,7 @@ in_if : (x : Variable) (b : Bool) (y : Variable) (rest : List Variable) → Stan
 in_if x true y rest h = (suc h.0, h.1)
 in_if x false y rest h = h
 
-in_locals : (r : Routine) (k : ℕ) (ks : List ℕ) → holds_number ks k ≡ true → StandsIn (local_of r k) (locals_of r ks)
+pub in_locals : (r : Routine) (k : ℕ) (ks : List ℕ) → holds_number ks k ≡ true → StandsIn (local_of r k) (locals_of r ks)
 in_locals r k [] h = absurd (cc)
 in_locals r k (j ∷ ks) h = go (j == k) refl h (λ i. in_locals r k ks i)
   where
@@ -154,7 +152,7 @@ closure_rises ways uses l k (suc n) = go (holds_number (keepers ways uses k) l) 
     go true r = OneRise k k _ (omega arith) (omega arith) r
     go false r = rises_lower (k + suc n) k (suc k) _ (omega arith) r
 
-boxes_rise : (p : Program) (f : Text) (k n : ℕ) → Rises (k + n) k (boxes_from p f k n)
+pub boxes_rise : (p : Program) (f : Text) (k n : ℕ) → Rises (k + n) k (boxes_from p f k n)
 boxes_rise p f k zero = NoneRise k
 boxes_rise p f k (suc n) = go (is_box p f k) (subst (λ m. Rises m (suc k) (boxes_from p f (suc k) n)) (let z : suc k + n ≡ k + suc n = omega arith in z) (boxes_rise p f (suc k) n))
   where
@@ -178,7 +176,7 @@ all_none_if false x rest ys h g = g
 
 once_parts : (xs ys : List ℕ) → Once (xs ++ ys) → Once xs × Once ys
 once_parts [] ys o = (NoNumber, o)
-once_parts (x ∷ xs) ys (AndOther _ _ e o) = let h = once_parts xs ys o in (AndOther x xs (or_neither (holds_number xs x) (holds_number ys x) (sym (held_append xs ys x) ∙ e)).0 h.0, h.1)
+once_parts (x ∷ xs) ys (AndOther _ _ e o) = let h = once_parts xs ys o in (AndOther x xs (or_neither (holds_number xs x) (holds_number ys x) (sym (holds_both xs ys x) ∙ e)).0 h.0, h.1)
 
 below_more : (low high : ℕ) (ns : List ℕ) → low ≤ high → AllBelow low ns → AllBelow high ns
 below_more low high _ h NoneBelow = NoneBelow
@@ -269,7 +267,7 @@ module _ (p : Program) (ok : IsNamed p) (f : Function) (c : IsCps p f) where
 
     vars_then : (ks js : List ℕ) → Once (ks ++ js) → AllBelow count ks → AllBelow count js → AllNone (locals_of r ks) (words ++ locals_of r js)
     vars_then _ js o NoneBelow b = tt
-    vars_then _ js (AndOther _ _ e o) (OneBelow k ks h more) b = (var_then k js h b (or_neither (holds_number ks k) (holds_number js k) (sym (held_append ks js k) ∙ e)).1, vars_then ks js o more b)
+    vars_then _ js (AndOther _ _ e o) (OneBelow k ks h more) b = (var_then k js h b (or_neither (holds_number ks k) (holds_number js k) (sym (holds_both ks js k) ∙ e)).1, vars_then ks js o more b)
 
     -- variables, words and variables
     tail_apart : (ks js : List ℕ) → Once (ks ++ js) → AllBelow count ks → AllBelow count js → Apart (locals_of r ks ++ (words ++ locals_of r js))
@@ -382,7 +380,7 @@ module _ (p : Program) (ok : IsNamed p) (f : Function) (c : IsCps p f) where
     listed : variables (piece_function p r l) ≡ piece_locals p r l
     listed =
         ap (λ us. called_so pointer_name any_pointer ∷ called_so frame_name (TyPointer (TyStruct (piece_name f.called l))) ∷ us)
-        (loads_locals frame_name (loads_of p r l) _ ∙ ap (λ us. map loaded_variable (loads_of p r l) ++ us) (declares_locals (declares_of p r l) _ ∙ (ap (λ us. declares_of p r l ++ us) no_locals ∙ append_nil (declares_of p r l))))
+        (loads_locals frame_name (loads_of p r l) _ ∙ ap (λ us. map loaded_variable (loads_of p r l) ++ us) (declares_locals (declares_of p r l) _ ∙ (ap (λ us. declares_of p r l ++ us) no_locals ∙ append_empty (declares_of p r l))))
         ∙ locals_are
 
     scope_is : piece_scope p r l ≡ declared_scope [] 0 (piece_locals p r l)
@@ -431,10 +429,10 @@ module _ (p : Program) (ok : IsNamed p) (f : Function) (c : IsCps p f) where
         (scalars_append (locals_of r (loaded r l)) _ (locals_scalar (loaded r l) (loaded_below l)) (scalars_append (words_of p r l) _ (words_scalar makes calls gives f.result h) (locals_scalar (begun r l) (begun_below l)))))))
 
   held_right : (xs ys : List ℕ) (k : ℕ) → holds_number ys k ≡ true → holds_number (xs ++ ys) k ≡ true
-  held_right xs ys k h = held_append xs ys k ∙ or_by_second (holds_number xs k) (holds_number ys k) h
+  held_right xs ys k h = holds_both xs ys k ∙ or_by_second (holds_number xs k) (holds_number ys k) h
 
   held_left : (xs ys : List ℕ) (k : ℕ) → holds_number xs k ≡ true → holds_number (xs ++ ys) k ≡ true
-  held_left xs ys k h = held_append xs ys k ∙ ap (λ b. b || holds_number ys k) h
+  held_left xs ys k h = holds_both xs ys k ∙ ap (λ b. b || holds_number ys k) h
 
   -- what is kept stands there
   kept_there : (l : Place) (k : ℕ) → holds_number (closure_of r l) k ≡ true → StandsIn (local_of r k) (piece_locals p r l)

@@ -1,15 +1,16 @@
 -- Which functions the names of an event program find.
-use Rattle.std.proofs.Common.{◌≡◌, Bool, true, false, cond, List, [], ◌∷◌, ◌++◌, map, bytes_eq, Option, Some, refl, sym, ◌∙◌, ap, codes}
+use Rattle.std.proofs.Common.{◌≡◌, Bool, true, false, cond, List, [], ◌∷◌, ◌++◌, bytes_eq, Option, Some, refl, sym, ◌∙◌, ap, codes}
 use Rattle.cpc_base.specs.Bytes.{Text}
+use Rattle.cpc_base.proofs.Lists.{append_empty}
 use Rattle.cpc_tree.specs.Syntax.{Function, Item, StructItem, GlobalItem, PrototypeItem, FunctionItem, Program}
 use Rattle.cpc_tree.specs.Typing.{function_named}
 use Rattle.cpc_meaning.specs.Start.{main_name}
 use Rattle.cpc_meaning.specs.Threads.{is_cps_mode, is_cps}
 use Rattle.cpc_meaning.proofs.Functions.{texts_differ}
 use Rattle.cpc_convert.specs.Marks.{has_marks}
-use Rattle.cpc_convert.specs.Converted.{marked, spawner_name, function_item}
+use Rattle.cpc_convert.specs.Converted.{marked, spawner_name}
 use Rattle.cpc_convert.specs.Members.{Has, OnTop, Below}
-use Rattle.cpc_convert.proofs.Marks.{NoUnderscore, marked_is, marked_differs, differs_marked}
+use Rattle.cpc_convert.proofs.Marks.{NoUnderscore, marked_is, marked_differs, differs_marked, no_bar_spawn}
 use Rattle.cpc_convert.proofs.Listed.{skip_prototypes, find_function, pass_functions}
 use Rattle.cpc_forms.specs.Flow.{Place}
 use Rattle.cpc_convert_chain_laws.specs.Driver.{drive_name, drive_function}
@@ -18,9 +19,10 @@ use Rattle.cpc_convert_event.specs.Routines.{Routine, routine_of}
 use Rattle.cpc_convert_event.specs.Pieces.{piece_function, spawner_function}
 use Rattle.cpc_convert_event.specs.Converted.{kept_function, item_unless, kept_items, routines, all_structs, all_boxes, all_made, main_function, main_if, converted_with, converted}
 use Rattle.cpc_convert_event.specs.NameLaws.{IsOwner, IsNamed, IsCps, IsKept, FunctionsAreFound}
-use Rattle.cpc_convert_event.proofs.Apart.{behind, piece_is, spawner_is, driver_is, piece_nothing, spawn_nothing, no_underscore_behind, no_bar_spawn, no_bar_nothing}
+use Rattle.cpc_convert_event.proofs.Apart.{behind, piece_is, spawner_is, driver_is, piece_nothing, spawn_nothing, no_underscore_behind, no_bar_nothing}
 use Rattle.cpc_convert_event.proofs.Structs.{skip_functions, all_structs_are, all_boxes_are}
 use Rattle.cpc_convert_event.proofs.Made.{made_one_name, made_marked, has_piece, has_spawner}
+use Rattle.cpc_convert_event.proofs.StructsThere.{behind_boxes}
 
 -- ---- what stays
 
@@ -61,18 +63,10 @@ find_kept (FunctionItem g ∷ its) items x f e c = kept_here g its items x f c (
     kept_here g its items x f c rest false i true j e = rest e
     kept_here g its items x f c rest false i false j e = ap (λ b. cond b (Some (kept_function g)) (function_named (kept_items its ++ items) x)) i ∙ rest e
 
-append_nil : (xs : List Item) → xs ++ [] ≡ xs
-append_nil [] = refl
-append_nil (x ∷ xs) = ap (λ ys. x ∷ ys) (append_nil xs)
-
 -- ---- the parts of an event program
 
--- the functions that are made
-abbrev behind_boxes : Program → List Routine → List Item
-behind_boxes p rs = map function_item (all_made p rs) ++ main_if (is_cps (function_named p main_name))
-
 -- the items behind the driver
-abbrev behind_driver : Program → List Routine → List Item
+abbrev pub behind_driver : Program → List Routine → List Item
 behind_driver p rs = kept_items p ++ (all_boxes rs ++ behind_boxes p rs)
 
 -- a name is looked up among the driver and what stands behind it
@@ -125,7 +119,7 @@ module _ (p : Program) (ok : IsNamed p) where
   find_native f k = go (routines p)
     where
       go : (rs : List Routine) → function_named (converted_with p rs) f.called ≡ Some (kept_function f)
-      go [] = ap (λ ys. function_named ys f.called) (sym (append_nil (kept_items p))) ∙ find_kept p [] f.called f (ok.found f k.has) k.mode
+      go [] = ap (λ ys. function_named ys f.called) (sym (append_empty (kept_items p))) ∙ find_kept p [] f.called f (ok.found f k.has) k.mode
       go (r ∷ rs) =
           looked_up p r rs f.called
           ∙ (ap (λ b. cond b (Some drive_function) (function_named (behind_driver p (r ∷ rs)) f.called)) (unlike_driver f.called (ok.unmarked (FunctionItem f) k.has))

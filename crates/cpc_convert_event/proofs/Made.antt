@@ -7,14 +7,14 @@ use Rattle.cpc_meaning.specs.Threads.{is_cps_mode}
 use Rattle.cpc_meaning.proofs.Functions.{same_text}
 use Rattle.cpc_convert.specs.Marks.{has_marks}
 use Rattle.cpc_convert.specs.Members.{Has, OnTop, Below}
-use Rattle.cpc_convert.proofs.Marks.{marked_is, marked_differs}
+use Rattle.cpc_convert.proofs.Marks.{marked_is, marked_differs, no_bar_spawn}
 use Rattle.cpc_convert.proofs.Members.{has_left, has_right, has_either}
 use Rattle.cpc_forms.specs.Flow.{Place, Start, At}
 use Rattle.cpc_convert_event.specs.Routines.{Routine, routine_of}
 use Rattle.cpc_convert_event.specs.Pieces.{piece_function, leader_function, spawner_function, made_of}
 use Rattle.cpc_convert_event.specs.Converted.{routine_if, routines_in, routines, all_made}
 use Rattle.cpc_convert_event.specs.NameLaws.{IsOwner, TheStart, ALeader, IsNamed, IsCps}
-use Rattle.cpc_convert_event.proofs.Apart.{behind, piece_is, spawner_is, no_underscore_behind, no_bar_spawn, piece_spawn, Small, StartIsSmall, NumberIsSmall, behind_is}
+use Rattle.cpc_convert_event.proofs.Apart.{behind, piece_is, spawner_is, no_underscore_behind, piece_spawn, Small, StartIsSmall, NumberIsSmall, behind_is}
 
 -- ---- what is made
 

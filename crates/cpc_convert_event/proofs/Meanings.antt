@@ -1,6 +1,7 @@
 -- What the names of an event program stand for.
 use Rattle.std.proofs.Common.{◌≡◌, ℕ, suc, Bool, true, false, cond, List, [], ◌∷◌, ◌++◌, map, bytes_eq, Option, Some, None, refl, sym, ◌∙◌, ap, subst, codes}
 use Rattle.cpc_base.specs.Bytes.{Text}
+use Rattle.cpc_base.proofs.Lists.{append_empty}
 use Rattle.cpc_tree.specs.declared.program.Mode.{Mode}
 use Rattle.cpc_tree.specs.declared.program.Mode.TheVariants.{Native, Cps, Detached, Extern}
 use Rattle.cpc_tree.specs.Syntax.{Ty, Parameter, Function, Item, StructItem, GlobalItem, PrototypeItem, FunctionItem, Program}
@@ -10,9 +11,9 @@ use Rattle.cpc_meaning.specs.Threads as T
 use Rattle.cpc_meaning.specs.Threads.{is_cps_mode}
 use Rattle.cpc_meaning.proofs.Functions.{texts_differ, same_text}
 use Rattle.cpc_convert.specs.Marks.{has_marks}
-use Rattle.cpc_convert.specs.Converted.{marked, function_item, prototype}
+use Rattle.cpc_convert.specs.Converted.{marked}
 use Rattle.cpc_convert.specs.Members.{Has, OnTop, Below}
-use Rattle.cpc_convert.proofs.Marks.{NoUnderscore, marked_is, marked_differs}
+use Rattle.cpc_convert.proofs.Marks.{NoUnderscore, marked_is, marked_differs, no_bar_spawn}
 use Rattle.cpc_convert.proofs.Listed.{find_prototype, pass_prototypes, pass_items}
 use Rattle.cpc_convert_image_laws.specs.InPlace.{is_cps}
 use Rattle.cpc_convert_chain_laws.specs.Driver.{drive_name, drive_function}
@@ -20,29 +21,27 @@ use Rattle.cpc_convert_event.specs.Routines.{Routine, routine_of}
 use Rattle.cpc_convert_event.specs.Pieces.{piece_function, spawner_function}
 use Rattle.cpc_convert_event.specs.Converted.{kept_function, item_unless, kept_items, routines, all_structs, all_boxes, all_made, main_function, main_if, converted_with, converted}
 use Rattle.cpc_convert_event.specs.NameLaws.{IsNamed, ItemsAreMeant}
-use Rattle.cpc_convert_event.proofs.Apart.{behind, piece_is, spawner_is, driver_is, piece_nothing, spawn_nothing, no_underscore_behind, no_bar_spawn, no_bar_nothing}
+use Rattle.cpc_convert_event.proofs.Apart.{behind, piece_is, spawner_is, driver_is, piece_nothing, spawn_nothing, no_underscore_behind, no_bar_nothing}
 use Rattle.cpc_convert_event.proofs.Structs.{skip_names, all_structs_are, all_boxes_are}
 use Rattle.cpc_convert_event.proofs.Made.{Made, MadeSpawner, MadePiece, made_is, made_one_name, made_marked, has_piece, has_spawner}
-
-append_nil : (xs : List Item) → xs ++ [] ≡ xs
-append_nil [] = refl
-append_nil (x ∷ xs) = ap (λ ys. x ∷ ys) (append_nil xs)
+use Rattle.cpc_convert_event.proofs.Lookups.{behind_driver}
+use Rattle.cpc_convert_event.proofs.StructsThere.{behind_boxes, behind_structs}
 
 -- ---- what stays
 
-cps_meant : (m : Mode) (r : Ty) (ps : List Ty) → is_cps_mode m ≡ true → is_cps (AFunction m r ps) ≡ true
+pub cps_meant : (m : Mode) (r : Ty) (ps : List Ty) → is_cps_mode m ≡ true → is_cps (AFunction m r ps) ≡ true
 cps_meant Native r ps e = absurd (cc)
 cps_meant Cps r ps e = refl
 cps_meant Detached r ps e = absurd (cc)
 cps_meant Extern r ps e = absurd (cc)
 
 -- what is found here or further on, where the same is found further on
-here_or : (b : Bool) (m rest rest' : Meant) → is_cps (cond b m rest) ≡ false → (is_cps rest ≡ false → rest' ≡ rest) → cond b m rest' ≡ cond b m rest
+pub here_or : (b : Bool) (m rest rest' : Meant) → is_cps (cond b m rest) ≡ false → (is_cps rest ≡ false → rest' ≡ rest) → cond b m rest' ≡ cond b m rest
 here_or true m rest rest' e h = refl
 here_or false m rest rest' e h = h e
 
 -- what is found further on, where a cps function is left out
-left_out : (b : Bool) (m rest rest' : Meant) → is_cps m ≡ true → is_cps (cond b m rest) ≡ false → (is_cps rest ≡ false → rest' ≡ rest) → rest' ≡ cond b m rest
+pub left_out : (b : Bool) (m rest rest' : Meant) → is_cps m ≡ true → is_cps (cond b m rest) ≡ false → (is_cps rest ≡ false → rest' ≡ rest) → rest' ≡ cond b m rest
 left_out true m rest rest' c e h = absurd (cc)
 left_out false m rest rest' c e h = h e
 
@@ -68,18 +67,6 @@ module _ (tail : List Item) (x : Text) where
   kept_meant none (FunctionItem f ∷ its) n e = kept_one (is_cps_mode f.mode) f its n refl e (λ k. kept_meant none its n k)
 
 -- ---- the parts of an event program
-
--- the functions that are made
-abbrev behind_boxes : Program → List Routine → List Item
-behind_boxes p rs = map function_item (all_made p rs) ++ main_if (T.is_cps (function_named p main_name))
-
--- the items behind the driver
-abbrev behind_driver : Program → List Routine → List Item
-behind_driver p rs = kept_items p ++ (all_boxes rs ++ behind_boxes p rs)
-
--- what stands behind the structs
-abbrev behind_structs : Program → List Routine → List Item
-behind_structs p rs = map prototype (all_made p rs) ++ FunctionItem drive_function ∷ behind_driver p rs
 
 made_there : (p : Program) (rs : List Routine) (g : Function) (x : Text) → Has g (all_made p rs) → item_named 0 (converted_with p rs) x ≡ item_named 0 (behind_structs p rs) x
 made_there p [] g x h = elim h [ ]
@@ -140,7 +127,7 @@ module _ (p : Program) (ok : IsNamed p) where
   meant_kept x h e = go (routines p) (made_marked p ok x h)
     where
       go : (rs : List Routine) → ((g : Function) → Has g (all_made p rs) → bytes_eq g.called x ≡ false) → item_named 0 (converted_with p rs) x ≡ item_named 0 p x
-      go [] none = ap (λ ys. item_named 0 ys x) (sym (append_nil (kept_items p))) ∙ kept_meant [] x (λ n. refl) p 0 e
+      go [] none = ap (λ ys. item_named 0 ys x) (sym (append_empty (kept_items p))) ∙ kept_meant [] x (λ n. refl) p 0 e
       go (r ∷ rs) none =
           skip_names (all_structs p (r ∷ rs)) (behind_structs p (r ∷ rs)) 0 x (all_structs_are p (r ∷ rs))
           ∙ (pass_prototypes (all_made p (r ∷ rs)) (FunctionItem drive_function ∷ behind_driver p (r ∷ rs)) 0 x none

@@ -2,6 +2,7 @@
 use Rattle.std.proofs.Common.{◌≡◌, ℕ, suc, ◌<◌, ◌≤◌, Bool, true, false, ◌||◌, ◌==◌, List, [], ◌∷◌, ◌++◌, refl, sym, ◌∙◌, ap, arith}
 use Rattle.cpc_base.proofs.Truth.{eq_reflexive, or_both_fail, eq_means, eq_fails, or_by_second, false_unless_true}
 use Rattle.cpc_tree.specs.Lists.{holds_number}
+use Rattle.cpc_tree.proofs.Holding.{holds_both}
 use Rattle.cpc_forms.specs.Pieces.{Once, NoNumber, AndOther}
 use Rattle.cpc_convert_event.specs.Routines.{number_before, chosen}
 
@@ -13,24 +14,16 @@ not_both ns m n h g e = let z : true ≡ false = sym h ∙ (ap (holds_number ns)
 
 -- ---- lists
 
-pub held_append : (xs ys : List ℕ) (n : ℕ) → holds_number (xs ++ ys) n ≡ (holds_number xs n || holds_number ys n)
-held_append [] ys n = refl
-held_append (x ∷ xs) ys n = ap (λ b. (x == n) || b) (held_append xs ys n) ∙ assoc (x == n) (holds_number xs n) (holds_number ys n)
-  where
-    assoc : (a b c : Bool) → (a || (b || c)) ≡ ((a || b) || c)
-    assoc true b c = refl
-    assoc false b c = refl
-
 -- a number of two rows is in one of them
 pub held_either : (xs ys : List ℕ) (n : ℕ) (A : Type 0) → holds_number (xs ++ ys) n ≡ true → (holds_number xs n ≡ true → A) → (holds_number ys n ≡ true → A) → A
-held_either xs ys n A h f g = go (holds_number xs n) refl (sym (held_append xs ys n) ∙ h)
+held_either xs ys n A h f g = go (holds_number xs n) refl (sym (holds_both xs ys n) ∙ h)
   where
     go : (b : Bool) → holds_number xs n ≡ b → (b || holds_number ys n) ≡ true → A
     go true e i = f e
     go false e i = g i
 
 pub not_in_append : (xs ys : List ℕ) (n : ℕ) → holds_number xs n ≡ false → holds_number ys n ≡ false → holds_number (xs ++ ys) n ≡ false
-not_in_append xs ys n e f = held_append xs ys n ∙ or_both_fail (holds_number xs n) (holds_number ys n) e f
+not_in_append xs ys n e f = holds_both xs ys n ∙ or_both_fail (holds_number xs n) (holds_number ys n) e f
 
 pub once_append : (xs ys : List ℕ) → Once xs → Once ys → ((n : ℕ) → holds_number xs n ≡ true → holds_number ys n ≡ false) → Once (xs ++ ys)
 once_append _ ys NoNumber g h = g

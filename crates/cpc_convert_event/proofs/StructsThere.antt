@@ -30,7 +30,7 @@ use Rattle.cpc_convert_event.proofs.FrameStructs.{struct_of}
 
 -- ---- no struct elsewhere
 
-no_prototype : (fs : List Function) (tag : Text) (gs : List Variable) → Has (StructItem tag gs) (map prototype fs) → ⊥
+pub no_prototype : (fs : List Function) (tag : Text) (gs : List Variable) → Has (StructItem tag gs) (map prototype fs) → ⊥
 no_prototype [] tag gs h = elim h [ ]
 no_prototype (f ∷ fs) tag gs (Below _ _ _ h) = no_prototype fs tag gs h
 

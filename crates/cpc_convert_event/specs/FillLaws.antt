@@ -9,7 +9,7 @@ use Rattle.cpc_convert.specs.Members.{Has}
 use Rattle.cpc_forms.specs.Flow.{Start, At}
 use Rattle.cpc_convert_chain_laws.specs.Chains.{frame_cells}
 use Rattle.cpc_convert_chain_laws.specs.Driver.{any_pointer}
-use Rattle.cpc_convert_chain_laws.specs.Fits.{Fits}
+use Rattle.cpc_meaning.specs.Eval.{Fits}
 use Rattle.cpc_convert_chain_laws.specs.Frames.{Holds, Saving, Loading}
 use Rattle.cpc_convert_event.specs.Names.{piece_name, frame_name}
 use Rattle.cpc_convert_event.specs.Routines.{routine_of, closure_of, local_of, locals_of, passed}

@@ -4,35 +4,19 @@ use Rattle.cpc_tree.specs.Lists.{holds_number}
 use Rattle.cpc_tree.specs.Syntax.{TyVoid, Variable, Function, Program}
 use Rattle.cpc_tree.specs.Typing.{Scope, is_scalar}
 use Rattle.cpc_tree.specs.Registers.{variables}
-use Rattle.cpc_meaning.specs.Plain.{Code}
 use Rattle.cpc_meaning.specs.Ways.{ways}
 use Rattle.cpc_convert_image_laws.specs.Images.{Readings}
 use Rattle.cpc_convert_image_laws.specs.Locals.{readings_in, local_type}
 use Rattle.cpc_forms.specs.Graph.{graph_of}
 use Rattle.cpc_forms.specs.Flow.{Place, Start, At}
-use Rattle.cpc_forms.specs.Split.{Split, split_of, split_code, owner_or, Position, InTree, InGraph}
+use Rattle.cpc_forms.specs.Split.{Split, split_of, owner_or}
+pub use Rattle.cpc_forms.specs.Split.{owner_number, position_owner, positions_from, code_of}
 use Rattle.cpc_lift_laws.specs.Search.{Link, closure}
 use Rattle.cpc_lift_laws.specs.Nodes.{ways_of_nodes, uses_of_nodes}
 use Rattle.cpc_lift_laws.specs.Lift.{boxes}
 use Rattle.cpc_convert_event.specs.Names.{box_tag, variable_name}
 
 -- ---- what is computed
-
--- the number of an owner in the search for closures
-abbrev pub owner_number : Place → ℕ
-owner_number Start = 0
-owner_number (At n) = suc n
-
--- that of the owner of a position
-abbrev pub position_owner : Position → ℕ
-position_owner (InTree point) = 0
-position_owner (InGraph l n) = owner_number l
-
--- the positions of the nodes that have these owners, from the number n on
-abbrev pub positions_from : (n : ℕ) → List (Option Place) → List Position
-positions_from n [] = []
-positions_from n (None ∷ os) = positions_from (suc n) os
-positions_from n (Some l ∷ os) = InGraph l n ∷ positions_from (suc n) os
 
 -- a cps function, its graph with its owners, the numbers of its variables that are boxes, and the ways and the uses of its owners
 pub record Routine : Type 0 where
@@ -41,10 +25,6 @@ pub record Routine : Type 0 where
   pub boxes : List ℕ
   pub ways : List Link
   pub uses : List Link
-
--- the code of a split graph
-abbrev pub code_of : Program → Split → Code Position
-code_of p s = split_code (ways p).code (λ x. Some s)
 
 -- a function with this graph and these boxes
 abbrev pub routine_with : Program → Function → Split → List ℕ → Routine

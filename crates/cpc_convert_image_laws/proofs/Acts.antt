@@ -12,7 +12,7 @@ use Rattle.cpc_meaning.specs.Eval.{Slot, Register, Context, Spot, place_type, us
 use Rattle.cpc_meaning.specs.Requests.{all_taken, arguments}
 use Rattle.cpc_meaning.specs.Act.{Act, GoesOn, Enters, passes, write, assign, deliver, assigns, calls, calls_value, test_act}
 use Rattle.cpc_meaning.proofs.SameValues.{at}
-use Rattle.cpc_convert_image_laws.specs.Names.{AllNames, AllNamesIf, AllNamesAmong}
+use Rattle.cpc_meaning.specs.Names.{AllNames, AllNamesIf, AllNamesAmong}
 use Rattle.cpc_meaning_laws.proofs.Pointer.Blocks.{Only}
 use Rattle.cpc_convert_image_laws.specs.Images.{Readings, image, images, image_if}
 use Rattle.cpc_convert_image_laws.specs.InPlace.{is_array, IsWritten, IsWrittenIf}

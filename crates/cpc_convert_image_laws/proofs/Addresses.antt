@@ -8,8 +8,9 @@ use Rattle.cpc_tree.specs.declared.program.UnaryOp.TheVariants.{Minus, Plus, Not
 use Rattle.cpc_tree.specs.Syntax.{Ty, Expr, ENamed, EInteger, ECharacter, EText, EUnary, EBinary, EAnd, EOr, EChoose, ECast, ESizeOf, EIndex, EMember, EArrow, ECall, Program}
 use Rattle.cpc_tree.specs.Registers.{slot_of, addresses}
 use Rattle.cpc_tree.specs.Typing.{◌>>=◌, Scope, Typed, used, typing, sign_type, test_type, tested_type}
+use Rattle.cpc_tree.proofs.Options.{then_some}
 use Rattle.cpc_convert_image_laws.specs.Images.{Reading, AsLocal, AsField, Readings, image_named, image}
-use Rattle.cpc_convert_image_laws.specs.Names.{AllNames}
+use Rattle.cpc_meaning.specs.Names.{AllNames}
 use Rattle.cpc_convert_image_laws.specs.Locals.{reading_of, readings_in}
 use Rattle.cpc_convert_image_laws.proofs.Types.{no_place}
 
@@ -24,10 +25,6 @@ all_back P (x ∷ xs) ys h = all_back P xs ys (All-tail P x (xs ++ ys) h)
 both_empty : {X : Type 0} (xs ys : List X) → xs ≡ [] → ys ≡ [] → (xs ++ ys) ≡ []
 both_empty xs ys e f = ap (λ zs. zs ++ ys) e ∙ f
 
-bound : {A B : Type 0} (o : Option A) (f : A → Option B) (y : B) → (o >>= f) ≡ Some y → (x : A) × (o ≡ Some x) × (f x ≡ Some y)
-bound None f y e = absurd (cc)
-bound (Some x) f y e = (x, refl, e)
-
 -- an expression has a type
 abbrev pub HasType : Program → Scope → Expr → Type 0
 HasType p scope e = (d : Typed) × (typing p scope e ≡ Some d)
@@ -39,13 +36,13 @@ operand_typed sign (Some x) d e = (x, refl)
 
 both_tested : (a b : Option Typed) (d : Typed) → test_type a b ≡ Some d → ((x : Typed) × (a ≡ Some x)) × ((x : Typed) × (b ≡ Some x))
 both_tested None b d e = absurd (cc)
-both_tested (Some x) None d e = let i = bound (tested_type (Some x)) (λ t. None) d e in absurd (let j = i.2 in cc)
+both_tested (Some x) None d e = let i = then_some (tested_type (Some x)) (λ t. None) d e in absurd (let j = i.2 in cc)
 both_tested (Some x) (Some y) d e = ((x, refl), (y, refl))
 
 -- of two operands that are used
 two_used : (a b : Option Typed) (k : Ty → Ty → Option Typed) (d : Typed) → (a >>= λ x. used x >>= λ t. b >>= λ y. used y >>= λ u. k t u) ≡ Some d → ((x : Typed) × (a ≡ Some x)) × ((x : Typed) × (b ≡ Some x))
 two_used None b k d e = absurd (cc)
-two_used (Some x) None k d e = let i = bound (used x) (λ t. None) d e in absurd (let j = i.2 in cc)
+two_used (Some x) None k d e = let i = then_some (used x) (λ t. None) d e in absurd (let j = i.2 in cc)
 two_used (Some x) (Some y) k d e = ((x, refl), (y, refl))
 
 -- of a test and two operands
@@ -53,7 +50,7 @@ three_used : (c a b : Option Typed) (k : Ty → Ty → Option Typed) (d : Typed)
     → ((x : Typed) × (c ≡ Some x)) × ((x : Typed) × (a ≡ Some x)) × ((x : Typed) × (b ≡ Some x))
 three_used None a b k d e = absurd (cc)
 three_used (Some w) a b k d e =
-    let i = bound (tested_type (Some w)) (λ h. a >>= λ x. used x >>= λ t. b >>= λ y. used y >>= λ u. k t u) d e in
+    let i = then_some (tested_type (Some w)) (λ h. a >>= λ x. used x >>= λ t. b >>= λ y. used y >>= λ u. k t u) d e in
     let j = two_used a b k d i.2 in
     ((w, refl), j.0, j.1)
 

@@ -58,11 +58,6 @@ faults_then R _ _ fault (Stuck b) e = absurd (cc)
 pub as_is : {A : Type 0} (a : Answer A) → Meets (Same Any) a a
 as_is a = itself Any a (only_any a)
 
-pub then_assoc : {A B D : Type 0} (a : Answer A) (f : A → Answer B) (g : B → Answer D) → (a >>= λ x. f x >>= g) ≡ ((a >>= f) >>= g)
-then_assoc (Gives x) f g = refl
-then_assoc (Faults fault) f g = refl
-then_assoc NoAnswer f g = refl
-
 -- what the target gives, where the source gives something
 pub meets_gives : {A B : Type 0} (R : A → B → Type 0) (a : Answer A) (b : Answer B) (x : A) → Meets R a b → a ≡ Gives x → (y : B) × (b ≡ Gives y) × R x y
 meets_gives R _ _ x (BothGive z y h) e = let i : z ≡ x = cc in (y, refl, subst (λ w. R w y) i h)

@@ -13,7 +13,7 @@ use Rattle.cpc_meaning.specs.Eval.{Slot, Context, used_type, value, values}
 use Rattle.cpc_meaning.specs.Requests.{Host, takes, all_long}
 use Rattle.cpc_meaning.specs.Act.{Act, calls_value, puts_text, asks, asks_with, calls_named, calls_expr}
 use Rattle.cpc_meaning.proofs.SameValues.{at}
-use Rattle.cpc_convert_image_laws.specs.Names.{AllNames, AllNamesAmong}
+use Rattle.cpc_meaning.specs.Names.{AllNames, AllNamesAmong}
 use Rattle.cpc_convert_image_laws.specs.Images.{Reading, AsLocal, AsField, Readings, image_named, image, images}
 use Rattle.cpc_convert_image_laws.specs.InPlace.{is_cps, IsCalledInPlace}
 use Rattle.cpc_convert_image_laws.specs.Held.{IsHeld, IsHeldSlot, IsHeldStore, beside}

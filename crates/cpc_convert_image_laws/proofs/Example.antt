@@ -93,7 +93,7 @@ each_meant x e =
 
 -- ---- stores
 
-empty_held : (C : Text → Type 0) → IsHeldStore C empty_store
+pub empty_held : (C : Text → Type 0) → IsHeldStore C empty_store
 empty_held C Static n k cells v e f = absurd (cc)
 empty_held C Auto n k cells v e f = absurd (cc)
 empty_held C Heap n k cells v e f = absurd (cc)

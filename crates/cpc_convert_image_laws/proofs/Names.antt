@@ -3,7 +3,7 @@ use Rattle.cpc_base.specs.Bytes.{Text}
 use Rattle.cpc_tree.specs.Syntax.{Expr, ENamed, EInteger, ECharacter, EText, EUnary, EBinary, EAnd, EOr, EChoose, ECast, ESizeOf, EIndex, EMember, EArrow, ECall, Exprs, NoExpr, AndExpr, Stmt, Block, Empty, Declare, Assign, Call, Detach, Spawn, If, While, DoWhile, For, Goto, Label, Break, Continue, Return}
 use Rattle.std.specs.Prelude.{Option, Some, None}
 use Rattle.cpc_meaning.proofs.SameValues as same
-use Rattle.cpc_convert_image_laws.specs.Names.{AllNames, AllNamesIf, AllNamesAmong, AllNamesOf}
+use Rattle.cpc_meaning.specs.Names.{AllNames, AllNamesIf, AllNamesAmong, AllNamesOf}
 
 -- the names that other laws speak of
 pub names_here : (L : Text → Type 0) (e : Expr) → same.AllNames L e → AllNames L e

@@ -12,13 +12,14 @@ use Rattle.cpc_meaning.specs.Answer.{Answer, Gives, ◌>>=◌}
 use Rattle.cpc_meaning.specs.Eval.{Slot, Register, Boxed, Context, value, assigned}
 use Rattle.cpc_meaning.specs.Act.{Stood, AtStatement, AtArrival, AtEnd, Act, GoesOn, Leaves, deliver, assigns, calls_expr, leaves, returns, simple_act, test_act, arrives, act, spawns}
 use Rattle.cpc_meaning.proofs.SameValues.{at}
-use Rattle.cpc_convert_image_laws.specs.Names.{AllNames, AllNamesIf, AllNamesAmong, AllNamesOf, AllNamesFound, AllNamesStood}
+use Rattle.cpc_meaning.specs.Names.{AllNames, AllNamesIf, AllNamesAmong, AllNamesOf, AllNamesFound, AllNamesStood}
+use Rattle.cpc_meaning.proofs.Chained.{then_assoc}
 use Rattle.cpc_convert_image_laws.specs.Images.{image, images, image_if}
 use Rattle.cpc_convert_image_laws.specs.InPlace.{IsWritten, IsWrittenIf, IsCalledInPlace}
 use Rattle.cpc_convert_image_laws.specs.Native.{stays, IsSelf, KeptItem, KeptGlobal, KeptFunction, LeftOut, KeptNothing, KeptName, KeptLocal, KeptAsItem, IsNative, IsArrival, IsNativeStood, IsHeldIf}
 use Rattle.cpc_convert_image_laws.specs.Held.{IsHeld, IsHeldSlot, IsHeldStore, beside}
 use Rattle.cpc_convert_image_laws.specs.Relations.{Common, Meets, BothGive, Stuck, Same, Means, StaysRegister, StaysBox, StaysNowhere, StaysGlobal, StaysFunction, IsCps, StaysNothing, StoreBeside, InBoth, SameAct, BothLeave, OneToOne, SpawnAct}
-use Rattle.cpc_convert_image_laws.proofs.Answers.{same_then, meets_then, then_assoc}
+use Rattle.cpc_convert_image_laws.proofs.Answers.{same_then, meets_then}
 use Rattle.cpc_convert_image_laws.proofs.Acts.{assigned_alike, assigns_alike, passes_alike, arrives_alike, test_alike}
 use Rattle.cpc_convert_image_laws.proofs.Calls.{calls_expr_alike}
 use Rattle.cpc_convert_image_laws.proofs.Statements.{spawn_alike}

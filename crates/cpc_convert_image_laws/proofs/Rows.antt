@@ -12,14 +12,15 @@ use Rattle.cpc_meaning.specs.Eval.{Slot, Register, Context, value, values, assig
 use Rattle.cpc_meaning.specs.Requests.{Builtin, Section, takes, section_takes, taken_as, all_taken}
 use Rattle.cpc_meaning.specs.Act.{GoesOn, assign, assigns, asks, asks_with, detaches, returns, leaves, deliver, arrives, target_of}
 use Rattle.cpc_meaning.proofs.SameValues.{at}
-use Rattle.cpc_convert_image_laws.specs.Names.{AllNames, AllNamesAmong}
+use Rattle.cpc_meaning.specs.Names.{AllNames, AllNamesAmong}
+use Rattle.cpc_meaning.proofs.Chained.{then_assoc}
 use Rattle.cpc_convert_image_laws.specs.Images.{Readings, image, images, followed}
 use Rattle.cpc_convert_image_laws.specs.InPlace.{is_array, IsWritten}
 use Rattle.cpc_convert_image_laws.specs.Held.{IsHeld, IsHeldSlot, IsHeldStore, beside}
 use Rattle.cpc_convert_image_laws.specs.Relations.{Found, BothFound, NoneFound, SameHead, Common, Meets, BothGive, BothFault, Stuck, Same, It, Means, SameAct, WaitAct, Waited, SectionAct, Detached, StoredAct, Stored}
 use Rattle.cpc_meaning_laws.proofs.Pointer.Blocks.{Only}
 use Rattle.cpc_convert_image_laws.proofs.Live.{IsReadLive}
-use Rattle.cpc_convert_image_laws.proofs.Answers.{meets_then, self_then, then_assoc}
+use Rattle.cpc_convert_image_laws.proofs.Answers.{meets_then, self_then}
 use Rattle.cpc_convert_image_laws.proofs.Arguments.{all_taken_held, same_parameters}
 use Rattle.cpc_convert_image_laws.proofs.Acts.{values_alike, value_alike, arrives_alike}
 use Rattle.cpc_convert_image_laws.proofs.Operators.{assigned_held}

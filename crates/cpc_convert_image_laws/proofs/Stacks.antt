@@ -16,7 +16,7 @@ use Rattle.cpc_meaning.specs.Plain.{Form, Frame, Done, Went, moved_to, returned_
 use Rattle.cpc_meaning.proofs.SameValues.{at}
 use Rattle.cpc_convert_image_laws.specs.Held.{IsHeld, IsHeldSlot, IsHeldStore, beside}
 use Rattle.cpc_convert_image_laws.specs.Relations.{Common, Found, BothFound, NoneFound, Meets, BothGive, BothFault, Stuck, Changed, NoneChanged, BothChanged, SameAct, BothGo, BothEnter, BothLeave, BothAsk, Entered, SlotsMade}
-use Rattle.cpc_convert_image_laws.specs.Names.{AllNamesStood}
+use Rattle.cpc_meaning.specs.Names.{AllNamesStood}
 use Rattle.cpc_convert_image_laws.specs.Native.{IsSelf, IsHeldIf, IsArrival}
 use Rattle.cpc_convert_image_laws.specs.Stacks.{frame_of, Native, NoMore, OneMore, Onwards, BothGoTo, GoesNowhere, EntersAlike, NativePoint, DoneAlike, BothWent, BothReturned, BothAsked}
 use Rattle.cpc_convert_image_laws.proofs.Answers.{meets_then}

@@ -13,7 +13,7 @@ use Rattle.cpc_meaning.specs.Eval.{Slot, Context, values}
 use Rattle.cpc_meaning.specs.Requests.{ToSpawn, arguments}
 use Rattle.cpc_meaning.specs.Act.{Act, Enters, calls_named, calls_expr, spawns, simple_act, asks, arrives}
 use Rattle.cpc_meaning.proofs.SameValues.{at}
-use Rattle.cpc_convert_image_laws.specs.Names.{AllNamesAmong, AllNamesOf}
+use Rattle.cpc_meaning.specs.Names.{AllNamesAmong, AllNamesOf}
 use Rattle.cpc_convert_image_laws.specs.Images.{Readings, images, image_stmt}
 use Rattle.cpc_convert_image_laws.specs.InPlace.{IsInPlace}
 use Rattle.cpc_convert_image_laws.specs.Native.{IsArrival, IsHeldIf}

@@ -5,26 +5,13 @@ use Rattle.cpc_base.specs.Bytes.{Text}
 use Rattle.cpc_num.specs.declared.kinds.Fault.{Fault}
 use Rattle.cpc_num.specs.declared.kinds.Fault.TheVariants as F
 use Rattle.cpc_store.specs.declared.values.Class.{Class}
-use Rattle.cpc_store.specs.declared.values.Class.TheVariants.{Static, Auto, Heap, Frame}
-use Rattle.cpc_store.specs.Store.{Value, Unset, Whole, Null, At, Code, Cond, Store, Blocks, blocks, with_blocks, alloc, live, cells_of, next_block, free, save, same_class}
+use Rattle.cpc_store.specs.Store.{Value, Unset, Whole, Null, At, Code, Cond, Store, blocks, with_blocks, alloc, live, cells_of, next_block, free, save, same_class}
 use Rattle.cpc_store.proofs.StoreLemmas.{cells_of-alloc_same, cells_of-alloc_other, cells_of-set_other}
 use Rattle.cpc_meaning.specs.Answer.{of_result}
 use Rattle.cpc_meaning.proofs.Stores.{blocks_with, save_there}
 use Rattle.cpc_meaning_laws.proofs.Pointer.Blocks.{Only}
+use Rattle.cpc_meaning_laws.proofs.Pointer.Stores.{class_cases, set_live}
 use Rattle.cpc_convert_image_laws.specs.Held.{IsHeld, IsHeldStore}
-
-class_cases : (c d : Class) → (c ≡ d) ⊎ ¬ (c ≡ d)
-class_cases Static Static = inl refl
-class_cases Auto Auto = inl refl
-class_cases Heap Heap = inl refl
-class_cases Frame Frame = inl refl
-class_cases _ _ = inr (λ e. absurd (cc))
-
--- the cells of a block that was set are what it was set to
-set_live : (bs : Blocks) (n : ℕ) (b : Option (List Value)) (cells : List Value) → live (slice_get (slice_set bs n b) n) ≡ Some cells → b ≡ Some cells
-set_live [] n b cells e = absurd (cc)
-set_live (x ∷ bs) zero b cells e = e
-set_live (x ∷ bs) (suc n) b cells e = set_live bs n b cells e
 
 module _ (C : Text → Type 0) where
   -- ---- cells

@@ -8,7 +8,7 @@ use Rattle.cpc_tree.specs.declared.program.UnaryOp.TheVariants.{Minus, Plus, Not
 use Rattle.cpc_tree.specs.Syntax.{Ty, TyInt, TyPointer, Expr, ENamed, EInteger, ECharacter, EText, EUnary, EBinary, EAnd, EOr, EChoose, ECast, ESizeOf, EIndex, EMember, EArrow, ECall, Program}
 use Rattle.cpc_tree.specs.Typing.{◌>>=◌, Scope, Meant, AFunction, Typed, AValue, APlace, named, used, typed_place, field_type, size, typing, type_named, struct_tag, sign_type, tested_type, test_type, address_type, pointer_type, binary_type, sum_type, difference_type, choice_type, cast_type, movable, same_type, target, is_null}
 use Rattle.cpc_meaning.specs.Eval.{Slot}
-use Rattle.cpc_convert_image_laws.specs.Names.{AllNames}
+use Rattle.cpc_meaning.specs.Names.{AllNames}
 use Rattle.cpc_convert_image_laws.specs.Images.{Reading, AsLocal, AsField, Readings, image_named, image}
 use Rattle.cpc_convert_image_laws.specs.Relations.{Less, AsIs, Untold, Extends, Means, InLocal, InBox, StaysRegister, StaysBox, StaysNowhere, StaysGlobal, StaysFunction, IsCps, StaysNothing}
 use Rattle.cpc_convert_image_laws.proofs.Options.{less_then, less_if, less_if_both}

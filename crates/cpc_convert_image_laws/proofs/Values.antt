@@ -13,7 +13,7 @@ use Rattle.cpc_store.specs.Store.{Value, Whole, At, Code, Store, Blocks, cells_o
 use Rattle.cpc_meaning.specs.Answer.{Answer, Gives, ◌>>=◌}
 use Rattle.cpc_meaning.specs.Eval.{Slot, Register, Boxed, Context, Spot, InSlot, InCell, and_then, place, value, place_type, used_type, read, field_spot, value_named, address_named, operate, and_also, or_else, chosen, tested, truth_value, spot_named, pointer_to, address, pointed_type, pointed, holds}
 use Rattle.cpc_meaning.proofs.SameValues.{at}
-use Rattle.cpc_convert_image_laws.specs.Names.{AllNames}
+use Rattle.cpc_meaning.specs.Names.{AllNames}
 use Rattle.cpc_meaning_laws.proofs.Pointer.Blocks.{element}
 use Rattle.cpc_convert_image_laws.specs.Images.{Reading, Readings, image_named, image}
 use Rattle.cpc_convert_image_laws.specs.Held.{IsShared, IsHeld, IsHeldSlot, IsLiveSlot, IsHeldStore, BoxesLive, beside}

@@ -18,7 +18,7 @@ use Rattle.cpc_meaning.specs.Section.{allocated, freed}
 use Rattle.cpc_meaning.specs.Copies.{copy_of, write_to}
 use Rattle.cpc_meaning.specs.Act.{Stood, GoesOn, assign, assigns, deliver, spawns, detaches, calls_expr, asks_with, simple_act, test_act, arrives, act, returns, leaves, target_of}
 use Rattle.cpc_convert_image_laws.specs.Images.{Reading, image, images, image_if, image_stmt, followed}
-use Rattle.cpc_convert_image_laws.specs.Names.{AllNames, AllNamesIf, AllNamesAmong, AllNamesOf, AllNamesStood}
+use Rattle.cpc_meaning.specs.Names.{AllNames, AllNamesIf, AllNamesAmong, AllNamesOf, AllNamesStood}
 use Rattle.cpc_convert_image_laws.specs.InPlace.{IsWritten, IsWrittenIf, IsInPlace}
 use Rattle.cpc_convert_image_laws.specs.Native.{KeptItem, IsSelf, IsArrival, IsNativeStood, IsHeldIf}
 use Rattle.cpc_convert_image_laws.specs.Held.{IsShared, IsHeld, IsHeldStore, beside}

@@ -6,8 +6,8 @@ use Rattle.cpc_tree.specs.Syntax.{Ty, TyPointer, TyStruct, Program}
 use Rattle.cpc_tree.specs.Typing.{Scope, Meant, ALocal, named, field}
 use Rattle.cpc_store.specs.declared.values.Class.TheVariants.{Auto}
 use Rattle.cpc_store.specs.Store.{Value, At}
-use Rattle.cpc_meaning.specs.Answer.{Gives}
-use Rattle.cpc_meaning.specs.Eval.{Slot, Register, Boxed, assigned}
+use Rattle.cpc_meaning.specs.Eval.{Slot, Register, Boxed}
+pub use Rattle.cpc_meaning.specs.Eval.{Fits}
 use Rattle.cpc_convert_image_laws.specs.Images.{Reading, AsLocal, AsField, Readings}
 
 -- how a variable x is read that stands in the local y
@@ -34,10 +34,6 @@ readings_in marks spelled (l ∷ scope) x = if bytes_eq l.called x then Some (re
 pub data Stands (slots slots' : List Slot) : (is_register : Bool) → ℕ → ℕ → Type 0 where
   AsValue : (k k' : ℕ) (v : Value) → slice_get slots k ≡ Some (Register v) → slice_get slots' k' ≡ Some (Register v) → Stands slots slots' true k k'
   AsBlock : (k k' n : ℕ) → slice_get slots k ≡ Some (Boxed n) → slice_get slots' k' ≡ Some (Register (At Auto n 0)) → Stands slots slots' false k k'
-
--- a value is one of the type: it is assigned as it is
-abbrev pub Fits : Ty → Value → Type 0
-Fits t v = assigned t v ≡ Gives v
 
 -- a variable that is a register holds a value of the type
 abbrev pub FitsAt : List Slot → Ty → ℕ → Type 0

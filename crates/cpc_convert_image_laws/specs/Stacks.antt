@@ -9,7 +9,7 @@ use Rattle.cpc_store.specs.Store.{Value, Store, Blocks}
 use Rattle.cpc_meaning.specs.Eval.{Slot}
 use Rattle.cpc_meaning.specs.Plain.{Form, Frame, Done, Went, Returned, Asks, context}
 use Rattle.cpc_meaning.specs.Requests.{Request}
-use Rattle.cpc_convert_image_laws.specs.Names.{AllNamesStood}
+use Rattle.cpc_meaning.specs.Names.{AllNamesStood}
 use Rattle.cpc_convert_image_laws.specs.Held.{IsHeld, IsHeldSlot, IsHeldStore, beside}
 use Rattle.cpc_convert_image_laws.specs.Relations.{Found}
 use Rattle.cpc_convert_image_laws.specs.Native.{KeptName, IsNativeStood, IsHeldIf}

@@ -4,8 +4,8 @@ use Rattle.std.proofs.lemmas.List.{map-append}
 use Rattle.std.proofs.lemmas.Option.{slice_get-map, slice_get_read}
 use Rattle.cpc_tree.specs.Syntax.{Item, StructItem, GlobalItem, PrototypeItem, FunctionItem}
 use Rattle.cpc_meaning.specs.Threads.{is_cps_mode}
+use Rattle.cpc_shapes.proofs.Indexes.{next_item}
 use Rattle.cpc_convert_event.specs.Converted.{item_unless, kept_function, kept_items}
-use Rattle.cpc_convert_respawning.proofs.Growing.{taken_more}
 
 -- two functions that agree on a list agree on its elements
 pub agree_at : {A B : Type 0} (f g : A → B) (xs : List A) (i : ℕ) (x : A) → map f xs ≡ map g xs → i < length xs → x ≡ get_or xs i x → f x ≡ g x
@@ -30,4 +30,4 @@ pub keep_more : {A : Type 0} (g : A → Item) (start old new : List Item) (xs : 
     → new ≡ start ++ kept_items (map g (take (i + 1) xs))
 keep_more g start old new xs i x lt is before one =
     one ∙ (ap (λ u. u ++ kept_items (g x ∷ [])) before ∙ (append_assoc start (kept_items (map g (take i xs))) (kept_items (g x ∷ []))
-    ∙ (ap (λ u. start ++ u) (sym (kept_both (map g (take i xs)) (g x ∷ []))) ∙ (ap (λ u. start ++ kept_items u) (sym (map-append g (take i xs) (x ∷ []))) ∙ ap (λ u. start ++ kept_items (map g u)) (sym (taken_more xs i x lt is))))))
+    ∙ (ap (λ u. start ++ u) (sym (kept_both (map g (take i xs)) (g x ∷ []))) ∙ (ap (λ u. start ++ kept_items u) (sym (map-append g (take i xs) (x ∷ []))) ∙ ap (λ u. start ++ kept_items (map g u)) (sym (next_item xs i x lt is))))))

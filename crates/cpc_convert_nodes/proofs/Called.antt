@@ -8,12 +8,6 @@ use Rattle.cpc_convert_names.specs.Book.{find}
 use Rattle.cpc_convert_names.specs.Called.{name_in}
 use Rattle.cpc_convert_names.specs.declared.called.Called.{Called}
 
--- what holds of all functions holds of the one that is found
-pub callee_found : (P : Called → Type 0) (names : Names) (cs : List Called) (x : Text) (c : Called) → All P cs → find names cs x ≡ Some c → P c
-callee_found P names [] x c all e = absurd (none_not_some c e)
-callee_found P names (d ∷ cs) x c all e =
-    if_some_gives P d c (bytes_eq (name_in names d.lifted.now) x) (find names cs x) (all 0 d (omega arith)) (λ h. callee_found P names cs x c (λ k u lt. all (suc k) u (omega (arith, lt))) h) e
-
 -- likewise what holds of all lifted functions
 pub lifted_found : (P : LiftedFunction → Type 0) (names : Names) (cs : List Called) (x : Text) (c : Called) → All P (map (λ (d : Called). d.lifted.now) cs) → find names cs x ≡ Some c → P c.lifted.now
 lifted_found P names [] x c all e = absurd (none_not_some c e)

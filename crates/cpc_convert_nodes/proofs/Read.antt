@@ -1,5 +1,5 @@
 -- What is read alike, of a node and what stands there.
-use Rattle.std.proofs.Common.{◌≡◌, ℕ, List, [], ◌∷◌, ◌++◌, Option, Some, None, option_map, refl, sym, ap, ◌∙◌}
+use Rattle.std.proofs.Common.{◌≡◌, ℕ, List, [], ◌∷◌, Option, Some, None, option_map, refl, sym, ap, ◌∙◌}
 use Rattle.std.specs.Borrow.{Bor}
 use Rattle.cpc_tree.specs.Erase.{Names, expr_of, stmt_of}
 use Rattle.cpc_tree.specs.Points as P
@@ -19,19 +19,15 @@ use Rattle.cpc_convert_event.specs.Routines.{Routine}
 use Rattle.cpc_convert_event.specs.Lines as L
 use Rattle.cpc_convert_lines.specs.Written.{Written, puts}
 use Rattle.cpc_convert_lines.specs.Puts.{statements_before, place_in}
-use Rattle.cpc_convert_lines.proofs.Puts.{puts_both, all_done}
+use Rattle.cpc_convert_lines.proofs.Puts.{all_done, behind}
 
 -- lines that are all statements
 pub told : (o : Option ℕ) (u w : Written) (ss : List S.Stmt) → w ≡ puts u ss → w ≡ puts u (statements_before o (L.all_do ss))
 told o u w ss e = e ∙ ap (puts u) (sym (all_done o ss))
 
--- a row, and another behind it
-pub both : (u v w : Written) (xs ys : List S.Stmt) → v ≡ puts u xs → w ≡ puts v ys → w ≡ puts u (xs ++ ys)
-both u v w xs ys e f = f ∙ (ap (λ (t : Written). puts t ys) e ∙ sym (puts_both u xs ys))
-
 -- a statement, and the lines behind it
 pub line_put : (o : Option ℕ) (u v w : Written) (x : S.Stmt) (ls : List L.Line) → v ≡ puts u (x ∷ []) → w ≡ puts v (statements_before o ls) → w ≡ puts u (statements_before o (L.Does x ∷ ls))
-line_put o u v w x ls e f = both u v w (x ∷ []) (statements_before o ls) e f
+line_put o u v w x ls e f = behind u v w (x ∷ []) (statements_before o ls) e f
 
 -- a statement is written, whose parts are these
 pub assign_put : (u v : Written) (a b x y : S.Expr) (op : Option Op) → v ≡ puts u (S.Assign a op b ∷ []) → a ≡ x → b ≡ y → v ≡ puts u (S.Assign x op y ∷ [])

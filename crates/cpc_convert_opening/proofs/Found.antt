@@ -20,10 +20,6 @@ use Rattle.cpc_convert_event.specs.Routines.{Routine}
 use Rattle.cpc_convert_names.specs.Book.{find}
 use Rattle.cpc_convert_names.specs.declared.called.Called.{Called}
 
-pub some_seen : {A B : Type 0} (f : A → B) (o : Option A) → is_some (option_map f o) ≡ is_some o
-some_seen f None = refl
-some_seen f (Some x) = refl
-
 -- a call is that of a cps function where one is found
 pub entered : (p : Program) (from : Names) (cs : List Called) (s : Stmt) (o : Option Expr) (f : Text) (es : Exprs) (b : Bool) → s ≡ Call o (ENamed f) es → is_cps (function_named p f) ≡ is_some (find from cs f) → b ≡ is_some (find from cs f) → b ≡ is_entry p (AtStatement (Simple s))
 entered p from cs s o f es b e meant h = h ∙ (sym meant ∙ ap (λ x. is_entry p (AtStatement (Simple x))) (sym e))

@@ -1,7 +1,8 @@
 -- What is known of a function and its variables.
-use Rattle.std.proofs.Common.{◌≡◌, ℕ, suc, ◌+◌, ◌<◌, ◌≤◌, not, Bool, true, false, List, [], ◌∷◌, ◌++◌, length, drop, get_or, All, refl, sym, ◌∙◌, ap, subst, arith}
+use Rattle.std.proofs.Common.{◌≡◌, ℕ, suc, ◌+◌, ◌<◌, ◌≤◌, not, Bool, true, false, List, [], ◌++◌, length, drop, get_or, All, refl, sym, ◌∙◌, ap, subst, arith}
 use Rattle.std.proofs.lemmas.List.{append_assoc, length-map, drop_all}
 use Rattle.std.proofs.Math.Seq.{drop-cons}
+use Rattle.cpc_base.proofs.Lists.{append_empty}
 use Rattle.cpc_tree.specs.Erase.{Names, Table, parameter_of}
 use Rattle.cpc_tree.specs.Syntax.{Function, Program}
 use Rattle.cpc_forms.specs.Flow.{Place}
@@ -37,24 +38,9 @@ where_before : (b : Bool) (n : ℕ) (rest : List ℕ) → number_where b n ++ re
 where_before true n rest = refl
 where_before false n rest = refl
 
--- those that are left, behind one more
-pub chosen_left : (test : ℕ → Bool) (ns : List ℕ) (i : ℕ) (all new : List ℕ) → i < length ns → new ≡ all ++ number_where (test (get_or ns i 0)) (get_or ns i 0)
-    → new ++ chosen test (drop (i + 1) ns) ≡ all ++ chosen test (drop i ns)
-chosen_left test ns i all new lt e =
-    let step : suc i ≡ i + 1 = omega arith in
-    let n = get_or ns i 0 in
-    ap (λ r. r ++ chosen test (drop (i + 1) ns)) e
-    ∙ (append_assoc all (number_where (test n) n) (chosen test (drop (i + 1) ns))
-    ∙ ap (λ r. all ++ r) (ap (λ k. number_where (test n) n ++ chosen test (drop k ns)) (sym step)
-    ∙ (where_before (test n) n (chosen test (drop (suc i) ns)) ∙ ap (chosen test) (sym (drop-cons ns i 0 lt)))))
-
-with_none : (xs : List ℕ) → xs ++ [] ≡ xs
-with_none [] = refl
-with_none (x ∷ xs) = ap (λ l. x ∷ l) (with_none xs)
-
 -- when none is left
 pub chosen_done : (test : ℕ → Bool) (ns : List ℕ) (i : ℕ) (all x : List ℕ) → length ns ≤ i → all ++ chosen test (drop i ns) ≡ x → all ≡ x
-chosen_done test ns i all x past e = sym (with_none all) ∙ (ap (λ ks. all ++ chosen test ks) (sym (drop_all i ns past)) ∙ e)
+chosen_done test ns i all x past e = sym (append_empty all) ∙ (ap (λ ks. all ++ chosen test ks) (sym (drop_all i ns past)) ∙ e)
 
 where_unless : (b : Bool) (n : ℕ) (rest : List ℕ) → number_where (not b) n ++ rest ≡ number_unless b n rest
 where_unless true n rest = refl

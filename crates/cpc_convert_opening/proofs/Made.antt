@@ -12,13 +12,15 @@ use Rattle.cpc_forms.specs.Flow.{Place, At}
 use Rattle.cpc_convert_chain_laws.specs.Driver.{any_pointer}
 use Rattle.cpc_convert_chain_laws.specs.Flat.{before}
 use Rattle.cpc_convert_chain_laws.specs.Frames.{loads_one, declares_one, frees_frame}
+use Rattle.cpc_convert_chain_laws.proofs.Rows.{before_append}
 use Rattle.cpc_convert_event.specs.Names.{frame_name, pointer_name, piece_name}
 use Rattle.cpc_convert_event.specs.Pieces.{any_node, is_wait, is_entry, is_result, words_if, words_of, begun, loads_of, boxing_of, parameter_of, called_so, piece_body, piece_function, leader_function}
 use Rattle.cpc_convert_event.specs.Routines.{Routine, locals_of}
 use Rattle.cpc_convert_event.specs.Rows.{rows_nodes, stubs_of, piece_statements}
 use Rattle.cpc_convert_lines.specs.Written.{Written, puts}
+use Rattle.cpc_convert_lines.proofs.Puts.{behind as two_written}
 use Rattle.cpc_convert_opening.specs.Parts.{loading_of, declaring_of, opening_of}
-use Rattle.cpc_convert_opening.proofs.Written.{two_written, map_both, before_both}
+use Rattle.cpc_convert_opening.proofs.Written.{map_both}
 
 -- the same words
 pub words_same : (w : Written) (t : Ty) (a b c d e f : Bool) → a ≡ d → b ≡ e → c ≡ f → puts w (map declares_one (words_if a b c t)) ≡ puts w (map declares_one (words_if d e f t))
@@ -48,9 +50,9 @@ body_is p r l done e =
     let takes = Declare frame_name (TyPointer (TyStruct (piece_name r.function.called l))) (Some (ENamed pointer_name)) in
     let loads = map (loads_one frame_name) (loads_of p r l) in
     ap (λ d. before d NoStmt) e
-    ∙ (before_both (opening_of p r l) (piece_statements p r l) NoStmt
-    ∙ (before_both (loading_of p r l) (declaring_of p r l ++ (boxing_of r l ++ behind)) rows
-    ∙ ap (λ x. AndStmt takes (before loads x)) (before_both (declaring_of p r l) (boxing_of r l ++ behind) rows ∙ ap (before (declaring_of p r l)) (before_both (boxing_of r l) behind rows))))
+    ∙ (before_append (opening_of p r l) (piece_statements p r l) NoStmt
+    ∙ (before_append (loading_of p r l) (declaring_of p r l ++ (boxing_of r l ++ behind)) rows
+    ∙ ap (λ x. AndStmt takes (before loads x)) (before_append (declaring_of p r l) (boxing_of r l ++ behind) rows ∙ ap (before (declaring_of p r l)) (before_append (boxing_of r l) behind rows))))
 
 -- a piece, made
 abbrev pub made : Text → Stmts → Item

@@ -3,11 +3,11 @@ use Rattle.std.proofs.Common.{◌≡◌, ℕ, Bool, true, false, List, [], ◌�
 use Rattle.std.proofs.lemmas.List.{append_assoc}
 use Rattle.cpc_base.specs.Bytes.{Text}
 use Rattle.cpc_base.proofs.Lists.{append_empty}
-use Rattle.cpc_tree.specs.Syntax.{Stmt, Label, Stmts, AndStmt}
-use Rattle.cpc_convert_chain_laws.specs.Flat.{before}
+use Rattle.cpc_tree.specs.Syntax.{Stmt, Label}
 use Rattle.cpc_convert_event.specs.Names.{node_label}
 use Rattle.cpc_convert_event.specs.Rows.{label_if}
 use Rattle.cpc_convert_lines.specs.Written.{Written, put, puts}
+use Rattle.cpc_convert_lines.proofs.Puts.{behind}
 use Rattle.cpc_convert_opening.specs.Labels.{label_where}
 
 -- statements without a label
@@ -29,11 +29,6 @@ row_done d [] false n = sym (append_empty d)
 row_done d (s ∷ ss) true n = ap (λ (w : Written). w.done) (puts_plain (d ++ Label (node_label n) s ∷ []) ss) ∙ append_assoc d (Label (node_label n) s ∷ []) ss
 row_done d (s ∷ ss) false n = ap (λ (w : Written). w.done) (puts_plain (d ++ s ∷ []) ss) ∙ append_assoc d (s ∷ []) ss
 
--- statements before statements
-pub before_both : (xs ys : List Stmt) (rest : Stmts) → before (xs ++ ys) rest ≡ before xs (before ys rest)
-before_both [] ys rest = refl
-before_both (x ∷ xs) ys rest = ap (AndStmt x) (before_both xs ys rest)
-
 -- statements behind which this label stands
 abbrev pub labelled_by : List Stmt → Option Text → Written
 labelled_by d l = record { done = d; label = l }
@@ -54,10 +49,6 @@ pub map_both : {A B : Type 0} (f : A → B) (xs ys : List A) → map f (xs ++ ys
 map_both f [] ys = refl
 map_both f (x ∷ xs) ys = ap (λ l. f x ∷ l) (map_both f xs ys)
 
--- two things, one after the other
-pub two_written : (w a b : Written) (xs ys : List Stmt) → a ≡ puts w xs → b ≡ puts a ys → b ≡ puts w (xs ++ ys)
-two_written w a b xs ys e f = f ∙ (ap (λ x. puts x ys) e ∙ puts_both w xs ys)
-
 -- three things
 pub three_written : (w a b c : Written) (xs ys zs : List Stmt) → a ≡ puts w xs → b ≡ puts a ys → c ≡ puts b zs → c ≡ puts w (xs ++ (ys ++ zs))
-three_written w a b c xs ys zs e f g = two_written w a c xs (ys ++ zs) e (two_written a b c ys zs f g)
+three_written w a b c xs ys zs e f g = behind w a c xs (ys ++ zs) e (behind a b c ys zs f g)

@@ -1,5 +1,5 @@
 -- Rows that are written, one after the other.
-use Rattle.std.proofs.Common.{◌≡◌, ℕ, zero, suc, ◌+◌, ◌<◌, ◌≤◌, Bool, List, [], ◌∷◌, ◌++◌, map, length, drop, slice_get, get_or, Option, None, refl, sym, ◌∙◌, ap, arith}
+use Rattle.std.proofs.Common.{◌≡◌, ℕ, suc, ◌+◌, ◌<◌, ◌≤◌, Bool, List, ◌++◌, map, length, drop, slice_get, get_or, Option, None, sym, ◌∙◌, ap, arith}
 use Rattle.std.proofs.lemmas.List.{append_assoc, drop_all}
 use Rattle.std.proofs.Math.Seq.{drop-cons}
 use Rattle.cpc_base.proofs.Lists.{append_empty}
@@ -7,15 +7,10 @@ use Rattle.cpc_tree.specs.Syntax.{Stmt, Program}
 use Rattle.cpc_forms.specs.Flow.{Place}
 use Rattle.cpc_convert_event.specs.Names.{node_label}
 use Rattle.cpc_convert_event.specs.Routines.{Routine}
-use Rattle.cpc_convert_event.specs.Rows.{PutRow, row_of, put_lines, put_rows, put_statement, first_number, is_wanted, label_if, rows_statements}
+use Rattle.cpc_convert_event.specs.Rows.{PutRow, row_of, put_lines, put_rows, put_statement, is_wanted, label_if, rows_statements}
+use Rattle.cpc_convert_rows.proofs.Wanting.{first_left}
 use Rattle.cpc_convert_lines.specs.Written.{Written}
 use Rattle.cpc_convert_opening.proofs.Written.{plain, labelled_by}
-
-first_left : (p : Program) (r : Routine) (l : Place) (ns : List ℕ) (j : ℕ) → first_number (map (row_of p r l) (drop j ns)) ≡ slice_get ns j
-first_left p r l [] zero = refl
-first_left p r l [] (suc j) = refl
-first_left p r l (n ∷ ns) zero = refl
-first_left p r l (n ∷ ns) (suc j) = first_left p r l ns j
 
 -- one row more
 pub row_more : (p : Program) (r : Routine) (l : Place) (ns : List ℕ) (i : ℕ) (all : List PutRow) (d new : List Stmt) (o : Option ℕ) (b : Bool) → i < length ns → o ≡ slice_get ns (suc i)

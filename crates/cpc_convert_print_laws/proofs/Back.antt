@@ -1,12 +1,12 @@
 -- What is printed of an event program is read back as the event program.
-use Rattle.std.proofs.Common.{◌≡◌, ℕ, ◌≤◌, Bool, true, false, List, [], ◌∷◌, ◌++◌, map, All, nat_lt, refl, sym, ◌∙◌, arith}
+use Rattle.std.proofs.Common.{◌≡◌, ◌≤◌, Bool, true, false, List, [], map, All, refl, arith}
 use Rattle.std.proofs.lemmas.List.Elements.{All-map}
 use Rattle.cpc_base.specs.Bytes.{Text}
 use Rattle.cpc_base.specs.declared.stop.Place.{Place}
 use Rattle.cpc_base.specs.declared.stop.Dialect.{Dialect}
 use Rattle.cpc_base.specs.declared.stop.Dialect.TheVariants as D
 use Rattle.cpc_tree.specs.Tokens.{Placed}
-use Rattle.cpc_tree.specs.Cut.{text_start, place_behind, Row, nothing, a_space, a_token}
+use Rattle.cpc_tree.specs.Cut.{text_start, place_behind, Row}
 use Rattle.cpc_tree.specs.Spelling.{IsSpellable}
 use Rattle.cpc_tree.specs.Syntax.{Program}
 use Rattle.cpc_tree.specs.Located.{LItem, LProgram, bare, bare_item}
@@ -19,6 +19,7 @@ use Rattle.cpc_printer_laws.proofs.LeastPrograms.{prints_least}
 use Rattle.cpc_printer_laws.proofs.FitPrograms.{read_spellable}
 use Rattle.cpc_printer_laws.proofs.ProgramsRead.{prints_back}
 use Rattle.cpc_printer.specs.Style.{is_tight_for, printed_row, IsPrint, ReadsBack}
+use Rattle.cpc_printer.proofs.Back.{not_above, row_end}
 use Rattle.cpc_convert_event.specs.Converted.{converted}
 use Rattle.cpc_convert_laws.proofs.Accepted.Names.{accepted_has_names, accepted_is_named}
 use Rattle.cpc_convert_laws.proofs.Accepted.Points.{accepted_positions_known}
@@ -27,23 +28,6 @@ use Rattle.cpc_convert_print_laws.proofs.Items.{Prints}
 use Rattle.cpc_convert_print_laws.proofs.Programs.{converted_prints}
 
 -- ---- any program
-
--- behind two texts, one after the other
-behind_both : (v w : Text) (p : Place) → place_behind p (v ++ w) ≡ place_behind (place_behind p v) w
-unfolding place_behind
-behind_both [] w p = refl
-behind_both (b ∷ v) w p = behind_both v w _
-
--- behind no text
-behind_none : (p : Place) → place_behind p [] ≡ p
-unfolding place_behind
-behind_none p = refl
-
--- a row of the whole text ends behind its last byte
-row_end : {dialect : Dialect} {p q : Place} {t : Text} {list : List Placed} {rest : Text} → Row dialect p t list q rest → rest ≡ [] → q ≡ place_behind p t
-row_end (nothing p t) e = rw e (sym (behind_none p))
-row_end (a_space v p q u rest list l row) e = row_end row e ∙ sym (behind_both v u p)
-row_end (a_token v x p q u rest list l row) e = row_end row e ∙ sym (behind_both v u p)
 
 -- a print of a program that can be printed is read as the program, where its tokens can be spelled and it nests no deeper than is read
 module _ (dialect : Dialect) (q : Program) (can : Printable q) (spelled : All (λ x. IsSpellable dialect x) (printed_row q)) (deep : program_depth (is_tight_for q) q ≤ nesting_limit dialect) (printed : Text) (print : IsPrint printed q) where
@@ -77,10 +61,6 @@ read_prints tight text p bytes parses =
       spelled = all_spelled D.Cpc (program_row tight (bare p)) (read_spellable D.Cpc tight parses.0 p.items parses.2.1 spelled parses.2.3);
       deep = omega (arith, limit, deep);
     }
-
--- no more than the test lets through
-not_above : (n : ℕ) → nat_lt 256 n ≡ false → n ≤ 256
-not_above n e = grind arith
 
 -- the style keeps the nesting within the limit
 within : (q : Program) (tight : Bool) → is_tight_for q ≡ tight → program_depth true q ≤ 264 → program_depth tight q ≤ nesting_limit D.Event

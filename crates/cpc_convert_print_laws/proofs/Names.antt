@@ -4,7 +4,6 @@ use Rattle.std.specs.Prelude.{find}
 use Rattle.std.specs.List.{AllPass, list_all}
 use Rattle.std.specs.Char.{is_ascii_digit}
 use Rattle.std.specs.Str.Parse.{AllDigits}
-use Rattle.std.proofs.lemmas.Bool.Decides.{nat_tests}
 use Rattle.std.proofs.lemmas.List.Elements.{All-nil, All-cons, All-append}
 use Rattle.std.proofs.lemmas.List.Sums.{AllPass-from_list_all}
 use Rattle.std.proofs.lemmas.Str.Parse.{digit_from_value}
@@ -16,6 +15,7 @@ use Rattle.cpc_tree.specs.declared.token.Keyword.TheVariants as K
 use Rattle.cpc_tree.specs.Tokens.{keyword_spelling, keywords, keyword_of}
 use Rattle.cpc_tree.specs.Pieces.{in_word}
 use Rattle.cpc_tree.specs.Spelling.{IsName}
+use Rattle.cpc_tree.proofs.Spelled.{digit_word}
 use Rattle.cpc_convert.specs.Converted.{marked, spawner_name}
 use Rattle.cpc_convert.specs.Marks.{has_marks}
 use Rattle.cpc_convert.proofs.Marks.{marked_differs}
@@ -45,11 +45,6 @@ marked_no_keyword f rest = find_none (λ (k : Keyword). bytes_eq (marked f rest)
 bar_word : in_word 95 ≡ true
 unfolding in_word
 bar_word = refl
-
--- so is a digit
-digit_word : (b : ℕ) → 48 ≤ b → b ≤ 57 → in_word b ≡ true
-unfolding in_word
-digit_word b l h = grind (arith, nat_tests)
 
 -- and so are all digits of a number
 digits_word : (ds : Text) → AllDigits 10 ds → AllPass in_word ds

@@ -28,11 +28,11 @@ use Rattle.cpc_convert_event.specs.Frames.{any_frame, structs_of, boxes_of}
 use Rattle.cpc_convert_event.specs.Pieces.{loaded, begun, called_so, made_of}
 use Rattle.cpc_convert_event.specs.Converted.{kept_function, item_unless, kept_items, routine_if, routines_in, routines, all_structs, all_boxes, all_made, main_function, main_if, converted_with, converted}
 use Rattle.cpc_convert_event.proofs.Numbers.{AllBelow, NoneBelow, OneBelow, rises_below, below_append, below_chosen}
-use Rattle.cpc_convert_event.proofs.Locals.{closure_rise, counted, loaded_below}
+use Rattle.cpc_convert_event.proofs.Locals.{closure_rise, counted, loaded_below, boxes_rise}
 use Rattle.cpc_convert_event.specs.Rows.{numbers_of}
 use Rattle.cpc_convert_laws.specs.Accepted.Names.{HasNames}
 use Rattle.cpc_convert_laws.specs.Accepted.Points.{PositionsKnown}
-use Rattle.cpc_convert_laws.proofs.Accepted.Below.{boxes_rise, below_numbers}
+use Rattle.cpc_convert_laws.proofs.Accepted.Below.{below_numbers}
 use Rattle.cpc_convert_print_laws.proofs.Names as N
 use Rattle.cpc_convert_print_laws.proofs.Images.{row_widened}
 use Rattle.cpc_convert_print_laws.proofs.Items.{Prints, no_items, and_item, first_item, later_items, both_items, PrintsItem, PrintsFunction, PrintsFunctions, no_functions, both_functions}

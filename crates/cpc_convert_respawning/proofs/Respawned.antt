@@ -1,5 +1,5 @@
 -- The copies of statements in which spawns are calls of the spawners, by the form that the code finds.
-use Rattle.std.proofs.Common.{◌≡◌, refl, sym, ap, ◌∙◌, ℕ, zero, suc, ◌+◌, ◌<◌, arith, Vec, Global, Option, Some, None, Box, List, [], ◌∷◌, ◌++◌, option_map, length, get_or, take}
+use Rattle.std.proofs.Common.{◌≡◌, refl, sym, ap, ◌∙◌, ℕ, zero, suc, ◌+◌, ◌<◌, arith, Vec, Global, Option, Box, List, [], ◌∷◌, ◌++◌, option_map, length, get_or, take}
 use Rattle.cpc_base.specs.declared.stop.Place.{Place}
 use Rattle.cpc_tree.specs.declared.program.Expr as GExpr
 use Rattle.cpc_tree.specs.declared.program.Statement.{Statement}
@@ -8,13 +8,9 @@ use Rattle.cpc_tree.specs.Syntax as S
 use Rattle.cpc_tree.specs.Syntax.{Stmts, NoStmt, AndStmt}
 use Rattle.cpc_tree.specs.Erase.{Names, expr_of, stmt_of, list_of, maybe_at}
 use Rattle.cpc_tree.proofs.Clauses.{block_is, for_is}
+use Rattle.cpc_tree.proofs.Nodes.{if_is}
 use Rattle.cpc_convert.specs.Converted.{respawned, respawned_all, respawned_arm}
-use Rattle.cpc_convert_respawning.proofs.Growing.{taken_more}
-
-if_is : (names : Names) (place : Place) (test : GExpr.Expr) (a : Box Statement Global) (b : Option (Box Statement Global))
-    → stmt_of names (T.If place test a b) ≡ S.If (expr_of names test) (stmt_of names a.value) (maybe_at names b)
-if_is names place test a None = refl
-if_is names place test a (Some b) = refl
+use Rattle.cpc_shapes.proofs.Indexes.{next_item}
 
 module _ (from to : Names) (e : Statement) (alike : stmt_of from e ≡ stmt_of to e) where
   pub block_respawned : (place : Place) (inner made : Vec Statement Global) → e ≡ T.Block place inner
@@ -88,7 +84,7 @@ pub row_more : (from to : Names) (row made longer : List Statement) (i : ℕ) (x
     → list_of to longer ≡ respawned_all (list_of to (take (i + 1) row))
 row_more from to row made longer i x y lt at is alike before last =
     ap (list_of to) is ∙ (list_append to made (y ∷ []) ∙ (ap (λ u. and_all u (AndStmt (stmt_of to y) NoStmt)) before ∙ (ap (λ u. and_all (respawned_all (list_of to (take i row))) (AndStmt u NoStmt)) (last (one_alike from to row i x alike lt at))
-    ∙ (sym (row_respawned (list_of to (take i row)) (AndStmt (stmt_of to x) NoStmt)) ∙ (sym (ap respawned_all (list_append to (take i row) (x ∷ []))) ∙ ap (λ u. respawned_all (list_of to u)) (sym (taken_more row i x lt at)))))))
+    ∙ (sym (row_respawned (list_of to (take i row)) (AndStmt (stmt_of to x) NoStmt)) ∙ (sym (ap respawned_all (list_append to (take i row) (x ∷ []))) ∙ ap (λ u. respawned_all (list_of to u)) (sym (next_item row i x lt at)))))))
 
 -- ---- what is looked at through a reference
 

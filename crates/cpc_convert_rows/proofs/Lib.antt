@@ -1,7 +1,7 @@
 mod Led
 mod Marking
-mod Owning
-mod Turned
+pub mod Owning
+pub mod Turned
 mod Reached
 mod Placing
-mod Wanting
+pub mod Wanting

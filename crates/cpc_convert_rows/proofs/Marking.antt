@@ -1,8 +1,9 @@
 -- Numbers in lists, and marks that are set.
 use Rattle.std.proofs.Common.{◌≡◌, ℕ, ◌<◌, ◌≤◌, ◌==◌, ◌||◌, Bool, true, false, List, [], ◌∷◌, ◌++◌, length, set, refl, sym, ◌∙◌, ap, arith}
 use Rattle.std.proofs.lemmas.List.{get_or-set_same, get_or-set_other, length-set}
-use Rattle.cpc_base.proofs.Truth.{eq_means, eq_not_means, eq_reflexive, or_regrouped, or_with_false, or_with_true}
+use Rattle.cpc_base.proofs.Truth.{eq_means, eq_not_means, eq_reflexive, or_with_false, or_with_true}
 use Rattle.cpc_tree.specs.Lists.{holds_number}
+use Rattle.cpc_tree.proofs.Holding.{holds_both}
 use Rattle.cpc_convert_rows.specs.Marks.{AreMarked, is_set}
 
 pub unequal : (a b : ℕ) → ¬ (a ≡ b) → (a == b) ≡ false
@@ -11,10 +12,6 @@ unequal a b h = go (a == b) refl
     go : (x : Bool) → (a == b) ≡ x → (a == b) ≡ false
     go true e = absurd (h (eq_means a b e))
     go false e = e
-
-pub holds_both : (xs ys : List ℕ) (k : ℕ) → holds_number (xs ++ ys) k ≡ (holds_number xs k || holds_number ys k)
-holds_both [] ys k = refl
-holds_both (x ∷ xs) ys k = ap (λ b. (x == k) || b) (holds_both xs ys k) ∙ or_regrouped (x == k) (holds_number xs k) (holds_number ys k)
 
 pub holds_end : (ns : List ℕ) (n : ℕ) → holds_number (ns ++ n ∷ []) n ≡ true
 holds_end ns n = holds_both ns (n ∷ []) n ∙ (ap (λ b. holds_number ns n || (b || false)) (eq_reflexive n) ∙ or_with_true (holds_number ns n))

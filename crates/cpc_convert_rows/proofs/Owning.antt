@@ -3,6 +3,7 @@ use Rattle.std.proofs.Common.{◌≡◌, ℕ, suc, ◌+◌, ◌<◌, ◌==◌, B
 use Rattle.std.proofs.lemmas.List.{get_or-map, get_or-set_same, get_or-set_other, length-set, append_assoc}
 use Rattle.std.proofs.Math.Seq.{drop-cons}
 use Rattle.cpc_base.proofs.Truth.{eq_means, eq_not_means, eq_reflexive}
+use Rattle.cpc_base.proofs.Lists.{append_empty}
 use Rattle.cpc_forms.specs.Flow.{Place, Start, At}
 use Rattle.cpc_forms.specs.Pieces.{same_place, is_owned_by, owned_from}
 use Rattle.cpc_forms.specs.Split.{number_if}
@@ -11,10 +12,6 @@ use Rattle.cpc_forms_code.specs.Splits.{place_of, places_of}
 use Rattle.cpc_convert_event.specs.Routines.{owner_number}
 use Rattle.cpc_convert_event.specs.Rows.{number_where}
 use Rattle.cpc_convert_rows.proofs.Marking.{unequal}
-
-with_none : (xs : List ℕ) → xs ++ [] ≡ xs
-with_none [] = refl
-with_none (x ∷ xs) = ap (λ l. x ∷ l) (with_none xs)
 
 module _ {X : Type 0} (items : X → List ℕ) where
   read : (rows : List X) (m : ℕ) (d : X) → m < length rows → get_or (map items rows) m [] ≡ items (get_or rows m d)
@@ -38,7 +35,7 @@ module _ {X : Type 0} (items : X → List ℕ) where
       go false i =
           let ne = eq_not_means to m i in
           let other : ¬ (m ≡ to) = λ j. ne (sym j) in
-          at_new ∙ ap items (get_or-set_other rows to m new new other) ∙ sym (read rows m new lm) ∙ sym (with_none (get_or (map items rows) m []))
+          at_new ∙ ap items (get_or-set_other rows to m new new other) ∙ sym (read rows m new lm) ∙ sym (append_empty (get_or (map items rows) m []))
 
 -- owners have numbers of their own
 pub same_numbers : (k l : Place) → (owner_number k == owner_number l) ≡ same_place k l

@@ -1,22 +1,25 @@
 -- The numbers of a piece's rows, where leaders that have a place are told by what is there.
-use Rattle.std.proofs.Common.{◌≡◌, ℕ, zero, suc, ◌+◌, ◌<◌, ◌≤◌, ◌==◌, ◌||◌, ◌&&◌, not, if◌then◌else◌, Bool, true, false, List, [], ◌∷◌, ◌++◌, length, drop, slice_get, get_or, All, Option, Some, None, refl, sym, ◌∙◌, ap, subst, arith}
+use Rattle.std.proofs.Common.{◌≡◌, ℕ, zero, suc, ◌+◌, ◌<◌, ◌≤◌, ◌==◌, ◌||◌, ◌&&◌, not, Bool, true, false, List, [], ◌∷◌, ◌++◌, length, drop, slice_get, get_or, All, Option, Some, None, refl, sym, ◌∙◌, ap, subst, arith}
 use Rattle.std.proofs.lemmas.List.{append_assoc, drop_all}
 use Rattle.std.proofs.Math.Seq.{drop-cons}
 use Rattle.cpc_base.proofs.Truth.{eq_means, eq_reflexive, or_by_first, or_by_second, not_holds, and_second, or_exchanged, false_unless_true, true_not_false}
+use Rattle.cpc_base.proofs.Lists.{append_empty}
 use Rattle.cpc_tree.specs.Lists.{holds_number}
 use Rattle.cpc_tree.specs.Syntax.{Program}
+use Rattle.cpc_tree.proofs.Holding.{holds_both}
 use Rattle.cpc_forms.specs.Graph.{Node, at_node}
 use Rattle.cpc_forms.specs.Flow.{Place}
-use Rattle.cpc_forms.specs.Pieces.{owned_from, without, fronted, piece_nodes, first_of}
-use Rattle.cpc_forms.specs.Split.{Split, number_if}
+use Rattle.cpc_forms.specs.Pieces.{owned_from, piece_nodes, first_of}
+use Rattle.cpc_forms.specs.Split.{Split}
 use Rattle.cpc_convert_event.specs.Routines.{Routine, number_before, chosen}
 use Rattle.cpc_convert_event.specs.Lines.{node_lines}
-use Rattle.cpc_convert_event.specs.Rows.{is_own, has_row, turned, rows_nodes, reached, stubs_of, row_of, lines_by, falls, number_where, stub_behind, numbers_from, completed, numbers_of}
+use Rattle.cpc_convert_event.specs.Rows.{is_own, has_row, rows_nodes, reached, stubs_of, row_of, lines_by, falls, number_where, stub_behind, numbers_from, completed, numbers_of}
+use Rattle.cpc_convert_event.proofs.Labels.{fronted_is, turned_is}
 use Rattle.cpc_convert_rows.specs.declared.stepped.Stepped.{Stepped}
 use Rattle.cpc_convert_rows.specs.Numbers.{AreLeaders}
 use Rattle.cpc_convert_rows.specs.Steps.{step_at, no_step, step_of, IsStepped}
 use Rattle.cpc_convert_rows.proofs.Led.{node_falls}
-use Rattle.cpc_convert_rows.proofs.Marking.{holds_both, holds_before}
+use Rattle.cpc_convert_rows.proofs.Marking.{holds_before}
 use Rattle.cpc_convert_rows.proofs.Turned.{owned_are}
 
 -- ---- what a list holds
@@ -41,29 +44,11 @@ holds_chosen test (n ∷ ns) k e = go (test n) refl e (λ h. holds_chosen test n
     go true t h rest = or_case (n == k) (holds_number (chosen test ns) k) h (λ i. (ap test (sym (eq_means n k i)) ∙ t, or_by_first (n == k) (holds_number ns k) i)) (λ i. later (rest i))
     go false t h rest = later (rest h)
 
-holds_without : (m : ℕ) (ns : List ℕ) (k : ℕ) → holds_number (without m ns) k ≡ true → holds_number ns k ≡ true
-holds_without m [] k e = e
-holds_without m (n ∷ ns) k e = go (not (n == m)) e (λ h. holds_without m ns k h)
-  where
-    go : (b : Bool) → holds_number (number_if b n (without m ns)) k ≡ true → (holds_number (without m ns) k ≡ true → holds_number ns k ≡ true) → ((n == k) || holds_number ns k) ≡ true
-    go true h rest = or_case (n == k) (holds_number (without m ns) k) h (λ i. or_by_first (n == k) (holds_number ns k) i) (λ i. or_by_second (n == k) (holds_number ns k) (rest i))
-    go false h rest = or_by_second (n == k) (holds_number ns k) (rest h)
-
-holds_fronted : (m : ℕ) (ns : List ℕ) (k : ℕ) → holds_number (fronted m ns) k ≡ true → holds_number ns k ≡ true
-holds_fronted m ns k e = go (holds_number ns m) refl e
-  where
-    go : (b : Bool) → holds_number ns m ≡ b → holds_number (if b then m ∷ without m ns else ns) k ≡ true → holds_number ns k ≡ true
-    go true i h = or_case (m == k) (holds_number (without m ns) k) h (λ j. ap (holds_number ns) (sym (eq_means m k j)) ∙ i) (λ j. holds_without m ns k j)
-    go false i h = h
-
-holds_turned : (m : ℕ) (ns : List ℕ) (k : ℕ) → holds_number (turned m ns) k ≡ true → holds_number ns k ≡ true
-holds_turned m ns k e = or_case (holds_number (chosen _ ns) k) (holds_number (chosen _ ns) k) (sym (holds_both (chosen _ ns) (chosen _ ns) k) ∙ e) (λ h. (holds_chosen _ ns k h).1) (λ h. (holds_chosen _ ns k h).1)
-
 -- nodes that have rows are the piece's own
 pub rows_own : (s : Split) (l : Place) (k : ℕ) → holds_number (rows_nodes s l) k ≡ true → is_own s l k ≡ true
 rows_own s l k e =
     sym (owned_are l s.owners k)
-    ∙ holds_fronted (first_of s l) (owned_from l 0 s.owners) k (holds_chosen (has_row s) (piece_nodes s l) k (holds_turned (first_of s l) (chosen (has_row s) (piece_nodes s l)) k e)).1
+    ∙ fronted_is (first_of s l) (owned_from l 0 s.owners) k (holds_chosen (has_row s) (piece_nodes s l) k (turned_is (first_of s l) (chosen (has_row s) (piece_nodes s l)) k e)).1
 
 -- the leaders to which it goes are not
 pub leaders_not_own : (r : Routine) (l : Place) (k : ℕ) → holds_number (stubs_of r l) k ≡ true → is_own r.split l k ≡ false
@@ -140,14 +125,10 @@ all_holds count (n ∷ ns) all k e =
 pub leaders_below : (r : Routine) (l : Place) (s : Stepped) → IsStepped r s → AreLeaders (length s.steps.items) (stubs_of r l)
 leaders_below r l s is = λ k e. all_holds (length s.steps.items) s.split.now.leaders.items is.led k (ap (λ ns. holds_number ns k) (sym is.leaders) ∙ leaders_led r l k e)
 
-with_none : (xs : List ℕ) → xs ++ [] ≡ xs
-with_none [] = refl
-with_none (x ∷ xs) = ap (λ l. x ∷ l) (with_none xs)
-
 -- when no node is left
 pub all_placed : (p : Program) (r : Routine) (l : Place) (nodes leaders all x : List ℕ) (i : ℕ) → length nodes ≤ i → nodes ≡ rows_nodes r.split l → leaders ≡ stubs_of r l
     → all ++ numbers_from p r l (stubs_of r l) all (drop i nodes) ≡ numbers_from p r l (stubs_of r l) [] nodes → x ≡ completed leaders all → x ≡ numbers_of p r l
 all_placed p r l nodes leaders all x i past are led is e =
     let found : all ≡ numbers_from p r l (stubs_of r l) [] (rows_nodes r.split l) =
-    sym (with_none all) ∙ (ap (λ ns. all ++ numbers_from p r l (stubs_of r l) all ns) (sym (drop_all i nodes past)) ∙ (is ∙ ap (numbers_from p r l (stubs_of r l) []) are)) in
+    sym (append_empty all) ∙ (ap (λ ns. all ++ numbers_from p r l (stubs_of r l) all ns) (sym (drop_all i nodes past)) ∙ (is ∙ ap (numbers_from p r l (stubs_of r l) []) are)) in
     e ∙ (ap (λ s. completed s all) led ∙ ap (completed (stubs_of r l)) found)

@@ -2,6 +2,7 @@
 use Rattle.std.proofs.Common.{◌≡◌, ℕ, ◌+◌, ◌<◌, not, true, List, [], ◌∷◌, ◌++◌, length, take, slice_get, get_or, Option, Some, None, option_map, refl, sym, ◌∙◌, ap, subst}
 use Rattle.std.proofs.lemmas.List.{append_assoc, take_more, length-map}
 use Rattle.std.proofs.lemmas.Option.{slice_get-map}
+use Rattle.cpc_base.proofs.Lists.{append_empty}
 use Rattle.cpc_forms.specs.Graph.{Node, at_node}
 use Rattle.cpc_forms.specs.Flow.{as_list}
 use Rattle.cpc_convert_event.specs.Routines.{Routine}
@@ -65,15 +66,11 @@ all_both r (m ∷ ms) ns =
     ap (λ x. at_node [] (onwards r) (slice_get r.split.graph.nodes m) ++ x) (all_both r ms ns)
     ∙ sym (append_assoc (at_node [] (onwards r) (slice_get r.split.graph.nodes m)) (onwards_all r ms) (onwards_all r ns))
 
-with_none : (xs : List ℕ) → xs ++ [] ≡ xs
-with_none [] = refl
-with_none (x ∷ xs) = ap (λ l. x ∷ l) (with_none xs)
-
 -- one node more
 pub all_more : (r : Routine) (ns : List ℕ) (i : ℕ) → i < length ns → onwards_all r (take i ns) ++ at_node [] (onwards r) (slice_get r.split.graph.nodes (get_or ns i 0)) ≡ onwards_all r (take (i + 1) ns)
 all_more r ns i lt =
     sym (ap (onwards_all r) (take_more ns i 0 lt) ∙ (all_both r (take i ns) (get_or ns i 0 ∷ [])
-    ∙ ap (λ x. onwards_all r (take i ns) ++ x) (with_none (at_node [] (onwards r) (slice_get r.split.graph.nodes (get_or ns i 0))))))
+    ∙ ap (λ x. onwards_all r (take i ns) ++ x) (append_empty (at_node [] (onwards r) (slice_get r.split.graph.nodes (get_or ns i 0))))))
 
 pub as_many : (r : Routine) (s : Stepped) → IsStepped r s → length r.split.graph.nodes ≡ length s.steps.items
 as_many r s is = sym (ap (λ l. length l) is.steps ∙ length-map r.split.graph.nodes (step_of r))

@@ -34,7 +34,7 @@ pub other_marked : (p : Program) (r : Routine) (l : Place) (n k : ℕ) (o : Opti
 other_marked p r l n k o old own is absent =
     sym (or_with_false old) ∙ ap (λ b. old || b) (sym (ap (λ b. any_leads k (put_lines o (lines_by b p r n))) (sym is ∙ absent) ∙ done_leads k o (frame_lines r to_name (At n) ++ (hands_over to_name ∷ []))))
 
-first_left : (p : Program) (r : Routine) (l : Place) (ns : List ℕ) (j : ℕ) → first_number (map (row_of p r l) (drop j ns)) ≡ slice_get ns j
+pub first_left : (p : Program) (r : Routine) (l : Place) (ns : List ℕ) (j : ℕ) → first_number (map (row_of p r l) (drop j ns)) ≡ slice_get ns j
 first_left p r l [] zero = refl
 first_left p r l [] (suc j) = refl
 first_left p r l (n ∷ ns) zero = refl

@@ -19,12 +19,12 @@ use Rattle.cpc_meaning.specs.Threads.{is_cps, is_cps_mode}
 use Rattle.cpc_meaning.specs.Ways as W
 use Rattle.cpc_meaning.specs.Ways.{is_cps_statement}
 use Rattle.cpc_convert_laws.specs.Accepted.Names.{HasNames, IsFound}
-use Rattle.cpc_convert_laws.proofs.Accepted.Cut.{owners_long}
 use Rattle.cpc_forms.specs.Flow.{Place, Start, flow_of, is_leader}
 use Rattle.cpc_forms.specs.Order.{points}
 use Rattle.cpc_forms.specs.Graph as F
 use Rattle.cpc_forms.specs.Graph.{graph_of, node_of, manner_from}
 use Rattle.cpc_forms.specs.Split.{Split, split_of}
+use Rattle.cpc_forms.proofs.Owners.{owners_long}
 use Rattle.cpc_graph_laws.proofs.Formed.{formed_graph, node_comes, exits_way, exits_arrival}
 use Rattle.cpc_graph_laws.proofs.MoreFacts.{entries_are_first}
 use Rattle.cpc_lift_laws.specs.Lift.{boxes}

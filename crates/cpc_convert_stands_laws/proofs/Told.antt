@@ -1,26 +1,13 @@
 -- Other texts that tell the names of a program: they differ from the given ones at each name that is not in its table.
 use Rattle.std.proofs.Common.{◌≡◌, ◌<◌, ◌≤◌, ◌==◌, ℕ, suc, Bool, true, false, nat_lt, length, slice_get, Some, None, bytes_eq, arith, List, [], refl, sym, ap, subst, ◌∙◌}
-use Rattle.std.proofs.lemmas.Bool.Decides.{nat_tests}
 use Rattle.cpc_base.specs.Bytes.{Text}
 use Rattle.cpc_base.specs.declared.names.Name.{Name}
-use Rattle.cpc_base.proofs.Truth.{lt_holds, lt_fails, lt_means}
+use Rattle.cpc_base.proofs.Truth.{lt_holds, lt_fails, lt_means, apart_next, apart_over, apart_under, not_next}
 use Rattle.cpc_tree.specs.Erase.{Names, Table}
 use Rattle.cpc_tree.specs.declared.program.Parameter.{Parameter}
 use Rattle.cpc_meaning.proofs.Functions.{text_same}
 use Rattle.cpc_check_rules.specs.Apart.{AreApart, IsUnknown, Spells}
 use Rattle.cpc_eval_variables.specs.Told.{IsTold}
-
-apart_next : (a b : ℕ) → (suc a == suc b) ≡ (a == b)
-apart_next a b = grind (arith, nat_tests)
-
-apart_over : (a b n : ℕ) → nat_lt a n ≡ true → nat_lt b n ≡ false → (a == suc b) ≡ (a == b)
-apart_over a b n e f = grind (arith, nat_tests, e, f)
-
-apart_under : (a b n : ℕ) → nat_lt a n ≡ false → nat_lt b n ≡ true → (suc a == b) ≡ (a == b)
-apart_under a b n e f = grind (arith, nat_tests, e, f)
-
-not_next : (a : ℕ) → true ≡ (a == suc a) → ⊥
-not_next a e = grind (arith, nat_tests, e)
 
 module _ (from : Names) (table : Table) where
   -- a name that is in the table or not

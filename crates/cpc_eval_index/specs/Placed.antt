@@ -1,6 +1,7 @@
 -- Which item declares a name, by the names that items declare.
 use Rattle.std.specs.Prelude.{ℕ, suc, if◌then◌else◌, List, [], ◌∷◌, reverse, get_or, Option, Some, None, option_map}
 use Rattle.cpc_base.specs.declared.names.Name.{Name}
+pub use Rattle.cpc_base.specs.Lists.{or_place}
 use Rattle.cpc_tree.specs.declared.program.Item.{Item}
 use Rattle.cpc_tree.specs.declared.program.Item.TheVariants as I
 use Rattle.cpc_shapes.specs.Indexed.{is_name, latest}
@@ -9,11 +10,6 @@ use Rattle.cpc_eval_index.specs.declared.places.Places.{Places}
 -- the number that a name has
 abbrev pub place_at : Places → ℕ → Option ℕ
 place_at p x = get_or p.numbers.items x None
-
--- the first number, or else the second
-abbrev pub or_place : Option ℕ → Option ℕ → Option ℕ
-or_place None o = o
-or_place (Some n) o = Some n
 
 -- the number of the first of these that is a name
 abbrev pub first_place : ℕ → List (Option Name) → Option ℕ

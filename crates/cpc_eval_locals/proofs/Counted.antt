@@ -6,7 +6,7 @@ use Rattle.cpc_tree.specs.declared.program.Statement.{Statement}
 use Rattle.cpc_tree.specs.declared.program.Statement.TheVariants as T
 use Rattle.cpc_tree.specs.Erase.{Names, stmt_of, list_of}
 use Rattle.cpc_tree.specs.Points.{locals, locals_in, declared}
-use Rattle.cpc_eval_locals.proofs.Nodes.{block_seen, for_seen, row_end, row_more}
+use Rattle.cpc_tree.proofs.Nodes.{row_end, row_more, block_seen, for_seen}
 
 pub declared_block : (names : Names) (e : Statement) (place : Place) (inner : Vec Statement Global) → e ≡ T.Block place inner → declared (stmt_of names e) ≡ length (locals_in (list_of names inner.items))
 declared_block names e place inner h = ap declared (block_seen names e place inner h)

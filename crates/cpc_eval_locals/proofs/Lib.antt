@@ -3,7 +3,6 @@ pub mod Counted
 pub mod Holding
 pub mod Paths
 pub mod Marking
-pub mod Nodes
 pub mod Noting
 pub mod Passing
 pub mod Scoping

@@ -5,6 +5,7 @@ use Rattle.std.specs.Ordering.{nat_cmp}
 use Rattle.std.specs.declared.cmp.Ordering.{Ordering}
 use Rattle.std.specs.declared.cmp.Ordering.TheVariants.{Less, Equal, Greater}
 use Rattle.cpc_base.specs.Bytes.{Text}
+use Rattle.cpc_base.proofs.Truth.{order_above}
 use Rattle.cpc_tree.specs.Syntax as S
 use Rattle.cpc_tree.specs.Syntax.{Ty, Stmt, Stmts, NoStmt, AndStmt, MaybeStmt, Absent, Present}
 use Rattle.cpc_tree.specs.Points.{Path, declared}
@@ -21,9 +22,6 @@ order_less i k h = grind (arith, nat_tests)
 
 pub order_same : (i : ℕ) → nat_cmp i i ≡ Equal
 order_same i = grind (arith, nat_tests)
-
-pub order_more : (i k : ℕ) → k < i → nat_cmp i k ≡ Greater
-order_more i k h = grind (arith, nat_tests)
 
 pub twice : (n c : ℕ) → capped (n + capped c) ≡ capped (n + c)
 twice n c = omega arith
@@ -89,7 +87,7 @@ pub ends_marked : (d : ℕ) (k : Key) (c : ℕ) (own : Option (Text × Ty)) (inn
 ends_marked d k zero own inner rest f = f
 ends_marked d k (suc c) own inner rest f = λ e h x n o p.
     let m : Mark = record { depth = d; key = k; count = capped (suc c); own = own } in
-    look_more x n o e p m (inner ++ rest) (order_more e d (omega arith))
+    look_more x n o e p m (inner ++ rest) (order_above e d (omega arith))
 
 pub ends_row : (d : ℕ) (heads : Bool) (i : ℕ) (ss : Stmts) (rest : List Mark) → Ends (suc d) rest → Ends (suc d) (marks_row heads d i ss ++ rest)
 ends_row d heads i NoStmt rest f = f

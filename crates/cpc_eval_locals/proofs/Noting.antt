@@ -10,6 +10,7 @@ use Rattle.cpc_tree.specs.declared.program.Statement.TheVariants as T
 use Rattle.cpc_tree.specs.Syntax.{Ty, Stmt}
 use Rattle.cpc_tree.specs.Erase.{Names, stmt_of, list_of}
 use Rattle.cpc_tree.specs.Points.{declared}
+use Rattle.cpc_tree.proofs.Nodes.{row_end, row_more, block_seen, for_seen}
 use Rattle.cpc_eval_values.specs.Counted.{capped}
 use Rattle.cpc_eval_locals.specs.declared.marks.Key.{Key}
 use Rattle.cpc_eval_locals.specs.declared.marks.Key.TheVariants as K
@@ -17,7 +18,6 @@ use Rattle.cpc_eval_locals.specs.declared.marks.Declared.{Declared}
 use Rattle.cpc_eval_locals.specs.declared.marks.Mark as G
 use Rattle.cpc_eval_locals.specs.Marks.{Mark, own_of, marked_if, marked, row_key, marks, marks_row}
 use Rattle.cpc_eval_locals.specs.Seen.{declared_seen, mark_seen, marks_seen}
-use Rattle.cpc_eval_locals.proofs.Nodes.{block_seen, for_seen, row_end, row_more}
 
 -- ---- rows
 

@@ -2,6 +2,7 @@
 use Rattle.std.proofs.Common.{◌≡◌, ℕ, zero, suc, ◌+◌, ◌≤◌, Bool, true, false, List, [], ◌∷◌, ◌++◌, refl, sym, ap, ◌∙◌, arith, append_assoc, append-nil}
 use Rattle.std.specs.Ordering.{nat_cmp}
 use Rattle.cpc_base.specs.Bytes.{Text}
+use Rattle.cpc_base.proofs.Truth.{order_above}
 use Rattle.cpc_tree.specs.Syntax as S
 use Rattle.cpc_tree.specs.Syntax.{Stmt, Stmts, NoStmt, AndStmt, MaybeStmt, Absent, Present}
 use Rattle.cpc_tree.specs.Points.{Path, Nth, TheTest, TheYes, TheNo, TheStep, TheBody, declared}
@@ -9,7 +10,7 @@ use Rattle.cpc_eval_values.specs.Counted.{capped}
 use Rattle.cpc_eval_locals.specs.declared.marks.Key.TheVariants as K
 use Rattle.cpc_eval_locals.specs.Held.{Held, held_after, held_behind, count_behind, held_at, held_in, held_arm}
 use Rattle.cpc_eval_locals.specs.Marks.{Mark, own_of, marked, row_key, marks, marks_row, marks_arm, by_order, Down, Past, Off, row_way, way, own_after, look}
-use Rattle.cpc_eval_locals.proofs.Marking.{again, order_less, order_same, order_more, Ends, ends_marked, ends_row, ends_arm, Stops, off_marked, off_row, off_arm}
+use Rattle.cpc_eval_locals.proofs.Marking.{again, order_less, order_same, Ends, ends_marked, ends_row, ends_arm, Stops, off_marked, off_row, off_arm}
 use Rattle.cpc_eval_locals.proofs.Passing.{stays, leaves, down, after_own, behind, capped_behind}
 
 -- the n-th of a row, also at the head of a loop
@@ -24,7 +25,7 @@ way_past : (heads : Bool) (i k j : ℕ) (p : Path) → k ≡ i + suc j → way (
 way_past heads i k j p e = way_row heads i k p ∙ ap (λ r. by_order r (Past true) (Down p) Off) (order_less i k (omega (arith, e)))
 
 way_off : (heads : Bool) (i k : ℕ) (p : Path) → k ≡ i → (j : ℕ) → suc i ≤ j → way (row_key heads j) (Nth k ∷ p) ≡ Off
-way_off heads i k p e j h = way_row heads j k p ∙ ap (λ r. by_order r (Past true) (Down p) Off) (order_more j k (omega (arith, e, h)))
+way_off heads i k p e j h = way_row heads j k p ∙ ap (λ r. by_order r (Past true) (Down p) Off) (order_above j k (omega (arith, e, h)))
 
 deeper : (d : ℕ) (rest : List Mark) → Ends d rest → Ends (suc d) rest
 deeper d rest f = λ e h. f e (omega arith)

@@ -1,20 +1,13 @@
 -- What a name stands for is a set: any two proofs of one equation are equal.
-use Rattle.std.proofs.Common.{◌≡◌, ℕ, Bool, List, refl, sym, ◌∙◌, ap}
+use Rattle.std.proofs.Common.{◌≡◌, ℕ, Bool, List, refl, ap}
 use Rattle.std.proofs.Math.Nat.{ℕ_set}
 use Rattle.std.proofs.Props.{props}
-use mathlib.Core.HLevel.{collapsible→set}
 use Rattle.cpc_base.specs.Bytes.{Text}
+use Rattle.cpc_base.proofs.Sets.{retract_set}
 use Rattle.cpc_num.specs.declared.kinds.Kind.{Kind}
+use Rattle.cpc_num.proofs.KindSets.{kind_set}
 use Rattle.cpc_tree.specs.Syntax.{Ty, TyVoid, TyInt, TyCondvar, TyPointer, TyCode, TyStruct, TyArray, Tys, NoTy, AndTy}
 use Rattle.cpc_eval_locals.specs.Held.{Held}
-
--- a type that maps into a set and back is a set
-retract_set : {A B : Type 0} (to : A → B) (from : B → A) → ((x : A) → from (to x) ≡ x) → IsSet B → IsSet A
-retract_set to from back set = collapsible→set (λ x y p. sym (back x) ∙ (ap from (ap to p) ∙ back y))
-    (λ x y p q. ap (λ z. sym (back x) ∙ (ap from z ∙ back y)) (set (to x) (to y) (ap to p) (ap to q)))
-
-kind_set : IsSet Kind
-kind_set = hlevel props
 
 text_set : IsSet Text
 text_set = hlevel props

@@ -1,15 +1,12 @@
 -- Numbers as answers, and the operators on them.
-use Rattle.std.proofs.Common.{◌≡◌, ℤ, Result, Ok, Err, refl, sym, ap, ◌∙◌, arith}
-use Rattle.std.proofs.lemmas.Int.{ints}
+use Rattle.std.proofs.Common.{◌≡◌, ℤ, Result, Ok, Err, refl, sym, ap, ◌∙◌}
 use Rattle.std.proofs.lemmas.Result.{err_from_is_err_and}
 use Rattle.std.specs.Result.{IsErrAnd}
 use Rattle.cpc_num.specs.declared.kinds.Fault.{Fault}
 use Rattle.cpc_num.specs.declared.kinds.Kind.{Kind}
-use Rattle.cpc_num.specs.declared.kinds.Kind.TheVariants as K
 use Rattle.cpc_num.specs.declared.kinds.Op.{Op}
 use Rattle.cpc_num.specs.declared.kinds.Op.TheVariants as O
 use Rattle.cpc_num.specs.Number as N
-use Rattle.cpc_num.specs.Number.{IsOf, IsOfSome}
 use Rattle.cpc_store.specs.declared.values.Value as V
 use Rattle.cpc_tree.specs.Erase.{Names}
 use Rattle.cpc_store.specs.Store.{Value, Whole}
@@ -27,15 +24,6 @@ number_given kind z r e = rw (sym e) refl
 -- a fault that came through an early return
 pub number_faulted : (names : Names) (x : Result V.Value Fault) (fault : Fault) (kind : Kind) (r : Result ℤ Fault) → IsErrAnd x (λ e. e ≡ fault) → Err fault ≡ r → Meets (shown names x) (number kind r)
 number_faulted names x fault kind r i e = let p = err_from_is_err_and x i in rw (p.1, p.2, sym e) refl
-
--- a value of a kind is a value of some kind
-pub IsOfSome-IsOf : (kind : Kind) (z : ℤ) → IsOf kind z → IsOfSome z
-IsOfSome-IsOf K.Char z h = record { low = omega (arith, ints); high = omega (arith, ints) }
-IsOfSome-IsOf K.UChar z h = record { low = omega (arith, ints); high = omega (arith, ints) }
-IsOfSome-IsOf K.Int z h = record { low = omega (arith, ints); high = omega (arith, ints) }
-IsOfSome-IsOf K.UInt z h = record { low = omega (arith, ints); high = omega (arith, ints) }
-IsOfSome-IsOf K.Long z h = record { low = omega (arith, ints); high = omega (arith, ints) }
-IsOfSome-IsOf K.ULong z h = record { low = omega (arith, ints); high = omega (arith, ints) }
 
 -- the kind of a result, by the kind of the work
 pub result_kind_is : (op : Op) (j k : Kind) → N.result_kind op (work_kind op j k) ≡ result_kind op j k

@@ -1,5 +1,6 @@
 -- The operand of which an operator counts the elements that it points to, and how many cells one of these has.
-use Rattle.std.specs.Prelude.{◌≡◌, ℕ, min, Option, Some}
+use Rattle.std.specs.Prelude.{◌≡◌, ℕ, Option, Some}
+pub use Rattle.cpc_base.specs.Counts.{capped}
 use Rattle.cpc_num.specs.declared.kinds.Op.{Op}
 use Rattle.cpc_num.specs.declared.kinds.Op.TheVariants.{Add, Sub}
 use Rattle.cpc_store.specs.Store.{ValueOf, Whole}
@@ -34,10 +35,6 @@ cells_left p op t = NoAnswer
 abbrev pub cells_right : Program → Op → Option Ty → Answer ℕ
 cells_right p Add u = element_size p u
 cells_right p op u = NoAnswer
-
--- a count as a u64 has it: the greatest stands for itself and all above it
-abbrev pub capped : ℕ → ℕ
-capped n = min n 18446744073709551615
 
 -- the size that is handed over is the one that there is
 abbrev pub IsSize : Option ℕ → Answer ℕ → Type 0

@@ -6,13 +6,10 @@ use Rattle.cpc_num.specs.declared.kinds.Fault.{Fault}
 use Rattle.cpc_store.specs.declared.values.Block.{Block}
 use Rattle.cpc_store.specs.declared.values.Value as V
 use Rattle.cpc_store.specs.Store.{Value, Store, StoreOf}
-use Rattle.cpc_store.specs.Seen.{seen}
-use Rattle.cpc_store.specs.Codes.{map_value, map_store}
+use Rattle.cpc_store.specs.Codes.{map_store}
 use Rattle.cpc_tree.specs.Erase.{Names}
 use Rattle.cpc_meaning.specs.Eval.{Spot, InCell}
-
-abbrev pub value_of : Names → V.Value → Value
-value_of names v = map_value names (seen v)
+pub use Rattle.cpc_meaning.specs.Values.{value_of}
 
 abbrev pub values_of : Names → List V.Value → List Value
 values_of names vs = map (value_of names) vs

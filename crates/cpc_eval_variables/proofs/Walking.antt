@@ -14,12 +14,12 @@ use Rattle.cpc_tree.specs.Erase.{Names, type_of, expr_of, stmt_of, list_of, mayb
 use Rattle.cpc_tree.specs.Typing as Y
 use Rattle.cpc_tree.specs.Points.{locals, locals_in, locals_arm, declared, extended, extended_all}
 use Rattle.cpc_tree.specs.Registers.{addresses, addresses_by, addresses_in, addresses_arm, parameter_scope, as_variable}
+use Rattle.cpc_tree.proofs.Nodes.{block_seen, if_seen, for_seen, row_more}
 use Rattle.cpc_eval_variables.specs.declared.scope.Scope.{Scope}
 use Rattle.cpc_eval_variables.specs.Told.{IsTold}
 use Rattle.cpc_eval_variables.specs.Scoped.{scope_of, scope_over}
 use Rattle.cpc_eval_variables.specs.Typed.{types_in, types_of}
 use Rattle.cpc_eval_variables.proofs.Addressing.{both_added}
-use Rattle.cpc_eval_variables.proofs.Nodes.{block_seen, if_seen, for_seen, row_more}
 
 -- ---- lists that grow
 

@@ -1,38 +1,17 @@
 -- Split graphs with the closures of their owners.
-use Rattle.std.specs.Prelude.{◌≡◌, ℕ, zero, suc, ◌<◌, Bool, true, false, List, [], ◌∷◌, map, length, get_or, Option, Some, None}
+use Rattle.std.specs.Prelude.{◌≡◌, ℕ, zero, suc, ◌<◌, Bool, true, false, List, [], ◌∷◌, map, length, get_or}
 use Rattle.cpc_tree.specs.Erase.{Names, function_of}
 use Rattle.cpc_tree.specs.Syntax.{Function, Program}
 use Rattle.cpc_tree.specs.Registers.{variables}
-use Rattle.cpc_meaning.specs.Plain.{Code}
 use Rattle.cpc_meaning.specs.Ways.{ways}
 use Rattle.cpc_forms.specs.Graph.{graph_of}
-use Rattle.cpc_forms.specs.Flow.{Place, Start, At}
-use Rattle.cpc_forms.specs.Split.{Split, split_of, split_code, Position, InTree, InGraph}
+use Rattle.cpc_forms.specs.Split.{Split, split_of}
+pub use Rattle.cpc_forms.specs.Split.{owner_number, position_owner, positions_from, code_of}
 use Rattle.cpc_lift_laws.specs.Search.{Link, closure}
 use Rattle.cpc_lift_laws.specs.Nodes.{ways_of_nodes, uses_of_nodes}
 use Rattle.cpc_forms_code.specs.declared.split.SplitFunction.{SplitFunction}
 use Rattle.cpc_forms_code.specs.Points.{Marked, marked}
 use Rattle.cpc_forms_code.specs.Programs.{program_by, IsSpelled}
-
--- the number of an owner in the search for closures
-abbrev pub owner_number : Place → ℕ
-owner_number Start = 0
-owner_number (At n) = suc n
-
--- that of the owner of a position
-abbrev pub position_owner : Position → ℕ
-position_owner (InTree point) = 0
-position_owner (InGraph l n) = owner_number l
-
--- the positions of the nodes that have these owners, from the number n on
-abbrev pub positions_from : (n : ℕ) → List (Option Place) → List Position
-positions_from n [] = []
-positions_from n (None ∷ os) = positions_from (suc n) os
-positions_from n (Some l ∷ os) = InGraph l n ∷ positions_from (suc n) os
-
--- the code of a split graph
-abbrev pub code_of : Program → Split → Code Position
-code_of p s = split_code (ways p).code (λ x. Some s)
 
 -- a number before others, where it is not so
 abbrev pub unless : Bool → ℕ → List ℕ → List ℕ

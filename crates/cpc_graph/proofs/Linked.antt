@@ -4,9 +4,9 @@ use Rattle.cpc_tree.specs.declared.program.Statement.{Statement}
 use Rattle.cpc_tree.specs.Lists.{is_empty, first_or, rest_of}
 use Rattle.cpc_tree.specs.Syntax.{Expr, Stmt, Block, Empty, Declare, Assign, Call, Detach, Spawn, If, While, DoWhile, For, Goto, Label, Break, Continue, Return, Stmts, MaybeStmt}
 use Rattle.cpc_tree.specs.Erase.{Names, stmt_of, list_of}
+use Rattle.cpc_tree.proofs.Nodes.{row_more, row_end}
 use Rattle.cpc_forms.specs.Order.{points_of}
 use Rattle.cpc_forms.specs.Table as T
-use Rattle.cpc_eval_variables.proofs.Nodes.{row_more, row_end}
 use Rattle.cpc_graph.specs.declared.onward.Way.{Way}
 use Rattle.cpc_graph.specs.Ends.{ends_of, ends_in, ends_arm}
 use Rattle.cpc_graph.specs.Ways.{way, one_way, ways_of, ways_in, ways_arm, header_ways}

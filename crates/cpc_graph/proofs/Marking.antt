@@ -10,10 +10,10 @@ use Rattle.cpc_tree.specs.Lists.{is_empty}
 use Rattle.cpc_tree.specs.Syntax.{Stmt, Stmts, MaybeStmt, NoStmt, AndStmt, Block, If, While, DoWhile, For, Expr}
 use Rattle.cpc_tree.specs.Points.{Here, Nth, TheTest, TheStep, TheBody}
 use Rattle.cpc_tree.specs.Erase.{Names, expr_of, stmt_of, list_of, maybe_at}
+use Rattle.cpc_tree.proofs.Nodes.{if_seen, for_seen, row_more}
 use Rattle.cpc_forms.specs.Order.{points_of, points_in, points_arm, within, below, one_later}
 use Rattle.cpc_forms.specs.Table as F
 use Rattle.cpc_forms.specs.Table.{labels_of, labels_in, test_of, body_of}
-use Rattle.cpc_eval_variables.proofs.Nodes.{block_seen, if_seen, for_seen, row_more}
 use Rattle.cpc_graph.specs.declared.marks.Mark.{Mark}
 use Rattle.cpc_graph.specs.Ends.{ends_of, ends_in}
 use Rattle.cpc_graph.specs.Labels.{labels_seen, label_seen}
@@ -70,9 +70,6 @@ labels_back names ms bs cs xs k i p q =
     ∙ take_front (labels_seen names ms) xs)))
 
 -- ---- blocks
-
-pub block_row : (names : Names) (e : Statement) (place : Place) (inner : Vec Statement Global) (row : List Statement) → e ≡ T.Block place inner → row ≡ inner.items → Block (list_of names row) ≡ stmt_of names e
-block_row names e place inner row is rows = ap (λ r. Block (list_of names r)) rows ∙ sym (block_seen names e place inner is)
 
 pub none_row : (names : Names) (row : List Statement) → is_empty row ≡ true → list_of names row ≡ NoStmt
 none_row names [] h = refl

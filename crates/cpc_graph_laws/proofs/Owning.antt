@@ -35,17 +35,17 @@ held_rest false n m ns e = e
 
 -- ---- owners
 
-place_same : (k l : Place) → same_place k l ≡ true → k ≡ l
+pub place_same : (k l : Place) → same_place k l ≡ true → k ≡ l
 place_same Start Start e = refl
 place_same Start (At n) e = absurd (cc)
 place_same (At m) Start e = absurd (cc)
 place_same (At m) (At n) e = ap (λ j. At j) (eq_means m n e)
 
-place_self : (l : Place) → same_place l l ≡ true
+pub place_self : (l : Place) → same_place l l ≡ true
 place_self Start = refl
 place_self (At n) = eq_reflexive n
 
-owned_is : (l : Place) (o : Option Place) → is_owned_by l o ≡ true → o ≡ Some l
+pub owned_is : (l : Place) (o : Option Place) → is_owned_by l o ≡ true → o ≡ Some l
 owned_is l None e = absurd (cc)
 owned_is l (Some k) e = ap (λ j. Some j) (place_same k l e)
 

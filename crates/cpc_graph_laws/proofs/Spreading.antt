@@ -4,6 +4,7 @@ use Rattle.std.proofs.lemmas.List.{length-append}
 use Rattle.cpc_base.proofs.Truth.{eq_means, eq_reflexive}
 use Rattle.cpc_tree.specs.Lists.{holds_number}
 use Rattle.cpc_store.proofs.StoreLemmas.{slice_get-set_same, slice_get-set_other}
+use Rattle.cpc_meaning.proofs.Stores.{set_length}
 use Rattle.cpc_forms.specs.Flow.{Place}
 use Rattle.cpc_forms.specs.Spread.{Spread, known, mark_at, is_marked, visit_if, visit, visit_all, unmarked, left_to_do}
 use Rattle.cpc_graph_laws.proofs.Formed.{in_either, in_left, in_right}
@@ -26,11 +27,6 @@ unmarked_none (Some l) e = absurd (cc)
 
 other_numbers : (k n : ℕ) → (k == n) ≡ false → k ≢ n
 other_numbers k n e i = absurd (grind (arith, e, i))
-
-set_length : {A : Type 0} (xs : List A) (n : ℕ) (x : A) → length (slice_set xs n x) ≡ length xs
-set_length [] n x = refl
-set_length (y ∷ xs) zero x = refl
-set_length (y ∷ xs) (suc n) x = ap (λ k. suc k) (set_length xs n x)
 
 -- a mark that is set leaves one node less without a mark
 set_unmarked : (os : List (Option Place)) (n : ℕ) (l : Place) → n < length os → known (slice_get os n) ≡ None → unmarked (slice_set os n (Some l)) + 1 ≡ unmarked os

@@ -5,6 +5,7 @@ use Rattle.cpc_base.specs.Bytes.{Text}
 use Rattle.cpc_base.specs.declared.stop.Dialect.{Dialect}
 use Rattle.cpc_tree.specs.Tokens.{Lexeme}
 use Rattle.cpc_tree.specs.Pieces.{Token, Fault, Quote, Single, Double, Escape, NoEscape, State, Open, Whole, Wrong, unclosed, malformed, is_blank, in_word, quote_byte, next_quoted, first_state, next_state, state_of}
+use Rattle.cpc_tree.proofs.Apart.{whole_blank}
 use Rattle.cpc_lexer.specs.declared.front.Front.TheVariants as F
 use Rattle.cpc_lexer.specs.Fronts.{IsLongestFront, IsFront}
 use Rattle.cpc_lexer.proofs.Steps.{state_next, state_begun, longest_front, is_front}
@@ -25,10 +26,6 @@ next_line : (quote : Quote) (held : Text) (part : Escape) (b : ℕ) → b ≡ 10
 unfolding next_state
 next_line quote held part b h = rw h refl
 
-next_whole : (x : Lexeme) (b : ℕ) → next_state (Whole x) b ≡ None
-unfolding next_state
-next_whole x b = refl
-
 next_wrong : (b : ℕ) → next_state Wrong b ≡ None
 unfolding next_state
 next_wrong b = refl
@@ -39,7 +36,7 @@ pub quote_goes : (t : Text) (n : ℕ) (quote : Quote) (held : Text) (part : Esca
 quote_goes t n quote held part s lt e ne f = state_next t n 0 (Open quote held part) lt e ∙ (next_open quote held part (get_or t n 0) ne ∙ ap (λ u. Some u) f)
 
 pub quote_closed : (dialect : Dialect) (t : Text) (n : ℕ) (x : Lexeme) → n < length t → state_of (take (n + 1) t) ≡ Some (Whole x) → IsLongestFront dialect t (n + 1) (Token x)
-quote_closed dialect t n x lt e = longest_front dialect t (n + 1) 0 (Whole x) (Token x) (omega arith) (omega arith) e (λ l. next_whole x _) refl
+quote_closed dialect t n x lt e = longest_front dialect t (n + 1) 0 (Whole x) (Token x) (omega arith) (omega arith) e (λ l. whole_blank x _) refl
 
 pub quote_wrong : (dialect : Dialect) (t : Text) (n : ℕ) → n < length t → state_of (take (n + 1) t) ≡ Some Wrong → IsFront dialect t (F.Fault malformed) (n + 1)
 quote_wrong dialect t n lt e = is_front dialect t (n + 1) (F.Fault malformed) tt (omega arith, omega arith) (longest_front dialect t (n + 1) 0 Wrong (Fault malformed) (omega arith) (omega arith) e (λ l. next_wrong _) refl)

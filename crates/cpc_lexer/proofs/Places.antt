@@ -6,10 +6,6 @@ use Rattle.cpc_base.specs.declared.stop.Place.{Place}
 use Rattle.cpc_tree.specs.Cut.{place_past, place_behind}
 use Rattle.cpc_lexer.proofs.Steps.{take_more}
 
-pub behind_none : (place : Place) → place_behind place [] ≡ place
-unfolding place_behind
-behind_none place = refl
-
 pub behind-append : (place : Place) (v w : Text) → place_behind place (v ++ w) ≡ place_behind (place_behind place v) w
 unfolding place_behind
 behind-append place [] w = refl

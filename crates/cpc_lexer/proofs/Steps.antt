@@ -95,7 +95,7 @@ block_begun t le e f = state_next t 1 0 (Sign P.Slash) (omega arith) (state_begu
 pub line_begun : (t : Text) → 2 ≤ length t → get_or t 0 0 ≡ 47 → get_or t 1 0 ≡ 47 → state_of (take 2 t) ≡ Some LineComment
 line_begun t le e f = state_next t 1 0 (Sign P.Slash) (omega arith) (state_begun t 0 (omega arith) ∙ (ap (λ b. first_state b) e ∙ slash_begins)) ∙ (ap (λ b. next_state (Sign P.Slash) b) f ∙ slash_slash)
 
-next_gap : (b : ℕ) → next_state Gap b ≡ None
+pub next_gap : (b : ℕ) → next_state Gap b ≡ None
 unfolding next_state
 next_gap b = refl
 

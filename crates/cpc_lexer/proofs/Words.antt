@@ -13,11 +13,12 @@ use Rattle.cpc_base.proofs.Truth.{le_holds, le_fails}
 use Rattle.cpc_tree.specs.Tokens.{keyword_of, punctuator_of}
 use Rattle.cpc_tree.specs.Pieces.{Space, Fault, Gap, Run, Sign, is_blank, in_word, digit_value, is_digit_of, value_of, suffix_of, with_suffix, integer_of, by_digits, integer, name_or_keyword, run, first_state, next_state, state_behind, state_of}
 use Rattle.cpc_tree.proofs.Runs.{first_run, next_run}
+use Rattle.cpc_tree.proofs.Apart.{first_blank}
 use Rattle.cpc_lexer.specs.declared.front.Front.{Front}
 use Rattle.cpc_lexer.specs.declared.front.Front.TheVariants as F
 use Rattle.std.specs.Option.{option_map}
 use Rattle.cpc_lexer.specs.Fronts.{front_piece, IsFrontNameless, IsFrontNumbered, IsFront}
-use Rattle.cpc_lexer.proofs.Steps.{take_more, state_begun, longest_front, is_front}
+use Rattle.cpc_lexer.proofs.Steps.{take_more, state_begun, longest_front, is_front, next_gap}
 
 -- what a run is
 pub run_digit : (dialect : Dialect) (w : Text) → 0 < length w → is_ascii_digit (get_or w 0 0) ≡ true → run dialect w ≡ integer w
@@ -122,14 +123,6 @@ pub first_mark : (b : ℕ) → false ≡ is_blank b → false ≡ in_word b → 
 unfolding first_state
 first_mark b e f g h = rw (sym e, sym f, ne_eqb b 39 g, ne_eqb b 34 h) refl
 
-first_gap : (b : ℕ) → is_blank b ≡ true → first_state b ≡ Some Gap
-unfolding first_state
-first_gap b e = rw e refl
-
-next_gap : (b : ℕ) → next_state Gap b ≡ None
-unfolding next_state
-next_gap b = refl
-
 -- a blank
 pub blank_front : (dialect : Dialect) (t : Text) → 0 < length t → is_blank (get_or t 0 0) ≡ true → IsFront dialect t F.Space 1
-blank_front dialect t lt e = is_front dialect t 1 F.Space tt tt (longest_front dialect t 1 0 Gap Space (omega arith) (omega arith) (state_begun t 0 lt ∙ first_gap (get_or t 0 0) e) (λ l. next_gap _) refl)
+blank_front dialect t lt e = is_front dialect t 1 F.Space tt tt (longest_front dialect t 1 0 Gap Space (omega arith) (omega arith) (state_begun t 0 lt ∙ first_blank (get_or t 0 0) e) (λ l. next_gap _) refl)

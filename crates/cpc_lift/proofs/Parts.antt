@@ -1,5 +1,5 @@
 -- What is gathered of a split function is what the definitions make of it.
-use Rattle.std.proofs.Common.{◌≡◌, ℕ, zero, suc, ◌<◌, ◌≤◌, List, [], ◌∷◌, map, take, length, get_or, refl, sym, ap, ◌∙◌, subst, Option, option_map}
+use Rattle.std.proofs.Common.{◌≡◌, ℕ, suc, ◌<◌, ◌≤◌, List, [], ◌∷◌, map, take, length, get_or, refl, sym, ap, ◌∙◌, subst, Option, option_map}
 use Rattle.std.specs.List.{AllByRecursion-prop}
 use Rattle.std.proofs.lemmas.List.{length-map, take_all}
 use Rattle.std.proofs.Math.Logic.{∥∥₁_elim, ∥∥₁_map}
@@ -9,8 +9,9 @@ use Rattle.cpc_tree.specs.Syntax as T
 use Rattle.cpc_tree.specs.Registers.{variables}
 use Rattle.cpc_check_rules.specs.Apart.{AreApart}
 use Rattle.cpc_forms.specs.Graph.{graph_of}
-use Rattle.cpc_forms.specs.Flow.{Flow, flow_of}
+use Rattle.cpc_forms.specs.Flow.{flow_of}
 use Rattle.cpc_forms.specs.Split.{Split, split_of, owners_from}
+use Rattle.cpc_forms.proofs.Owners.{owners_long}
 use Rattle.cpc_lift_laws.specs.Search as S
 use Rattle.cpc_lift_laws.specs.Nodes.{ways_of_nodes, uses_of_nodes}
 use Rattle.cpc_lift_closures.specs.declared.links.Link.{Link}
@@ -29,10 +30,6 @@ use Rattle.cpc_forms_code.specs.Lifts.{position_owner, positions_from, code_of, 
 use Rattle.cpc_lift.specs.Gathered.{ways_along, uses_along}
 use Rattle.cpc_lift.proofs.Along.{ways_are, uses_are}
 use Rattle.cpc_lift.proofs.Ranged.{Within, AllWithin, OwnersBelow, owners_below, ways_within, all_uses_within}
-
-owners_long : (flow : Flow) (n k : ℕ) → length (owners_from flow n k) ≡ k
-owners_long flow n zero = refl
-owners_long flow n (suc k) = ap (λ j. suc j) (owners_long flow (suc n) k)
 
 marked_long : (f : T.Function) (n : ℕ) (vs : List T.Variable) → length (marked_from f n vs) ≡ length vs
 marked_long f n [] = refl

@@ -1,12 +1,12 @@
 -- From the numbers of the variables that occur to the names that are kept.
-use Rattle.std.proofs.Common.{◌≡◌, ℕ, suc, ◌==◌, ◌||◌, Bool, true, false, List, [], ◌∷◌, ◌++◌, bytes_eq, cond, map, refl, ◌∙◌, ap}
+use Rattle.std.proofs.Common.{◌≡◌, ℕ, ◌==◌, ◌||◌, Bool, true, false, List, [], ◌∷◌, ◌++◌, bytes_eq, cond, refl, ◌∙◌, ap}
 use Rattle.cpc_base.specs.Bytes.{Text}
 use Rattle.cpc_base.proofs.Truth.{eq_reflexive, or_by_first, or_by_second}
 use Rattle.cpc_tree.specs.Lists.{holds_number}
-use Rattle.cpc_tree.specs.Syntax.{Ty, Expr, ENamed, EInteger, ECharacter, EText, EUnary, EBinary, EAnd, EOr, EChoose, ECast, ESizeOf, EIndex, EMember, EArrow, ECall, StructItem, GlobalItem, PrototypeItem, FunctionItem, Program}
-use Rattle.cpc_tree.specs.declared.program.Mode.{Mode}
-use Rattle.cpc_tree.specs.Typing.{Local, Scope, Meant, ALocal, AGlobal, AFunction, item_named, named, parameter_type}
+use Rattle.cpc_tree.specs.Syntax.{Ty, Expr, ENamed, EInteger, ECharacter, EText, EUnary, EBinary, EAnd, EOr, EChoose, ECast, ESizeOf, EIndex, EMember, EArrow, ECall, Program}
+use Rattle.cpc_tree.specs.Typing.{Local, Scope, Meant, ALocal, named}
 use Rattle.cpc_tree.specs.Registers.{slot_of}
+use Rattle.cpc_tree.proofs.Named.{no_local}
 use Rattle.cpc_meaning.proofs.SameValues.{AllNames}
 use Rattle.cpc_lift_laws.specs.Used.{used_in}
 
@@ -45,22 +45,6 @@ module _ (keep : ℕ → Bool) where
 
 -- ---- names
 
--- an item is no local
-other_global : (b : Bool) (n k : ℕ) (u t : Ty) (later : Meant) → (later ≡ ALocal k t → ⊥) → cond b (AGlobal n u) later ≡ ALocal k t → ⊥
-other_global true n k u t later h e = absurd (cc)
-other_global false n k u t later h e = h e
-
-other_function : (b : Bool) (mode : Mode) (r : Ty) (ps : List Ty) (k : ℕ) (t : Ty) (later : Meant) → (later ≡ ALocal k t → ⊥) → cond b (AFunction mode r ps) later ≡ ALocal k t → ⊥
-other_function true mode r ps k t later h e = absurd (cc)
-other_function false mode r ps k t later h e = h e
-
-no_local : (n : ℕ) (items : Program) (x : Text) (k : ℕ) (t : Ty) → item_named n items x ≡ ALocal k t → ⊥
-no_local n [] x k t e = absurd (cc)
-no_local n (StructItem tag fs ∷ items) x k t e = no_local n items x k t e
-no_local n (GlobalItem g u start ∷ items) x k t e = other_global (bytes_eq g x) n k u t (item_named (suc n) items x) (no_local (suc n) items x k t) e
-no_local n (PrototypeItem mode f r ps ∷ items) x k t e = other_function (bytes_eq f x) mode r (map parameter_type ps) k t (item_named n items x) (no_local n items x k t) e
-no_local n (FunctionItem f ∷ items) x k t e = other_function (bytes_eq f.called x) f.mode f.result (map parameter_type f.parameters) k t (item_named n items x) (no_local n items x k t) e
-
 this_local : (b : Bool) (l : Local) (k : ℕ) (t : Ty) (outer : Meant) (slots : List ℕ) → (outer ≡ ALocal k t → holds_number slots k ≡ true)
     → cond b (ALocal l.slot l.type) outer ≡ ALocal k t → holds_number (cond b (l.slot ∷ []) slots) k ≡ true
 this_local true l k t outer slots h e =
@@ -69,7 +53,7 @@ this_local true l k t outer slots h e =
 this_local false l k t outer slots h e = h e
 
 -- the number of the local that a name means
-number_of : (p : Program) (scope : Scope) (x : Text) (k : ℕ) (t : Ty) → named p scope x ≡ ALocal k t → holds_number (slot_of scope x) k ≡ true
+pub number_of : (p : Program) (scope : Scope) (x : Text) (k : ℕ) (t : Ty) → named p scope x ≡ ALocal k t → holds_number (slot_of scope x) k ≡ true
 number_of p [] x k t e = absurd (no_local 0 p x k t e)
 number_of p (l ∷ scope) x k t e = this_local (bytes_eq l.called x) l k t (named p scope x) (slot_of scope x) (number_of p scope x k t) e
 

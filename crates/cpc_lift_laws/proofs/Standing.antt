@@ -41,7 +41,7 @@ blocks_marked keep box (x ∷ xs) (y ∷ ys) m (suc k) slot e g = blocks_marked 
 blocks_marked keep box [] (y ∷ ys) m k slot e g = absurd m
 blocks_marked keep box (x ∷ xs) [] m k slot e g = absurd m
 
-one_length : (keep box : ℕ → Bool) (xs ys : List Slot) → SlotsMeet keep box xs ys → length ys ≡ length xs
+pub one_length : (keep box : ℕ → Bool) (xs ys : List Slot) → SlotsMeet keep box xs ys → length ys ≡ length xs
 one_length keep box [] [] m = refl
 one_length keep box (x ∷ xs) (y ∷ ys) m = ap (λ n. suc n) (one_length (λ k. keep (suc k)) (λ k. box (suc k)) xs ys m.1)
 one_length keep box [] (y ∷ ys) m = absurd m

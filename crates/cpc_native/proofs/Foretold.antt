@@ -21,6 +21,7 @@ use Rattle.cpc_meaning.specs.Plain.{Frame, Stack, Done, Went, moved_to, returned
 use Rattle.cpc_meaning.specs.Requests.{Asked, Builtin, Host, ToSpawn, Section, Primitive, Malloc, Free, RtFrame, RtBox, RtFrameFree, RtUnbox}
 use Rattle.cpc_meaning.specs.Runs.{slots_registers, frames_registers}
 use Rattle.cpc_meaning.specs.Trees.{trees, stood_at}
+use Rattle.cpc_meaning.proofs.Chained.{then_assoc}
 use Rattle.cpc_meaning_laws.specs.Cell.Cells.{call_cells, slots_cells, code_cells, done_cells, acted_cells, request_cells, after_plain, step_cells}
 use Rattle.cpc_meaning_laws.proofs.Cell.Calls.{call_takes, leaving_gives_back}
 use Rattle.cpc_meaning_laws.proofs.Cell.Going.{going_on_keeps}
@@ -55,12 +56,6 @@ arrival_goes c stood v a e = at (asking stood) refl e
         → (f : Found) × (t : Store) × (slots : List Slot) × (asking stood ≡ Some f) × (a ≡ GoesOn true t slots) × (arrives c f (Some v) ≡ Gives (GoesOn true t slots))
     at None i e = absurd (cc e)
     at (Some f) i e = let (t, slots, is) = arrives_goes c f v a e in (f, t, slots, i, is, e ∙ ap Gives is)
-
--- one thing after another
-in_turn : {A B C : Type 0} (a : Answer A) (f : A → Answer B) (g : B → Answer C) → (a >>= λ x. f x >>= g) ≡ ((a >>= f) >>= g)
-in_turn (Gives x) f g = refl
-in_turn (Faults fault) f g = refl
-in_turn NoAnswer f g = refl
 
 -- what a step leaves, by the change that was told, where so many cells were live before
 abbrev pub IsChange : Names → Program → Store → List Slot → Change → (before after : ℕ) → Type 0
@@ -159,7 +154,7 @@ module _ (names : Names) (p : Program) (s : Store) (frame : Frame Point) (below 
   answer_is : (t : Store) (v : Value) → answered (trees p) t stack v ≡ (arrival (context (trees p) t frame) there v >>= perform (trees p) t frame below)
   answer_is t v =
       let P : Option Function → Type 0 = λ q. (needed (asking (stood_at q frame.point)) >>= λ f. arrives (context (trees p) t frame) f (Some v) >>= perform (trees p) t frame below) ≡ (arrival (context (trees p) t frame) there v >>= perform (trees p) t frame below) in
-      subst P (sym own) (in_turn (needed (asking there)) (λ f. arrives (context (trees p) t frame) f (Some v)) (perform (trees p) t frame below))
+      subst P (sym own) (then_assoc (needed (asking there)) (λ f. arrives (context (trees p) t frame) f (Some v)) (perform (trees p) t frame below))
 
   -- the cells that are left where control goes on, and a block was made
   goes_made : (class : Class) (cells : List Value) (h : Bool) (t : Store) (slots : List Slot) (next : Option Point) (n : ℕ) → store_cells t ≡ store_cells s → slots_registers slots ≡ slots_registers frame.slots

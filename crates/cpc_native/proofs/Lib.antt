@@ -8,3 +8,4 @@ pub mod Foretold
 pub mod Nexts
 pub mod Counting
 pub mod Putting
+pub mod Same

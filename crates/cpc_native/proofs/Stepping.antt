@@ -82,14 +82,14 @@ goes_meets p s t frame below g h slots to e k =
     go (Some q) k = ap (λ n. Ok (Went t (gone_to frame slots below n))) k
 
 -- the frame of a call whose slots are made
-abbrev framed : Program → Function → List Slot × Store → Answer (Frame Point × Store)
+abbrev pub framed : Program → Function → List Slot × Store → Answer (Frame Point × Store)
 framed p g m = Gives (record { function = g.called; point = (trees p).code.first g.called; slots = m.0 }, m.1)
 
 -- the frames upon which one was put, the first of which waits at this point
 abbrev upon : Frame Point → List (Frame Point) → Point → Frame Point × Store → Done Point
 upon frame below back m = Went m.1 (record { frames = m.0 ∷ moved_to frame back ∷ below; arriving = None })
 
-no_frame_fault : (p : Program) (g : Function) (a : Answer (List Slot × Store)) (fault : Fault) → ((other : Fault) → a ≡ Faults other → ⊥) → (a >>= framed p g) ≡ Faults fault → ⊥
+pub no_frame_fault : (p : Program) (g : Function) (a : Answer (List Slot × Store)) (fault : Fault) → ((other : Fault) → a ≡ Faults other → ⊥) → (a >>= framed p g) ≡ Faults fault → ⊥
 no_frame_fault p g (Gives m) fault h e = cc
 no_frame_fault p g (Faults other) fault h e = h other refl
 no_frame_fault p g NoAnswer fault h e = cc

@@ -26,11 +26,11 @@ use Rattle.cpc_tree.specs.declared.program.Item.TheVariants as I
 use Rattle.cpc_tree.specs.declared.program.Parameter.{Parameter}
 use Rattle.cpc_tree.specs.declared.program.Program as GProgram
 use Rattle.cpc_tree.specs.declared.program.Word.{Word}
+use Rattle.cpc_tree.proofs.Places.{bare_items}
 use Rattle.cpc_check.specs.Accepted.{IsRead, IsWithin}
 use Rattle.cpc_eval.specs.Numbers.{ProgramNumbers}
 use Rattle.cpc_native_laws.specs.Laws.{AcceptedHasNumbers, IsSpelling, AreSpellings}
 use Rattle.cpc_check_laws.proofs.Sound.Unbroken.{split}
-use Rattle.cpc_check.proofs.Parts.{item_again}
 use Rattle.cpc_check.proofs.Spelled.{spelling, spells}
 use Rattle.cpc_native_laws.proofs.Tokens.{row_fit}
 use Rattle.cpc_native_laws.proofs.Literals.{FineItem, FineItems, items_fine}
@@ -49,14 +49,10 @@ accepted_has_numbers dialect text p a =
     let fine = items_fine parses.0 p.items parses.2.1 parses.2.3 (row_fit parses.1.1) in
     items_numbers dialect (bare p) [] p.items refl fine (split (items_breaks dialect (bare p) [] p.items) _ a.unbroken).0
 
-items_again : (names : Names) (xs : List GItem.Item) → map bare_item (map (located_item names) xs) ≡ map (item_of names) xs
-items_again names [] = refl
-items_again names (x ∷ xs) = let head = item_again names x in let rest = items_again names xs in λ j. head j ∷ rest j
-
 -- the same of a tree
 pub read_has_numbers : (dialect : Dialect) (p : GProgram.Program) → ∥ IsRead dialect (located p) ∥₁ → breaks dialect (located p) ≡ [] → ProgramNumbers (program_of p)
 read_has_numbers dialect p read unbroken =
-    subst ProgramNumbers (items_again (in_table p.names) p.items.items)
+    subst ProgramNumbers (bare_items (in_table p.names) p.items.items)
     (∥∥₁_elim read (program_prop (bare (located p))) (λ (r : IsRead dialect (located p)). accepted_has_numbers dialect r.text (located p) (record { parses = r.parses; unbroken = unbroken })))
 
 -- ---- names that are there
@@ -100,7 +96,7 @@ module _ (p : GProgram.Program) where
   all_in : IsWithin p → items_in (length p.names) p.items.items ≡ true
   all_in within =
       let e : map bare_item (map (located_item other) p.items.items) ≡ map bare_item (map (located_item table) p.items.items) = ap (map bare_item) (within.alike other agrees) in
-      items_there (length p.names) other table differs p.items.items (sym (items_again other p.items.items) ∙ e ∙ items_again table p.items.items)
+      items_there (length p.names) other table differs p.items.items (sym (bare_items other p.items.items) ∙ e ∙ bare_items table p.items.items)
 
   same_by : (names : Names) → Spells p.names names → ∥ IsWithin p ∥₁ → map (item_of names) p.items.items ≡ program_of p
   same_by names s within = items_same (length p.names) names table (λ n h. s.inside n (under n.0 (length p.names) h)) p.items.items (∥∥₁_elim within (Bool-set _ _) all_in)

@@ -16,13 +16,11 @@ use Rattle.cpc_tree.specs.declared.program.Item.{Item}
 use Rattle.cpc_tree.specs.declared.program.Item.TheVariants as I
 use Rattle.cpc_tree.specs.Syntax as S
 use Rattle.cpc_tree.specs.Erase.{Names, type_of, types_of, expr_of, row_of, exprs_of, stmt_of, stmts_of, maybe_of, parameter_of, field_of, function_of, item_of}
+use Rattle.cpc_check_laws.proofs.Native.OnePlace.{ap₃}
 use Rattle.cpc_native_laws.proofs.Inside.{name_in, type_in, types_in, expr_in, row_in, exprs_in, expr_if, stmt_in, stmts_in, maybe_in, word_if, parameters_in, fields_in, item_in, items_in}
 
 pub two : {A B C : Type 0} (f : A → B → C) {a c : A} {b d : B} → a ≡ c → b ≡ d → f a b ≡ f c d
 two f h k = cc
-
-pub three : {A B C D : Type 0} (f : A → B → C → D) {a x : A} {b y : B} {c z : C} → a ≡ x → b ≡ y → c ≡ z → f a b c ≡ f x y z
-three f h k l = cc
 
 pub four : {A B C D E : Type 0} (f : A → B → C → D → E) {a x : A} {b y : B} {c z : C} {d w : D} → a ≡ x → b ≡ y → c ≡ z → d ≡ w → f a b c d ≡ f x y z w
 four f h k l n = cc
@@ -55,7 +53,7 @@ module _ (m : ℕ) (names table : Names) (agree : (n : Name) → name_in m n ≡
     expr_same (E.Choose' p q t r a s b) h =
         let k = and_both (expr_in m t) (expr_in m a && expr_in m b) h in
         let l = and_both (expr_in m a) (expr_in m b) k.1 in
-        three S.EChoose (expr_same t k.0) (expr_same a l.0) (expr_same b l.1)
+        ap₃ S.EChoose (expr_same t k.0) (expr_same a l.0) (expr_same b l.1)
     expr_same (E.Cast' p t q e) h = let k = and_both (type_in m t) (expr_in m e) h in two S.ECast (type_same t k.0) (expr_same e k.1)
     expr_same (E.SizeOf p t) h = ap S.ESizeOf (type_same t h)
     expr_same (E.Index' p q a r i) h = let k = and_both (expr_in m a) (expr_in m i) h in two S.EIndex (expr_same a k.0) (expr_same i k.1)
@@ -82,21 +80,21 @@ module _ (m : ℕ) (names table : Names) (agree : (n : Name) → name_in m n ≡
     stmt_same (T.Declare p w t start) h =
         let k = and_both (name_in m w.name) (type_in m t && expr_if m start) h in
         let l = and_both (type_in m t) (expr_if m start) k.1 in
-        three S.Declare (agree w.name k.0) (type_same t l.0) (if_same start l.1)
+        ap₃ S.Declare (agree w.name k.0) (type_same t l.0) (if_same start l.1)
     stmt_same (T.Assign p o e op v) h = let k = and_both (expr_in m e) (expr_in m v) h in two (λ a b. S.Assign a op b) (expr_same e k.0) (expr_same v k.1)
     stmt_same (T.Call p o e f es) h =
         let k = and_both (expr_if m e) (expr_in m f && exprs_in m es.items) h in
         let l = and_both (expr_in m f) (exprs_in m es.items) k.1 in
-        three S.Call (if_same e k.0) (expr_same f l.0) (exprs_same es.items l.1)
+        ap₃ S.Call (if_same e k.0) (expr_same f l.0) (exprs_same es.items l.1)
     stmt_same (T.Detach p o q e f es) h =
         let k = and_both (expr_if m e) (name_in m f.name && exprs_in m es.items) h in
         let l = and_both (name_in m f.name) (exprs_in m es.items) k.1 in
-        three S.Detach (if_same e k.0) (agree f.name l.0) (exprs_same es.items l.1)
+        ap₃ S.Detach (if_same e k.0) (agree f.name l.0) (exprs_same es.items l.1)
     stmt_same (T.Spawn p f es) h = let k = and_both (name_in m f.name) (exprs_in m es.items) h in two S.Spawn (agree f.name k.0) (exprs_same es.items k.1)
     stmt_same (T.If' p t q a b) h =
         let k = and_both (expr_in m t) (stmt_in m a && maybe_in m b) h in
         let l = and_both (stmt_in m a) (maybe_in m b) k.1 in
-        three S.If (expr_same t k.0) (stmt_same a l.0) (maybe_same b l.1)
+        ap₃ S.If (expr_same t k.0) (stmt_same a l.0) (maybe_same b l.1)
     stmt_same (T.While' p t q s) h = let k = and_both (expr_in m t) (stmt_in m s) h in two S.While (expr_same t k.0) (stmt_same s k.1)
     stmt_same (T.DoWhile' p q s t) h = let k = and_both (stmt_in m s) (expr_in m t) h in two S.DoWhile (stmt_same s k.0) (expr_same t k.1)
     stmt_same (T.For' p shape row t step q s) h =
@@ -150,11 +148,11 @@ module _ (m : ℕ) (names table : Names) (agree : (n : Name) → name_in m n ≡
   item_same (I.Global w t start) h =
       let k = and_both (name_in m w.name) (type_in m t && expr_if m start) h in
       let l = and_both (type_in m t) (expr_if m start) k.1 in
-      three S.GlobalItem (agree w.name k.0) (type_same t l.0) (if_same start l.1)
+      ap₃ S.GlobalItem (agree w.name k.0) (type_same t l.0) (if_same start l.1)
   item_same (I.Prototype p mode w result ps) h =
       let k = and_both (name_in m w.name) (type_in m result && parameters_in m ps.items) h in
       let l = and_both (type_in m result) (parameters_in m ps.items) k.1 in
-      three (S.PrototypeItem mode) (agree w.name k.0) (type_same result l.0) (parameters_same ps.items l.1)
+      ap₃ (S.PrototypeItem mode) (agree w.name k.0) (type_same result l.0) (parameters_same ps.items l.1)
   item_same (I.Function f) h = ap S.FunctionItem (function_same f h)
 
   -- Where all names of the items are below the number.

@@ -1,32 +1,18 @@
 -- Other texts that tell all names apart: they differ from the given ones at each name that is not in the table, also as faults tell them.
 use Rattle.std.proofs.Common.{◌≡◌, ◌≤◌, ◌==◌, ◌&&◌, ℕ, suc, Bool, true, false, nat_lt, [], ◌∷◌, length, bytes_eq, arith, refl, sym, ap, subst, ◌∙◌}
-use Rattle.std.proofs.lemmas.Bool.Decides.{nat_tests}
 use Rattle.std.proofs.lemmas.Bool.{eqb-true}
 use Rattle.std.specs.Prelude.{codes}
 use Rattle.cpc_base.specs.Bytes.{Text}
 use Rattle.cpc_base.specs.declared.names.Name.{Name}
-use Rattle.cpc_base.proofs.Truth.{lt_fails, lt_holds, or_neither}
+use Rattle.cpc_base.proofs.Truth.{lt_fails, lt_holds, or_neither, apart_next, apart_over, apart_under, not_next}
 use Rattle.cpc_base.specs.declared.stop.Dialect.TheVariants as D
 use Rattle.cpc_tree.specs.Erase.{Names, Table}
-use Rattle.cpc_meaning.specs.Start.{begins_with_underscores, cut_where, before_underscores}
+use Rattle.cpc_meaning.specs.Start.{begins_with_underscores, before_underscores}
 use Rattle.cpc_meaning.proofs.Functions.{text_same}
 use Rattle.cpc_check_rules.specs.Apart.{AreApart, IsUnknown, Spells}
 use Rattle.cpc_check_rules.specs.FunctionRules.{begins_with, holds_underscores, is_kept}
+use Rattle.cpc_check_laws.proofs.Run.Stands.{whole}
 use Rattle.cpc_native_laws.specs.Laws.{AreOthers}
-
--- ---- numbers
-
-apart_next : (a b : ℕ) → (suc a == suc b) ≡ (a == b)
-apart_next a b = grind (arith, nat_tests)
-
-apart_over : (a b n : ℕ) → nat_lt a n ≡ true → nat_lt b n ≡ false → (a == suc b) ≡ (a == b)
-apart_over a b n e f = grind (arith, nat_tests, e, f)
-
-apart_under : (a b n : ℕ) → nat_lt a n ≡ false → nat_lt b n ≡ true → (suc a == b) ≡ (a == b)
-apart_under a b n e f = grind (arith, nat_tests, e, f)
-
-not_next : (a : ℕ) → true ≡ (a == suc a) → ⊥
-not_next a e = grind (arith, nat_tests, e)
 
 -- ---- texts without underscores
 
@@ -41,13 +27,6 @@ no_underscores_first b (c ∷ bs) e = go (b == 95) refl (c == 95) refl
         absurd cc
     go true i false j = refl
     go false i t j = refl
-
--- a name without two underscores in a row is shown whole
-whole : (x : Text) → holds_underscores x ≡ false → before_underscores x ≡ x
-whole [] h = refl
-whole (b ∷ bs) h =
-    let e = or_neither (begins_with (codes "__") (b ∷ bs)) (holds_underscores bs) h in
-    ap (λ here. cut_where here (b ∷ before_underscores bs)) (no_underscores_first b bs e.0) ∙ ap (λ t. b ∷ t) (whole bs e.1)
 
 -- a text that means nothing is shown whole
 unknown_whole : (x : Text) → IsUnknown x → before_underscores x ≡ x

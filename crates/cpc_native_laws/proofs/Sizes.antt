@@ -18,9 +18,10 @@ use Rattle.cpc_check_rules.specs.ExprRules.{called_breaks, arg_breaks, expr_brea
 use Rattle.cpc_check_rules.specs.StmtRules.{inner, behind, all_behind, target_breaks, to_breaks, test_breaks, maybe_test, start_breaks, started_breaks, return_breaks, stmt_breaks, stmts_breaks, maybe_breaks}
 use Rattle.cpc_check_rules.specs.FunctionRules.{reserved_breaks, locals, labels, label_breaks, stray_breaks, many_breaks}
 use Rattle.cpc_check_rules.specs.ItemRules.{Signature, outside, declared_breaks, types, cps_breaks, parameters_breaks, sized_breaks, in_body, body_breaks, item_breaks, items_breaks}
-use Rattle.cpc_check_laws.proofs.Sound.Unbroken.{split, holds_not}
+use Rattle.cpc_check_laws.proofs.Sound.Unbroken.{split}
 use Rattle.cpc_check_laws.proofs.Sound.Agreement.{Grows, sizes_grow}
 use Rattle.cpc_check_laws.proofs.Sound.Programs.{grows_all}
+use Rattle.cpc_check_laws.proofs.Native.NativeValues.{unbroken}
 use Rattle.cpc_eval.specs.Numbers.{FitsSize, HasNumbers, MaybeNumbers, AllNumbers, StmtNumbers, StmtsNumbers, ArmNumbers, ItemsNumbers}
 use Rattle.cpc_native_laws.proofs.Literals.{Fine, AllFine, FineIf, FineStmt, FineStmts, FineArm, FineBody, FineItem, FineItems}
 
@@ -68,7 +69,7 @@ module _ (p : Program) where
         let k = split (expr_breaks w v) _ j.1 in
         (expr_numbers c f.0 j.0, expr_numbers v f.1 k.0, expr_numbers u f.2 (split (expr_breaks w u) _ k.1).0)
     expr_numbers (LCast q t v) f h = expr_numbers v f (split (expr_breaks w v) _ h).0
-    expr_numbers (LSizeOf q t) f h = size_fits w.scope t g (holds_not (is_none (measured w.scope t)) q Incomplete h)
+    expr_numbers (LSizeOf q t) f h = size_fits w.scope t g (unbroken (is_none (measured w.scope t)) q Incomplete h)
     expr_numbers (LIndex q v u) f h =
         let k = split (expr_breaks w v) _ h in
         (expr_numbers v f.0 k.0, expr_numbers u f.1 (split (expr_breaks w u) _ k.1).0)

@@ -4,12 +4,13 @@ use Rattle.cpc_base.specs.Bytes.{Text}
 use Rattle.cpc_base.specs.declared.names.Name.{Name}
 use Rattle.cpc_tree.specs.Erase.{Names, type_of, parameter_of}
 use Rattle.cpc_tree.specs.declared.program.Parameter.{Parameter}
-use Rattle.cpc_tree.specs.Syntax.{Ty, TyCode, Expr, EText, Exprs, Function}
+use Rattle.cpc_tree.specs.Syntax.{Ty, TyCode, Expr, Exprs, Function}
 use Rattle.cpc_tree.specs.Typing.{parameter_type, list_of_tys}
 use Rattle.cpc_tree.specs.Primitives.{Primitive, Taken, callback_and_pointer}
 use Rattle.cpc_store.specs.Store.{Value}
 use Rattle.cpc_store.specs.declared.values.Value as V
 use Rattle.cpc_store.specs.declared.values.Value.TheVariants as C
+pub use Rattle.cpc_tree.specs.Syntax.{text_in}
 use Rattle.cpc_meaning.specs.Answer.{Answer, Gives, ◌>>=◌, needed}
 use Rattle.cpc_meaning.specs.Eval as E
 use Rattle.cpc_meaning.specs.Requests.{arguments, takes, detach_takes, all_taken, all_long, byte_values}
@@ -68,11 +69,6 @@ abbrev pub longs : E.Context → Exprs → Answer (List Value)
 longs c es = do
   vs ← E.values c es
   all_long vs
-
--- the bytes of a string
-abbrev pub text_in : Expr → Option Text
-text_in (EText bytes) = Some bytes
-text_in _ = None
 
 -- the arguments of a primitive: the bytes of a string, or values
 abbrev pub asked_with : E.Context → Primitive → Exprs → Option Text → Answer (List Value)

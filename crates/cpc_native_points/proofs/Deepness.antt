@@ -7,8 +7,8 @@ use Rattle.cpc_tree.specs.declared.program.Expr as GExpr
 use Rattle.cpc_tree.specs.declared.program.Statement.{Statement}
 use Rattle.cpc_tree.specs.declared.program.Statement.TheVariants as T
 use Rattle.cpc_tree.specs.Erase.{Names, stmt_of, list_of, maybe_at}
+use Rattle.cpc_tree.proofs.Nodes.{block_seen, for_seen, if_seen}
 use Rattle.cpc_native_points.specs.Depth.{depth, depth_row, depth_arm}
-use Rattle.cpc_native_points.proofs.Nodes.{block_seen, for_seen, if_seen}
 
 pub depth_block : (names : Names) (e : Statement) (place : Place) (inner : Vec Statement Global) → e ≡ T.Block place inner → depth (stmt_of names e) ≡ depth_row (list_of names inner.items)
 depth_block names e place inner h = ap depth (block_seen names e place inner h)

@@ -8,6 +8,7 @@ use Rattle.cpc_tree.specs.declared.program.Statement.{Statement}
 use Rattle.cpc_tree.specs.declared.program.Statement.TheVariants as T
 use Rattle.cpc_tree.specs.Points as P
 use Rattle.cpc_tree.specs.Points.{Path, enter}
+use Rattle.cpc_tree.proofs.Nodes.{block_seen, for_seen}
 use Rattle.cpc_native_points.specs.Depth.{numbers}
 use Rattle.cpc_native_points.specs.Leads.{Leads, HasRoom, begun}
 use Rattle.cpc_native_points.specs.Seen.{part_of, path_of}
@@ -19,7 +20,6 @@ use Rattle.cpc_native_points.specs.declared.table.Node.{Node}
 use Rattle.cpc_native_points.specs.Parts.{entered, statement_at}
 use Rattle.cpc_native_points.specs.declared.parts.Part.TheVariants as V
 use Rattle.cpc_base.specs.declared.stop.Place as Stop
-use Rattle.cpc_native_points.proofs.Nodes.{block_seen, for_seen}
 use Rattle.cpc_native_points.proofs.Rows.{begun_block, begun_for}
 use Rattle.cpc_native_points.proofs.Within.{Fits, FitsIf}
 

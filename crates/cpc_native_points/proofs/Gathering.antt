@@ -11,6 +11,7 @@ use Rattle.cpc_tree.specs.declared.program.Statement.TheVariants as T
 use Rattle.cpc_tree.specs.Syntax.{Stmt, Present}
 use Rattle.cpc_tree.specs.Erase.{Names, stmt_of, list_of}
 use Rattle.cpc_tree.specs.Points.{Path, Nth, TheTest, TheYes, TheNo, TheStep, TheBody, or_else, path_under, path_later, enter, labelled, labelled_in}
+use Rattle.cpc_tree.proofs.Nodes.{for_seen}
 use Rattle.cpc_check_rules.specs.Apart.{AreApart}
 use Rattle.cpc_native_points.specs.declared.parts.Part as G
 use Rattle.cpc_native_points.specs.declared.parts.Part.TheVariants as V
@@ -19,7 +20,7 @@ use Rattle.cpc_native_points.specs.declared.table.Table.{Table}
 use Rattle.cpc_native_points.specs.Parts.{child, statement_at}
 use Rattle.cpc_native_points.specs.Seen.{part_of, path_of}
 use Rattle.cpc_native_points.specs.Tabled.{place_at, or_place, IsWay, AtBody, Grows, IsLed, LeadsTo, Tells, under_way, Gathers}
-use Rattle.cpc_native_points.proofs.Nodes.{do_seen, for_seen, while_seen}
+use Rattle.cpc_native_points.proofs.Nodes.{do_seen, while_seen}
 use Rattle.cpc_native_points.proofs.Walking.{part_there}
 use Rattle.cpc_native_points.proofs.Ways.{way_more, way_added}
 

@@ -1,14 +1,13 @@
 -- What stands in a statement of the tree, by the form that the code finds.
-use Rattle.std.proofs.Common.{◌≡◌, ℕ, zero, suc, ◌<◌, ◌≤◌, List, [], ◌∷◌, length, get_or, refl, sym, ap, ◌∙◌, arith, Vec, Box, Global, Option, Some, None, option_map, rules}
+use Rattle.std.proofs.Common.{◌≡◌, ℕ, zero, suc, ◌<◌, ◌≤◌, List, [], ◌∷◌, length, get_or, refl, sym, ap, ◌∙◌, arith, Box, Global, rules}
 use Rattle.cpc_base.specs.declared.stop.Place.{Place}
 use Rattle.cpc_tree.specs.declared.program.Expr as GExpr
 use Rattle.cpc_tree.specs.declared.program.Statement.{Statement}
 use Rattle.cpc_tree.specs.declared.program.Statement.TheVariants as T
 use Rattle.cpc_tree.specs.Syntax as S
 use Rattle.cpc_tree.specs.Syntax.{MaybeStmt, Absent, Present}
-use Rattle.cpc_tree.specs.Erase.{Names, expr_of, stmt_of, list_of, maybe_at}
+use Rattle.cpc_tree.specs.Erase.{Names, expr_of, stmt_of, list_of}
 use Rattle.cpc_tree.specs.Points.{Out, NoMove}
-use Rattle.cpc_tree.proofs.Clauses.{block_is, for_is}
 use Rattle.cpc_tree.specs.declared.program.Word.{Word}
 use Rattle.cpc_tree.specs.declared.program.Statement.TheViews.{the_lemmas}
 use Rattle.cpc_native_points.specs.Parts.{nth, leaf}
@@ -24,14 +23,6 @@ nth_past names [] n h = refl
 nth_past names (y ∷ xs) zero h = absurd (omega arith)
 nth_past names (y ∷ xs) (suc n) h = nth_past names xs n (omega arith)
 
--- a block and a `for`
-pub block_seen : (names : Names) (e : Statement) (place : Place) (inner : Vec Statement Global) → e ≡ T.Block place inner → stmt_of names e ≡ S.Block (list_of names inner.items)
-block_seen names e place inner h = ap (stmt_of names) h ∙ block_is names place inner
-
-pub for_seen : (names : Names) (e : Statement) (place : Place) (first : Vec Statement Global) (test : Option GExpr.Expr) (step : Option (Box Statement Global)) (body : Box Statement Global) → e ≡ T.For place first test step body
-    → stmt_of names e ≡ S.For (list_of names first.items) (option_map (expr_of names) test) (maybe_at names step) (stmt_of names body.value)
-for_seen names e place first test step body h = ap (stmt_of names) h ∙ sym (for_is names place first test step body)
-
 -- whether a block has statements
 pub leaf_empty : (ss : S.Stmts) → Absent ≡ nth ss 0 → leaf (S.Block ss) ≡ Out
 leaf_empty S.NoStmt h = refl
@@ -40,12 +31,6 @@ leaf_empty (S.AndStmt s ss) h = let no : ⊥ = cc in absurd no
 pub leaf_full : (ss : S.Stmts) (s : S.Stmt) → Present s ≡ nth ss 0 → leaf (S.Block ss) ≡ NoMove
 leaf_full S.NoStmt s h = let no : ⊥ = cc in absurd no
 leaf_full (S.AndStmt t ss) s h = refl
-
--- the other forms
-pub if_seen : (names : Names) (e : Statement) (place : Place) (test : GExpr.Expr) (a : Box Statement Global) (b : Option (Box Statement Global)) → e ≡ T.If place test a b
-    → stmt_of names e ≡ S.If (expr_of names test) (stmt_of names a.value) (maybe_at names b)
-if_seen names e place test a None h = ap (stmt_of names) h ∙ search (rules, the_lemmas)
-if_seen names e place test a (Some b) h = ap (stmt_of names) h ∙ search (rules, the_lemmas)
 
 pub while_seen : (names : Names) (e : Statement) (place : Place) (test : GExpr.Expr) (body : Box Statement Global) → e ≡ T.While place test body → stmt_of names e ≡ S.While (expr_of names test) (stmt_of names body.value)
 while_seen names e place test body h = ap (stmt_of names) h ∙ search (rules, the_lemmas)

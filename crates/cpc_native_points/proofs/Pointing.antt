@@ -1,15 +1,10 @@
 -- Points are a set: any two proofs of one equation are equal.
-use Rattle.std.proofs.Common.{◌≡◌, ℕ, zero, suc, Bool, true, false, List, Option, Some, None, refl, sym, ◌∙◌, ap}
+use Rattle.std.proofs.Common.{◌≡◌, ℕ, zero, suc, Bool, true, false, List, Option, Some, None, refl}
 use Rattle.std.specs.Prelude.{IfSome}
 use Rattle.std.proofs.Math.Nat.{ℕ_set}
 use Rattle.std.proofs.Props.{props}
-use mathlib.Core.HLevel.{collapsible→set}
+use Rattle.cpc_base.proofs.Sets.{retract_set}
 use Rattle.cpc_tree.specs.Points.{Part, Nth, TheTest, TheYes, TheNo, TheStep, TheBody, Path, Point, Here, Arrival, End}
-
--- a type that maps into a set and back is a set
-retract_set : {A B : Type 0} (to : A → B) (from : B → A) → ((x : A) → from (to x) ≡ x) → IsSet B → IsSet A
-retract_set to from back set = collapsible→set (λ x y p. sym (back x) ∙ (ap from (ap to p) ∙ back y))
-    (λ x y p q. ap (λ z. sym (back x) ∙ (ap from z ∙ back y)) (set (to x) (to y) (ap to p) (ap to q)))
 
 -- ---- parts
 

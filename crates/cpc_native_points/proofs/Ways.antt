@@ -1,20 +1,13 @@
 -- Ways to the statements of a table stay where more statements come.
-use Rattle.std.proofs.Common.{◌≡◌, ℕ, zero, suc, ◌+◌, ◌-◌, ◌<◌, ◌≤◌, List, [], ◌∷◌, ◌++◌, length, length-append, slice_get, Option, Some, None, refl, sym, subst, ap, ◌∙◌, append_assoc, arith}
+use Rattle.std.proofs.Common.{◌≡◌, ℕ, suc, ◌+◌, ◌-◌, ◌<◌, ◌≤◌, List, [], ◌∷◌, ◌++◌, length, length-append, slice_get, Option, Some, None, refl, sym, subst, ap, ◌∙◌, append_assoc, arith}
 use Rattle.std.proofs.Props.{props}
 use Rattle.std.proofs.Math.Logic.{∥∥₁_elim, ∥∥₁_map}
-use Rattle.cpc_base.proofs.Lists.{item_within, item_in_front}
+use Rattle.cpc_base.proofs.Lists.{item_within, item_in_front, get_last}
 use Rattle.cpc_check_rules.specs.Apart.{AreApart}
 use Rattle.cpc_native_points.specs.declared.parts.Part.{Part}
 use Rattle.cpc_native_points.specs.declared.table.Node.{Node}
 use Rattle.cpc_native_points.specs.Depth.{numbers}
 use Rattle.cpc_native_points.specs.Tabled.{IsBefore, IsWay, AtBody, AtNode, HasWay}
-
--- the last of a list
-get_last : {A : Type 0} (xs : List A) (n : ℕ) (x : A) → n ≡ length xs → slice_get (xs ++ x ∷ []) n ≡ Some x
-get_last [] zero x e = refl
-get_last [] (suc n) x e = absurd (let h : suc n ≡ 0 = e in omega arith)
-get_last (a ∷ xs) zero x e = absurd (let h : 0 ≡ length (a ∷ xs) = e in omega arith)
-get_last (a ∷ xs) (suc n) x e = get_last xs n x (let h : suc n ≡ length (a ∷ xs) = e in omega arith)
 
 pub way_more : (ns ms : List Node) (at : Option ℕ) (way : List Part) → IsWay ns at way → IsWay (ns ++ ms) at way
 way_more ns ms at way AtBody = AtBody

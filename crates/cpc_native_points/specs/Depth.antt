@@ -1,5 +1,6 @@
 -- How deep the points of a statement stand.
-use Rattle.std.specs.Prelude.{ℕ, suc, min, max, [], ◌∷◌}
+use Rattle.std.specs.Prelude.{ℕ, suc, max, [], ◌∷◌}
+pub use Rattle.cpc_base.specs.Counts.{capped}
 use Rattle.cpc_tree.specs.Erase.{Names, stmt_of}
 use Rattle.cpc_tree.specs.Syntax.{Stmt, Block, If, While, DoWhile, For, Label, Stmts, NoStmt, AndStmt, MaybeStmt, Absent, Present}
 use Rattle.cpc_tree.specs.declared.program.Statement.{Statement}
@@ -24,10 +25,6 @@ abbrev mutual
   pub depth_arm : MaybeStmt → ℕ
   depth_arm Absent = 0
   depth_arm (Present s) = depth s
-
--- the greatest number of the code stands for itself and all above it
-abbrev pub capped : ℕ → ℕ
-capped n = min n 18446744073709551615
 
 -- each name has its number as its text
 abbrev pub numbers : Names

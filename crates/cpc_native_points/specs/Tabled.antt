@@ -1,8 +1,9 @@
 -- What a table says of the labels of a body.
-use Rattle.std.specs.Prelude.{◌≡◌, ℕ, ◌<◌, ◌≤◌, length, List, [], ◌∷◌, ◌++◌, Option, Some, None, option_map, slice_get, nat_eq}
+use Rattle.std.specs.Prelude.{◌≡◌, ℕ, ◌≤◌, length, List, [], ◌∷◌, ◌++◌, Option, Some, None, option_map, slice_get, nat_eq}
 use Rattle.std.specs.HashMap as hash
 use Rattle.cpc_base.specs.Bytes.{Text}
 use Rattle.cpc_base.specs.declared.names.Name.{Name}
+pub use Rattle.cpc_base.specs.Lists.{or_place, IsBefore}
 use Rattle.cpc_tree.specs.declared.program.Statement.{Statement}
 use Rattle.cpc_tree.specs.Erase.{Names, stmt_of}
 use Rattle.cpc_tree.specs.Syntax.{Stmt, Present}
@@ -20,17 +21,7 @@ use Rattle.cpc_native_points.specs.Seen.{path_of}
 abbrev pub place_at : Table → ℕ → Option ℕ
 place_at t x = hash.get nat_eq t.places x
 
--- the first, or else the second
-abbrev pub or_place : Option ℕ → Option ℕ → Option ℕ
-or_place None o = o
-or_place (Some k) o = Some k
-
 -- ---- ways
-
--- a statement, if it is not the body, comes before the one of a number
-abbrev pub IsBefore : Option ℕ → ℕ → Type 0
-IsBefore None k = Unit {0}
-IsBefore (Some j) k = j < k
 
 -- the parts to take to a statement, from the body on
 pub data IsWay (nodes : List Node) : Option ℕ → List Part → Type 0 where

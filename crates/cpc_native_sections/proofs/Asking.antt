@@ -25,16 +25,13 @@ use Rattle.cpc_meaning.specs.Trees.{trees}
 use Rattle.cpc_eval_values.specs.Shown.{value_of, store_of}
 use Rattle.cpc_eval_index.specs.Indexed.{items_of}
 use Rattle.cpc_native.specs.declared.machine.Machine.{Machine}
-use Rattle.cpc_native.specs.Stacks.{stack_of, stack_at}
+use Rattle.cpc_native.specs.Stacks.{stack_of}
 use Rattle.cpc_native.specs.Well.{IsSameBut}
+use Rattle.cpc_native.proofs.Same.{same_stack}
 use Rattle.cpc_sections.specs.declared.job.SectionEnd as E
 use Rattle.cpc_sections.specs.declared.job.SectionEnd.TheVariants as D
 use Rattle.cpc_native_sections.specs.Led.{LeadsTo, asking_of, answer_of}
 use Rattle.cpc_native_sections.proofs.Leading.{led_nowhere}
-
--- where the store alone may differ, the stack is the same
-same_stack : (names : Names) (old new : Machine) → IsSameBut old new → stack_of names new ≡ stack_of names old
-same_stack names old new h = ap (λ fs. stack_at names fs new.arriving) h.calls ∙ ap (stack_at names old.calls.frames.items) h.arriving
 
 -- the same answer of the same things
 alike : (i j : Program) (s t : Store) (k l : Stack Point) (v w : Value) → i ≡ j → s ≡ t → k ≡ l → v ≡ w → answered (trees i) s k v ≡ answered (trees j) t l w

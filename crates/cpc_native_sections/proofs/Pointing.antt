@@ -1,5 +1,6 @@
 -- What the cells hold that a section's pointer points to.
 use Rattle.std.proofs.Common.{◌≡◌, ℕ, List, [], ◌∷◌, Option, Some, None, sym, ap, ◌∙◌}
+use Rattle.cpc_base.proofs.Lists.{some_is}
 use Rattle.cpc_store.specs.declared.values.Class.{Class}
 use Rattle.cpc_store.specs.declared.values.Scalar.{Scalar}
 use Rattle.cpc_store.specs.Store.{Value, At, Store}
@@ -10,15 +11,12 @@ use Rattle.cpc_meaning.specs.Copies.{copied, copy_of, pointed_layout}
 use Rattle.cpc_meaning.specs.Layout.{layout}
 use Rattle.cpc_native_sections.specs.Pointed.{pointed_type}
 
-pub same_one : {X : Type 0} (x y : X) → Some x ≡ Some y → x ≡ y
-same_one x y e = ap (elim [ Some z ↦ z | None ↦ x ]) e
-
 pointed_known : (p : Program) (t : Ty) (ts : List Ty) → Some t ≡ pointed_type ts → pointed_layout p ts ≡ needed (layout p t)
 pointed_known p t [] e = absurd cc
 pointed_known p t (TyVoid ∷ ts) e = absurd cc
 pointed_known p t (TyInt kind ∷ ts) e = absurd cc
 pointed_known p t (TyCondvar ∷ ts) e = absurd cc
-pointed_known p t (TyPointer u ∷ ts) e = ap (λ x. needed (layout p x)) (sym (same_one t u e))
+pointed_known p t (TyPointer u ∷ ts) e = ap (λ x. needed (layout p x)) (sym (some_is t u e))
 pointed_known p t (TyCode r ps ∷ ts) e = absurd cc
 pointed_known p t (TyStruct tag ∷ ts) e = absurd cc
 pointed_known p t (TyArray u n ∷ ts) e = absurd cc

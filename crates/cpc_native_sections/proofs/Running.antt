@@ -4,7 +4,7 @@ use Rattle.std.specs.Prelude.{IfOk}
 use Rattle.std.proofs.Math.Dec.{eqb-suc-zero}
 use Rattle.cpc_base.specs.Bytes.{Text}
 use Rattle.cpc_base.specs.declared.names.Name.{Name}
-use Rattle.cpc_tree.specs.Erase.{Names, Table}
+use Rattle.cpc_tree.specs.Erase.{Names}
 use Rattle.cpc_tree.specs.Lists.{is_empty}
 use Rattle.cpc_tree.specs.Points.{Point}
 use Rattle.cpc_tree.specs.Registers.{variables}
@@ -15,8 +15,7 @@ use Rattle.cpc_num.specs.declared.kinds.Fault.TheVariants as F
 use Rattle.cpc_store.specs.Store.{Value, Store, alloc, empty_store}
 use Rattle.cpc_store.specs.declared.values.Class.TheVariants.{Static}
 use Rattle.cpc_store.specs.declared.values.Value as V
-use Rattle.cpc_meaning.specs.Answer.{Answer, Gives, Faults, NoAnswer, ◌>>=◌}
-use Rattle.cpc_meaning.specs.Eval.{Slot}
+use Rattle.cpc_meaning.specs.Answer.{Answer, Gives, Faults, NoAnswer}
 use Rattle.cpc_meaning.specs.Slots.{call_slots}
 use Rattle.cpc_meaning.specs.Plain.{Frame, Stack, stack_of, make_frame}
 use Rattle.cpc_meaning.specs.Section.{Job, section_run, section_from, section_frame, section_end, copy_store, copy_pointer}
@@ -25,8 +24,8 @@ use Rattle.cpc_eval_values.specs.Shown.{values_of, store_of}
 use Rattle.cpc_eval_index.specs.Indexed.{items_of}
 use Rattle.cpc_native.specs.declared.machine.Machine.{Machine}
 use Rattle.cpc_native.specs.Stacks.{stack_of as machine_stack}
-use Rattle.cpc_native.specs.Runs.{Runs}
-use Rattle.cpc_native.proofs.Stepping.{slots_no_fault}
+use Rattle.cpc_native.proofs.Stepping.{slots_no_fault, no_frame_fault}
+use Rattle.cpc_native.proofs.Same.{runs_same}
 use Rattle.cpc_sections.specs.Jobs.{EndsAs}
 use Rattle.cpc_sections.specs.declared.job.SectionEnd as E
 use Rattle.cpc_sections.specs.declared.job.SectionEnd.TheVariants as D
@@ -34,17 +33,9 @@ use Rattle.cpc_native_sections.specs.Led.{Rest, LeadsTo, IsRunning, step_of, run
 
 -- ---- the first frame
 
-abbrev framed : Program → Function → List Slot × Store → Answer (Frame Point × Store)
-framed p g m = Gives (record { function = g.called; point = (trees p).code.first g.called; slots = m.0 }, m.1)
-
-framed_never_fails : (p : Program) (g : Function) (a : Answer (List Slot × Store)) (fault : Fault) → ((other : Fault) → a ≡ Faults other → ⊥) → (a >>= framed p g) ≡ Faults fault → ⊥
-framed_never_fails p g (Gives m) fault h e = cc
-framed_never_fails p g (Faults other) fault h e = h other refl
-framed_never_fails p g NoAnswer fault h e = cc
-
 -- no frame fails
 frame_never_fails : (p : Program) (g : Function) (vs : List Value) (s : Store) (fault : Fault) → make_frame (trees p) g vs s ≡ Faults fault → ⊥
-frame_never_fails p g vs s fault e = framed_never_fails p g (call_slots p g vs s) fault (λ other k. slots_no_fault p g 0 (variables g) vs s other k) e
+frame_never_fails p g vs s fault e = no_frame_fault p g (call_slots p g vs s) fault (λ other k. slots_no_fault p g 0 (variables g) vs s other k) e
 
 -- where the stack and the store are those of the first frame, what they come to is what the section comes to
 module _ (names : Names) (p : Program) (job : Job) (bound : ℕ) (end : E.SectionEnd) (k : Stack Point) (s : Store) where
@@ -108,10 +99,6 @@ ends_late names m f no_copy bound step le =
     subst (λ n. EndsAs names (D.Faulted F.SectionSteps f) (run_of names m (names f) no_copy n)) none refl
 
 -- ---- tables and programs
-
--- the same of another table and program that are these
-pub runs_same : (names : Names) (table other : Table) (q r : Program) → other ≡ table → r ≡ q → Runs names table q → Runs names other r
-runs_same names table other q r e f h = subst (λ t. Runs names t r) (sym e) (subst (Runs names table) (sym f) h)
 
 -- another state of a machine of which it is said how its code runs
 pub still_running : (names : Names) (old new : Machine) → new.index ≡ old.index → new.texts ≡ old.texts → IsRunning names old → IsRunning names new

@@ -3,3 +3,4 @@ pub mod KindLemmas
 pub mod OperatorLemmas
 pub mod ResultLemmas
 pub mod ShiftLemmas
+pub mod KindSets

@@ -12,6 +12,7 @@ use Rattle.cpc_parser_reading.specs.Exact.{Opens}
 use Rattle.cpc_parser_reading.specs.Answers.{whole, SyntaxAt, DeepAt, Answers}
 use Rattle.cpc_parser_reading.proofs.Readers.{answers, complete}
 use Rattle.cpc_parser_types.specs.Views.{lexeme}
+use Rattle.cpc_parser_statements.proofs.Simples.{same_cons}
 use Rattle.cpc_parser.specs.ItemReaders.{program_at}
 use Rattle.cpc_parser.proofs.Items.{items_exact}
 
@@ -56,14 +57,11 @@ with_head t u f l g k e (equal a b) = equal (rw (e, a) refl) b
 with_head t u f l g k e (left_longer x m a b) = left_longer x m (rw (e, a) refl) b
 with_head t u f l g k e (right_longer x m a b) = right_longer x m (rw (← e, a) refl) b
 
-heads : (t u : Placed) (f g : List Placed) → t ∷ f ≡ u ∷ g → (t ≡ u) × (f ≡ g)
-heads t u f g e = (cc, cc)
-
 fronts : (f l g k : List Placed) → f ++ l ≡ g ++ k → Fronts f l g k
 fronts [] l [] k e = equal refl e
 fronts [] l (t ∷ g) k e = right_longer t g refl e
 fronts (t ∷ f) l [] k e = left_longer t f refl (sym e)
-fronts (t ∷ f) l (u ∷ g) k e = let h = heads t u (f ++ l) (g ++ k) e in with_head t u f l g k h.0 (fronts f l g k h.1)
+fronts (t ∷ f) l (u ∷ g) k e = let h = same_cons t u (f ++ l) (g ++ k) e in with_head t u f l g k h.0 (fronts f l g k h.1)
 
 -- what is open is so up to each of its tokens
 open_front : (d : ℕ) (f g : List Placed) (t : Placed) (m : List Placed) → IsOpen d g → g ≡ f ++ t ∷ m → IsOpen d (f ++ t ∷ [])
@@ -78,11 +76,11 @@ open_at dialect f l n (deep_at t left o b c) = o
 -- what is open ends before a fault
 no_longer : (dialect : Dialect) (f l g : List Placed) (n : ℕ) (t : Placed) (m : List Placed) → FaultsAt dialect f l n → IsOpen (nesting_limit dialect) g → g ≡ f ++ t ∷ m → (rest : List Placed) → l ≡ t ∷ rest → ⊥
 no_longer dialect f l g n t m (syntax_at u left o c) so e rest i =
-    let h = heads u t left rest i in
+    let h = same_cons u t left rest i in
     c (nesting_limit dialect, subst (λ w. IsOpen (nesting_limit dialect) (f ++ w ∷ [])) (sym h.0) (open_front (nesting_limit dialect) f g t m so e))
 no_longer dialect f l g n t m (syntax_at_end o c) so e rest i = absurd cc
 no_longer dialect f l g n t m (deep_at u left o b c) so e rest i =
-    let h = heads u t left rest i in
+    let h = same_cons u t left rest i in
     c (subst (λ w. IsOpen (nesting_limit dialect) (f ++ w ∷ [])) (sym h.0) (open_front (nesting_limit dialect) f g t m so e))
 
 same_number : (dialect : Dialect) (f l : List Placed) (n i : ℕ) → FaultsAt dialect f l n → FaultsAt dialect f l i → n ≡ i

@@ -7,9 +7,7 @@ use Rattle.cpc_tree.specs.declared.token.Token.{Token}
 use Rattle.cpc_tree.specs.Tokens.{Placed, placed_of}
 use Rattle.cpc_tree.specs.Grammar.{first_place}
 use Rattle.cpc_parser_types.specs.Views.{placed}
-
-tail_is : (t u : Placed) (f g : List Placed) → t ∷ f ≡ u ∷ g → f ≡ g
-tail_is t u f g e = cc
+use Rattle.cpc_parser_types.proofs.ParamWords.{tail_is}
 
 none_left : (t : Placed) (f : List Placed) → [] ≡ t ∷ f → ⊥
 none_left t f e = cc

@@ -21,10 +21,11 @@ use Rattle.cpc_parser_types.specs.declared.refusal.Refusal.{Refusal}
 use Rattle.cpc_parser_types.specs.declared.refusal.Refusal.TheVariants as R
 use Rattle.cpc_parser_types.proofs.Giving.{read_is}
 use Rattle.cpc_parser_types.proofs.Declarators.{declarator_exact}
+use Rattle.cpc_parser_types.proofs.Params.{commas}
+use Rattle.cpc_parser_statements.proofs.LocalExact.{starts_words}
 use Rattle.cpc_parser.specs.ItemReaders.{is_semicolon, is_brace, is_unbrace, second, line_at, rows, joined, fields_at, structure, structure_at}
 use Rattle.cpc_parser.specs.ItemViews.{flat, onto, field_row_at, field_left_at, InFields, line_links, InLines}
-use Rattle.cpc_parser.proofs.Marks.{commas}
-use Rattle.cpc_parser.proofs.Fields.{Line, comma_bracket, starts_words, line_exact, line_sample}
+use Rattle.cpc_parser.proofs.Fields.{Line, comma_bracket, line_exact, line_sample}
 
 -- what was put behind other values
 onto_read : {A : Type 0} (done : List A) (r : Reading Placed (List A)) (new : List A) (after : List Placed) → (r >>= λ x. Read (done ++ x.0, 0, x.2)) ≡ Read (new, 0, after)

@@ -18,12 +18,14 @@ use Rattle.cpc_parser_types.specs.TypeReaders.{Ending, Done, LongWord, SignedWor
 use Rattle.cpc_parser_types.specs.Declarators.{DeclaratorEnd, is_bracket}
 use Rattle.cpc_parser_types.proofs.Bases.{Words, WordsEnd, words_exact}
 use Rattle.cpc_parser_types.proofs.BaseWords.{of_base, to_base, of_typed}
-use Rattle.cpc_parser_types.proofs.Params.{starts_typed}
+use Rattle.cpc_parser_types.proofs.Params.{starts_typed, commas}
 use Rattle.cpc_parser_types.proofs.Declarators.{declarator_exact}
+use Rattle.cpc_parser_types.proofs.Lists.{comma_is}
+use Rattle.cpc_parser_statements.proofs.LocalExact.{starts_words}
 use Rattle.cpc_parser.specs.ItemReaders.{is_semicolon, is_brace, is_unbrace, second, line_at, rows, joined, fields_at, structure, structure_at}
-use Rattle.cpc_parser.proofs.Marks.{semicolons, commas, braces, unbraces, semicolon_is, comma_is, brace_is, unbrace_is}
+use Rattle.cpc_parser.proofs.Marks.{semicolons, braces, unbraces, semicolon_is, brace_is, unbrace_is}
 use Rattle.cpc_parser.proofs.Places.{Led}
-use Rattle.cpc_parser.proofs.Globals.{led_stops}
+use Rattle.cpc_parser.proofs.Globals.{led_stops, semicolon_comma}
 
 words_head : (f : List Placed) (v : Ty × Ending) (h : ℕ) → Words f v h → Led (λ k. starts_base k ≡ true) f
 words_head f v h r = starts_typed.head f v h (first f v h r)
@@ -39,10 +41,6 @@ words_each t e =
     let l = words_head b.0 (b.2, w.0) 0 w.1 in
     let i : l.0 ≡ t = same_head t l.0 o.rest l.1 b.1 (b.3 ∙ ap (λ u. u ++ b.1) l.2) in
     (0, record { rest = l.1; value = (b.2, w.0); nest = 0; reads = subst (λ u. Words (u ∷ l.1) (b.2, w.0) 0) i (subst (λ u. Words u (b.2, w.0) 0) l.2 w.1); fits = omega arith })
-
--- how a base type begins
-pub starts_words : Starts lexeme (λ k. starts_base k ≡ true) Words
-starts_words = record { head = words_head; each = words_each }
 
 -- what begins behind a base type
 abbrev pub begins_behind : Lexeme → Bool
@@ -87,10 +85,6 @@ comma_bracket k e = absurd cc
 semicolon_bracket : (k : Lexeme) → is_semicolon k ≡ true → is_bracket k ≡ false
 semicolon_bracket (Mark P.Semicolon) e = refl
 semicolon_bracket k e = absurd cc
-
-semicolon_comma : (k : Lexeme) → is_semicolon k ≡ true → is_comma k ≡ false
-semicolon_comma (Mark P.Semicolon) e = refl
-semicolon_comma k e = absurd cc
 
 row_ends : (b : Ty) (xs : List LVariable) (k : Lexeme) → is_semicolon k ≡ true → Over is_comma (DeclaratorEnd b) xs k
 row_ends b xs k e = (last_all (DeclaratorEnd b) xs k (λ x f h r. semicolon_bracket k e), semicolon_comma k e)

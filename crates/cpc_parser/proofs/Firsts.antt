@@ -1,7 +1,6 @@
 -- What stands first behind a base type is read exactly.
 use Rattle.std.proofs.Common.{◌≡◌, ℕ, ◌+◌, ◌<◌, ◌^◌, true, false, List, [], ◌∷◌, ◌++◌, Some, None, max, pos, refl, sym, ap, subst, ◌∙◌, arith, nat_lt, inl, inr}
 use Rattle.cpc_base.specs.declared.stop.Place.{Place}
-use Rattle.cpc_base.proofs.Lists.{some_of_if}
 use Rattle.cpc_num.specs.declared.kinds.Kind.{Kind}
 use Rattle.cpc_num.specs.declared.kinds.Kind.TheVariants as N
 use Rattle.cpc_tree.specs.declared.token.Punctuator.TheVariants as P
@@ -22,7 +21,7 @@ use Rattle.cpc_parser_types.proofs.BaseWords.{at, named_is}
 use Rattle.cpc_parser_types.proofs.Params.{lefts, unbrackets}
 use Rattle.cpc_parser_types.proofs.ParamWords.{right_is, left_is, star_mark, unbracket_is}
 use Rattle.cpc_parser_types.proofs.Lists.{ListEnclosed, list_exact}
-use Rattle.cpc_parser_types.proofs.Declarators.{stars_exact, CodeRest, code_exact}
+use Rattle.cpc_parser_types.proofs.Declarators.{stars_exact, CodeRest, code_exact, length_is, length_some}
 use Rattle.cpc_parser.specs.ItemReaders.{second, First, Alone, Closed, Called, Going, Brackets, Parens, first_class, Part, size_part, list_part, first_make, first_part, named_at, alone, coded, pointer_at, first_at, Seen, Variable, Function, seen}
 use Rattle.cpc_parser.proofs.Places.{Led}
 use Rattle.cpc_parser.proofs.Fields.{begins_behind, stars_led}
@@ -66,10 +65,6 @@ parens_is : (v : First) (k : Lexeme) → first_class v k ≡ Some Parens → k �
 parens_is (Alone x t) (Mark P.LeftParen) e = refl
 parens_is v k e = absurd cc
 
-length_is : (q : Place) (k : Lexeme) (n : ℕ) → length_in k ≡ Some n → (kind : Kind) × (n < 2 ^ 64) × (at q k ≡ number q kind (pos n))
-length_is q (Number kind (pos m)) n e = let i = some_of_if (nat_lt m (2 ^ 64)) m n e in (kind, let l : m < 2 ^ 64 = grind (arith, i.0) in subst (λ z. z < 2 ^ 64) i.1 l, ap (λ z. number q kind (pos z)) i.1)
-length_is q k n e = absurd cc
-
 with_part : (t : Ty) (f k : List Placed) (u : Placed) (c : Going) (v : First) (w : Part) (h j : ℕ) → NamedShape t f v h → first_class v u.lexeme ≡ Some c → Parts c (u ∷ k) w j → NamedShape t (f ++ u ∷ k) (first_make c v w) (max h j)
 with_part t f k u Brackets (Alone x s) w h j (a, b, z) e (u', g, e0, p, (n, e1, (l, v, e2, o, (y, e3, i, z2)))) =
     let m : u ≡ at u.place (Mark P.LeftBracket) = ap (at u.place) (brackets_is (Alone x s) u.lexeme e) in
@@ -96,14 +91,11 @@ to_alone t x = first (named x ∷ []) (Alone x t) 0 (x, refl, (named x, refl, re
 within : (n : ℕ) → n < 2 ^ 64 → nat_lt n (2 ^ 64) ≡ true
 within n l = grind (arith, l)
 
-length_of : (kind : Kind) (n : ℕ) → n < 2 ^ 64 → length_in (Number kind (pos n)) ≡ Some n
-length_of kind n l = rw (within n l) refl
-
 to_sized : (t : Ty) (x : Ident) (q r s : Place) (kind : Kind) (n : ℕ) → n < 2 ^ 64
     → NamedWords t (named x ∷ mark q P.LeftBracket ∷ number s kind (pos n) ∷ mark r P.RightBracket ∷ []) (Closed (record { called = x; type = TyArray t n })) 0
 to_sized t x q r s kind n l =
     further (named x ∷ []) (number s kind (pos n) ∷ mark r P.RightBracket ∷ []) (mark q P.LeftBracket) Brackets (Alone x t) (size_part n) 0 0 (to_alone t x) refl tt
-    (mark q P.LeftBracket, number s kind (pos n) ∷ mark r P.RightBracket ∷ [], refl, (Alone x t, refl), (n, refl, (number s kind (pos n) ∷ [], mark r P.RightBracket, refl, refl, (number s kind (pos n), refl, length_of kind n l, refl))))
+    (mark q P.LeftBracket, number s kind (pos n) ∷ mark r P.RightBracket ∷ [], refl, (Alone x t, refl), (n, refl, (number s kind (pos n) ∷ [], mark r P.RightBracket, refl, refl, (number s kind (pos n), refl, length_some kind n l, refl))))
 
 to_called : (t : Ty) (x : Ident) (q r : Place) (g : List Placed) (ps : List LParameter) (h : ℕ) → ReadsParams g ps h
     → NamedWords t (named x ∷ mark q P.LeftParen ∷ (g ++ mark r P.RightParen ∷ [])) (Called (record { called = x; result = t; parameters = ps })) h

@@ -17,8 +17,10 @@ use Rattle.cpc_parser_types.specs.Views.{lexeme}
 use Rattle.cpc_parser_types.specs.TypeReaders.{is_comma}
 use Rattle.cpc_parser_types.specs.Declarators.{declarator_at, DeclaratorEnd, is_bracket}
 use Rattle.cpc_parser_types.proofs.Declarators.{declarator_exact}
+use Rattle.cpc_parser_types.proofs.Lists.{comma_is}
+use Rattle.cpc_parser_types.proofs.Params.{commas}
 use Rattle.cpc_parser.specs.ItemReaders.{is_semicolon, is_equal, start_at, global_at, global_of, globals_of, globals_at, First, Alone, Closed, Called, first_class}
-use Rattle.cpc_parser.proofs.Marks.{semicolons, equals, commas, semicolon_is, equal_is, comma_is}
+use Rattle.cpc_parser.proofs.Marks.{semicolons, equals, semicolon_is, equal_is}
 use Rattle.cpc_parser.proofs.Initials.{Start, start_exact, initial_exact}
 use Rattle.cpc_parser.proofs.Places.{Led}
 
@@ -77,7 +79,7 @@ ends_equal (Mark P.Comma) e = refl
 ends_equal (Mark P.Semicolon) e = refl
 ends_equal k e = absurd cc
 
-semicolon_comma : (k : Lexeme) → is_semicolon k ≡ true → is_comma k ≡ false
+pub semicolon_comma : (k : Lexeme) → is_semicolon k ≡ true → is_comma k ≡ false
 semicolon_comma (Mark P.Semicolon) e = refl
 semicolon_comma k e = absurd cc
 

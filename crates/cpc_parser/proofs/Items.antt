@@ -22,10 +22,11 @@ use Rattle.cpc_parser_types.specs.Views.{lexeme}
 use Rattle.cpc_parser_types.specs.TypeReaders.{Ending, ident_of, starts_base}
 use Rattle.cpc_parser_types.proofs.Bases.{Words, WordsEnd, words_exact, name_exact, token, nobody, spot}
 use Rattle.cpc_parser_types.proofs.BaseWords.{at, of_base, to_base, named_is}
+use Rattle.cpc_parser_statements.proofs.LocalExact.{starts_words}
 use Rattle.cpc_parser.specs.ItemReaders.{second, Class, Moded, Tagged, Based, item_class, item_part, item_at, starts_item, declared, has_body, moded_at, tagged_at, based_at, structure_at, is_brace, rows, program_at}
 use Rattle.cpc_parser.proofs.Places.{Led, Narrow, Noted, Some_token, narrow_branch, exact_noted, starts_noted}
 use Rattle.cpc_parser.proofs.Globals.{led_stops}
-use Rattle.cpc_parser.proofs.Fields.{Structure, starts_structure, begins_behind, behind_words, starts_words, structure_exact}
+use Rattle.cpc_parser.proofs.Fields.{Structure, starts_structure, begins_behind, behind_words, structure_exact}
 use Rattle.cpc_parser.proofs.Behinds.{ReadsBehind, ends, begins, behind_exact}
 use Rattle.cpc_parser.proofs.Firsts.{function}
 use Rattle.cpc_parser.proofs.Plain.{ReadsPlain, variables, called, head_exact, plain_exact, plain_led}

@@ -5,7 +5,6 @@ use Rattle.cpc_tree.specs.Tokens.{Lexeme, Mark, Placed}
 use Rattle.cpc_tree.specs.TypeGrammar.{mark}
 use Rattle.cpc_parser_reading.specs.Exact.{Sample}
 use Rattle.cpc_parser_types.specs.Views.{lexeme}
-use Rattle.cpc_parser_types.specs.TypeReaders.{is_comma}
 use Rattle.cpc_parser_types.proofs.Bases.{token}
 use Rattle.cpc_parser_types.proofs.BaseWords.{at}
 use Rattle.cpc_parser.specs.ItemReaders.{is_semicolon, is_equal, is_brace, is_unbrace}
@@ -21,9 +20,6 @@ braces = record { token = token (Mark P.LeftBrace); holds = refl }
 
 pub unbraces : Sample lexeme is_unbrace
 unbraces = record { token = token (Mark P.RightBrace); holds = refl }
-
-pub commas : Sample lexeme is_comma
-commas = record { token = token (Mark P.Comma); holds = refl }
 
 semicolon_in : (k : Lexeme) → is_semicolon k ≡ true → k ≡ Mark P.Semicolon
 semicolon_in (Mark P.Semicolon) e = refl
@@ -41,10 +37,6 @@ unbrace_in : (k : Lexeme) → is_unbrace k ≡ true → k ≡ Mark P.RightBrace
 unbrace_in (Mark P.RightBrace) e = refl
 unbrace_in k e = absurd cc
 
-comma_in : (k : Lexeme) → is_comma k ≡ true → k ≡ Mark P.Comma
-comma_in (Mark P.Comma) e = refl
-comma_in k e = absurd cc
-
 pub semicolon_is : (t : Placed) → is_semicolon t.lexeme ≡ true → t ≡ mark t.place P.Semicolon
 semicolon_is t e = ap (at t.place) (semicolon_in t.lexeme e)
 
@@ -56,6 +48,3 @@ brace_is t e = ap (at t.place) (brace_in t.lexeme e)
 
 pub unbrace_is : (t : Placed) → is_unbrace t.lexeme ≡ true → t ≡ mark t.place P.RightBrace
 unbrace_is t e = ap (at t.place) (unbrace_in t.lexeme e)
-
-pub comma_is : (t : Placed) → is_comma t.lexeme ≡ true → t ≡ mark t.place P.Comma
-comma_is t e = ap (at t.place) (comma_in t.lexeme e)

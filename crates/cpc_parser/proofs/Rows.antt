@@ -17,9 +17,9 @@ use Rattle.cpc_parser_types.specs.Declarators.{declarator_at}
 use Rattle.cpc_parser_types.specs.Views.{lexeme, Refuses}
 use Rattle.cpc_parser_types.specs.declared.refusal.Refusal.{Refusal}
 use Rattle.cpc_parser_types.specs.declared.refusal.Refusal.TheVariants as R
+use Rattle.cpc_parser_types.proofs.Params.{commas}
 use Rattle.cpc_parser.specs.ItemReaders.{is_semicolon, is_equal, start_at, global_of, global_at}
 use Rattle.cpc_parser.specs.ItemViews.{flat, onto, row_at, row_links, InRow, more_at, starting_at}
-use Rattle.cpc_parser.proofs.Marks.{commas}
 use Rattle.cpc_parser.proofs.Globals.{Global, GlobalEnd, global_exact, ends_global, comma_ends}
 
 -- what was read

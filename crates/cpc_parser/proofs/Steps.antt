@@ -7,10 +7,8 @@ use Rattle.cpc_tree.specs.declared.program.Mode.TheVariants as M
 use Rattle.cpc_tree.specs.declared.token.Punctuator.TheVariants as P
 use Rattle.cpc_tree.specs.Tokens.{Lexeme, Mark, Placed}
 use Rattle.cpc_tree.specs.Syntax.{Ty, TyStruct}
-use Rattle.cpc_tree.specs.Erase.{Names}
-use Rattle.cpc_tree.specs.declared.token.Token.{Token}
 use Rattle.cpc_tree.specs.StmtGrammar.{begin}
-use Rattle.cpc_parser_types.specs.Views.{placed, Gives}
+use Rattle.cpc_parser_types.specs.Views.{Gives}
 use Rattle.cpc_parser_types.specs.declared.refusal.Refusal.{Refusal}
 use Rattle.cpc_tree.specs.Located.{Ident, LExpr, LVariable, LParameter, LItem, LFunctionItem, LStmt}
 use Rattle.cpc_tree.specs.ItemGrammar.{Head}
@@ -183,9 +181,6 @@ module _ (old : List LItem) (q : Place) (d : ℕ) where
 
   pub based_steps : (ts : List Placed) → begin ts ≡ q → onto old (based_at d) ts ≡ (base_reader d ts >>= λ b. onto old (plain_at q b.0 d) b.2)
   based_steps ts e = rw e (by_base_word (base_at d ts))
-
-pub begin_first : (names : Names) (ts : List Token) (t : Token) (rest : List Token) → ts ≡ t ∷ rest → begin (placed names ts) ≡ t.place
-begin_first names ts t rest e = rw e refl
 
 -- A declaration behind its base type: what stands first, and what stands behind it.
 module _ (old : List LItem) (q : Place) (b : Ty) (d : ℕ) where

@@ -2,6 +2,7 @@
 use Rattle.std.specs.Prelude.{map, ◌≡◌, ℕ, ◌≤◌, Bool, false, List, [], ◌∷◌, ◌++◌, Option, Some, None, Result, Ok, Err, nat_lt}
 use Rattle.cpc_base.specs.declared.stop.Stop as GStop
 use Rattle.cpc_base.specs.declared.stop.Stop.TheVariants as S
+pub use Rattle.cpc_base.specs.Stops.{IfFault}
 use Rattle.cpc_tree.specs.declared.program.Mode.{Mode}
 use Rattle.cpc_tree.specs.declared.program.Mode.TheVariants as M
 use Rattle.cpc_tree.specs.declared.token.Keyword.TheVariants as K
@@ -61,12 +62,6 @@ mode_in k = None
 abbrev pub mode_begun : List Placed → Option Mode
 mode_begun [] = None
 mode_begun (t ∷ rest) = mode_in t.lexeme
-
--- a fault is so
-abbrev pub IfFault : {X F : Type 0} → Result X (GStop.Stop F) → (F → Type 0) → Type 0
-IfFault (Ok x) P = Unit {0}
-IfFault (Err S.Memory) P = Unit {0}
-IfFault (Err (S.Fault f)) P = P f
 
 -- the program is read, and no fault is told; want of memory says nothing
 abbrev pub IsRead : {F : Type 0} → LProgram → Result GProgram.Program (GStop.Stop F) → Type 0

@@ -14,6 +14,7 @@ use Rattle.cpc_parser_reading.specs.Lists.{if_so}
 use Rattle.cpc_parser_reading.specs.Exact.{Stops, Any, Absent, Took, Good, Opens, Exact, Branch, Sample}
 use Rattle.cpc_parser_reading.proofs.Readers.{Over, any_stops, branch, exact_after, exact_as, exact_before, exact_chain, exact_made, exact_mapped, exact_nothing, exact_one, exact_one_of, exact_optional, exact_pair, exact_separated, exact_start, exact_stop, exact_two, headed_branch, last_all, links_on, opens_as, starts_separated}
 use Rattle.cpc_parser_reading.proofs.Lists.{so, not_so, never}
+use Rattle.cpc_parser_reading.proofs.Levels.{Always}
 use Rattle.cpc_parser_types.specs.Views.{lexeme}
 use Rattle.cpc_parser_types.specs.TypeReaders.{is_left, is_right, is_unbracket, is_comma, ident_in, ident_of, starts_base, enclosed_type_at}
 use Rattle.cpc_parser_types.proofs.TypeNames.{Enclosed, enclosed_exact}
@@ -22,9 +23,9 @@ use Rattle.cpc_parser_expressions.specs.Shapes as S
 use Rattle.cpc_parser_expressions.specs.ExprReaders.{inside, was_call, count, flagged, Atom, Literal, Round, atom_class, atom_low, atom_part, atom_at, literal, opened, Behind, Args, Index, Field, Through, postfix_class, args_part, index_part, field_part, through_part, postfix_part, postfix_make, call_count, postfix_left, postfix_right, goes_on, Prefix, Sign, Size, Plain, prefix_class, prefix_low, prefix_part, starts_expr, signed_by, sized_at, cast_of, left_in, left_of, tier_links, choice_links, postfix_links, operator_in, operator_at, is_ask, is_colon, listed_if, Inner, postfix_at, unary_at, cast_at, tier_at, whole_at, rank_at, plain_at, rank_expr_at, expr_at, args_at, shape_at, ShapeEnd}
 use Rattle.cpc_parser_expressions.proofs.Endings.{exact_ending, exact_stop_on}
 use Rattle.cpc_parser_expressions.proofs.Sorts.{Above, no_other, no_other_primary, shape_least, never_of, never_to}
-use Rattle.cpc_parser_expressions.proofs.PostfixWords.{Atoms, Arguments, of_closed, to_closed, Parts, Always, flag_is, flag_none, none_flag, of_trail, to_trail, to_literal}
+use Rattle.cpc_parser_expressions.proofs.PostfixWords.{Atoms, Arguments, of_closed, to_closed, Parts, flag_is, flag_none, none_flag, of_trail, to_trail, to_literal}
 use Rattle.cpc_parser_expressions.proofs.UnaryWords.{Prefixes, of_prefix, to_prefix, Casts, of_cast, to_cast}
-use Rattle.cpc_parser_expressions.proofs.TierWords.{op_tier, tier_of, operator_is, at_is, at_to, none_is, none_to, zero_tier, Operand, Suits, low_tier, of_tiers, to_tiers, Arms, chosen, Unchosen, shape_unchosen, of_choices, to_choices}
+use Rattle.cpc_parser_expressions.proofs.TierWords.{op_tier, tier_of, operator_is, at_is, at_to, none_is, none_to, zero_tier, Operand, Suits, low_tier, of_tiers, to_tiers, Arms, chosen, Unchosen, shape_unchosen, of_choices, to_choices, below_is}
 use Rattle.cpc_parser_expressions.proofs.Parens.{cast_begins, unary_apart, cast_opens, unary_opens, unary_high}
 use Rattle.cpc_parser_expressions.proofs.ExprStarts.{starts_reads, starts_postfix, start, a_word, word_opens}
 
@@ -103,12 +104,8 @@ goes_none : {A : Type 0} (o : Option A) → is_some o ≡ false → o ≡ None
 goes_none None e = refl
 goes_none (Some x) e = absurd cc
 
-below_suc : (m : ℕ) → 1 ≤ m → suc (below m) ≡ m
-below_suc zero le = absurd (omega arith)
-below_suc (suc m) le = refl
-
 -- any token may stand there
-any_joins : {A B : Type 0} (S : List Placed → B → ℕ → Type 0) (Q : B → Lexeme → Type 0) (u : A) (g : List Placed) (v : B) (h : ℕ) (rest : List Placed) → S g v h → Stops lexeme (Q v) rest → Stops lexeme (Any u) (g ++ rest)
+pub any_joins : {A B : Type 0} (S : List Placed → B → ℕ → Type 0) (Q : B → Lexeme → Type 0) (u : A) (g : List Placed) (v : B) (h : ℕ) (rest : List Placed) → S g v h → Stops lexeme (Q v) rest → Stops lexeme (Any u) (g ++ rest)
 any_joins S Q u g v h rest r s = any_stops lexeme u (g ++ rest)
 
 module _ (n : ℕ) (e : Exact lexeme n 1 (λ d. expr_at d) (Reads Whole) (λ v. ShapeEnd Whole)) where
@@ -257,16 +254,16 @@ module _ (n : ℕ) (a : S.Apart) (y : (m : ℕ) → Exact lexeme n 1 (λ d. rank
             let u = at_is m k o j in
             let v = operator_is k o u.0 in
             let lt = none_is (below c.0.0) k o q.1 u.0 in
-            let s = below_suc c.0.0 b.4 in
+            let s = below_is c.0.0 b.4 in
             omega (arith, lt, s, b.3, v.3),
       )
 
   operand_past : (m : ℕ) (c : (ℕ × Operator) × Bool) (w : Place × LExpr) (k : Lexeme) (o : ℕ × Operator) → TierP m c w k → c.0.0 ≤ m → 1 ≤ c.0.0 → c.0.0 ≡ op_tier c.0.1 → o.0 ≡ op_tier o.1 → operator_in k ≡ Some o → (b : Bool) → nat_lt m o.0 ≡ b → below c.0.0 < o.0
-  operand_past m c w k o q le pos t u j true e = let lt : m < o.0 = grind arith in let s = below_suc c.0.0 pos in omega (arith, lt, s)
+  operand_past m c w k o q le pos t u j true e = let lt : m < o.0 = grind arith in let s = below_is c.0.0 pos in omega (arith, lt, s)
   operand_past m c w k o q le pos t u j false e =
       let lt : o.0 ≤ m = grind arith in
       let x = q.1 o (at_to m k o j lt) in
-      let s = below_suc c.0.0 pos in
+      let s = below_is c.0.0 pos in
       omega (arith, x, s, t, u)
 
   operand_of : (m : ℕ) (c : (ℕ × Operator) × Bool) (w : Place × LExpr) (l k : Lexeme) → operator_at m l ≡ Some c.0 → TierP m c w k → ShapeEnd (Tier (below c.0.0)) k

@@ -14,11 +14,11 @@ use Rattle.cpc_tree.specs.ExprGrammar.{Rank, Primary, Postfix, Unary, Tier, Whol
 use Rattle.cpc_tree.specs.ExprGrammar as X
 use Rattle.cpc_parser_reading.specs.Exact.{Opens, Starts}
 use Rattle.cpc_parser_types.specs.Views.{lexeme}
+use Rattle.cpc_parser_types.proofs.BaseWords.{at}
 use Rattle.cpc_parser_expressions.specs.Shapes.{Apart, Postfixed, whole, extra, ReadsShape}
 use Rattle.cpc_parser_expressions.specs.ExprReaders.{Prefix, Sign, Size, Plain, prefix_class, starts_expr}
 use Rattle.cpc_parser_expressions.proofs.Sorts.{from_postfix, tier_up, shape_reads, keep, sort}
-use Rattle.cpc_parser_expressions.proofs.PostfixWords.{at}
-use Rattle.cpc_parser_expressions.proofs.UnaryWords.{sign_is, sign_to}
+use Rattle.cpc_parser_expressions.proofs.UnaryWords.{sign_is, sign_to, size_is}
 
 -- a token with what stands behind it, of a class
 abbrev Head : (Lexeme → Type 0) → List Placed → Type 0
@@ -123,15 +123,10 @@ sign_opens q k op (p, e, i) = rw e (signed_opens q p op i)
 postfix_opens : (f : List Placed) → Opens (Reads Postfix) 2 f → Opens (Reads Unary) 2 f
 postfix_opens f o = record { rest = o.rest; value = o.value; nest = o.nest; reads = X.a_postfix _ _ _ o.reads; fits = o.fits }
 
-pub size_word : (k : Lexeme) → prefix_class k ≡ Some Size → k ≡ Word K.Sizeof
-size_word (Word K.Sizeof) e = refl
-size_word (Mark P.Minus) e = absurd cc
-size_word k e = absurd cc
-
 -- what begins a unary expression
 unary_opens : (q : Place) (k : Lexeme) (c : Prefix) → prefix_class k ≡ Some c → Opens (Reads Unary) 2 (at q k ∷ [])
 unary_opens q k (Sign op) e = sign_opens q k op (sign_is k op e)
-unary_opens q k Size e = rw (size_word k e) (size_opens q)
+unary_opens q k Size e = rw (size_is k e) (size_opens q)
 unary_opens q k Plain e = postfix_opens _ (plain_opens q k e)
 
 -- a test that something is there

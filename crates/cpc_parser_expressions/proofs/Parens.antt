@@ -17,13 +17,14 @@ use Rattle.cpc_parser_reading.proofs.Readers as R
 use Rattle.cpc_parser_types.specs.Views.{lexeme}
 use Rattle.cpc_parser_types.specs.TypeReaders.{is_left, starts_base}
 use Rattle.cpc_parser_types.proofs.TypeNames.{starts_enclosed}
+use Rattle.cpc_parser_types.proofs.BaseWords.{at}
+use Rattle.cpc_parser_types.proofs.ParamWords.{left_lexeme}
 use Rattle.cpc_parser_expressions.specs.Shapes.{Apart, Never, Bare, Bracketed, Shape, Calling, Postfixed, Other, whole, extra, ReadsCalling, calling, ReadsEnclosed, open_call, in_parens, ReadsOther, Taken, ReadsShape}
 use Rattle.cpc_parser_expressions.specs.Shapes as S
 use Rattle.cpc_parser_expressions.specs.ExprReaders.{left_in, starts_expr}
 use Rattle.cpc_parser_expressions.proofs.Sorts.{reads_least, kept_reads, shape_reads}
 use Rattle.cpc_parser_expressions.proofs.UnaryWords.{Casts, cast_row}
 use Rattle.cpc_parser_expressions.proofs.ExprStarts.{starts_reads, start, a_word, word_tier, int_reads, paren_opens}
-use Rattle.cpc_parser_expressions.proofs.PostfixWords.{at}
 
 -- no word of a type begins an expression
 no_type : (k : Lexeme) → starts_expr k ≡ true → starts_base k ≡ false
@@ -147,10 +148,6 @@ cast_begins f s h (x, i, e, n, b) =
     let o = starts_enclosed.head c.left x.1.0 c.i c.first in
     (t.0, o.0, o.1 ++ c.right, joined f b.left b.right c.left c.right o.1 t.0 o.0 b.whole t.1 c.whole o.2, left_is t.0.place x.0 t.0.lexeme t.2, o.3)
 
-left_mark : (k : Lexeme) → is_left k ≡ true → k ≡ Mark P.LeftParen
-left_mark (Mark P.LeftParen) e = refl
-left_mark k e = absurd cc
-
 a_cast : (q : Place) (k : Lexeme) → k ≡ Mark P.LeftParen → Opens Casts 2 (at q k ∷ [])
 a_cast q k e = rw e (record {
   rest = word start K.Int ∷ mark start P.RightParen ∷ named a_word ∷ [];
@@ -162,10 +159,10 @@ a_cast q k e = rw e (record {
 
 -- each opening parenthesis begins a cast, and a unary expression
 pub cast_opens : (t : Placed) → is_left t.lexeme ≡ true → Opens Casts 2 (t ∷ [])
-cast_opens t e = a_cast t.place t.lexeme (left_mark t.lexeme e)
+cast_opens t e = a_cast t.place t.lexeme (left_lexeme t.lexeme e)
 
 in_paren : (a : Apart) (q : Place) (k : Lexeme) → k ≡ Mark P.LeftParen → Opens (ReadsShape a Unary) 2 (at q k ∷ [])
 in_paren a q k e = rw e (paren_opens a q)
 
 pub unary_opens : (a : Apart) (t : Placed) → is_left t.lexeme ≡ true → Opens (ReadsShape a Unary) 2 (t ∷ [])
-unary_opens a t e = in_paren a t.place t.lexeme (left_mark t.lexeme e)
+unary_opens a t e = in_paren a t.place t.lexeme (left_lexeme t.lexeme e)

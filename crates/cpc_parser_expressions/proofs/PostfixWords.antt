@@ -1,5 +1,5 @@
 -- Postfix expressions in the readers' words, and back.
-use Rattle.std.proofs.Common.{◌≡◌, ℕ, ◌+◌, Bool, true, false, List, [], ◌∷◌, ◌++◌, Option, Some, None, max, refl, sym, ap, subst, ◌∙◌, arith, inl, inr}
+use Rattle.std.proofs.Common.{◌≡◌, ℕ, ◌+◌, Bool, false, List, [], ◌∷◌, ◌++◌, Option, Some, None, max, refl, sym, ap, subst, ◌∙◌, arith, inl, inr}
 use Rattle.cpc_base.specs.declared.stop.Place.{Place}
 use Rattle.cpc_tree.specs.declared.token.Punctuator.TheVariants as P
 use Rattle.cpc_tree.specs.Tokens.{Lexeme, Mark, Named, Number, Character, Quoted, Placed}
@@ -11,8 +11,12 @@ use Rattle.cpc_tree.specs.StmtGrammar.{is_call}
 use Rattle.cpc_parser_reading.specs.Phrase.{Nothing, One, Before, Headed, Mapped, Made, OneOf, Optional}
 use Rattle.cpc_parser_reading.specs.Chain.{Chained, first, further}
 use Rattle.cpc_parser_reading.specs.Lists.{Separated, alone, and_more}
+use Rattle.cpc_parser_reading.proofs.Levels.{Always}
 use Rattle.cpc_parser_types.specs.Views.{lexeme}
 use Rattle.cpc_parser_types.specs.TypeReaders.{is_right, is_unbracket, is_comma, ident_in, ident_of}
+use Rattle.cpc_parser_types.proofs.BaseWords.{at, named_in}
+use Rattle.cpc_parser_types.proofs.ParamWords.{unbracket_lexeme}
+use Rattle.cpc_parser_types.proofs.Params.{right_mark, comma_mark}
 use Rattle.cpc_parser_expressions.specs.Shapes.{Apart, Never, Bare, Bracketed, Shape, Calling, Postfixed, Other, whole, extra, ReadsCalling, calling, ReadsEnclosed, open_call, in_parens, Kept, Taken, ReadsShape}
 use Rattle.cpc_parser_expressions.specs.ExprReaders.{inside, was_call, count, flagged, Atom, Literal, Round, atom_class, literal_in, literal, opened, Behind, Args, Index, Field, Through, postfix_class, Part, args_part, index_part, field_part, through_part, called, postfix_make, call_count, postfix_left, postfix_right, listed, listed_if}
 use Rattle.cpc_parser_expressions.proofs.Sorts.{from_postfix, other_reads, other_no_call, no_other, shape_reads, keep, keep_postfix, sort, never_to}
@@ -21,10 +25,6 @@ use Rattle.cpc_parser_expressions.proofs.Sorts.{from_postfix, other_reads, other
 abbrev pub Atoms : Apart → Atom → List Placed → Shape → ℕ → Type 0
 Atoms a Literal = Headed lexeme (λ k. atom_class k ≡ Some Literal) (λ t. Made (literal t) Nothing)
 Atoms a Round = Headed lexeme (λ k. atom_class k ≡ Some Round) (λ t. Made opened (Before (ReadsShape (inside a) Whole) (λ u. is_right u.lexeme)))
-
--- a token of a lexeme
-abbrev pub at : Place → Lexeme → Placed
-at q k = record { place = q; lexeme = k }
 
 literal_reads : (q : Place) (k : Lexeme) → atom_class k ≡ Some Literal → Reads Primary (at q k ∷ []) (literal_in q k) 1 × (is_call (bare_expr (literal_in q k)) ≡ false)
 literal_reads q (Named x) e = (X.a_name (record { place = q; text = x }), refl)
@@ -37,22 +37,6 @@ literal_reads q k e = absurd cc
 round_is : (k : Lexeme) → atom_class k ≡ Some Round → k ≡ Mark P.LeftParen
 round_is (Mark P.LeftParen) e = refl
 round_is k e = absurd cc
-
-pub right_is : (k : Lexeme) → is_right k ≡ true → k ≡ Mark P.RightParen
-right_is (Mark P.RightParen) e = refl
-right_is k e = absurd cc
-
-comma_is : (k : Lexeme) → is_comma k ≡ true → k ≡ Mark P.Comma
-comma_is (Mark P.Comma) e = refl
-comma_is k e = absurd cc
-
-unbracket_is : (k : Lexeme) → is_unbracket k ≡ true → k ≡ Mark P.RightBracket
-unbracket_is (Mark P.RightBracket) e = refl
-unbracket_is k e = absurd cc
-
-named_is : (q : Place) (k : Lexeme) (x : Ident) → ident_in q k ≡ Some x → at q k ≡ named x
-named_is q (Named y) x e = let i : record { place = q; text = y } ≡ x = cc in ap named i
-named_is q k x e = absurd cc
 
 -- parentheses round what has been read
 round_of : (a : Apart) (g : List Placed) (o p : Place) (w : Shape) (i : ℕ) → ReadsShape (inside a) Whole g w i → ReadsShape a Postfix (mark o P.LeftParen ∷ (g ++ mark p P.RightParen ∷ [])) (opened w) (i + 1)
@@ -75,7 +59,7 @@ of_atom a f s h (Literal, (t, g, e, p, (u, i, v', n, (z, w)))) =
     let b = literal_reads t.place t.lexeme p in
     rw (e, z, v', n, w) (keep a (t ∷ []) (literal_in t.place t.lexeme) 1 b.0 b.1)
 of_atom a f s h (Round, (t, g, e, p, (w, i, v', n, (g', u, e', c, r)))) =
-    rw (e, e', v', n) (round_by a g' t.place u.place t.lexeme u.lexeme w i (round_is t.lexeme p) (right_is u.lexeme c) r)
+    rw (e, e', v', n) (round_by a g' t.place u.place t.lexeme u.lexeme w i (round_is t.lexeme p) (right_mark u.lexeme c) r)
 
 -- parentheses in the readers' words
 to_round : (a : Apart) (g : List Placed) (o p : Place) (w : Shape) (i : ℕ) → ReadsShape (inside a) Whole g w i → OneOf (Atoms a) (mark o P.LeftParen ∷ (g ++ mark p P.RightParen ∷ [])) (opened w) (i + 1)
@@ -121,7 +105,7 @@ of_row : (f : List Placed) (ws : List LExpr) (h : ℕ) → Row f ws h → (w : L
 of_row f ws h (alone _ v _ r) = (v, [], refl, last_arg f v h r)
 of_row f ws h (and_more g k t v us i j r e m) =
     let b = of_row k us j m in
-    (v, us, refl, rw b.2 (more_by g k t.place t.lexeme v b.0 (listed b.1) i j (comma_is t.lexeme e) r b.3))
+    (v, us, refl, rw b.2 (more_by g k t.place t.lexeme v b.0 (listed b.1) i j (comma_mark t.lexeme e) r b.3))
 
 to_row : (f : List Placed) (v : LExpr) (vs : LExprs) (h : ℕ) → ReadsArgs f (AndLExpr v vs) h → (ws : List LExpr) × (AndLExpr v vs ≡ listed ws) × Row f ws h
 to_row f v vs h (last_arg _ _ _ r) = (v ∷ [], refl, alone f v h r)
@@ -135,7 +119,7 @@ closed_by : (g : List Placed) (q : Place) (l : Lexeme) (vs : LExprs) (h : ℕ) �
 closed_by g q l vs h e r = rw e (g, q, refl, r)
 
 pub of_closed : (f : List Placed) (vs : LExprs) (h : ℕ) → Closed f vs h → Arguments f vs h
-of_closed f vs h (o, e, (g, u, e', c, r)) = rw e' (closed_by g u.place u.lexeme vs h (right_is u.lexeme c) (of_optional g vs o h e r))
+of_closed f vs h (o, e, (g, u, e', c, r)) = rw e' (closed_by g u.place u.lexeme vs h (right_mark u.lexeme c) (of_optional g vs o h e r))
 
 to_optional : (g : List Placed) (vs : LExprs) (h : ℕ) → ReadsArgs g vs h → (o : Option (List LExpr)) × (vs ≡ listed_if o) × Optional Row g o h
 to_optional g vs h no_args = (None, refl, (refl, refl))
@@ -151,10 +135,6 @@ Parts Args = Headed lexeme (λ k. postfix_class k ≡ Some Args) (λ t. Mapped (
 Parts Index = Headed lexeme (λ k. postfix_class k ≡ Some Index) (λ t. Mapped (index_part t.place) (Before (Reads Whole) (λ u. is_unbracket u.lexeme)))
 Parts Field = Headed lexeme (λ k. postfix_class k ≡ Some Field) (λ t. Mapped (field_part t.place) (One ident_of))
 Parts Through = Headed lexeme (λ k. postfix_class k ≡ Some Through) (λ t. Mapped (through_part t.place) (One ident_of))
-
--- no condition
-abbrev pub Always : {A C : Type 0} → A → C → Type 0
-Always s c = Unit {0}
 
 -- a postfix expression and the parts behind it
 abbrev pub Trail : Apart → List Placed → Shape → ℕ → Type 0
@@ -214,10 +194,10 @@ index_by : (a : Apart) (f g : List Placed) (q p : Place) (k l : Lexeme) (v w : L
 index_by a f g q p k l v w i j e e' r c = rw (e, e') (keep_postfix a _ (LIndex q v w) _ (X.indexed f g q p v w i j r c) refl)
 
 field_by : (a : Apart) (f : List Placed) (q p : Place) (k l : Lexeme) (v : LExpr) (x : Ident) (i : ℕ) → k ≡ Mark P.Dot → ident_in p l ≡ Some x → Reads Postfix f v i → Kept a (f ++ at q k ∷ at p l ∷ []) (LMember q v x) (i + 1)
-field_by a f q p k l v x i e e' r = rw (e, named_is p l x e') (keep_postfix a _ (LMember q v x) _ (X.member f q v x i r) refl)
+field_by a f q p k l v x i e e' r = rw (e, named_in p l x e') (keep_postfix a _ (LMember q v x) _ (X.member f q v x i r) refl)
 
 through_by : (a : Apart) (f : List Placed) (q p : Place) (k l : Lexeme) (v : LExpr) (x : Ident) (i : ℕ) → k ≡ Mark P.Arrow → ident_in p l ≡ Some x → Reads Postfix f v i → Kept a (f ++ at q k ∷ at p l ∷ []) (LArrow q v x) (i + 1)
-through_by a f q p k l v x i e e' r = rw (e, named_is p l x e') (keep_postfix a _ (LArrow q v x) _ (X.arrow f q v x i r) refl)
+through_by a f q p k l v x i e e' r = rw (e, named_in p l x e') (keep_postfix a _ (LArrow q v x) _ (X.arrow f q v x i r) refl)
 
 with_part : (a : Apart) (f g : List Placed) (s : Shape) (c : Behind) (b : Bool) (w : Part) (h j : ℕ) → ReadsShape a Postfix f s h → b ≡ was_call s → Parts c g w j
     → ReadsShape a Postfix (f ++ g) (postfix_make a s w) (max (h + postfix_left a (c, b)) (j + postfix_right a (c, b)))
@@ -228,7 +208,7 @@ with_part a f g s Args b w h j r e (t, g', e0, p, (vs, e1, m)) =
 with_part a f g s Index b w h j r e (t, g', e0, p, (v, e1, (k, u, e2, c, m))) =
     let x = extra_is s in
     let n : max (h + extra s) j + 1 ≡ max (h + (count b + 1)) (j + 1) = let y : count b ≡ extra s = ap count e ∙ sym x in omega (arith, y) in
-    rw (e0, e1, e2, ← n) ((index_by a f k t.place u.place t.lexeme u.lexeme (whole s) v (h + extra s) j (index_is t.lexeme p) (unbracket_is u.lexeme c) (shape_reads a Postfix f s h tt r) m))
+    rw (e0, e1, e2, ← n) ((index_by a f k t.place u.place t.lexeme u.lexeme (whole s) v (h + extra s) j (index_is t.lexeme p) (unbracket_lexeme u.lexeme c) (shape_reads a Postfix f s h tt r) m))
 with_part a f g s Field b w h j r e (t, g', e0, p, (x, e1, (u, e2, i, z))) =
     let y : count b ≡ extra s = ap count e ∙ sym (extra_is s) in
     let n : (h + extra s) + 1 ≡ max (h + (count b + 1)) (j + 0) = omega (arith, y, z) in

@@ -15,11 +15,12 @@ use Rattle.cpc_parser_reading.specs.Phrase.{Before, Headed, Both, Mapped}
 use Rattle.cpc_parser_reading.specs.Chain.{Chained, first, further}
 use Rattle.cpc_parser_reading.specs.Lists.{if_so}
 use Rattle.cpc_parser_types.specs.Views.{lexeme}
+use Rattle.cpc_parser_types.proofs.BaseWords.{at}
 use Rattle.cpc_parser_expressions.specs.Shapes.{Apart, Shape, Calling, Postfixed, Other, whole, extra, ReadsOther, ReadsShape}
 use Rattle.cpc_parser_expressions.specs.Shapes as S
 use Rattle.cpc_parser_expressions.specs.ExprReaders.{was_call, count, flagged, operator_in, at_most, operator_at, is_ask, is_colon}
 use Rattle.cpc_parser_expressions.proofs.Sorts.{Sorted, sort, shape_reads, tier_up, raise}
-use Rattle.cpc_parser_expressions.proofs.PostfixWords.{at, flag_is, extra_is}
+use Rattle.cpc_parser_expressions.proofs.PostfixWords.{flag_is, extra_is}
 
 -- the tier of an operator
 abbrev pub op_tier : Operator → ℕ
@@ -156,7 +157,7 @@ shape_up a m n f (Calling q v vs) h le c = c
 shape_up a m n f (Postfixed v) h le c = c
 shape_up a m n f (Other v) h le c = raise (λ k. ReadsOther (Tier k) f v h) (λ k b. S.an_operand k f v h b) (n - m) m n (omega arith) c
 
-below_is : (n : ℕ) → 1 ≤ n → suc (below n) ≡ n
+pub below_is : (n : ℕ) → 1 ≤ n → suc (below n) ≡ n
 below_is zero le = absurd (omega arith)
 below_is (suc n) le = refl
 

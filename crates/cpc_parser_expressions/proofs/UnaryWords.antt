@@ -1,5 +1,5 @@
 -- Unary expressions and casts in the readers' words, and back.
-use Rattle.std.proofs.Common.{◌≡◌, ℕ, ◌+◌, true, List, [], ◌∷◌, ◌++◌, Option, Some, None, max, refl, sym, ap, ◌∙◌, append_assoc, arith, inl, inr}
+use Rattle.std.proofs.Common.{◌≡◌, ℕ, ◌+◌, List, [], ◌∷◌, ◌++◌, Option, Some, None, max, refl, sym, ap, ◌∙◌, append_assoc, arith, inl, inr}
 use Rattle.cpc_base.specs.declared.stop.Place.{Place}
 use Rattle.cpc_tree.specs.declared.program.UnaryOp.{UnaryOp}
 use Rattle.cpc_tree.specs.declared.token.Keyword.TheVariants as K
@@ -14,11 +14,12 @@ use Rattle.cpc_parser_reading.specs.Phrase.{One, After, Headed, Both, Made, OneO
 use Rattle.cpc_parser_types.specs.Views.{lexeme}
 use Rattle.cpc_parser_types.specs.TypeReaders.{is_left}
 use Rattle.cpc_parser_types.proofs.TypeNames.{Enclosed}
+use Rattle.cpc_parser_types.proofs.BaseWords.{at}
+use Rattle.cpc_parser_types.proofs.ParamWords.{left_lexeme}
 use Rattle.cpc_parser_expressions.specs.Shapes.{Apart, Shape, Calling, Postfixed, Other, ReadsOther, ReadsShape}
 use Rattle.cpc_parser_expressions.specs.Shapes as S
 use Rattle.cpc_parser_expressions.specs.ExprReaders.{Prefix, Sign, Size, Plain, sign_class, prefix_class, signed_by, sized_at, cast_of, left_in, left_of}
 use Rattle.cpc_parser_expressions.proofs.Sorts.{no_other}
-use Rattle.cpc_parser_expressions.proofs.PostfixWords.{at}
 
 -- the productions of unary expressions
 abbrev pub Prefixes : Apart → Prefix → List Placed → Shape → ℕ → Type 0
@@ -41,14 +42,10 @@ pub sign_to : (p : Punctuator) (op : UnaryOp) → unary_operator p ≡ Some op �
 sign_to P.LeftParen op e = absurd cc
 sign_to p op e = ap sign_class e
 
-size_is : (k : Lexeme) → prefix_class k ≡ Some Size → k ≡ Word K.Sizeof
+pub size_is : (k : Lexeme) → prefix_class k ≡ Some Size → k ≡ Word K.Sizeof
 size_is (Word K.Sizeof) e = refl
 size_is (Mark P.Minus) e = absurd cc
 size_is k e = absurd cc
-
-pub left_is : (k : Lexeme) → is_left k ≡ true → k ≡ Mark P.LeftParen
-left_is (Mark P.LeftParen) e = refl
-left_is k e = absurd cc
 
 signed_by_mark : (g : List Placed) (q : Place) (k : Lexeme) (op : UnaryOp) (v : LExpr) (i : ℕ) → (p : Punctuator) × (k ≡ Mark p) × (unary_operator p ≡ Some op) → Reads (Tier 0) g v i → ReadsOther Unary (at q k ∷ g) (LUnary q op v) (i + 1)
 signed_by_mark g q k op v i (p, e, o) r = rw e (S.signed g q p op v i o r)
@@ -63,7 +60,7 @@ plain_to a f (Other v) h c = absurd (no_other f v h c)
 
 pub of_prefix : (a : Apart) (f : List Placed) (s : Shape) (h : ℕ) → OneOf (Prefixes a) f s h → ReadsShape a Unary f s h
 of_prefix a f s h (Sign op, (t, g, e, p, (v, i, e1, n, r))) = rw (e, e1, n) (signed_by_mark g t.place t.lexeme op v i (sign_is t.lexeme op p) r)
-of_prefix a f s h (Size, (t, g, e, p, (ty, i, e1, n, (u, g', e2, c, r)))) = rw (e, e1, n, e2) (size_by g' t.place u.place t.lexeme u.lexeme ty i (size_is t.lexeme p) (left_is u.lexeme c) r)
+of_prefix a f s h (Size, (t, g, e, p, (ty, i, e1, n, (u, g', e2, c, r)))) = rw (e, e1, n, e2) (size_by g' t.place u.place t.lexeme u.lexeme ty i (size_is t.lexeme p) (left_lexeme u.lexeme c) r)
 of_prefix a f s h (Plain, r) = plain_to a f s h r
 
 other_prefix : (a : Apart) (f : List Placed) (v : LExpr) (h : ℕ) → ReadsOther Unary f v h → OneOf (Prefixes a) f (Other v) h

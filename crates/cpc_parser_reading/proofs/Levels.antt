@@ -10,7 +10,7 @@ use Rattle.cpc_parser_reading.proofs.Choice.{headed_branch}
 use Rattle.cpc_parser_reading.proofs.Values.{exact_as, exact_mapped}
 
 -- no condition
-abbrev Always : {A O : Type 0} → A → O → Type 0
+abbrev pub Always : {A O : Type 0} → A → O → Type 0
 Always v o = Unit {0}
 
 -- there is room inside for a node above a value of nesting h and a part

@@ -20,13 +20,13 @@ Follow whole k = (postfix_class k ≡ None) × (is_plus k ≡ None) × (is_ask k
 pub closer : Sample kind_of is_closing
 closer = record { token = record { place = 0; kind = closing }; holds = refl }
 
-divider : Sample kind_of is_comma
+pub divider : Sample kind_of is_comma
 divider = record { token = record { place = 0; kind = comma }; holds = refl }
 
 asker : Sample kind_of is_ask
 asker = record { token = record { place = 0; kind = ask }; holds = refl }
 
-teller : Sample kind_of is_colon
+pub teller : Sample kind_of is_colon
 teller = record { token = record { place = 0; kind = colon }; holds = refl }
 
 -- a name

@@ -3,9 +3,9 @@ use Rattle.std.proofs.Common.{◌≡◌, ℕ, suc, Bool, true, false, List, ◌+
 use Rattle.cpc_parser_reading.specs.Reading.{expect, one, before, after, bind, made, either, below}
 use Rattle.cpc_parser_reading.specs.Phrase.{Expect, One, Before, After, Bound, Made, Either}
 use Rattle.cpc_parser_reading.specs.Exact.{Stops, Any, Exact, Sample}
-use Rattle.cpc_parser_reading.specs.SmallExpressions.{Kind, name, opening, comma, Token, kind_of, Expr, named, is_closing, is_comma, text, whole, Reads, read}
+use Rattle.cpc_parser_reading.specs.SmallExpressions.{Kind, name, opening, Token, kind_of, Expr, named, is_closing, is_comma, text, whole, Reads, read}
 use Rattle.cpc_parser_reading.proofs.Readers.{any_stops, branch, exact_after, exact_before, exact_bind, exact_either, exact_expect, exact_made, exact_one, starts_after, starts_made}
-use Rattle.cpc_parser_reading.proofs.SmallExpressions.{closer, closes_whole, exact_read, field_exact}
+use Rattle.cpc_parser_reading.proofs.SmallExpressions.{closer, closes_whole, exact_read, field_exact, divider}
 
 -- the number of a name, unless it is the one before
 abbrev unless : ℕ → Option ℕ → Option ℕ
@@ -53,9 +53,6 @@ pub exact_round_or_word : (n : ℕ) → Exact kind_of (suc n) 1
 exact_round_or_word n =
     exact_either (branch (starts_made (starts_after (closed_exact n).sample) (λ v. v)) (exact_made (λ v. v) Any (exact_after opener (closed_exact n)) (λ w k q. tt) (λ w k q. tt)))
     (exact_made named Any (field_exact n) (λ w k q. tt) (λ w k q. tt)) (omega arith) (λ f v h rest r s. word_apart f v h rest r)
-
-divider : Sample kind_of is_comma
-divider = record { token = record { place = 0; kind = comma }; holds = refl }
 
 -- A comma.
 pub exact_comma : (n : ℕ) → Exact kind_of n 0 (λ d. expect (λ t. is_comma t.kind)) (Expect (λ t. is_comma t.kind)) Any

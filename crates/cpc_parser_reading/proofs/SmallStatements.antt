@@ -9,7 +9,7 @@ use Rattle.cpc_parser_reading.specs.Exact.{Stops, Any, Opens, Exact, Branch, Sta
 use Rattle.cpc_parser_reading.specs.SmallExpressions.{Kind, name, opening, closing, colon, dot, equals, semicolon, brace, unbrace, when, otherwise, Token, kind_of, Expr, named, member, Exprs, is_closing, is_colon, starts_expr, text, Rank, primary, postfix, whole, Reads, a_name, parens, a_primary, called, membered, ReadsArgs, read}
 use Rattle.cpc_parser_reading.specs.SmallStatements.{Stm, assign, perform, block, choice, label, Stms, no_stm, a_stm, is_equals, is_semicolon, is_opening, is_unbrace, is_otherwise, is_name, dangles, IsStm, assigned, performed, blocked, if_alone, if_else, labelled, IsStms, is_none, is_more, Simple, place, calls, sets, expr_of, Next, Args, Field, Set, next_class, Piece, args, field, value, piece_part, next_make, next_left, next_right, next_least, next_links, complete, simple_at, stm_of, sentence_at, label_at, Class, Block, If, Other, class_of, class_low, stms_of, starts_stm, if_of, stm_part, stm_at, statement, program}
 use Rattle.cpc_parser_reading.proofs.Readers.{Apart, Over, after_branch, any_stops, branch, exact_after, exact_as, exact_before, exact_chain, exact_made, exact_many, exact_mapped, exact_one_of, exact_only, exact_pair, exact_start, exact_tail, exact_two, fits_room, free_room, headed_branch, last_all, opens_as}
-use Rattle.cpc_parser_reading.proofs.SmallExpressions.{Follow, closer, a_word, word_reads, starts_head, Bracketed, of_args, to_args, closes_whole, args_exact, field_exact, exact_read}
+use Rattle.cpc_parser_reading.proofs.SmallExpressions.{Follow, closer, a_word, word_reads, starts_head, Bracketed, of_args, to_args, closes_whole, args_exact, field_exact, exact_read, teller}
 
 -- A piece of a simple statement, in the readers' words.
 abbrev Pieces : Next → List Token → Piece → ℕ → Type 0
@@ -494,9 +494,6 @@ the k = record { place = 0; kind = k }
 
 opener : Sample kind_of is_opening
 opener = record { token = the opening; holds = refl }
-
-teller : Sample kind_of is_colon
-teller = record { token = the colon; holds = refl }
 
 unbracer : Sample kind_of is_unbrace
 unbracer = record { token = the unbrace; holds = refl }

@@ -21,10 +21,10 @@ no_more t ts e = cc
 more_left : {T A : Type 0} (r : Reading T A) (v w : A) (h i : ℕ) (t : T) (ts : List T) → r ≡ Read (v, h, []) → r ≡ Read (w, i, t ∷ ts) → ⊥
 more_left r v w h i t ts a b = no_more t ts (ap left_of (sym a ∙ b))
 
-no_fault : {T A : Type 0} (r : Reading T A) (x : A × ℕ × List T) (left : List T) → r ≡ Read x → r ≡ Fault left → ⊥
+pub no_fault : {T A : Type 0} (r : Reading T A) (x : A × ℕ × List T) (left : List T) → r ≡ Read x → r ≡ Fault left → ⊥
 no_fault r x left a b = cc
 
-no_deep : {T A : Type 0} (r : Reading T A) (x : A × ℕ × List T) (left : List T) → r ≡ Read x → r ≡ Deep left → ⊥
+pub no_deep : {T A : Type 0} (r : Reading T A) (x : A × ℕ × List T) (left : List T) → r ≡ Read x → r ≡ Deep left → ⊥
 no_deep r x left a b = cc
 
 head_is : {T : Type 0} (t u : T) (rest g left : List T) → t ∷ rest ≡ (u ∷ g) ++ left → (t ≡ u) × (rest ≡ g ++ left)

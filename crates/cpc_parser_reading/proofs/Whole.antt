@@ -5,12 +5,7 @@ use Rattle.std.proofs.lemmas.Bool.{cases_lt}
 use Rattle.cpc_parser_reading.specs.Reading.{Reading, Read, Fault, Deep, Reader}
 use Rattle.cpc_parser_reading.specs.Exact.{SameHead, Took, Good, Exact}
 use Rattle.cpc_parser_reading.specs.Answers.{whole, Answers}
-
-not_fault : {T A : Type 0} (r : Reading T A) (x : A × ℕ × List T) (left : List T) → r ≡ Read x → r ≡ Fault left → ⊥
-not_fault r x left a b = cc
-
-not_deep : {T A : Type 0} (r : Reading T A) (x : A × ℕ × List T) (left : List T) → r ≡ Read x → r ≡ Deep left → ⊥
-not_deep r x left a b = cc
+use Rattle.cpc_parser_reading.proofs.Two.{no_fault, no_deep}
 
 -- what was read
 abbrev done : {T A : Type 0} → A × ℕ × List T → Reading T A
@@ -33,14 +28,14 @@ module _ {T K A : Type 0} (kind : T → K) (low : ℕ) (F : ℕ → Reader T A) 
   closes : (front left : List T) → ((other : List T) → SameHead kind left other → F d (front ++ other) ≡ Fault other)
       → (other : List T) (v : A) (h : ℕ) → SameHead kind left other → R (front ++ other) v h → ⊥
   closes front left local other v h s r =
-      not_fault (F (d + h) (front ++ other)) (v, h, []) other (reads_all (d + h) (front ++ other) v h (omega arith) r (omega arith)) (fault_stays (d + h) (front ++ other) other (local other s) (omega arith))
+      no_fault (F (d + h) (front ++ other)) (v, h, []) other (reads_all (d + h) (front ++ other) v h (omega arith) r (omega arith)) (fault_stays (d + h) (front ++ other) other (local other s) (omega arith))
 
   shuts : (front left : List T) → ((other : List T) → SameHead kind left other → F d (front ++ other) ≡ Deep other)
       → (other : List T) (v : A) (h : ℕ) → SameHead kind left other → R (front ++ other) v h → d < h
   shuts front left local other v h s r =
       elim (cases_lt d h) [
         | inl lt ↦ lt
-        | inr l ↦ absurd (not_deep (F d (front ++ other)) (v, h, []) other (reads_all d (front ++ other) v h le r l) (local other s))
+        | inr l ↦ absurd (no_deep (F d (front ++ other)) (v, h, []) other (reads_all d (front ++ other) v h le r l) (local other s))
       ]
 
   -- a list of the grammar and more behind it is none

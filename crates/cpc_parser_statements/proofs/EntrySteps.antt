@@ -17,7 +17,7 @@ use Rattle.cpc_parser_statements.specs.StmtReaders.{Entry, Stated, Declares, ent
 use Rattle.cpc_parser_statements.specs.CodeViews.{with_locals, with_entry, entry_at, declaration_at, entries_at, more_entries_at, begins_entry}
 use Rattle.cpc_parser_statements.proofs.StmtStarts.{starts_entries}
 use Rattle.cpc_parser_statements.proofs.StmtExact.{entry_exact, entry_next, statement_exact}
-use Rattle.cpc_parser_statements.proofs.LocalSteps.{Refused, refused_then, bind_refused}
+use Rattle.cpc_parser_statements.proofs.LocalSteps.{Refused, refused_then, bind_refused, read_is}
 
 -- One entry: a declaration,
 declares : (ss : List LStmt) (r : Reading Placed Locals) → ((r >>= λ x. Read (Declares x.0, x.1, x.2)) >>= λ x. Read (with_entry ss x.0, x.1, x.2)) ≡ (r >>= λ x. Read (with_locals ss x.0, x.1, x.2))
@@ -53,9 +53,6 @@ entries_first d ts = ([], refl, refl)
 on_entry : (d : ℕ) (es : List Entry) (h : ℕ) (t : Placed) (rest : List Placed) → 1 ≤ d → h ≤ d → starts_entry t.lexeme ≡ true
     → links (entry_links d) es h (t ∷ rest) ≡ (entry_by (λ us. statement_at d us) d (t ∷ rest) >>= λ z. links (entry_links d) (es ++ z.0 ∷ []) (max h z.1) z.2)
 on_entry d es h t rest lo hi e = many_on (branch starts_entries (entry_exact d (statement_exact d))) entry_next d lo (omega arith) es h t rest hi e
-
-read_is : {A : Type 0} (x y : A × ℕ × List Placed) → Read x ≡ Read y → x ≡ y
-read_is x y e = cc
 
 with_one : (ss ms : List LStmt) (h : ℕ) (rest : List Placed) (r : Reading Placed Entry) → (r >>= λ y. Read (with_entry ss y.0, y.1, y.2)) ≡ Read (ms, h, rest) → (x : Entry) × (r ≡ Read (x, h, rest)) × (ms ≡ ss ++ entry_of x)
 with_one ss ms h rest (Read z) e =

@@ -45,7 +45,7 @@ equal_after base x k e = rw (mark_is P.Equal k e) (equal_declarator base x)
 part_room : (d h : ℕ) → 1 ≤ h → h ≤ d → nat_lt d 2 ≡ false → (h + 0 ≤ d) × (1 + 1 ≤ d)
 part_room d h lo hi e = let a : 2 ≤ d = grind arith in (omega arith, omega arith)
 
-part_free : (d : ℕ) → 2 ≤ d → nat_lt d 2 ≡ false
+pub part_free : (d : ℕ) → 2 ≤ d → nat_lt d 2 ≡ false
 part_free d a = grind arith
 
 part_to : (base : Ty) (v : Local) (k : Lexeme) → Trails (is_mark P.Equal) (DeclaratorEnd base) RightEnd v k → PartEnd base v k
@@ -161,7 +161,7 @@ base_each q (Word K.Unsigned) e = based (word q K.Unsigned) [] (TyInt N.UInt) (G
 base_each q (Word K.Struct) e = based (word q K.Struct) (named (record { place = q; text = [] }) ∷ []) (TyStruct []) (G.struct_base q (record { place = q; text = [] }))
 base_each q k e = absurd cc
 
-starts_words : Starts lexeme (λ k. starts_base k ≡ true) Words
+pub starts_words : Starts lexeme (λ k. starts_base k ≡ true) Words
 starts_words = record { head = words_first; each = λ t e. base_each t.place t.lexeme e }
 
 local_some : (n : ℕ) → Exact lexeme (suc n) 1 (λ d. local_at d) Declared LocalEnd

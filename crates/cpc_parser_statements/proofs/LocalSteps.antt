@@ -28,7 +28,7 @@ use Rattle.cpc_parser_statements.specs.LocalReaders.{Local, local_at, local_of, 
 use Rattle.cpc_parser_statements.specs.CodeViews.{with_local, with_locals, started_at, locals_at, more_locals_at}
 use Rattle.cpc_parser_statements.proofs.Steps.{below_is}
 use Rattle.cpc_parser_statements.proofs.Marks.{marks}
-use Rattle.cpc_parser_statements.proofs.LocalExact.{part_exact, comma_after}
+use Rattle.cpc_parser_statements.proofs.LocalExact.{part_exact, comma_after, part_free}
 
 -- what stands behind a declarator
 abbrev behind_part : ℕ → LVariable → ℕ → Reader Placed Local
@@ -43,11 +43,8 @@ no_equal : (d : ℕ) (x : LVariable) (h : ℕ) (ts : List Placed) → begins P.E
 no_equal d x h [] e = refl
 no_equal d x h (t ∷ rest) e = rw e refl
 
-crowded : (d : ℕ) → d < 2 → nat_lt d 2 ≡ true
+pub crowded : (d : ℕ) → d < 2 → nat_lt d 2 ≡ true
 crowded d le = grind arith
-
-free : (d : ℕ) → 2 ≤ d → nat_lt d 2 ≡ false
-free d le = grind arith
 
 no_room : (d : ℕ) (x : LVariable) (h : ℕ) (ts : List Placed) → begins P.Equal ts ≡ true → d < 2 → behind_part d x h ts ≡ Deep ts
 no_room d x h [] e le = absurd cc
@@ -74,7 +71,7 @@ after_start q ss x h (Deep left) = refl
 
 with_room : (d : ℕ) (x : LVariable) (h : ℕ) (t : Placed) (rest : List Placed) → is_mark P.Equal t.lexeme ≡ true → 2 ≤ d
     → behind_part d x h (t ∷ rest) ≡ (start_at (below d) rest >>= λ y. Read ((x, Some y.0), max h (y.1 + 1), y.2))
-with_room d x h t rest e le = rw (e, free d le) refl
+with_room d x h t rest e le = rw (e, part_free d le) refl
 
 -- a local with one
 pub part_set : (base : Ty) (d : ℕ) (q : Place) (ss : List LStmt) (ts : List Placed) (t : Placed) (rest : List Placed) (x : LVariable) (h : ℕ) → declarator_at base (d - 1) ts ≡ Read (x, h, t ∷ rest) → is_mark P.Equal t.lexeme ≡ true → 2 ≤ d
@@ -93,7 +90,7 @@ abbrev locals_links : Ty → ℕ → Linking Placed (Unit {0}) (List Local) Loca
 locals_links base d = several (λ t. is_mark P.Comma t.lexeme) false (after (λ t. is_mark P.Comma t.lexeme) (part_at base d))
 
 -- The locals of a declaration.
-read_is : {A : Type 0} (x y : A × ℕ × List Placed) → Read x ≡ Read y → x ≡ y
+pub read_is : {A : Type 0} (x y : A × ℕ × List Placed) → Read x ≡ Read y → x ≡ y
 read_is x y e = cc
 
 with_part : (q : Place) (ss ms : List LStmt) (h : ℕ) (rest : List Placed) (r : Reading Placed Local) → (r >>= λ y. Read (with_local ss q y.0, y.1, y.2)) ≡ Read (ms, h, rest) → (x : Local) × (r ≡ Read (x, h, rest)) × (ms ≡ ss ++ local_of q x)
@@ -189,7 +186,7 @@ with_zero q ss t (Read z) = let m : max 0 z.1 ≡ z.1 = omega arith in rw m refl
 with_zero q ss t (Fault left) = refl
 with_zero q ss t (Deep left) = refl
 
-begin_at : (names : Names) (ts : List Token) (t : Token) (rest : List Token) → ts ≡ t ∷ rest → begin (placed names ts) ≡ t.place
+pub begin_at : (names : Names) (ts : List Token) (t : Token) (rest : List Token) → ts ≡ t ∷ rest → begin (placed names ts) ≡ t.place
 begin_at names ts t rest e = rw e refl
 
 pub local_is : (names : Names) (ss : List LStmt) (d : ℕ) (ts : List Token) (t : Token) (more : List Token) (ty : Ty) (rest : List Placed) → ts ≡ t ∷ more → base_reader d (placed names ts) ≡ Read (ty, 0, rest)

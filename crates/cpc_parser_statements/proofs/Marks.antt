@@ -1,19 +1,17 @@
 -- Single tokens: what a test says of one, and a token of each test.
-use Rattle.std.proofs.Common.{◌≡◌, ℕ, true, [], Some, None, refl, sym, ap, subst}
+use Rattle.std.proofs.Common.{◌≡◌, true, Some, refl, sym, ap, subst}
 use Rattle.cpc_base.specs.declared.stop.Place.{Place}
 use Rattle.cpc_tree.specs.declared.token.Keyword.{Keyword}
 use Rattle.cpc_tree.specs.declared.token.Punctuator.{Punctuator}
 use Rattle.cpc_tree.specs.Tokens.{Lexeme, Word, Mark, Named, Placed}
 use Rattle.cpc_tree.specs.Located.{Ident}
 use Rattle.cpc_tree.specs.TypeGrammar.{word, mark, named}
-use Rattle.cpc_parser_reading.specs.Exact.{Any, Exact, Sample}
-use Rattle.cpc_parser_reading.specs.Phrase.{One}
-use Rattle.cpc_parser_reading.specs.Reading.{one}
-use Rattle.cpc_parser_reading.proofs.Readers.{exact_one}
+use Rattle.cpc_parser_reading.specs.Exact.{Sample}
 use Rattle.cpc_parser_types.specs.Views.{lexeme}
 use Rattle.cpc_parser_types.specs.Begins.{is_mark, is_word}
 use Rattle.cpc_parser_types.proofs.SameMarks.{mark_self, word_self, mark_equal, word_equal}
 use Rattle.cpc_parser_types.specs.TypeReaders.{ident_in, ident_of, is_name}
+use Rattle.cpc_parser_types.proofs.Params.{text_is}
 
 -- a place of any token
 abbrev pub here : Place
@@ -33,25 +31,8 @@ named_in : (q : Place) (l : Lexeme) (x : Ident) → ident_in q l ≡ Some x → 
 named_in q (Named y) x e = let i : record { place = q; text = y } ≡ x = cc in ap named i
 named_in q l x e = absurd cc
 
--- a name
-pub as_named : (t : Placed) (x : Ident) → ident_of t ≡ Some x → t ≡ named x
-as_named t x e = named_in t.place t.lexeme x e
-
-name_in : (q : Place) (l : Lexeme) (x : Ident) → ident_in q l ≡ Some x → is_name l ≡ true
-name_in q (Named y) x e = refl
-name_in q l x e = absurd cc
-
 pub is_named : (t : Placed) (x : Ident) → ident_of t ≡ Some x → is_name t.lexeme ≡ true
-is_named t x e = name_in t.place t.lexeme x e
-
-in_alike : (q r : Place) (l : Lexeme) → ident_in q l ≡ None → ident_in r l ≡ None
-in_alike q r (Named y) e = absurd cc
-in_alike q r l e = refl
-
--- a name is read exactly
-pub name_exact : (n : ℕ) → Exact lexeme n 0 (λ d. one ident_of) (One ident_of) Any
-name_exact n = exact_one n ident_of (named (record { place = here; text = [] })) (record { place = here; text = [] }) refl
-    (λ t u e i. subst (λ l. ident_in u.place l ≡ None) e (in_alike t.place u.place t.lexeme i))
+is_named t x e = text_is t.place t.lexeme x e
 
 -- what the tests say
 pub mark_is : (p : Punctuator) (k : Lexeme) → is_mark p k ≡ true → k ≡ Mark p

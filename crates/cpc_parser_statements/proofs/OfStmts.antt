@@ -12,12 +12,13 @@ use Rattle.cpc_parser_reading.specs.Phrase.{One, After, Both, OneOf}
 use Rattle.cpc_parser_reading.specs.Operators.{Tailed, bare, tailed}
 use Rattle.cpc_parser_types.specs.TypeReaders.{ident_of}
 use Rattle.cpc_parser_statements.specs.StmtReaders.{Braced, Blank, IfWord, WhileWord, DoWord, ForWord, GotoWord, BreakWord, ContinueWord, ReturnWord, SpawnWord, Sentence, if_of, while_of, do_of, for_of, spawn_of}
-use Rattle.cpc_parser_statements.proofs.Marks.{as_mark, as_word, as_named, mark_is, word_is}
+use Rattle.cpc_parser_statements.proofs.Marks.{as_mark, as_word, mark_is, word_is}
 use Rattle.cpc_parser_statements.proofs.Ended.{Ended}
 use Rattle.cpc_parser_statements.proofs.Parts.{Tested}
 use Rattle.cpc_parser_statements.proofs.Classes.{class_is}
 use Rattle.cpc_parser_statements.proofs.Stmts.{Closed, Ifs, Dos, Fors, Spawns, Labels, Stmts}
 use Rattle.cpc_parser_types.specs.Begins.{is_mark, is_word}
+use Rattle.cpc_parser_types.proofs.BaseWords.{named_is}
 
 -- a token of the test is the semicolon
 semicolon_token : (t : Placed) → is_mark P.Semicolon t.lexeme ≡ true → t ≡ mark t.place P.Semicolon
@@ -68,20 +69,20 @@ of_for q g v h (t, k, e, p, b) =
 
 of_goto : (q : Place) (g : List Placed) (x : Ident) (h : ℕ) → Ended P.Semicolon (One ident_of) g x h → ReadsStmt (word q K.Goto ∷ g) (Goto q x) (h + 1)
 of_goto q g x h (k, r, e, (t, e1, p, z)) =
-    rw (e, e1, z, as_named t x p) (G.goto q r x)
+    rw (e, e1, z, named_is t x p) (G.goto q r x)
 
 of_spawn : (q : Place) (g : List Placed) (v : Ident × LExprs) (h : ℕ) → Spawns g v h → ReadsStmt (word q K.CpcSpawn ∷ g) (spawn_of q v) (h + 1)
 of_spawn q g v h b =
     let (t, e, p, z) = b.first in
     let (u, k, e1, i, (l, w, e2, (m, s, e3, x))) = b.second in
     let n : h ≡ b.j = omega (arith, b.nest, z) in
-    rw (b.whole, n, e, e1, e2, e3, append_assoc m (mark s P.RightParen ∷ []) (mark w P.Semicolon ∷ []), as_named t v.0 p, as_mark u P.LeftParen (mark_is P.LeftParen u.lexeme i)) (G.spawn m q u.place s w v.0 v.1 b.j x)
+    rw (b.whole, n, e, e1, e2, e3, append_assoc m (mark s P.RightParen ∷ []) (mark w P.Semicolon ∷ []), named_is t v.0 p, as_mark u P.LeftParen (mark_is P.LeftParen u.lexeme i)) (G.spawn m q u.place s w v.0 v.1 b.j x)
 
 of_label : (f : List Placed) (v : LStmt) (h : ℕ) → Labels f v h → ReadsStmt f v h
 of_label f v h (w, i, e, n, b) =
     let (g, r, e1, (t, e2, p, z)) = b.first in
     let m : i ≡ b.j = omega (arith, b.nest, z) in
-    rw (e, n, m, b.whole, e1, e2, as_named t w.0 p) (G.labelled b.right r w.0 w.1 b.j b.second)
+    rw (e, n, m, b.whole, e1, e2, named_is t w.0 p) (G.labelled b.right r w.0 w.1 b.j b.second)
 
 pub of_stmts : (f : List Placed) (v : LStmt) (h : ℕ) → OneOf Stmts f v h → ReadsStmt f v h
 of_stmts f v h (Braced, (t, g, e, p, (ss, i, e1, n, (k, r, e2, x)))) = rw (e, e1, n, e2, as_mark t P.LeftBrace (class_is t.lexeme Braced p)) (G.block k t.place r ss i x)

@@ -21,8 +21,10 @@ use Rattle.cpc_parser_expressions.proofs.ExprExact.{shape_exact, args_exact}
 use Rattle.cpc_parser_expressions.proofs.PostfixWords.{Arguments}
 use Rattle.cpc_parser_statements.proofs.Splits.{whole_kind}
 use Rattle.cpc_parser_expressions.proofs.Sorts.{sort, shape_reads, from_postfix, other_reads, other_no_call}
-use Rattle.cpc_parser_statements.proofs.Marks.{here, as_mark, as_word, as_named, name_exact, mark_is, marks}
+use Rattle.cpc_parser_statements.proofs.Marks.{here, as_mark, as_word, mark_is, marks}
 use Rattle.cpc_parser_types.specs.Begins.{is_mark}
+use Rattle.cpc_parser_types.proofs.Bases.{name_exact}
+use Rattle.cpc_parser_types.proofs.BaseWords.{named_is}
 
 -- a section's function and arguments
 abbrev pub Detached' : List Placed → Ident × LExprs → ℕ → Type 0
@@ -37,7 +39,7 @@ of_detached f v h t w b =
     let (x, e1, p, z) = b.first in
     let (u, g, e2, q, (k, r, e3, args)) = b.second in
     let m : h ≡ b.j = omega (arith, b.nest, z) in
-    rw (b.whole, e1, e2, e3, m, as_word t K.CpcDetached w, as_named x v.0 p, as_mark u P.LeftParen (mark_is P.LeftParen u.lexeme q)) (section k t.place u.place r v.0 v.1 b.j args)
+    rw (b.whole, e1, e2, e3, m, as_word t K.CpcDetached w, named_is x v.0 p, as_mark u P.LeftParen (mark_is P.LeftParen u.lexeme q)) (section k t.place u.place r v.0 v.1 b.j args)
 
 -- a section is its word and such a list
 pub to_detached : (f : List Placed) (q : Place) (x : Ident) (vs : LExprs) (h : ℕ) → ReadsSection f q x vs h

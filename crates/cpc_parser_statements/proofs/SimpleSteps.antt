@@ -7,7 +7,7 @@ use Rattle.cpc_tree.specs.declared.token.Token.{Token}
 use Rattle.cpc_tree.specs.Erase.{Names}
 use Rattle.cpc_tree.specs.Tokens.{Lexeme, Placed, placed_of}
 use Rattle.cpc_tree.specs.Located.{LExpr}
-use Rattle.cpc_tree.specs.StmtGrammar.{begin, stepped}
+use Rattle.cpc_tree.specs.StmtGrammar.{stepped}
 use Rattle.cpc_tree.specs.ExprGrammar.{Unary}
 use Rattle.cpc_parser_reading.specs.Reading.{Reading, Read, Fault, Deep, ◌>>=◌, mapped, made}
 use Rattle.cpc_parser_reading.proofs.Readers.{read_nest}
@@ -22,6 +22,7 @@ use Rattle.cpc_parser_statements.specs.CodeViews.{of_first, is_calling, more_see
 use Rattle.cpc_parser_statements.specs.declared.class.More as GMore
 use Rattle.cpc_parser_statements.specs.declared.class.More.TheVariants as M
 use Rattle.cpc_parser_statements.proofs.Steps.{below_is, choice_none, choice_deep, choice_some, behind_deep, behind_sets, behind_updates, behind_steps, expression_is}
+use Rattle.cpc_parser_statements.proofs.LocalSteps.{begin_at}
 
 -- A refusal where the code stands.
 pub deep_at : {A : Type 0} (names : Names) (ts : List Token) (r : Reading Placed A) → r ≡ Deep (placed names ts) → (left : List Placed) × (length left ≡ length ts) × (r ≡ Deep left)
@@ -83,13 +84,10 @@ pub simple_step : (names : Names) (d : ℕ) (ts : List Token) (t : Token) (rest 
     → plain_at d (placed names ts) ≡ mapped stmt_of (made (before_of t.place op) (shape_at (d - 1) Never Unary)) (placed names rest)
 simple_step names d ts t rest op e c le = rw (choice_some simple_class simple_low d (simple_part d) (placed names ts) (Step op) c le, e, below_is d) refl
 
-begin_is : (names : Names) (ts : List Token) (t : Token) (rest : List Token) → ts ≡ t ∷ rest → begin (placed names ts) ≡ t.place
-begin_is names ts t rest e = rw e refl
-
 pub simple_expression : (names : Names) (d : ℕ) (ts : List Token) (t : Token) (rest : List Token) → ts ≡ t ∷ rest → of_first simple_class (placed names ts) ≡ Some Expression → 2 ≤ d
     → plain_at d (placed names ts) ≡ (shape_at (d - 1) Bare Unary (placed names ts) >>= λ x. behind_at d t.place x.0 x.1 x.2)
 simple_expression names d ts t rest e c le =
-    ap (λ r. r >>= λ x. Read (stmt_of x.0, x.1, x.2)) (choice_some simple_class simple_low d (simple_part d) (placed names ts) Expression c le) ∙ subst (λ z. mapped stmt_of (simple_part d Expression) (placed names ts) ≡ (shape_at (d - 1) Bare Unary (placed names ts) >>= λ x. behind_at d z x.0 x.1 x.2)) (begin_is names ts t rest e) (expression_is d (placed names ts))
+    ap (λ r. r >>= λ x. Read (stmt_of x.0, x.1, x.2)) (choice_some simple_class simple_low d (simple_part d) (placed names ts) Expression c le) ∙ subst (λ z. mapped stmt_of (simple_part d Expression) (placed names ts) ≡ (shape_at (d - 1) Bare Unary (placed names ts) >>= λ x. behind_at d z x.0 x.1 x.2)) (begin_at names ts t rest e) (expression_is d (placed names ts))
 
 pub simple_read : (names : Names) (d : ℕ) (ts : List Token) (t : Token) (rest : List Token) (s : Shape) (h : ℕ) (left : List Placed) → ts ≡ t ∷ rest → of_first simple_class (placed names ts) ≡ Some Expression → 2 ≤ d
     → shape_at (d - 1) Bare Unary (placed names ts) ≡ Read (s, h, left) → plain_at d (placed names ts) ≡ behind_at d t.place s h left

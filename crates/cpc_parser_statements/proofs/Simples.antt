@@ -66,7 +66,7 @@ post_reads f (Calling q v vs) h e r = of_calling f q v vs h r
 post_reads f (Postfixed v) h e r = let m : h + 0 ≡ h = omega arith in rw m (of_kept f v h r)
 post_reads f (Other v) h e r = absurd cc
 
-same_cons : (t u : Placed) (k g : List Placed) → t ∷ k ≡ u ∷ g → (t ≡ u) × (k ≡ g)
+pub same_cons : (t u : Placed) (k g : List Placed) → t ∷ k ≡ u ∷ g → (t ≡ u) × (k ≡ g)
 same_cons t u k g e = (cc, cc)
 
 -- a token of the mark, in the words of another one that it is

@@ -14,13 +14,13 @@ use Rattle.cpc_parser_reading.specs.Reading.{Reader, one, before, after, pair, e
 use Rattle.cpc_parser_reading.specs.Phrase.{One, After, Both, Mapped, Either}
 use Rattle.cpc_parser_reading.specs.Operators.{Tailed, Trails}
 use Rattle.cpc_parser_reading.specs.Exact.{Any, Stops, Opens, Exact, Branch}
-use Rattle.cpc_parser_reading.proofs.Readers.{Apart, Over, after_branch, any_stops, branch, exact_after, exact_as, exact_either, exact_expect, exact_made, exact_many, exact_mapped, exact_nothing, exact_one_of, exact_pair, exact_start, exact_tail, exact_two, headed_branch, last_all, opens_as, starts_mapped}
+use Rattle.cpc_parser_reading.proofs.Readers.{Apart, Over, after_branch, branch, exact_after, exact_as, exact_either, exact_expect, exact_made, exact_many, exact_mapped, exact_nothing, exact_one_of, exact_pair, exact_start, exact_tail, exact_two, headed_branch, last_all, opens_as, starts_mapped}
 use Rattle.cpc_parser_types.specs.Views.{lexeme}
 use Rattle.cpc_parser_types.specs.TypeReaders.{ident_of, is_name, starts_base}
 use Rattle.cpc_parser_expressions.specs.ExprReaders.{args_at}
 use Rattle.cpc_parser_statements.specs.StmtReaders.{test_at, Class, Braced, Blank, IfWord, WhileWord, DoWord, ForWord, GotoWord, BreakWord, ContinueWord, ReturnWord, SpawnWord, Sentence, stmt_class, stmt_low, Entry, Stated, Declares, entries_of, starts_entry, entry_by, block_by, block_of, empty_of, break_of, continue_of, if_of, while_of, do_of, for_of, spawn_of, label_of, sentence_at, label_by, if_by, for_by, stmt_part, stmt_by, statement_at, block_at, StmtEnd}
-use Rattle.cpc_parser_expressions.proofs.ExprExact.{args_exact}
-use Rattle.cpc_parser_statements.proofs.Marks.{here, name_exact, is_named, marks, words}
+use Rattle.cpc_parser_expressions.proofs.ExprExact.{args_exact, any_joins}
+use Rattle.cpc_parser_statements.proofs.Marks.{here, is_named, marks, words}
 use Rattle.cpc_parser_statements.proofs.Ended.{Ended, exact_ended}
 use Rattle.cpc_parser_statements.proofs.SimpleExact.{simply_solid, to_simply}
 use Rattle.cpc_parser_statements.proofs.LocalExact.{local_exact, starts_local}
@@ -32,6 +32,7 @@ use Rattle.cpc_parser_statements.proofs.OfStmts.{of_stmts}
 use Rattle.cpc_parser_statements.proofs.ToStmts.{to_stmts}
 use Rattle.cpc_parser_statements.proofs.StmtStarts.{starts_ended, stmt_head, stmt_least, stmt_opens, starts_entries}
 use Rattle.cpc_parser_types.specs.Begins.{is_mark, is_word}
+use Rattle.cpc_parser_types.proofs.Bases.{name_exact}
 
 -- what may stand behind what stands in a block
 abbrev pub EntryEnd : Entry → Lexeme → Type 0
@@ -125,10 +126,6 @@ lowest ContinueWord = omega arith
 lowest ReturnWord = omega arith
 lowest SpawnWord = omega arith
 lowest Sentence = omega arith
-
--- what can be read where anything may stand behind what stands before
-any_joins : {A B : Type 0} (S : List Placed → B → ℕ → Type 0) (P : B → Lexeme → Type 0) (u : A) (g : List Placed) (v : B) (h : ℕ) (rest : List Placed) → S g v h → Stops lexeme (P v) rest → Stops lexeme (Any u) (g ++ rest)
-any_joins S P u g v h rest r s = any_stops lexeme u (g ++ rest)
 
 while_no_else : (k : Lexeme) → is_word K.While k ≡ true → is_word K.Else k ≡ false
 while_no_else (Word K.While) e = refl

@@ -20,6 +20,7 @@ use Rattle.cpc_parser_statements.specs.LocalReaders.{Locals, local_at}
 use Rattle.cpc_parser_statements.specs.StmtReaders.{Class, Braced, Blank, IfWord, WhileWord, DoWord, ForWord, GotoWord, BreakWord, ContinueWord, ReturnWord, SpawnWord, Sentence, stmt_class, stmt_low, stmt_part, stmt_by, Stating, Declaring, opening_of, last_of, sentence_at, statement_at}
 use Rattle.cpc_parser_statements.specs.CodeViews.{of_first, plain_at, with_locals, opening_at, step_at, class_in, label_at, labelled_at, begins_label, is_sentence}
 use Rattle.cpc_parser_statements.proofs.Steps.{below_is, choice_none, choice_deep, choice_some}
+use Rattle.cpc_parser_statements.proofs.LocalSteps.{crowded}
 
 -- A fault where the code stands.
 pub fault_at : {A : Type 0} (names : Names) (ts : List Token) (r : Reading Placed A) → r ≡ Fault (placed names ts) → (left : List Placed) × (length left ≡ length ts) × (r ≡ Fault left)
@@ -125,10 +126,6 @@ pub statement_in : (names : Names) (d : ℕ) (ts : List Token) (t : Token) (rest
 statement_in names d ts t rest c i le e lo s =
     statement_some d (placed names ts) c le e lo
     ∙ (ap (λ u. stmt_part (λ us. statement_at (d - 1) us) d c (placed names u)) i ∙ part_in d c (placed_of names t) (placed names rest) s)
-
--- A name where there is no room for what it begins,
-crowded : (d : ℕ) → d < 2 → nat_lt d 2 ≡ true
-crowded d le = grind arith
 
 pub labelled_deep : (d : ℕ) (ts : List Placed) → begins_name ts ≡ true → d < 2 → labelled_at d ts ≡ Deep ts
 labelled_deep d [] e le = absurd cc

@@ -13,6 +13,7 @@ use Rattle.cpc_parser_reading.specs.Phrase.{Nothing, One, After, Mapped, Headed,
 use Rattle.cpc_parser_reading.specs.Chain.{Chained, Joint}
 use Rattle.cpc_parser_reading.specs.Exact.{Any, Stops, Exact, Branch, Sample}
 use Rattle.cpc_parser_reading.proofs.Readers.{after_branch, exact_chain, exact_either, exact_mapped, exact_nothing, exact_one, headed_branch}
+use Rattle.cpc_parser_reading.proofs.Levels.{Always}
 use Rattle.cpc_parser_types.specs.Views.{lexeme}
 use Rattle.cpc_parser_types.specs.TypeReaders.{Ending, Done, LongWord, SignedWord, UnsignedWord, first_word, next_word, is_struct, ident_in, ident_of, tagged, worded, starred, base_at, star_class, typed_at}
 
@@ -37,10 +38,6 @@ Steps P c = Headed lexeme (P c) (λ t. Nothing)
 -- a word that goes on
 abbrev pub Goes : Kind × Ending → Lexeme → Type 0
 Goes c k = (v : Ty × Ending) × (next_word v.1 k ≡ Some c)
-
--- no condition
-abbrev pub Always : {A C : Type 0} → A → C → Type 0
-Always v c = Unit {0}
 
 -- the words of a base type
 abbrev pub Words : List Placed → Ty × Ending → ℕ → Type 0

@@ -15,15 +15,17 @@ use Rattle.cpc_parser_reading.specs.Chain.{Chained, first, further, Joint}
 use Rattle.cpc_parser_reading.specs.Exact.{Any, Absent, Stops, Exact, Branch, Sample, Opens}
 use Rattle.cpc_parser_reading.proofs.Readers.{exact_after, exact_as, exact_before, exact_bind, exact_chain, exact_mapped, exact_nothing, exact_one, exact_one_of, exact_optional, exact_pair, exact_stop, headed_branch, starts_after}
 use Rattle.cpc_parser_reading.proofs.Tokens.{any_stops}
+use Rattle.cpc_parser_reading.proofs.Levels.{Always}
 use Rattle.cpc_parser_types.specs.Views.{lexeme}
 use Rattle.cpc_parser_types.specs.TypeReaders.{ident_of, ident_at, is_star, is_left, is_right, is_unbracket, star_class}
 use Rattle.cpc_parser_types.specs.Declarators.{pointed, just, stars_at, is_bracket, length_in, brackets_at, code_at, Declared, Plain, Pointer, plain_of, pointer_of, Shape, PlainShape, PointerShape, shape_class, shape_least, shape_at, declared_at, variable_of, declarator_at, DeclaratorEnd, StarsEnd, DeclaredEnd}
-use Rattle.cpc_parser_types.proofs.Bases.{token, nobody, name_exact, Steps, Always, Stars, step_branch}
+use Rattle.cpc_parser_types.proofs.Bases.{token, nobody, name_exact, Steps, Stars, step_branch}
 use Rattle.cpc_parser_types.proofs.BaseWords.{at, named_is, star_is}
 use Rattle.cpc_parser_types.proofs.Params.{Listed, stars, unbrackets, closed_exact}
 use Rattle.cpc_parser_types.proofs.ParamWords.{right_is, left_is, star_mark, unbracket_is}
 use Rattle.cpc_parser_types.proofs.Lists.{lists_exact}
 use Rattle.cpc_parser_types.proofs.Restricted.{exact_seen}
+use Rattle.cpc_parser_types.proofs.BehindSteps.{bracket_class}
 
 -- stars behind a type, in the readers' words
 abbrev Pointers : Ty → List Placed → Ty → ℕ → Type 0
@@ -167,19 +169,15 @@ end_of base f (t, Plain x None) h b k q = q b.left b.i b.first
 end_of base f (t, Plain x (Some n)) h b k q = tt
 end_of base f (t, Pointer x ps) h b k q = tt
 
-length_is : (q : Place) (k : Lexeme) (n : ℕ) → length_in k ≡ Some n → (kind : Kind) × (n < 2 ^ 64) × (at q k ≡ number q kind (pos n))
+pub length_is : (q : Place) (k : Lexeme) (n : ℕ) → length_in k ≡ Some n → (kind : Kind) × (n < 2 ^ 64) × (at q k ≡ number q kind (pos n))
 length_is q (Number kind (pos m)) n e = let i = some_of_if (nat_lt m (2 ^ 64)) m n e in (kind, let l : m < 2 ^ 64 = grind (arith, i.0) in subst (λ z. z < 2 ^ 64) i.1 l, ap (λ z. number q kind (pos z)) i.1)
 length_is q k n e = absurd cc
 
-length_some : (kind : Kind) (n : ℕ) → n < 2 ^ 64 → length_in (Number kind (pos n)) ≡ Some n
+pub length_some : (kind : Kind) (n : ℕ) → n < 2 ^ 64 → length_in (Number kind (pos n)) ≡ Some n
 length_some kind n e = grind arith
 
-bracket_in : (k : Lexeme) → is_bracket k ≡ true → k ≡ Mark P.LeftBracket
-bracket_in (Mark P.LeftBracket) e = refl
-bracket_in k e = absurd cc
-
 bracket_is : (t : Placed) → is_bracket t.lexeme ≡ true → t ≡ mark t.place P.LeftBracket
-bracket_is t e = ap (λ k. at t.place k) (bracket_in t.lexeme e)
+bracket_is t e = ap (λ k. at t.place k) (bracket_class t.lexeme e)
 
 plain_in : (q : Place) (k : Lexeme) → shape_class k ≡ Some PlainShape → at q k ≡ named (ident_at (at q k))
 plain_in q (Named x) e = refl

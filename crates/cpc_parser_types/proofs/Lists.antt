@@ -3,7 +3,7 @@ use Rattle.std.proofs.Common.{◌≡◌, ℕ, zero, suc, ◌+◌, ◌≤◌, tru
 use Rattle.std.proofs.lemmas.List.{append-nil}
 use Rattle.cpc_tree.specs.declared.token.Punctuator.TheVariants as P
 use Rattle.cpc_base.specs.declared.stop.Place.{Place}
-use Rattle.cpc_tree.specs.Tokens.{Lexeme, Mark, Placed}
+use Rattle.cpc_tree.specs.Tokens.{Mark, Placed}
 use Rattle.cpc_tree.specs.Located.{Ident, LParameter}
 use Rattle.cpc_tree.specs.Syntax.{Ty, TyPointer, TyCode}
 use Rattle.cpc_tree.specs.TypeGrammar.{mark, named, number, ident_row, types, without_void, ReadsParam, plain_param, array_param, sized_param, code_param, ReadsParamRow, last_param, more_params, ReadsParams, no_params, some_params}
@@ -17,7 +17,7 @@ use Rattle.cpc_parser_types.specs.Views.{lexeme}
 use Rattle.cpc_parser_types.specs.TypeReaders.{Ending, ident_of, Piece, Open, Known, Closed, Name, Brackets, Code, name_part, bracket_part, code_part, is_number, is_right, is_comma, param_of, params_of, params_at, itself, lists, list_at}
 use Rattle.cpc_parser_types.proofs.Bases.{token, Typed}
 use Rattle.cpc_parser_types.proofs.BaseWords.{at, to_typed}
-use Rattle.cpc_parser_types.proofs.Params.{Listed, Param, Params, params_exact}
+use Rattle.cpc_parser_types.proofs.Params.{Listed, Param, Params, params_exact, comma_mark}
 use Rattle.cpc_parser_types.proofs.ParamWords.{right_is, Shaped, Named_type, without, with_name, named_type, with_part}
 
 of_shape : (f : List Placed) (p : Piece) (h : ℕ) → Param f p h → Shaped f p h
@@ -34,12 +34,8 @@ shaped_param f (Open v) h r = plain_of f (Open v) h (named_type f (Open v) h (wi
 shaped_param f (Known t x) h r = plain_of f (Known t x) h (named_type f (Known t x) h (with_name t x) r)
 shaped_param f (Closed t o) h r = r
 
-comma_in : (k : Lexeme) → is_comma k ≡ true → k ≡ Mark P.Comma
-comma_in (Mark P.Comma) e = refl
-comma_in k e = absurd cc
-
-comma_is : (t : Placed) → is_comma t.lexeme ≡ true → t ≡ mark t.place P.Comma
-comma_is t e = ap (λ k. at t.place k) (comma_in t.lexeme e)
+pub comma_is : (t : Placed) → is_comma t.lexeme ≡ true → t ≡ mark t.place P.Comma
+comma_is t e = ap (λ k. at t.place k) (comma_mark t.lexeme e)
 
 of_row : (f : List Placed) (ps : List Piece) (h : ℕ) → Separated (λ t. is_comma t.lexeme) Param f ps h → ReadsParamRow f (map param_of ps) h
 of_row f ps h (alone _ v _ r) = last_param f (param_of v) h (shaped_param f v h (of_shape f v h r))

@@ -14,7 +14,7 @@ use Rattle.cpc_parser_reading.specs.Phrase.{Expect, One, Optional}
 use Rattle.cpc_parser_types.specs.TypeReaders.{Ending, ident_of, Piece, Open, Known, Closed, Going, Name, Brackets, Code, piece_class, Part, piece_type, piece_name, pieced, is_star, is_left, is_right, is_unbracket, is_number, ident_at}
 use Rattle.cpc_parser_types.proofs.Bases.{Typed}
 use Rattle.cpc_parser_types.proofs.BaseWords.{at, named_is, of_typed}
-use Rattle.cpc_parser_types.proofs.Params.{Listed, Parts}
+use Rattle.cpc_parser_types.proofs.Params.{Listed, Parts, right_mark}
 
 -- what has been read of a parameter, in the words of the grammar
 abbrev pub Shaped : List Placed → Piece → ℕ → Type 0
@@ -23,15 +23,11 @@ Shaped f (Known t x) h = (g : List Placed) × (e : Ending) × (f ≡ g ++ named 
 Shaped f (Closed t o) h = ReadsParam f (record { called = o; type = t }) h
 
 -- single marks
-unbracket_lexeme : (k : Lexeme) → is_unbracket k ≡ true → k ≡ Mark P.RightBracket
+pub unbracket_lexeme : (k : Lexeme) → is_unbracket k ≡ true → k ≡ Mark P.RightBracket
 unbracket_lexeme (Mark P.RightBracket) e = refl
 unbracket_lexeme k e = by_false_true e
 
-pub right_lexeme : (k : Lexeme) → is_right k ≡ true → k ≡ Mark P.RightParen
-right_lexeme (Mark P.RightParen) e = refl
-right_lexeme k e = by_false_true e
-
-left_lexeme : (k : Lexeme) → is_left k ≡ true → k ≡ Mark P.LeftParen
+pub left_lexeme : (k : Lexeme) → is_left k ≡ true → k ≡ Mark P.LeftParen
 left_lexeme (Mark P.LeftParen) e = refl
 left_lexeme k e = by_false_true e
 
@@ -43,7 +39,7 @@ pub unbracket_is : (t : Placed) → is_unbracket t.lexeme ≡ true → t ≡ mar
 unbracket_is t e = ap (λ k. at t.place k) (unbracket_lexeme t.lexeme e)
 
 pub right_is : (t : Placed) → is_right t.lexeme ≡ true → t ≡ mark t.place P.RightParen
-right_is t e = ap (λ k. at t.place k) (right_lexeme t.lexeme e)
+right_is t e = ap (λ k. at t.place k) (right_mark t.lexeme e)
 
 pub left_is : (t : Placed) → is_left t.lexeme ≡ true → t ≡ mark t.place P.LeftParen
 left_is t e = ap (λ k. at t.place k) (left_lexeme t.lexeme e)
@@ -133,7 +129,7 @@ coded f v (Some x) n ps l q r s u h i j a (y, e1, d, z) (w, m, e, k, (g, t, e2, 
     (code_param b.0 b.1 g b.2 v.0 (Some x) q r s u t.place w 0 h m b.4 b.5 i'))
 
 -- a list of a first token and the others
-tail_is : (t u : Placed) (k g : List Placed) → t ∷ k ≡ u ∷ g → k ≡ g
+pub tail_is : (t u : Placed) (k g : List Placed) → t ∷ k ≡ u ∷ g → k ≡ g
 tail_is t u k g e = cc
 
 optional_least : (g : List Placed) (o : Option (Unit {0})) (j : ℕ) → Optional (Expect (λ t. is_number t.lexeme)) g o j → j ≡ 0

@@ -46,7 +46,7 @@ starts_expect = record {
   each = λ t e. (0, record { rest = []; value = tt; nest = 0; reads = (t, refl, e, refl); fits = omega arith });
 }
 
-text_is : (q : Place) (t : Lexeme) (x : Ident) → ident_in q t ≡ Some x → is_name t ≡ true
+pub text_is : (q : Place) (t : Lexeme) (x : Ident) → ident_in q t ≡ Some x → is_name t ≡ true
 text_is q (Named y) x e = refl
 text_is q t x e = absurd (none_not_some x e)
 
@@ -108,7 +108,7 @@ piece_joint n = record {
   free = λ d c h a b. free_room d (h + 0) (going_least c + 0) a b;
 }
 
-right_words : (v : Ty × Ending) → next_word v.1 (Mark P.RightParen) ≡ None
+pub right_words : (v : Ty × Ending) → next_word v.1 (Mark P.RightParen) ≡ None
 right_words (t, Done) = refl
 right_words (t, LongWord i) = refl
 right_words (t, SignedWord) = refl
@@ -134,7 +134,7 @@ comma_piece (Open v) = (((tt, comma_words v), refl), refl)
 comma_piece (Known t x) = (tt, refl)
 comma_piece (Closed t o) = (tt, refl)
 
-right_mark : (k : Lexeme) → is_right k ≡ true → k ≡ Mark P.RightParen
+pub right_mark : (k : Lexeme) → is_right k ≡ true → k ≡ Mark P.RightParen
 right_mark (Mark P.RightParen) e = refl
 right_mark k e = by_false_true e
 

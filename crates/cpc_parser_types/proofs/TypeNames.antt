@@ -14,8 +14,8 @@ use Rattle.cpc_parser_types.specs.Views.{lexeme}
 use Rattle.cpc_parser_types.specs.TypeReaders.{starts_base, Ending, Done, LongWord, SignedWord, UnsignedWord, next_word, Piece, Open, Known, Closed, piece_type, is_star, is_left, is_right, lists, type_class, type_coded, type_part, type_name_at, enclosed_type_at}
 use Rattle.cpc_parser_types.proofs.Bases.{Typed, typed_exact}
 use Rattle.cpc_parser_types.proofs.BaseWords.{at, of_typed, to_typed}
-use Rattle.cpc_parser_types.proofs.Params.{starts_typed, PieceEnd, Listed, rights, lefts, stars}
-use Rattle.cpc_parser_types.proofs.ParamWords.{right_lexeme, right_is, left_is, star_mark}
+use Rattle.cpc_parser_types.proofs.Params.{starts_typed, PieceEnd, Listed, rights, lefts, stars, right_words, right_mark}
+use Rattle.cpc_parser_types.proofs.ParamWords.{right_is, left_is, star_mark}
 use Rattle.cpc_parser_types.proofs.Lists.{lists_exact}
 
 -- a first token of what goes on
@@ -35,12 +35,6 @@ paren_words (t, Done) = refl
 paren_words (t, LongWord i) = refl
 paren_words (t, SignedWord) = refl
 paren_words (t, UnsignedWord) = refl
-
-right_words : (v : Ty × Ending) → next_word v.1 (Mark P.RightParen) ≡ None
-right_words (t, Done) = refl
-right_words (t, LongWord i) = refl
-right_words (t, SignedWord) = refl
-right_words (t, UnsignedWord) = refl
 
 class_in : (p : Piece) (k : Lexeme) (c : Unit {0}) → type_class p k ≡ Some c → (v : Ty × Ending) × (p ≡ Open v) × (k ≡ Mark P.LeftParen)
 class_in (Open v) (Mark P.LeftParen) c e = (v, refl, refl)
@@ -73,7 +67,7 @@ right_piece (Known t x) = (tt, refl)
 right_piece (Closed t o) = (tt, refl)
 
 right_ends : (p : Piece) (k : Lexeme) → is_right k ≡ true → PieceEnd p k × (type_class p k ≡ None)
-right_ends p k e = rw (right_lexeme k e) (right_piece p)
+right_ends p k e = rw (right_mark k e) (right_piece p)
 
 -- what has been read, in the words of the grammar
 abbrev Shaped : List Placed → Piece → ℕ → Type 0

@@ -1,21 +1,19 @@
 -- A pass that is split off, a pass that is joined, and what the loop learns.
-use Rattle.std.proofs.Common.{◌≡◌, ◌≢◌, ℕ, ◌+◌, ◌<◌, Bool, true, false, cond, eqb, List, [], ◌∷◌, ◌++◌, length, set, sym, refl, ap, ◌∙◌, subst, ⊎_elim, eq-eqb, ne_eqb, arith}
+use Rattle.std.proofs.Common.{◌≡◌, ◌≢◌, ℕ, ◌+◌, ◌<◌, Bool, true, cond, eqb, List, [], ◌∷◌, ◌++◌, length, set, sym, refl, ap, ◌∙◌, subst, ⊎_elim, eq-eqb, ne_eqb, arith}
 use Rattle.std.specs.List.{AllByRecursion}
-use mathlib.Core.Option.{Option, some, none, some-injective, some-ne-none}
+use mathlib.Core.Option.{some, none, some-injective, some-ne-none}
 use lib.ListN.{get_elem?}
 use Rattle.crossbeam_queue.specs.Fifo.{Forks, Merges, Learns}
 use Rattle.crossbeam_queue.proofs.Lists.{at_set}
+use Rattle.cpc_pool_jobs.proofs.Passes.{stays_gone}
+use Rattle.cpc_pool_jobs.proofs.Steps.{never}
 use Rattle.cpc_pool_ends.specs.declared.done.Done.{Done}
 use Rattle.cpc_pool_ends.specs.declared.views.DoneKept.{DoneKept}
 use Rattle.cpc_pool_ends.specs.declared.views.DoneView.{DoneView}
 use Rattle.cpc_pool_ends.specs.Views.{spent, kept_of, hiring, hired, keeping, by, Settled}
 use Rattle.cpc_pool_ends.specs.Rule.{State, Contains, IsKept, Fits, Ruled}
 use Rattle.cpc_pool_ends.proofs.Lists.{differ_kept, each_of, each_weaker, by_none, at_end, All, all_set}
-use Rattle.cpc_pool_ends.proofs.Steps.{never, fits_spent}
-
-stays_gone : (b : Bool) (o : Option ℕ) → o ≡ none → cond b none o ≡ none
-stays_gone true o e = refl
-stays_gone false o e = e
+use Rattle.cpc_pool_ends.proofs.Steps.{fits_spent}
 
 module _ {J E : Type 0} where
   -- one worker more, with the pass q

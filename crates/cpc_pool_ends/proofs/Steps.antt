@@ -1,18 +1,16 @@
 -- The first pass, a push and a pop keep the rule.
-use Rattle.std.proofs.Common.{◌≡◌, ◌≢◌, ℕ, zero, suc, ◌<◌, true, false, true≢false, List, [], ◌∷◌, ◌++◌, sym, refl, ap, ◌∙◌, subst, append_assoc}
+use Rattle.std.proofs.Common.{◌≡◌, ◌≢◌, ℕ, zero, suc, ◌<◌, true, List, [], ◌∷◌, ◌++◌, sym, refl, ap, ◌∙◌, subst, append_assoc}
 use Rattle.std.specs.List.{AllByRecursion}
 use mathlib.Core.Option.{some, none, some-injective, some-ne-none}
 use lib.ListN.{get_elem?}
 use Rattle.crossbeam_queue.specs.Fifo.{Pushes, Pops}
+use Rattle.cpc_pool_jobs.proofs.Steps.{never}
 use Rattle.cpc_pool_ends.specs.declared.done.Done.{Done}
 use Rattle.cpc_pool_ends.specs.declared.views.DoneKept.{DoneKept}
 use Rattle.cpc_pool_ends.specs.declared.views.DoneView.{DoneView}
 use Rattle.cpc_pool_ends.specs.Views.{loops, worker, spent, after_push, Arrives}
 use Rattle.cpc_pool_ends.specs.Rule.{State, Contains, IsKept, Fits, Ruled}
 use Rattle.cpc_pool_ends.proofs.Lists.{each_of, each_at, each_weaker, by_mine, by_other, all_set}
-
-pub never : {X : Type 0} → false ≡ true → X
-never e = absurd (true≢false (sym e))
 
 module _ {J E : Type 0} where
   pub fits_spent : (s : State J E) (q : ℕ) → Fits s q spent

@@ -67,7 +67,7 @@ module _ {J : Type 0} (number : J → ℕ) (meets : J → Type 0) where
 abbrev without : State → ℕ → State
 without s w = record { chief = s.chief; sent = s.sent; log = s.log; stops = s.stops; workers = s.workers; seat = λ k. cond (eqb k w) none (s.seat k) }
 
-stays_gone : (b : Bool) (o : Option ℕ) → o ≡ none → cond b none o ≡ none
+pub stays_gone : (b : Bool) (o : Option ℕ) → o ≡ none → cond b none o ≡ none
 stays_gone true o e = refl
 stays_gone false o e = e
 

@@ -18,6 +18,7 @@ use Rattle.cpc_tree.specs.ItemPrint.{Printable, program_row, program_depth, lexe
 use Rattle.cpc_tree.specs.declared.program.Program as GProgram
 use Rattle.cpc_tree.proofs.Known.{AreBytes, row_spellable}
 use Rattle.cpc_tree.proofs.Places.{bare_program}
+use Rattle.cpc_tree.proofs.Behind.{behind_none}
 use Rattle.cpc_printer_laws.proofs.LeastPrograms.{prints_least}
 use Rattle.cpc_printer_laws.proofs.FitPrograms.{read_spellable}
 use Rattle.cpc_printer_laws.proofs.ProgramsRead.{prints_back}
@@ -28,12 +29,8 @@ unfolding place_behind
 behind_both [] w p = refl
 behind_both (b ∷ v) w p = behind_both v w _
 
-behind_none : (p : Place) → place_behind p [] ≡ p
-unfolding place_behind
-behind_none p = refl
-
 -- a row of the whole text ends behind its last byte
-row_end : {dialect : Dialect} {p q : Place} {t : Text} {list : List Placed} {rest : Text} → Row dialect p t list q rest → rest ≡ [] → q ≡ place_behind p t
+pub row_end : {dialect : Dialect} {p q : Place} {t : Text} {list : List Placed} {rest : Text} → Row dialect p t list q rest → rest ≡ [] → q ≡ place_behind p t
 row_end (nothing p t) e = rw e (sym (behind_none p))
 row_end (a_space v p q u rest list l row) e = row_end row e ∙ sym (behind_both v u p)
 row_end (a_token v x p q u rest list l row) e = row_end row e ∙ sym (behind_both v u p)
@@ -43,7 +40,7 @@ least_limit : (dialect : Dialect) → 256 ≤ nesting_limit dialect
 least_limit D.Cpc = omega arith
 least_limit D.Event = omega arith
 
-not_above : (n : ℕ) → nat_lt 256 n ≡ false → n ≤ 256
+pub not_above : (n : ℕ) → nat_lt 256 n ≡ false → n ≤ 256
 not_above n e = grind arith
 
 -- the style keeps the nesting within the limit

@@ -12,11 +12,12 @@ use Rattle.cpc_tree.specs.ExprGrammar.{Rank, Postfix, Unary, Tier, Whole}
 use Rattle.cpc_tree.specs.Erase.{Names, type_of, expr_of, exprs_of}
 use Rattle.cpc_tree.specs.TypePrint.{star_count, param_depth, types_depth, declarator_depth}
 use Rattle.cpc_tree.specs.ExprPrint.{is_loose, deeper_if, expr_depth, args_depth}
+use Rattle.cpc_tree.proofs.Nodes.{call_is}
 use Rattle.cpc_printer.specs.Types.{listed_types}
 use Rattle.cpc_printer.specs.Expressions.{rank_at}
 use Rattle.cpc_printer.specs.Depths.{declarator_nest, param_nest, inner_depth, postfix_depth}
 use Rattle.cpc_printer.proofs.TypeRows.{code_is}
-use Rattle.cpc_printer.proofs.ExprRows.{call_is, primary_tight}
+use Rattle.cpc_printer.proofs.ExprRows.{primary_tight}
 
 types_nil : types_depth false NoTy ≡ 0
 unfolding types_depth

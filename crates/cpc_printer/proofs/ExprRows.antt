@@ -9,27 +9,17 @@ use Rattle.cpc_num.specs.declared.kinds.Op.{Op}
 use Rattle.cpc_num.specs.declared.kinds.Op.TheVariants as O
 use Rattle.cpc_tree.specs.declared.program.UnaryOp.{UnaryOp}
 use Rattle.cpc_tree.specs.declared.program.Expr as GExpr
-use Rattle.cpc_tree.specs.declared.program.Expr.{Row_of-Expr, end_of-Expr, more_of-Expr}
 use Rattle.cpc_tree.specs.declared.program.Expr.TheVariants as E
-use Rattle.cpc_tree.specs.declared.program.Expr.TheViews.{the_lemmas}
-use Rattle.cpc_tree.specs.declared.program.Expr.TheBlock.{items-the_row-Expr}
 use Rattle.cpc_tree.specs.declared.token.Keyword.TheVariants as K
 use Rattle.cpc_tree.specs.declared.token.Punctuator.TheVariants as P
 use Rattle.cpc_tree.specs.Tokens.{Word, Mark, Named, Number, Character, Quoted}
 use Rattle.cpc_tree.specs.Syntax.{Ty, Expr, ENamed, EInteger, ECharacter, EText, EUnary, EBinary, EAnd, EOr, EChoose, ECast, ESizeOf, EIndex, EMember, EArrow, ECall, Exprs, NoExpr, AndExpr}
 use Rattle.cpc_tree.specs.ExprGrammar.{Rank, Primary, Postfix, Unary, Tier, Whole, top_tier}
-use Rattle.cpc_tree.specs.Erase.{Names, expr_of, row_of, exprs_of}
+use Rattle.cpc_tree.specs.Erase.{Names, expr_of, exprs_of}
 use Rattle.cpc_tree.specs.TypePrint.{type_row}
 use Rattle.cpc_tree.specs.ExprPrint.{tier_below, mark_of, unary_mark, round, is_loose, expr_row, args_row}
+use Rattle.cpc_tree.proofs.Nodes.{call_is}
 use Rattle.cpc_printer.specs.Expressions.{rank_at, postfix_row, further_args}
-
--- a Vec of expressions is the list of its expressions
-row_listed : (names : Names) (n : _) (k : Row_of-Expr n) → row_of names k ≡ exprs_of names (items-the_row-Expr n k)
-row_listed names n end_of-Expr = refl
-row_listed names n (more_of-Expr e rest) = ap (AndExpr (expr_of names e)) (row_listed names _ rest)
-
-pub call_is : (names : Names) (place : Place) (f : Box GExpr.Expr Global) (es : Vec GExpr.Expr Global) → expr_of names (E.CallIn place f es) ≡ ECall (expr_of names f.value) (exprs_of names es.items)
-call_is names place f es = search (rules, the_lemmas, row_listed)
 
 -- nothing binds less closely than a whole expression
 loose_binary : (op : Op) → is_loose Whole (Tier (suc (tier_below op))) ≡ false

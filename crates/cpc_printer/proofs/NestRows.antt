@@ -20,9 +20,9 @@ use Rattle.cpc_tree.specs.ExprPrint.{expr_depth, args_depth}
 use Rattle.cpc_tree.specs.StmtPrint.{stmt_depth, block_depth, simple_depth, first_depth, step_depth, maybe_depth}
 use Rattle.cpc_tree.specs.ItemPrint.{fields_depth, head_depth, body_depth, item_depth, program_depth}
 use Rattle.cpc_tree.proofs.Clauses.{block_is, for_is}
+use Rattle.cpc_tree.proofs.Nodes.{if_is}
 use Rattle.cpc_printer.specs.Depths.{capped, declarator_nest, param_nest}
 use Rattle.cpc_printer.specs.Nesting.{place_depth, else_depth, stmt_nest}
-use Rattle.cpc_printer.proofs.StmtRows.{if_is}
 use Rattle.cpc_printer.proofs.DepthRows.{declarator_is, param_is}
 
 pub call_nest : (o : Option Expr) (v : Expr) (vs : Exprs) → simple_depth false (Call o v vs) ≡ max (place_depth o) (max (expr_depth false Postfix v) (args_depth false vs)) + 1
@@ -122,15 +122,12 @@ first_two : (s : Stmt) (ss : Stmts) → first_depth false (AndStmt s ss) ≡ max
 unfolding first_depth
 first_two s ss = refl
 
-first_cons : (s : Stmt) (ss : Stmts) → first_depth false (AndStmt s ss) ≡ max (simple_depth false s) (first_depth false ss)
-first_cons s ss = first_two s ss
-
 pub first_end : (names : Names) (xs : List Statement) (i : ℕ) → length xs ≤ i → first_depth false (list_of names (drop i xs)) ≡ 0
 first_end names xs i h = ap (λ ys. first_depth false (list_of names ys)) (drop_all i xs h) ∙ first_nil
 
 pub first_more : (names : Names) (xs : List Statement) (i : ℕ) (x : Statement) → i < length xs → x ≡ get_or xs i x
     → first_depth false (list_of names (drop i xs)) ≡ max (simple_depth false (stmt_of names x)) (first_depth false (list_of names (drop (i + 1) xs)))
-first_more names xs i x h e = ap (λ ys. first_depth false (list_of names ys)) (drop_to_item xs i x h e) ∙ first_cons (stmt_of names x) (list_of names (drop (i + 1) xs))
+first_more names xs i x h e = ap (λ ys. first_depth false (list_of names ys)) (drop_to_item xs i x h e) ∙ first_two (stmt_of names x) (list_of names (drop (i + 1) xs))
 
 params_nil : params_depth false [] ≡ 0
 unfolding params_depth

@@ -1,5 +1,5 @@
 -- What the definitions of rows give at each statement.
-use Rattle.std.proofs.Common.{◌≡◌, ℕ, ◌+◌, ◌<◌, ◌≤◌, Bool, List, [], ◌∷◌, ◌++◌, length, get_or, drop, refl, ap, sym, ◌∙◌, Vec, Box, Global, Option, Some, None, option_map, rules, append_assoc, arith}
+use Rattle.std.proofs.Common.{◌≡◌, ℕ, ◌+◌, ◌<◌, ◌≤◌, Bool, List, [], ◌∷◌, ◌++◌, length, get_or, drop, refl, ap, sym, ◌∙◌, Vec, Box, Global, Option, Some, None, option_map, append_assoc, arith}
 use Rattle.std.proofs.lemmas.List.{drop_all}
 use Rattle.cpc_base.specs.Bytes.{Text}
 use Rattle.cpc_base.specs.declared.stop.Place.{Place}
@@ -7,7 +7,6 @@ use Rattle.cpc_base.proofs.Lists.{drop_to_item}
 use Rattle.cpc_tree.specs.declared.program.Expr as GExpr
 use Rattle.cpc_tree.specs.declared.program.Statement.{Statement}
 use Rattle.cpc_tree.specs.declared.program.Statement.TheVariants as T
-use Rattle.cpc_tree.specs.declared.program.Statement.TheViews.{the_lemmas}
 use Rattle.cpc_tree.specs.declared.token.Keyword.TheVariants as K
 use Rattle.cpc_tree.specs.declared.token.Punctuator.TheVariants as P
 use Rattle.cpc_tree.specs.Tokens.{Word, Mark, Named}
@@ -18,12 +17,8 @@ use Rattle.cpc_tree.specs.TypePrint.{base_row}
 use Rattle.cpc_tree.specs.ExprPrint.{expr_row, args_row}
 use Rattle.cpc_tree.specs.StmtPrint.{stmt_row, block_row, simple_row, first_row, locals_row, maybe_row, local_row, call_row, section_row}
 use Rattle.cpc_tree.proofs.Clauses.{block_is, for_is}
+use Rattle.cpc_tree.proofs.Nodes.{if_is}
 use Rattle.cpc_printer.specs.Statements.{jump_row, for_row, place_row, further_row}
-
-pub if_is : (names : Names) (place : Place) (test : GExpr.Expr) (a : Box Statement Global) (b : Option (Box Statement Global))
-    → stmt_of names (T.If place test a b) ≡ If (expr_of names test) (stmt_of names a.value) (maybe_at names b)
-if_is names place test a None = search (rules, the_lemmas)
-if_is names place test a (Some b) = search (rules, the_lemmas)
 
 if_alone : (tight : Bool) (c : Expr) (s : Stmt) → stmt_row tight (If c s Absent) ≡ Word K.If ∷ Mark P.LeftParen ∷ (expr_row tight Whole c ++ Mark P.RightParen ∷ stmt_row tight s)
 unfolding stmt_row

@@ -1,5 +1,5 @@
 -- What the definitions of rows give at each type of the source.
-use Rattle.std.proofs.Common.{◌≡◌, ◌==◌, ℕ, ◌+◌, ◌<◌, ◌≤◌, Bool, true, false, List, [], ◌∷◌, ◌++◌, length, get_or, drop, map, Option, None, Result, Ok, Err, OnOk, refl, ap, sym, ◌∙◌, Vec, Box, Global, rules, append_assoc, append-nil}
+use Rattle.std.proofs.Common.{◌≡◌, ◌==◌, ℕ, ◌+◌, ◌<◌, ◌≤◌, Bool, true, false, List, [], ◌∷◌, ◌++◌, length, get_or, drop, map, Option, None, refl, ap, sym, ◌∙◌, Vec, Box, Global, rules, append_assoc, append-nil}
 use Rattle.std.proofs.lemmas.List.{drop_all}
 use Rattle.cpc_base.specs.Bytes.{Text}
 use Rattle.cpc_base.proofs.Lists.{drop_to_item}
@@ -27,11 +27,6 @@ code_is names b ts = search (rules, the_lemmas, types_listed)
 pub behind_code : (names : Names) (tight : Bool) (t : CType) (b : Box CType Global) (ts : Vec CType Global) → t ≡ C.Code b ts
     → behind_row tight (type_of names t) ≡ Mark P.RightParen ∷ Mark P.LeftParen ∷ (list_row tight (listed_types names ts.items) ++ Mark P.RightParen ∷ [])
 behind_code names tight t b ts e = ap (behind_row tight) (ap (type_of names) e ∙ code_is names b ts)
-
--- what holds of an Ok holds of a result that is Ok
-pub on_ok : {A E : Type 0} {X Y : Type 0} (r : Result A E) → (X → Y) → OnOk r X → OnOk r Y
-on_ok (Ok x) f h = f h
-on_ok (Err e) f h = h
 
 pub declarator_parts : (tight : Bool) (o : Option Text) (t : Ty) → declarator_row tight o t ≡ before_row t ++ (name_row o ++ behind_row tight t)
 unfolding declarator_row

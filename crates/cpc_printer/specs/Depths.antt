@@ -1,13 +1,10 @@
 -- How deep the parts of a print nest in the plain style.
-use Rattle.std.specs.Prelude.{ℕ, suc, ◌+◌, false, max, min}
+use Rattle.std.specs.Prelude.{ℕ, suc, ◌+◌, false, max}
+pub use Rattle.cpc_base.specs.Counts.{capped}
 use Rattle.cpc_tree.specs.Syntax.{Ty, TyCode, TyArray, Expr, EUnary, EBinary, EAnd, EOr, EChoose, ECast, ESizeOf, EIndex, EMember, EArrow, ECall}
 use Rattle.cpc_tree.specs.ExprGrammar.{Postfix, Tier, Whole, top_tier}
 use Rattle.cpc_tree.specs.TypePrint.{star_count, types_depth}
 use Rattle.cpc_tree.specs.ExprPrint.{tier_below, expr_depth, args_depth}
-
--- a depth as a number of 64 bits says it
-abbrev pub capped : ℕ → ℕ
-capped n = min n 18446744073709551615
 
 -- how deep a declarator nests
 abbrev pub declarator_nest : Ty → ℕ

@@ -10,10 +10,11 @@ use Rattle.cpc_tree.specs.declared.token.Keyword.TheVariants as K
 use Rattle.cpc_tree.specs.declared.token.Punctuator.TheVariants as P
 use Rattle.cpc_tree.specs.Tokens.{Lexeme, Word, Mark, Named, Number, Character, Quoted}
 use Rattle.cpc_tree.specs.Syntax.{Ty, Expr, EInteger, ECharacter, EText, EUnary, Stmt, Block, Variable, Parameter, Item, StructItem, GlobalItem, PrototypeItem, FunctionItem}
-use Rattle.cpc_tree.specs.Located.{Ident, LExpr, LInteger, LCharacter, LText, LUnary, LVariable, LParameter, LItem, LStruct, LGlobal, LPrototype, bare_expr, bare_variable, bare_parameter, bare_item}
+use Rattle.cpc_tree.specs.Located.{Ident, LExpr, LInteger, LCharacter, LText, LUnary, LVariable, LItem, LStruct, LGlobal, LPrototype, bare_expr, bare_variable, bare_parameter, bare_item}
 use Rattle.cpc_tree.specs.StmtGrammar.{begin}
 use Rattle.cpc_tree.specs.ItemGrammar as G
 use Rattle.cpc_tree.specs.ItemGrammar.{all_named}
+use Rattle.cpc_tree.proofs.Options.{named_bare}
 use Rattle.cpc_printer_laws.proofs.Standing.{Everywhere, Read, on_none, on_token, on_last, on_both, on_between, on_closed}
 use Rattle.cpc_printer_laws.proofs.TypeRows.{ReadsBase, ReadsStars, ReadsParams, ReadsDeclarator}
 use Rattle.cpc_printer_laws.proofs.StmtRows.{stmts, stmts_bare, ReadsBlock}
@@ -60,11 +61,6 @@ ReadsItems f xs h = Everywhere f (λ ts. Read (map bare_item) (λ (ws : List LIt
 some_bare : (o : Option Ident) → is_some (option_map (λ (x : Ident). x.text) o) ≡ is_some o
 some_bare None = refl
 some_bare (Some x) = refl
-
--- names are there with their places and without
-pub named_bare : (ws : List LParameter) → all_named (λ (p : Parameter). p.called) (map bare_parameter ws) ≡ all_named (λ (p : LParameter). p.called) ws
-named_bare [] = refl
-named_bare (w ∷ ws) = rw (some_bare w.called, named_bare ws) refl
 
 pub native : ReadsMode [] M.Native
 native = on_none _ G.native

@@ -10,7 +10,7 @@ use Rattle.cpc_tree.specs.ExprPrint.{expr_depth}
 use Rattle.cpc_tree.specs.ItemGrammar as G
 use Rattle.cpc_tree.specs.ItemGrammar.{ReadsMode, native, cps, detached, ReadsPrototypeMode, extern, of_function, ReadsVariables, last_variable, more_variables, ReadsFields, last_fields, more_fields, ReadsInitial, an_integer, a_negative, a_character, a_text, ReadsGlobal, unset, set, ReadsGlobals, last_global, more_globals, ReadsHead, head, ReadsItem, struct, globals, function, prototype, ReadsItems, no_item, items}
 use Rattle.cpc_tree.specs.ItemPrint.{fields_depth, head_depth, item_depth, program_depth, AllVariables, PrintableInitial, PrintableHead, IsDefined, PrintableItem, Printable, PrintsLeast}
-use Rattle.cpc_printer_laws.proofs.ItemRows.{named_bare}
+use Rattle.cpc_tree.proofs.Options.{named_bare}
 use Rattle.cpc_printer_laws.proofs.StmtRows.{stmts_bare}
 use Rattle.cpc_printer_laws.proofs.LeastTypes.{IsBase, base_is, starred, list_least, params_least, declarator_least}
 use Rattle.cpc_printer_laws.proofs.LeastStatements.{block_least}

@@ -1,10 +1,7 @@
 -- A number in decimal, by its last digit.
-use Rattle.std.proofs.Common.{◌≡◌, ℕ, ◌+◌, ◌/◌, ◌%◌, ◌^◌, ◌≤◌, ◌<◌, [], ◌∷◌, ◌++◌, ap, ◌∙◌, arith, lit<}
+use Rattle.std.proofs.Common.{◌≡◌, ℕ, ◌+◌, ◌/◌, ◌%◌, ◌^◌, ◌≤◌, ◌<◌, [], ◌∷◌, ◌++◌, arith, lit<}
 use Rattle.std.specs.Prelude.{decimal}
-use Rattle.std.proofs.lemmas.Fmt.{decimal_digit, decimal_step_wide}
+use Rattle.std.proofs.lemmas.Fmt.{decimal_step_wide}
 
 pub decimal_more : (n : ℕ) → 10 ≤ n → n < 2 ^ 128 → decimal n ≡ decimal (n / 10) ++ (48 + n % 10) ∷ []
 decimal_more n l lt = let m : 2 ^ 128 < 10 ^ 64 = lit< tt in let k : n < 10 ^ 64 = omega (arith, lt, m) in decimal_step_wide n l k
-
-pub decimal_last : (n : ℕ) → n < 10 → decimal n ≡ (48 + n % 10) ∷ []
-decimal_last n lt = let e : n ≡ n % 10 = omega arith in decimal_digit n lt ∙ ap (λ (m : ℕ). (48 + m) ∷ []) e

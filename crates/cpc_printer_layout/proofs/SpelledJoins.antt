@@ -1,7 +1,6 @@
 -- Which bytes go on a token that is spelled.
 use Rattle.std.proofs.Common.{◌≡◌, ℕ, ◌<◌, ◌≤◌, ◌^◌, Bool, true, false, cond, ◌==◌, nat_le, [], ◌∷◌, ◌++◌, length, take, drop, get_or, ℤ, pos, negsuc, Option, Some, None, refl, sym, ap, ◌∙◌, arith}
 use Rattle.std.proofs.lemmas.Bool.Decides.{nat_tests}
-use Rattle.std.proofs.lemmas.Int.{ints}
 use Rattle.std.specs.Prelude.{is_some, decimal, find}
 use Rattle.std.specs.List.{AllPass, prefix_len}
 use Rattle.std.specs.Char.{is_ascii_digit}
@@ -11,7 +10,6 @@ use Rattle.std.proofs.lemmas.Fmt.{decimal_is_IsNumeral}
 use Rattle.cpc_base.specs.Bytes.{Text}
 use Rattle.cpc_base.specs.declared.stop.Dialect.{Dialect}
 use Rattle.cpc_num.specs.declared.kinds.Kind.{Kind}
-use Rattle.cpc_num.specs.declared.kinds.Kind.TheVariants as N
 use Rattle.cpc_num.specs.Number.{is_of}
 use Rattle.cpc_tree.specs.declared.token.Keyword.{Keyword}
 use Rattle.cpc_tree.specs.declared.token.Keyword.TheVariants as K
@@ -25,7 +23,7 @@ use Rattle.cpc_printer_layout.specs.declared.sheet.Lexeme.TheVariants as L
 use Rattle.cpc_printer_layout.specs.Sheets.{lexeme_of}
 use Rattle.cpc_tree.proofs.Runs.{first_run, next_run}
 use Rattle.cpc_tree.proofs.States.{state_of_more, piece_state, piece_none}
-use Rattle.cpc_tree.proofs.Spelled.{spelling_piece}
+use Rattle.cpc_tree.proofs.Spelled.{spelling_piece, value_fits}
 
 joins_state : (c : ℕ) (w : Text) (s : State) (b : ℕ) → state_of (c ∷ w) ≡ Some s → joins (c ∷ w) b ≡ is_some (next_state s b)
 unfolding joins
@@ -73,14 +71,6 @@ digit_word b h = let l = h.0 in let m = h.1 in grind (arith, nat_tests)
 digits_first : (ds s : Text) → 0 < length ds → AllDigits 10 ds → in_word (get_or (ds ++ s) 0 0) ≡ true
 digits_first [] s lt all = absurd (omega arith)
 digits_first (c ∷ ds) s lt all = digit_word c (digit_from_value c all.0)
-
-value_fits : (kind : Kind) (n : ℕ) → is_of kind (pos n) ≡ true → n < 2 ^ 64
-value_fits N.Char n e = grind (arith, ints)
-value_fits N.UChar n e = grind (arith, ints)
-value_fits N.Int n e = grind (arith, ints)
-value_fits N.UInt n e = grind (arith, ints)
-value_fits N.Long n e = grind (arith, ints)
-value_fits N.ULong n e = grind (arith, ints)
 
 number_first : (kind : Kind) (n : ℕ) → is_of kind (pos n) ≡ true → in_word (get_or (decimal n ++ kind_suffix kind) 0 0) ≡ true
 number_first kind n e = let d = decimal_is_IsNumeral n (value_fits kind n e) in digits_first (decimal n) (kind_suffix kind) d.0.0 d.0.1

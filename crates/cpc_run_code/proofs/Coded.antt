@@ -1,5 +1,5 @@
 -- The machine of code, and its store by the texts of names.
-use Rattle.std.proofs.Common.{◌≡◌, [], map, reverse, Result, Ok, Err, IfOk, OnOk, sym, ap, subst, ◌∙◌}
+use Rattle.std.proofs.Common.{◌≡◌, [], map, reverse, Result, Ok, Err, IfOk, ap, ◌∙◌}
 use Rattle.std.specs.Result.{result_map_both}
 use Rattle.cpc_base.specs.declared.names.Name.{Name}
 use Rattle.cpc_num.specs.declared.kinds.Fault.{Fault}
@@ -20,9 +20,9 @@ use Rattle.cpc_eval_values.specs.Meets.{Meets}
 use Rattle.cpc_eval_values.specs.Shown.{store_of}
 use Rattle.cpc_native.specs.declared.machine.Stepped.{Stepped}
 use Rattle.cpc_native.specs.declared.machine.Stepped.TheVariants as X
-use Rattle.cpc_native.specs.Stacks.{went, done_of as native_done, TellsRunning, stack_at, stack_of}
-use Rattle.cpc_native.specs.Well.{Unchanged, EndsEmpty, IsSameBut}
-use Rattle.cpc_native.specs.declared.machine.Machine.{Machine}
+use Rattle.cpc_native.specs.Stacks.{went, done_of as native_done, TellsRunning}
+use Rattle.cpc_native.specs.Well.{Unchanged, EndsEmpty}
+use Rattle.cpc_native.proofs.Same.{runs_same}
 use Rattle.cpc_run_code.specs.Code.{stack_in, store_in, IsIdle, Given, EndsIdle, AskedIn, StepIs, AnswerIs}
 
 pub idle_frames : (names : Names) (m : Code) → IsIdle m → (stack_in names m).frames ≡ []
@@ -38,22 +38,10 @@ result_shown names s (Err fault) t e = ap (result_map_both (map_store names) (λ
 runs_program : (names : Names) (p : GProgram.Program) → Given names p → RunsOf names p.names (program_of p)
 runs_program names p given = record { spells = given.spelled.spells; told = λ x f e. record { each = given.spelled.unnamed x f e }; served = given.served; numbers = given.numbers }
 
--- the same of another table and program that are these
-pub runs_same : (names : Names) (table other : Table) (q r : Program) → other ≡ table → r ≡ q → RunsOf names table q → RunsOf names other r
-runs_same names table other q r e f h = subst (λ t. RunsOf names t r) (sym e) (subst (RunsOf names table) (sym f) h)
-
 pub runs_given : (names : Names) (p : GProgram.Program) (table : Table) (q : Program) → table ≡ p.names → q ≡ map (item_of names) p.items.items → Given names p → RunsOf names table q
 runs_given names p table q e f given = runs_same names p.names table (program_of p) q e (f ∙ given.spelled.same) (runs_program names p given)
 
--- where the store alone may differ, the stack is the same
-pub same_stack : (names : Names) (old new : Machine) → IsSameBut old new → stack_of names new ≡ stack_of names old
-same_stack names old new h = ap (λ fs. stack_at names fs new.arriving) h.calls ∙ ap (stack_at names old.calls.frames.items) h.arriving
-
 -- ---- parts of a result
-
-pub on_ok : {A E X Y : Type 0} (r : Result A E) → (X → Y) → OnOk r X → OnOk r Y
-on_ok (Ok a) f h = f h
-on_ok (Err e) f h = h
 
 pub if_ok : {A E : Type 0} (P Q R : A → Type 0) (r : Result A E) → ((x : A) → P x → Q x → R x) → IfOk r P → IfOk r Q → IfOk r R
 if_ok P Q R (Ok a) f h k = f a h k

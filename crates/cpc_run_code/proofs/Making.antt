@@ -25,7 +25,7 @@ use Rattle.cpc_meaning.specs.Start.{main_name}
 use Rattle.cpc_meaning_laws.specs.Pointer.Made.{IsMade, IsMadeCallback, IsMadeStore, IsMadeCode}
 use Rattle.cpc_meaning_laws.proofs.Pointer.Blocks.{Only, only_then, any_then}
 use Rattle.cpc_meaning_laws.proofs.Pointer.Values.{assigned_made}
-use Rattle.cpc_meaning_laws.proofs.Pointer.Stores.{Later, later_made, Onward}
+use Rattle.cpc_meaning_laws.proofs.Pointer.Stores.{Later, Onward}
 use Rattle.cpc_meaning_laws.proofs.Pointer.Steps.{FrameMade, DoneMade, frame_come, stack_made, code_later, answered_made, plain_made}
 use Rattle.cpc_meaning_matching.specs.Steps.{or_stay}
 use Rattle.cpc_meaning.specs.Requests.{Asked, Builtin, Host, ToSpawn, Section}
@@ -34,6 +34,7 @@ use Rattle.cpc_meaning.specs.History.{History}
 use Rattle.cpc_tree.specs.Points.{Point}
 use Rattle.cpc_meaning_laws.proofs.Pointer.Machine.{Handed, allocated_made, freed_made}
 use Rattle.cpc_meaning_laws.proofs.Pointer.Runs.{runs_are_made}
+use Rattle.cpc_meaning_laws.proofs.Pointer.Agendas.{later_callback}
 use Rattle.cpc_check_laws.specs.Kept.Kept.{KeptAgenda}
 use Rattle.cpc_check_laws.proofs.Kept.Agendas as L
 use Rattle.cpc_run_code.specs.Made.{IsValue, IsMadeRun}
@@ -64,10 +65,6 @@ module _ (s : Store) where
   any_values : (vs : List Value) → All IsValue vs
   any_values [] = All-nil IsValue
   any_values (v ∷ vs) = All-cons IsValue v vs tt (any_values vs)
-
-later_callback : (s t : Store) → Later s t → (c : Callback) → IsMadeCallback s c → IsMadeCallback t c
-later_callback s t l CallMain h = tt
-later_callback s t l (CallWith f pointer) h = later_made s t l pointer h
 
 later_lists : (s t : Store) → Later s t → (a : Agenda Callback) → MadeLists s a → MadeLists t a
 later_lists s t l a h = L.agenda_as (Fine s) (Fine t) IsValue IsValue (later_callback s t l) (λ v i. i) a h

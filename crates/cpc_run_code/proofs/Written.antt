@@ -1,9 +1,8 @@
 -- What the sections that a poll names write: integers, through pointers into blocks that are there.
 use Rattle.std.proofs.Common.{◌≡◌, ℕ, zero, suc, Bool, true, false, cond, List, [], ◌∷◌, Option, Some, None, Result, Ok, Err, length, refl, ap, subst, ◌∙◌}
 use Rattle.std.specs.List.{All}
-use Rattle.std.proofs.lemmas.List.Elements.{All-nil, All-cons, All-head, All-tail}
+use Rattle.std.proofs.lemmas.List.Elements.{All-head, All-tail}
 use Rattle.cpc_base.specs.Bytes.{Text}
-use Rattle.cpc_base.proofs.Truth.{by_false_true}
 use Rattle.cpc_num.specs.declared.kinds.Fault.{Fault}
 use Rattle.cpc_num.specs.declared.kinds.Fault.TheVariants as F
 use Rattle.cpc_tree.specs.Lists.{is_empty}
@@ -20,17 +19,9 @@ use Rattle.cpc_meaning_laws.proofs.Pointer.Blocks.{Only, only_then, only_as}
 use Rattle.cpc_meaning_laws.proofs.Pointer.Stores.{Onward, onward_self, onward_then, save_onward}
 use Rattle.cpc_check_laws.proofs.Kept.Values.{IsNumber, number_made}
 use Rattle.cpc_check_laws.proofs.Kept.Stores.{only_both}
+use Rattle.cpc_check_laws.proofs.Kept.Sections.{numbers}
 
 -- ---- integers
-
-numbers : (vs : List Value) → all_integers vs ≡ true → All IsNumber vs
-numbers [] e = All-nil IsNumber
-numbers (Unset ∷ vs) e = All-cons IsNumber Unset vs tt (numbers vs e)
-numbers (Whole kind z ∷ vs) e = All-cons IsNumber (Whole kind z) vs tt (numbers vs e)
-numbers (Null ∷ vs) e = by_false_true e
-numbers (At c n k ∷ vs) e = by_false_true e
-numbers (Code f ∷ vs) e = by_false_true e
-numbers (Cond n ∷ vs) e = by_false_true e
 
 -- the cells that a section gives are integers, or unset
 abbrev GivesNumbers : SectionEnd → Type 0

@@ -7,14 +7,10 @@ use Rattle.cpc_num.specs.Number.{convert}
 use Rattle.cpc_store.specs.declared.values.Scalar.{Scalar}
 use Rattle.cpc_store.specs.declared.values.Scalar.TheVariants as S
 use Rattle.cpc_store.specs.Store.{Value, Whole}
-use Rattle.cpc_tree.specs.Syntax.{Expr, EInteger, ECharacter, EText, EUnary}
+use Rattle.cpc_tree.specs.Syntax.{Expr, EInteger, ECharacter, EUnary}
 use Rattle.cpc_tree.specs.declared.program.UnaryOp.TheVariants.{Minus}
+pub use Rattle.cpc_tree.specs.Syntax.{text_in}
 use Rattle.cpc_meaning.specs.Start.{zero_of}
-
--- the bytes of a string
-abbrev pub text_in : Expr → Option Text
-text_in (EText bs) = Some bs
-text_in _ = None
 
 -- a byte in a cell, or what the cell holds where there is none
 abbrev pub byte_or : Option ℕ → Scalar → Value

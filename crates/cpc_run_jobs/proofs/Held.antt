@@ -5,7 +5,7 @@ use Rattle.std.specs.BTreeMap.{is_at}
 use Rattle.std.specs.Ordering.{nat_cmp}
 use Rattle.std.proofs.lemmas.Bool.Decides.{nat_tests}
 use Rattle.cpc_base.specs.Waiting.{without}
-use Rattle.cpc_base.proofs.Truth.{true_or_false, by_false_true}
+use Rattle.cpc_base.proofs.Truth.{true_or_false, by_false_true, same_number}
 use Rattle.cpc_tree.specs.Erase.{Names}
 use Rattle.cpc_tree.specs.Lists.{holds_number}
 use Rattle.cpc_meaning.specs.Copies.{job_numbered}
@@ -14,7 +14,7 @@ use Rattle.cpc_sections.specs.Jobs.{job_of}
 use Rattle.cpc_sections.specs.declared.job.Job.{Job}
 use Rattle.cpc_run_jobs.specs.Held.{IsJob, AreHeld}
 use Rattle.cpc_run_jobs.specs.Under.{under}
-use Rattle.cpc_run_jobs.proofs.Numbered.{same_number, put_out, put_not_out, left_is_out, left_not_out, left_is_other, numbered_before, numbered_last, below_next}
+use Rattle.cpc_run_jobs.proofs.Numbered.{put_out, put_not_out, left_is_out, left_not_out, left_is_other, numbered_before, numbered_last, below_next}
 
 -- the job of a number, by what is found
 more_jobs : (names : Names) (o : Option Job) (jobs : List M.Job) (y : M.Job) (n : ℕ) → IsJob names o (job_numbered jobs n) → IsJob names o (job_numbered (jobs ++ y ∷ []) n)

@@ -1,25 +1,13 @@
 -- Numbers, and the jobs that have them.
 use Rattle.std.proofs.Common.{◌≡◌, ℕ, suc, ◌<◌, true, false, cond, List, [], ◌∷◌, ◌++◌, Some, inl, inr, ◌⊎◌, refl, sym, ap, ◌∙◌, arith}
-use Rattle.std.specs.Prelude.{◌==◌, ◌||◌, nat_lt, not}
+use Rattle.std.specs.Prelude.{◌==◌, ◌||◌, not}
 use Rattle.std.specs.List.{AllByRecursion}
-use Rattle.std.specs.BTreeMap.{is_at}
-use Rattle.std.specs.Ordering.{nat_cmp}
 use Rattle.std.proofs.lemmas.Bool.Decides.{nat_tests}
 use Rattle.cpc_base.specs.Waiting.{without}
 use Rattle.cpc_base.proofs.Truth.{true_or_false}
 use Rattle.cpc_tree.specs.Lists.{holds_number}
 use Rattle.cpc_meaning.specs.Copies.{job_numbered}
 use Rattle.cpc_meaning.specs.Section.{Job}
-
--- a number is looked for by whether it is that one
-pub same_number : (c n : ℕ) → is_at (nat_cmp c) n ≡ (n == c)
-same_number c n = elim (true_or_false (nat_lt c n)) [
-  | inl t ↦ (let e : (n == c) ≡ false = grind (arith, nat_tests) in rw (t, e) refl)
-  | inr f ↦ elim (true_or_false (n == c)) [
-    | inl t ↦ (let e : (c == n) ≡ true = grind (arith, nat_tests) in rw (f, e, t) refl)
-    | inr h ↦ (let e : (c == n) ≡ false = grind (arith, nat_tests) in rw (f, e, h) refl)
-  ]
-]
 
 -- ---- the numbers that are out
 

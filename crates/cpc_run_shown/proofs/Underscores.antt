@@ -1,7 +1,6 @@
 -- What stands before the first two underscores.
-use Rattle.std.proofs.Common.{◌≡◌, ℕ, ◌+◌, ◌-◌, ◌<◌, true, false, [], ◌∷◌, ◌++◌, length, get_or, take, drop, refl, sym, ap, ◌∙◌, append_assoc, arith, add-one}
+use Rattle.std.proofs.Common.{◌≡◌, ℕ, ◌+◌, ◌-◌, ◌<◌, true, false, [], ◌∷◌, ◌++◌, length, get_or, take, drop, refl, sym, ap, ◌∙◌, append_assoc, add-one}
 use Rattle.std.proofs.lemmas.List.{take_more}
-use Rattle.std.proofs.lemmas.Grind.{common_steps}
 use Rattle.std.proofs.Math.Seq.{drop-cons}
 use Rattle.cpc_base.specs.Bytes.{Text}
 use Rattle.cpc_meaning.specs.Start.{begins_with_underscores, cut_where, before_underscores}
@@ -25,7 +24,3 @@ one_more text i lt e h =
     h ∙ ap (λ t. take i text ++ before_underscores t) rest ∙ ap (λ t. take i text ++ t) (behind b (drop (i + 1) text) none)
     ∙ sym (append_assoc (take i text) (b ∷ []) (before_underscores (drop (i + 1) text)))
     ∙ ap (λ t. t ++ before_underscores (drop (i + 1) text)) (sym (take_more text i 0 lt))
-
--- the rest of a text, cut at its end
-pub rest_is : (text : Text) (i : ℕ) → take (length text - i) (drop i text) ≡ drop i text
-rest_is text i = grind (arith, common_steps)

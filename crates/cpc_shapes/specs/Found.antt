@@ -2,12 +2,8 @@
 use Rattle.std.specs.Prelude.{Bool, false, if◌then◌else◌, List, [], ◌∷◌, Option, Some, None, is_some, bytes_eq}
 use Rattle.cpc_base.specs.Bytes.{Text}
 use Rattle.cpc_tree.specs.Syntax.{Ty, TyPointer, Variable, Program}
-use Rattle.cpc_tree.specs.Typing.{Typed, APlace, size, target, used}
-
--- the type of what is used as a value
-abbrev pub used_of : Option Typed → Option Ty
-used_of None = None
-used_of (Some d) = used d
+use Rattle.cpc_tree.specs.Typing.{Typed, APlace, size, target}
+pub use Rattle.cpc_check_rules.specs.Operators.{used_of}
 
 -- what the pointer of a sum or a difference points to
 abbrev pub pointed : Ty → Ty → Option Ty

@@ -1,10 +1,7 @@
 -- The parts of types.
 use Rattle.std.specs.Prelude.{ℕ, Bool, true, false, Option, Some, None}
-use Rattle.cpc_tree.specs.Syntax.{Ty, TyVoid, TyCondvar, TyCode, TyArray, Tys}
-
-abbrev pub is_void : Ty → Bool
-is_void TyVoid = true
-is_void _ = false
+use Rattle.cpc_tree.specs.Syntax.{Ty, TyCondvar, TyCode, TyArray, Tys}
+pub use Rattle.cpc_check_rules.specs.StmtRules.{is_void}
 
 abbrev pub is_condvar : Ty → Bool
 is_condvar TyCondvar = true

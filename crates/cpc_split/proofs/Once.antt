@@ -1,7 +1,8 @@
 -- A step that leads to a node by two ways leads there once.
 use Rattle.std.proofs.Common.{◌≡◌, ℕ, zero, suc, ◌+◌, ◌<◌, ◌≤◌, ◌==◌, ◌||◌, ◌&&◌, not, Bool, true, false, List, [], ◌∷◌, ◌++◌, length, slice_get, Option, Some, None, refl, sym, ◌∙◌, ap, arith}
-use Rattle.cpc_base.proofs.Truth.{eq_means, or_regrouped, eq_reflexive, or_by_first, or_by_second}
+use Rattle.cpc_base.proofs.Truth.{eq_means, eq_reflexive, or_by_first, or_by_second}
 use Rattle.cpc_tree.specs.Lists.{holds_number}
+use Rattle.cpc_tree.proofs.Holding.{holds_both}
 use Rattle.cpc_forms.specs.Flow.{Start, At, Flow, as_list, Inside, goes_to}
 use Rattle.cpc_forms.specs.Marks.{one_if, counted}
 use Rattle.cpc_split.specs.declared.steps.Step.{Step}
@@ -15,10 +16,6 @@ has xs (Some m) = holds_number xs m
 with_none : (xs : List ℕ) (k : ℕ) → holds_number (xs ++ []) k ≡ holds_number xs k
 with_none [] k = refl
 with_none (x ∷ xs) k = ap (λ b. (x == k) || b) (with_none xs k)
-
-holds_both : (xs ys : List ℕ) (k : ℕ) → holds_number (xs ++ ys) k ≡ (holds_number xs k || holds_number ys k)
-holds_both [] ys k = refl
-holds_both (x ∷ xs) ys k = ap (λ b. (x == k) || b) (holds_both xs ys k) ∙ or_regrouped (x == k) (holds_number xs k) (holds_number ys k)
 
 one_case : (h b : Bool) (g : Bool) → (b ≡ true → g ≡ h) → one_if h + one_if (not g && (b || false)) ≡ one_if (h || (b || false))
 one_case true true g e = let x : g ≡ true = e refl in ap (λ z. one_if true + one_if (not z && true)) x

@@ -20,6 +20,7 @@ use Rattle.cpc_lexer.specs.Faults.{IfFault}
 use Rattle.cpc_lexer.specs.declared.fault.LexFault.{LexFault}
 use Rattle.cpc_parser_types.specs.declared.refusal.ParseFault.{ParseFault}
 use Rattle.cpc_parser.specs.ItemViews as I
+use Rattle.cpc_check.proofs.Whole.{error_is, fault_is as stop_is}
 use Rattle.cpc_translate.specs.declared.fault.TextFault.{TextFault}
 use Rattle.cpc_translate.specs.declared.fault.TextFault.TheVariants.{Lex, Parse}
 use Rattle.cpc_translate.specs.Refusals.{IsTextFault, uncut, unread, uncut_as, unread_as}
@@ -40,12 +41,6 @@ module _ (table : Table) (names : Names) (same : (n : Name) → n.0 < length tab
       let head : lexeme_of names x.kind ≡ lexeme_of (in_table table) x.kind = kind_alike x.kind (all 0 x (omega arith)) in
       let rest : placed names tokens ≡ placed (in_table table) tokens = placed_alike tokens (λ k d lt. all (suc k) d (omega (arith, lt))) in
       λ j. record { place = x.place; lexeme = head j } ∷ rest j
-
-error_is : {X E : Type 0} (x y : E) → ◌≡◌ {A = Result X E} (Err x) (Err y) → x ≡ y
-error_is x y e = cc
-
-stop_is : {F : Type 0} (a b : F) → ◌≡◌ {A = Stop F} (Fault a) (Fault b) → a ≡ b
-stop_is a b e = cc
 
 -- what a refusal tells
 pub fault_is : {X F : Type 0} (x y : F) → ◌≡◌ {A = Result X (Stop F)} (Err (Fault x)) (Err (Fault y)) → x ≡ y

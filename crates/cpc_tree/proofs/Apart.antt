@@ -66,7 +66,7 @@ mark_blank p b e = at (blank_is b e) where
 run_blank : (b : ℕ) → is_blank b ≡ true → next_state Run b ≡ None
 run_blank b e = next_run b false (blank_no_word b e)
 
-whole_blank : (x : Lexeme) (b : ℕ) → next_state (Whole x) b ≡ None
+pub whole_blank : (x : Lexeme) (b : ℕ) → next_state (Whole x) b ≡ None
 unfolding next_state
 whole_blank x b = refl
 
@@ -89,7 +89,7 @@ blank_apart dialect (c ∷ w) x b e f =
     let s = piece_state dialect (c ∷ w) (Token x) e in
     ap (λ o. is_some o) (state_of_more (c ∷ w) s.0 b s.1 ∙ state_blank dialect (c ∷ w) s.0 x b s.2 f)
 
-first_blank : (b : ℕ) → is_blank b ≡ true → first_state b ≡ Some Gap
+pub first_blank : (b : ℕ) → is_blank b ≡ true → first_state b ≡ Some Gap
 unfolding first_state
 first_blank b e = rw e refl
 

@@ -7,3 +7,10 @@ pub mod Known
 pub mod Places
 pub mod LocatedClauses
 pub mod Codes
+pub mod Nodes
+pub mod LocatedNodes
+pub mod Behind
+pub mod Holding
+pub mod Named
+pub mod Options
+pub mod TypeRows

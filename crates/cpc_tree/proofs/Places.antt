@@ -40,7 +40,7 @@ pub bare_list : (names : Names) (es : List GExpr.Expr) → bare_exprs (located_e
 bare_list names [] = refl
 bare_list names (e ∷ es) = rw (bare_located names e, bare_list names es) refl
 
-bare_option : (names : Names) (o : Option GExpr.Expr) → option_map bare_expr (option_map (located_expr names) o) ≡ option_map (expr_of names) o
+pub bare_option : (names : Names) (o : Option GExpr.Expr) → option_map bare_expr (option_map (located_expr names) o) ≡ option_map (expr_of names) o
 bare_option names None = refl
 bare_option names (Some e) = rw (bare_located names e) refl
 
@@ -75,15 +75,15 @@ bare_word : (names : Names) (o : Option Word) → option_map (λ x. x.text) (opt
 bare_word names None = refl
 bare_word names (Some w) = refl
 
-bare_parameters : (names : Names) (ps : List GParameter.Parameter) → map bare_parameter (map (located_parameter names) ps) ≡ map (parameter_of names) ps
+pub bare_parameters : (names : Names) (ps : List GParameter.Parameter) → map bare_parameter (map (located_parameter names) ps) ≡ map (parameter_of names) ps
 bare_parameters names [] = refl
 bare_parameters names (p ∷ ps) = rw (bare_word names p.word, bare_parameters names ps) refl
 
-bare_fields : (names : Names) (fs : List GField.Field) → map bare_variable (map (located_field names) fs) ≡ map (field_of names) fs
+pub bare_fields : (names : Names) (fs : List GField.Field) → map bare_variable (map (located_field names) fs) ≡ map (field_of names) fs
 bare_fields names [] = refl
 bare_fields names (f ∷ fs) = rw (bare_fields names fs) refl
 
-bare_items : (names : Names) (xs : List GItem.Item) → map bare_item (map (located_item names) xs) ≡ map (item_of names) xs
+pub bare_items : (names : Names) (xs : List GItem.Item) → map bare_item (map (located_item names) xs) ≡ map (item_of names) xs
 bare_items names [] = refl
 bare_items names (I.Struct tag fields ∷ xs) = rw (bare_fields names fields.items, bare_items names xs) refl
 bare_items names (I.Global w t start ∷ xs) = rw (bare_option names start, bare_items names xs) refl

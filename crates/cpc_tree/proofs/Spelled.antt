@@ -189,7 +189,7 @@ char_again (pos n) e = grind (arith, ints)
 char_again (negsuc n) e = grind (arith, ints)
 
 -- integers
-digit_word : (b : ℕ) → 48 ≤ b → b ≤ 57 → in_word b ≡ true
+pub digit_word : (b : ℕ) → 48 ≤ b → b ≤ 57 → in_word b ≡ true
 unfolding in_word
 digit_word b l h = grind (arith, nat_tests)
 
@@ -246,7 +246,7 @@ suffix_word N.ULong = All-cons (λ b. in_word b ≡ true) 117 (108 ∷ []) refl 
 not_empty : (n : ℕ) → 0 < n → nat_eq n 0 ≡ false
 not_empty n h = grind (arith, nat_tests)
 
-value_fits : (kind : Kind) (n : ℕ) → is_of kind (pos n) ≡ true → n < 2 ^ 64
+pub value_fits : (kind : Kind) (n : ℕ) → is_of kind (pos n) ≡ true → n < 2 ^ 64
 value_fits N.Char n e = grind (arith, ints)
 value_fits N.UChar n e = grind (arith, ints)
 value_fits N.Int n e = grind (arith, ints)

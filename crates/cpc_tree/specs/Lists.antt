@@ -1,20 +1,11 @@
 -- Small functions on lists.
-use Rattle.std.specs.Prelude.{ℕ, Bool, true, false, ◌||◌, ◌==◌, List, [], ◌∷◌}
-
--- whether a list has no element
-abbrev pub is_empty : {X : Type 0} → List X → Bool
-is_empty [] = true
-is_empty (x ∷ xs) = false
+use Rattle.std.specs.Prelude.{ℕ, Bool, false, ◌||◌, ◌==◌, List, [], ◌∷◌}
+pub use Rattle.cpc_base.specs.Lists.{is_empty, rest_of}
 
 -- the first element, or this one where there is none
 abbrev pub first_or : {X : Type 0} → X → List X → X
 first_or y [] = y
 first_or y (x ∷ xs) = x
-
--- the elements after the first
-abbrev pub rest_of : {X : Type 0} → List X → List X
-rest_of [] = []
-rest_of (x ∷ xs) = xs
 
 -- whether a list has this number
 abbrev pub holds_number : List ℕ → ℕ → Bool

@@ -1,5 +1,5 @@
 -- Programs without places, in which each name is its text. Two programs are equal where these are.
-use Rattle.std.specs.Prelude.{ℕ, List, Option, ℤ}
+use Rattle.std.specs.Prelude.{ℕ, List, Option, ℤ, Some, None}
 use Rattle.cpc_base.specs.Bytes.{Text}
 use Rattle.cpc_num.specs.declared.kinds.Kind.{Kind}
 use Rattle.cpc_num.specs.declared.kinds.Op.{Op}
@@ -96,3 +96,8 @@ pub data Item : Type 0 where
 -- a program is its items in order
 abbrev pub Program : Type 0
 Program = List Item
+
+-- the bytes of a string
+abbrev pub text_in : Expr → Option Text
+text_in (EText bytes) = Some bytes
+text_in _ = None

@@ -9,6 +9,7 @@ use Rattle.cpc_tree.specs.Syntax.{Ty, Expr, ENamed, EUnary, EIndex, EMember, EAr
 use Rattle.cpc_tree.specs.Points.{Found, Simple, Test, Nothing}
 use Rattle.cpc_tree.specs.Primitives.{Primitive, primitive_named}
 use Rattle.cpc_tree.specs.Typing.{Scope, Meant, ALocal, AGlobal, AFunction, NotMeant, named, type_named, typed_place, function_named, function_type, parameter_types, code_parameters, same_type, field, struct_tag}
+use Rattle.cpc_tree.proofs.TypeRows.{list_back}
 use Rattle.cpc_store.specs.Store.{Value, Unset, Whole, Null, At, Code, Cond, Store, save}
 use Rattle.cpc_meaning.specs.Answer.{Answer, Gives, Faults, ◌>>=◌, of_result, needed}
 use Rattle.cpc_meaning.specs.Eval.{Slot, Register, Boxed, Context, Spot, InSlot, InCell, and_then, place, place_type, used_type, value, values, holds, assigned, operate, pointed, pointed_type, pointer_to, slot_spot, spot_named, field_spot, moved}
@@ -20,7 +21,7 @@ use Rattle.cpc_meaning.proofs.Functions.{found_again}
 use Rattle.cpc_meaning_laws.proofs.Pointer.Blocks.{Only, only_then, any_then}
 use Rattle.cpc_check_laws.specs.Sound.Suits.{ScopeOf}
 use Rattle.cpc_check_laws.proofs.Sound.Lookups.{local_is}
-use Rattle.cpc_check_laws.proofs.Sound.Types.{type_is, list_back}
+use Rattle.cpc_check_laws.proofs.Sound.Types.{type_is}
 use Rattle.cpc_check_laws.specs.Kept.Fits.{Fits, FitAll, types_of, FitsCall, GivesInt}
 use Rattle.cpc_check_laws.proofs.Kept.Values.{assigned_fits, arguments_fit}
 use Rattle.cpc_check_laws.proofs.Kept.Stores.{Stays, save_stays, freed_slots_stay}

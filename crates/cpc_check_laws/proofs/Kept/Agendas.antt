@@ -13,28 +13,8 @@ use Rattle.cpc_store.specs.Store.{Value}
 use Rattle.cpc_meaning.specs.Answer.{of_result}
 use Rattle.cpc_meaning.specs.Agenda.{Due, OnCondition, OnDescriptor, Timer, OnSection, Agenda, new_agenda, no_result, due, ready_all, ready_one, begin_round, first_passing, without_first, without, waits_on, where_live, cond_free, wait, waiter, signal, signal_all, put_timer, sleep, io, section, completed, finish_section, finish_sections, waits_for, descriptor_waiter, wake, wake_all, is_due, sleeper, ring, poll}
 use Rattle.cpc_meaning_laws.proofs.Pointer.Blocks.{Only}
+use Rattle.cpc_meaning_laws.proofs.Pointer.Agendas.{all_first, all_timer, all_without_first}
 use Rattle.cpc_check_laws.specs.Kept.Kept.{KeptAgenda}
-
--- ---- lists
-
-all_either : {X : Type 0} (P : X → Type 0) (b : Bool) (xs ys : List X) → All P xs → All P ys → All P (cond b xs ys)
-all_either P true xs ys h k = h
-all_either P false xs ys h k = k
-
-all_first : {X : Type 0} (P : X → Type 0) (test : X → Bool) (xs : List X) → All P xs → All P (first_passing test xs)
-all_first P test [] h = h
-all_first P test (x ∷ xs) h =
-    all_either P (test x) (x ∷ []) (first_passing test xs) (All-cons P x [] (All-head P x xs h) (All-nil P)) (all_first P test xs (All-tail P x xs h))
-
-all_without_first : {X : Type 0} (P : X → Type 0) (test : X → Bool) (xs : List X) → All P xs → All P (without_first test xs)
-all_without_first P test [] h = h
-all_without_first P test (x ∷ xs) h =
-    all_either P (test x) xs (x ∷ without_first test xs) (All-tail P x xs h) (All-cons P x (without_first test xs) (All-head P x xs h) (all_without_first P test xs (All-tail P x xs h)))
-
-all_timer : {T : Type 0} (P : Timer T → Type 0) (t : Timer T) (us : List (Timer T)) → P t → All P us → All P (put_timer t us)
-all_timer P t [] h k = All-cons P t [] h k
-all_timer P t (u ∷ us) h k =
-    all_either P (nat_lt t.deadline u.deadline) (t ∷ u ∷ us) (u ∷ put_timer t us) (All-cons P t (u ∷ us) h k) (All-cons P u (put_timer t us) (All-head P u us k) (all_timer P t us h (All-tail P u us k)))
 
 -- ---- acts
 

@@ -31,6 +31,7 @@ use Rattle.cpc_meaning_laws.proofs.Pointer.Blocks.{Only, only_then, any_then, on
 use Rattle.cpc_meaning_laws.proofs.Pointer.Stores.{Later, later_made, later_values, Onward}
 use Rattle.cpc_meaning_laws.proofs.Pointer.Steps.{FrameMade, DoneMade, code_later, frame_come, stack_made, answered_made}
 use Rattle.cpc_meaning_laws.proofs.Pointer.Machine.{Handed, allocated_made, freed_made}
+use Rattle.cpc_meaning_laws.proofs.Pointer.Acts.{first_made, rest_made}
 use Rattle.cpc_check_laws.specs.Kept.Codes.{IsCode, IsCodeStore, IsCodeFrame, IsCodeStack}
 use Rattle.cpc_check_laws.specs.Kept.Fits.{FitAll, FitsFrame, FitsPending, IsInt}
 use Rattle.cpc_check_laws.specs.Kept.Kept.{IsSteady, KeptStack, KeptThread, KeptAgenda, KeptJob, NoFrames, Kept}
@@ -43,14 +44,6 @@ use Rattle.cpc_check_laws.proofs.Kept.Acts.{AsksSo}
 use Rattle.cpc_check_laws.proofs.Kept.Steps.{IsNamed, AllFit, DoneSo, FrameSo, frame_so, fits_so, answered_so, waiting_so}
 use Rattle.cpc_check_laws.proofs.Kept.Agendas as A
 use Rattle.cpc_check_laws.proofs.Kept.Sections.{copy_so}
-
-first_made : (s : Store) (vs : List Value) → All (IsMade s) vs → IsMade s (first_or Unset vs)
-first_made s [] h = tt
-first_made s (v ∷ vs) h = All-head (IsMade s) v vs h
-
-rest_made : (s : Store) (vs : List Value) → All (IsMade s) vs → All (IsMade s) (rest_of vs)
-rest_made s [] h = h
-rest_made s (v ∷ vs) h = All-tail (IsMade s) v vs h
 
 -- an int is no code
 int_code : (p : Program) (v : Value) → IsInt v → IsCode p v

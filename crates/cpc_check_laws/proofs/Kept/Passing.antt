@@ -34,7 +34,7 @@ use Rattle.cpc_check_laws.proofs.Kept.LayerRuns.{threads_hold}
 
 -- ---- lists
 
-all_both : {X Y : Type 0} {R : X → Y → Type 0} (U : X → Type 0) (V : Y → Type 0) → ((x : X) (y : Y) → R x y → U x → V y) → (xs : List X) (ys : List Y) → B.Both R xs ys → All U xs → All V ys
+pub all_both : {X Y : Type 0} {R : X → Y → Type 0} (U : X → Type 0) (V : Y → Type 0) → ((x : X) (y : Y) → R x y → U x → V y) → (xs : List X) (ys : List Y) → B.Both R xs ys → All U xs → All V ys
 all_both U V f _ _ B.Ends h = All-nil V
 all_both U V f _ _ (B.Goes x y xs ys r b) h = All-cons V y ys (f x y r (All-head U x xs h)) (all_both U V f xs ys b (All-tail U x xs h))
 

@@ -33,7 +33,7 @@ use Rattle.cpc_check_laws.proofs.Kept.Steps.{IsFirst, IsNamed, DoneSo, plain_so,
 
 -- ---- integers
 
-numbers : (vs : List Value) → all_integers vs ≡ true → All IsNumber vs
+pub numbers : (vs : List Value) → all_integers vs ≡ true → All IsNumber vs
 numbers [] e = All-nil IsNumber
 numbers (Unset ∷ vs) e = All-cons IsNumber Unset vs tt (numbers vs e)
 numbers (Whole kind z ∷ vs) e = All-cons IsNumber (Whole kind z) vs tt (numbers vs e)

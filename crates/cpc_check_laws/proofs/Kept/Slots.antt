@@ -4,19 +4,17 @@ use Rattle.std.specs.List.{All}
 use Rattle.std.proofs.lemmas.List.Elements.{All-cons, All-head, All-tail}
 use Rattle.cpc_base.proofs.Truth.{and_first}
 use Rattle.cpc_base.proofs.Lists.{some_is}
-use Rattle.cpc_tree.specs.Syntax.{Ty, Variable, Parameter, Function, Program, TyVoid, TyInt, TyCondvar, TyPointer, TyCode, TyStruct, TyArray}
+use Rattle.cpc_tree.specs.Syntax.{Ty, Variable, Parameter, Function, Program}
 use Rattle.cpc_tree.specs.Lists.{first_or, rest_of}
 use Rattle.cpc_tree.specs.Points.{locals}
 use Rattle.cpc_tree.specs.Registers.{as_variable, variables, is_register}
 use Rattle.cpc_tree.specs.Typing.{size, parameter_type, parameter_types, is_scalar}
-use Rattle.cpc_store.specs.declared.values.Scalar.{Scalar}
-use Rattle.cpc_store.specs.declared.values.Scalar.TheVariants as S
-use Rattle.cpc_meaning.specs.Layout.{scalar_of}
 use Rattle.cpc_store.specs.declared.values.Class.TheVariants.{Auto}
 use Rattle.cpc_store.specs.Store.{Value, Unset, Store, alloc}
 use Rattle.cpc_meaning.specs.Answer.{Gives, ◌>>=◌, needed}
 use Rattle.cpc_meaning.specs.Eval.{Slot, Register, Boxed}
 use Rattle.cpc_meaning.specs.Slots.{first_cells, make_slot, make_slots}
+use Rattle.cpc_meaning.proofs.Scalars.{scalar_there}
 use Rattle.cpc_meaning_laws.specs.Pointer.Made.{IsMadeSlot}
 use Rattle.cpc_meaning_laws.proofs.Pointer.Blocks.{Only, only_then, any_then, element}
 use Rattle.cpc_check_laws.specs.Kept.Codes.{IsCodeSlot}
@@ -165,23 +163,13 @@ cleared_fit ts s slots new c = record {
 
 -- ---- what is known of a slot
 
--- a scalar type has one cell
-scalar_cell : (t : Ty) → is_scalar t ≡ true → (wanted : Scalar) × (scalar_of t ≡ Some wanted)
-scalar_cell (TyInt kind) e = (S.Int kind, refl)
-scalar_cell TyCondvar e = (S.Cond, refl)
-scalar_cell (TyPointer t) e = (S.Pointer, refl)
-scalar_cell (TyCode r ps) e = (S.Code, refl)
-scalar_cell TyVoid e = absurd (cc)
-scalar_cell (TyStruct tag) e = absurd (cc)
-scalar_cell (TyArray t n) e = absurd (cc)
-
 pub slots_are_known : SlotsAreKnown
 slots_are_known s f slots h made k x e = let a = there f 0 (variables f) slots k x h.shaped e in (a.0, a.1, known a.0 a.1)
   where
     known : (slot : Slot) → slice_get slots k ≡ Some slot → Slotted s f k x slot
     known (Register v) g =
         let register = sym (held_here f slots h k x (Register v) e g) in
-        let cell = scalar_cell x.type (and_first (is_scalar x.type) _ register) in
+        let cell = scalar_there x.type (and_first (is_scalar x.type) _ register) in
         let fit = fits_at f (variables f) slots k x v h.fits e g in
         IsRegister v cell.0 register cell.1 fit (fits_suits x.type v cell.0 fit cell.1) (element (IsMadeSlot s) slots k (Register v) made g)
     known (Boxed n) g = IsBox n (sym (held_here f slots h k x (Boxed n) e g)) (element (IsMadeSlot s) slots k (Boxed n) made g)

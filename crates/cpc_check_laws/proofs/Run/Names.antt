@@ -52,7 +52,7 @@ first_unkept x xs h = (or_neither (is_kept x.text) (holds_underscores x.text) (f
 pub first_no_underscores : (x : Ident) (xs : List Ident) → Unreserved (x ∷ xs) → holds_underscores x.text ≡ false
 first_no_underscores x xs h = (or_neither (is_kept x.text) (holds_underscores x.text) (first_unreserved x xs h)).1
 
-rest_unreserved : (x : Ident) (xs : List Ident) → Unreserved (x ∷ xs) → Unreserved xs
+pub rest_unreserved : (x : Ident) (xs : List Ident) → Unreserved (x ∷ xs) → Unreserved xs
 rest_unreserved x xs h = right_none (at_if (is_reserved D.Cpc x.text) x.place Reserved) _ h
 
 pub front_unreserved : (xs ys : List Ident) → Unreserved (xs ++ ys) → Unreserved xs

@@ -105,7 +105,7 @@ no_underscores_first b (c ∷ bs) e = go (b == 95) refl (c == 95) refl
     go false i t j = refl
 
 -- a name without two underscores in a row is shown whole
-whole : (x : Text) → holds_underscores x ≡ false → before_underscores x ≡ x
+pub whole : (x : Text) → holds_underscores x ≡ false → before_underscores x ≡ x
 whole [] h = refl
 whole (b ∷ bs) h =
     let e = or_neither (begins_with (codes "__") (b ∷ bs)) (holds_underscores bs) h in

@@ -14,6 +14,7 @@ use Rattle.cpc_tree.specs.Typing.{Scope, Meant, ALocal, AGlobal, AFunction, NotM
 use Rattle.cpc_tree.specs.Points.{Found, Simple, Test, Nothing}
 use Rattle.cpc_tree.specs.Registers.{addresses, addresses_all, addresses_if}
 use Rattle.cpc_tree.specs.Primitives.{Primitive, Puts, RtDetach, primitive_named, SetOf, takes_first, callback_and_pointer}
+use Rattle.cpc_tree.proofs.TypeRows.{list_back}
 use Rattle.cpc_store.specs.declared.values.Class.TheVariants.{Auto}
 use Rattle.cpc_store.specs.Store.{Value, Unset, Null, At, Code, Store, save, free}
 use Rattle.cpc_meaning.specs.Answer.{Gives, Faults, ◌>>=◌}
@@ -33,7 +34,7 @@ use Rattle.cpc_check_laws.proofs.Sound.Scalars.{testable_scalar}
 use Rattle.cpc_check_laws.proofs.Sound.Expressions.{expressions_answer}
 use Rattle.cpc_check_laws.proofs.Sound.Lookups.{boxed_left, boxed_right}
 use Rattle.cpc_check_laws.proofs.Sound.Copies.{CopyStays, save_stays, free_stays}
-use Rattle.cpc_check_laws.proofs.Sound.Types.{type_is, list_back}
+use Rattle.cpc_check_laws.proofs.Sound.Types.{type_is}
 use Rattle.cpc_check_laws.proofs.Sound.Paths.{found_addresses, simple_addresses}
 use Rattle.cpc_check_laws.proofs.Sound.Requests.{Becomes, AllSuit, AllBecome, EachBecomes, AllWhole, AllReady, AllTaken, callback_type, PrimitiveGiven, IsRequest, AsksPrimitive, AsksHost, AsksSpawn, AsksSection, IsCallback, becomes_comes, arguments_come, longs_come, all_taken_come, value_suits, got_comes, all_get_come, each_gets_come, code_comes, all_ready_come}
 

@@ -11,6 +11,7 @@ use Rattle.cpc_tree.specs.Syntax.{Ty, TyVoid, TyInt, TyCondvar, TyPointer, TyCod
 use Rattle.cpc_tree.specs.Located.{Ident, LExpr, LNamed, LInteger, LCharacter, LText, LUnary, LBinary, LAnd, LOr, LChoose, LCast, LSizeOf, LIndex, LMember, LArrow, LCall, LExprs, NoLExpr, AndLExpr, bare_expr, bare_exprs}
 use Rattle.cpc_tree.specs.Typing.{Scope, Meant, ALocal, AGlobal, AFunction, NotMeant, Typed, AValue, APlace, type_named, named, item_named, typing, used, size, cells, field, is_null, is_reference, same_type, tys_of, function_named, parameter_types}
 use Rattle.cpc_tree.specs.Primitives.{Primitive, primitive_named, Taken, AnyInteger, SetOf, FreeOf}
+use Rattle.cpc_tree.proofs.Options.{then_some}
 use Rattle.cpc_check_rules.specs.declared.rule.Rule.TheVariants.{Disagree}
 use Rattle.cpc_check_rules.specs.Scopes.{meant, typed, takes_value, takes_typed}
 use Rattle.cpc_check_rules.specs.Operators.{Where, typed_at, first, is_detached}
@@ -22,7 +23,7 @@ use Rattle.cpc_meaning.specs.Requests.{section_takes}
 use Rattle.cpc_check_laws.specs.Sound.Suits.{converts}
 use Rattle.cpc_check_laws.specs.Sound.Typed.{Gets, AllGet, EachGets, NamesFunction, GetsTaken, AllGetTaken, IsSection, Detaches, is_own}
 use Rattle.cpc_check_laws.proofs.Sound.Answers.{no_some}
-use Rattle.cpc_check_laws.proofs.Sound.Options.{then_some, then_of}
+use Rattle.cpc_check_laws.proofs.Sound.Options.{then_of}
 use Rattle.cpc_check_laws.proofs.Sound.Scalars.{null_int}
 use Rattle.cpc_check_laws.proofs.Sound.Types.{type_is}
 use Rattle.cpc_check_laws.proofs.Sound.More.{typing_more}

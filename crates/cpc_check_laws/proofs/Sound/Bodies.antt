@@ -16,6 +16,7 @@ use Rattle.cpc_tree.specs.Syntax as S
 use Rattle.cpc_tree.specs.Located.{Ident, LExpr, LExprs, LStmt, Block, Empty, Declare, Assign, Call, Detach, Spawn, If, While, DoWhile, For, Goto, Label, Break, Continue, Return, LStmts, NoLStmt, AndLStmt, MaybeLStmt, NoneLStmt, SomeLStmt, bare_expr, bare_exprs, bare_stmt, bare_stmts, bare_maybe}
 use Rattle.cpc_tree.specs.Typing.{Scope, Meant, ALocal, AGlobal, AFunction, NotMeant, Typed, AValue, APlace, type_named, named, typing, typing_of, used, size, is_null, is_testable, binary_type, function_named, parameter_types}
 use Rattle.cpc_tree.specs.Points.{extended, extended_all, declared, locals, locals_in, locals_arm}
+use Rattle.cpc_tree.proofs.Options.{then_some}
 use Rattle.cpc_check_rules.specs.declared.rule.Rule.TheVariants.{Disagree, NoPlace, Twice, Incomplete, BadReturn, CpsInNative, CpsForm, NotClosed}
 use Rattle.cpc_check_rules.specs.Rule.{at_if}
 use Rattle.cpc_check_rules.specs.Scopes as R
@@ -27,11 +28,11 @@ use Rattle.cpc_check_rules.specs.StmtRules.{in_scope, inner, variable, behind, a
 use Rattle.cpc_meaning.specs.Act.{right_side}
 use Rattle.cpc_meaning.proofs.Functions.{text_same}
 use Rattle.cpc_check_laws.specs.Sound.Typed.{Gets, IsTest, IsTestIf, Assigns, Delivers, AllGet, Detaches, IsOpen, IsTyped, StepTyped, BodyTyped, AllTyped, ArmTyped, AllSized}
-use Rattle.cpc_check_laws.proofs.Sound.Options.{then_some}
-use Rattle.cpc_check_laws.proofs.Sound.Unbroken.{split, not_broken, holds_not, holds_then, binary_some, typed_of}
+use Rattle.cpc_check_laws.proofs.Sound.Unbroken.{split, not_broken, holds_then, binary_some, typed_of}
 use Rattle.cpc_check_laws.proofs.Sound.Agreement.{Matches, Grows, sizes_grow, Facts, At, item_of, takes_converts, typed_here, gets_here, args_here, section_meant, detaches_here}
 use Rattle.cpc_check_laws.proofs.Sound.Callees.{number_here, call_here}
 use Rattle.cpc_check_laws.proofs.Sound.Shapes.{StepWritten, Written, AllWritten, MaybeWritten, all_first_written}
+use Rattle.cpc_check_laws.proofs.Native.NativeValues.{unbroken}
 
 -- ---- names
 
@@ -200,7 +201,7 @@ module _ (d : Dialect) (p : Program) (facts : Facts p) (f : Function) where
         let s = started_here x (section_callee w.scope (meant w.scope x.text)) es h2.1 in
         let m = section_meant d p facts f w scope at (meant w.scope x.text) s.0 in
         let e : section_callee w.scope (meant w.scope x.text) ≡ Takes (map (λ t. Of t) m.0) (TyInt Int) = ap (section_callee w.scope) m.1 ∙ ap (λ b. cond b (Takes (map (λ t. Of t) m.0) (TyInt Int)) NoCallee) m.2 in (
-          record { dialect = sym at.dialect ∙ cpc_is w.dialect (holds_not (is_event w.dialect) k CpsForm h2.0); not_detached = ap is_detached (sym at.mode) ∙ cps_is w.mode (holds_then (is_cps w.mode) k CpsInNative h1.0) },
+          record { dialect = sym at.dialect ∙ cpc_is w.dialect (unbroken (is_event w.dialect) k CpsForm h2.0); not_detached = ap is_detached (sym at.mode) ∙ cps_is w.mode (holds_then (is_cps w.mode) k CpsInNative h1.0) },
           detaches_here d p facts f w scope at x.text m.0 es m.1 m.2 (s.1 m.0 (TyInt Int) e),
           ap is_cps (sym at.mode) ∙ holds_then (is_cps w.mode) k CpsInNative h1.0,
         )
@@ -222,7 +223,7 @@ module _ (d : Dialect) (p : Program) (facts : Facts p) (f : Function) where
         let m = spawn_meant (meant w.scope x.text) s.0 in
         let is_m : named p scope x.text ≡ AFunction Cps m.0 m.1 = subst (λ m. Matches x.text m (named p scope x.text)) m.2 (at.names x.text) in
         let g = facts.function x.text Cps m.0 m.1 (item_of p scope x.text Cps m.0 m.1 is_m) refl in (
-          record { dialect = sym at.dialect ∙ cpc_is w.dialect (holds_not (is_event w.dialect) q CpsForm h1.0); not_detached = ap is_detached (sym at.mode) ∙ holds_not (is_detached w.mode) x.place NotClosed h2.0 },
+          record { dialect = sym at.dialect ∙ cpc_is w.dialect (unbroken (is_event w.dialect) q CpsForm h1.0); not_detached = ap is_detached (sym at.mode) ∙ unbroken (is_detached w.mode) x.place NotClosed h2.0 },
           (g.0, g.1, subst (λ us. AllGet p scope us (bare_exprs es)) (sym g.4) (s.1 m.1 m.0 (ap spawn_callee m.2)), ap is_cps g.2),
         )
 
@@ -230,7 +231,7 @@ module _ (d : Dialect) (p : Program) (facts : Facts p) (f : Function) where
     return_here q e h =
         let k = split (expr_breaks w e) (at_if (unfit_return w e (typed_at w e)) q BadReturn) h in
         let c = typed_of w e k.0 in
-        let u : unfit_return w e (Some c.0) ≡ false = ap (unfit_return w e) (sym c.1) ∙ holds_not (unfit_return w e (typed_at w e)) q BadReturn k.1 in
+        let u : unfit_return w e (Some c.0) ≡ false = ap (unfit_return w e) (sym c.1) ∙ unbroken (unfit_return w e (typed_at w e)) q BadReturn k.1 in
         let v = or_neither (is_void w.result) (not (takes_typed w.result (bare_expr e) c.0)) u in
         subst (λ t. Gets p scope t (bare_expr e)) at.result (gets_here d p facts f w scope at w.result e c.0 c.1 (not_fails (takes_typed w.result (bare_expr e) c.0) v.1))
 

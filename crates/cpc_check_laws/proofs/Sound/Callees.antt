@@ -21,8 +21,9 @@ use Rattle.cpc_check_rules.specs.Calls.{Wanted, Of, String, ForSection, Callback
 use Rattle.cpc_check_rules.specs.ExprRules.{expr_breaks, called_breaks, arg_breaks, args_breaks, call_breaks}
 use Rattle.cpc_check_laws.specs.Sound.Typed.{Gets, GetsTaken, AllGet, TakesArguments, is_for, is_own, is_variable, is_pointer_call, Calls, CallsHost, CallsFunction, CallsPrimitive, CallsPointer}
 use Rattle.cpc_check_laws.proofs.Sound.Answers.{no_some}
-use Rattle.cpc_check_laws.proofs.Sound.Unbroken.{split, not_broken, holds_not, holds_then, typed_of}
+use Rattle.cpc_check_laws.proofs.Sound.Unbroken.{split, not_broken, holds_then, typed_of}
 use Rattle.cpc_check_laws.proofs.Sound.Agreement.{Matches, Facts, At, item_of, typed_here, suits_here, of_here, args_here, taken_here, all_taken_here, section_meant, detaches_here}
+use Rattle.cpc_check_laws.proofs.Native.NativeValues.{unbroken}
 
 module _ (d : Dialect) (p : Program) (facts : Facts p) (f : Function) (w : Where) (scope : Scope) (at : At d p f w scope) where
   -- ---- the arguments of primitives
@@ -124,8 +125,8 @@ module _ (d : Dialect) (p : Program) (facts : Facts p) (f : Function) (w : Where
   for_cpc false b h = refl
 
   primitive_for : (e : Dialect) (prim : Primitive) (q : Place) → (at_if (is_rt prim && not (is_event e)) q RtCall ++ at_if (gives_up prim && is_event e) q CpsForm) ≡ [] → is_for e prim ≡ true
-  primitive_for D.Cpc prim q h = for_cpc (is_rt prim) true (holds_not (is_rt prim && true) q RtCall (split (at_if (is_rt prim && true) q RtCall) (at_if (gives_up prim && false) q CpsForm) h).0)
-  primitive_for D.Event prim q h = for_cpc (gives_up prim) true (holds_not (gives_up prim && true) q CpsForm (split (at_if (is_rt prim && false) q RtCall) (at_if (gives_up prim && true) q CpsForm) h).1)
+  primitive_for D.Cpc prim q h = for_cpc (is_rt prim) true (unbroken (is_rt prim && true) q RtCall (split (at_if (is_rt prim && true) q RtCall) (at_if (gives_up prim && false) q CpsForm) h).0)
+  primitive_for D.Event prim q h = for_cpc (gives_up prim) true (unbroken (gives_up prim && true) q CpsForm (split (at_if (is_rt prim && false) q RtCall) (at_if (gives_up prim && true) q CpsForm) h).1)
 
   -- a detached function calls what is closed
   closes : (a b : Bool) → (a && not b) ≡ false → a ≡ true → b ≡ true
@@ -160,7 +161,7 @@ module _ (d : Dialect) (p : Program) (facts : Facts p) (f : Function) (w : Where
       → Calls d p f.mode scope (ENamed x) (bare_exprs es) r
   function_call x q mode r ps es e h gets =
       let k = split (at_if (is_cps mode && not (is_cps w.mode)) q CpsInNative) (at_if (is_detached w.mode && not (is_detached mode)) q NotClosed) h in
-      go mode e (holds_not (is_detached w.mode && not (is_detached mode)) q NotClosed k.1) (closes (is_cps mode) (is_cps w.mode) (holds_not (is_cps mode && not (is_cps w.mode)) q CpsInNative k.0))
+      go mode e (unbroken (is_detached w.mode && not (is_detached mode)) q NotClosed k.1) (closes (is_cps mode) (is_cps w.mode) (unbroken (is_cps mode && not (is_cps w.mode)) q CpsInNative k.0))
     where
       go : (mode : Mode) → meant w.scope x ≡ AFunction mode r ps → (is_detached w.mode && not (is_detached mode)) ≡ false → (is_cps mode ≡ true → is_cps w.mode ≡ true) → Calls d p f.mode scope (ENamed x) (bare_exprs es) r
       go Extern e i cps = host_call x r ps es e (no_detached (is_detached w.mode) i) gets
@@ -175,8 +176,8 @@ module _ (d : Dialect) (p : Program) (facts : Facts p) (f : Function) (w : Where
       let h1 = split (at_if (gives_up prim && not (is_cps w.mode)) q CpsInNative) _ h in
       let h2 = split (at_if (is_detached w.mode && not (is_closed prim)) q NotClosed) _ h1.1 in
       CallsPrimitive x prim (bare_exprs es) is_m is_prim (subst (λ d. is_for d prim ≡ true) at.dialect (primitive_for w.dialect prim q h2.1))
-      (λ k. closes (is_detached w.mode) (is_closed prim) (holds_not (is_detached w.mode && not (is_closed prim)) q NotClosed h2.0) (around ∙ k))
-      (λ k. ap is_cps (sym at.mode) ∙ closes (gives_up prim) (is_cps w.mode) (holds_not (gives_up prim && not (is_cps w.mode)) q CpsInNative h1.0) k) gets
+      (λ k. closes (is_detached w.mode) (is_closed prim) (unbroken (is_detached w.mode && not (is_closed prim)) q NotClosed h2.0) (around ∙ k))
+      (λ k. ap is_cps (sym at.mode) ∙ closes (gives_up prim) (is_cps w.mode) (unbroken (gives_up prim && not (is_cps w.mode)) q CpsInNative h1.0) k) gets
 
   code_of : (o : Option Ty) → is_code o ≡ true → (r : Ty) × (ps : Tys) × (o ≡ Some (TyCode r ps))
   code_of (Some (TyCode r ps)) h = (r, ps, refl)
@@ -201,7 +202,7 @@ module _ (d : Dialect) (p : Program) (facts : Facts p) (f : Function) (w : Where
       let t = code_of (used c.0) (code_holds (typed_at w g) c.0 (first g) c.1 h2.1) in
       let is_callee : code_callee (used_of (typed_at w g)) ≡ Takes (map (λ t. Of t) (list_of_tys t.1)) t.0 = ap (λ o. code_callee (used_of o)) c.1 ∙ ap code_callee t.2 in
       let gets = args_here d p facts f w scope at (list_of_tys t.1) es (number_here (code_callee (used_of (typed_at w g))) (map (λ t. Of t) (list_of_tys t.1)) t.0 es (first g) is_callee n) (subst (λ c. args_breaks w (wanted c) es ≡ []) is_callee a) in
-      (t.0, ap result is_callee, CallsPointer (bare_expr g) c.0 t.0 t.1 (bare_exprs es) (sym around ∙ holds_not (is_detached w.mode) (first g) NotClosed h2.0) is_pointer (typed_here d p facts f w scope at (bare_expr g) c.0 c.1) t.2 gets)
+      (t.0, ap result is_callee, CallsPointer (bare_expr g) c.0 t.0 t.1 (bare_exprs es) (sym around ∙ unbroken (is_detached w.mode) (first g) NotClosed h2.0) is_pointer (typed_here d p facts f w scope at (bare_expr g) c.0 c.1) t.2 gets)
 
   named_call : (x : Ident) (es : LExprs) (m : Meant) (o : Option Primitive) → meant w.scope x.text ≡ m → primitive_named x.text ≡ o → named_breaks w (LNamed x) x.place (expr_breaks w (LNamed x)) m o ≡ []
       → number_breaks (named_callee w (LNamed x) es m o) es x.place ≡ [] → args_breaks w (wanted (named_callee w (LNamed x) es m o)) es ≡ [] → CallOk (named_callee w (LNamed x) es m o) (ENamed x.text) es

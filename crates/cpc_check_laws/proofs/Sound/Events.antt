@@ -10,6 +10,7 @@ use Rattle.cpc_tree.specs.Points.{Point}
 use Rattle.cpc_tree.specs.Primitives.{Primitive, Yield, Sleep, IoWait, Wait, RtFrame, RtBox, RtFrameFree, RtUnbox, RtReady, RtWait, RtSleep, RtIo, RtDetach}
 use Rattle.cpc_tree.specs.Registers.{variables}
 use Rattle.cpc_tree.specs.Trace.{Sleeping, Waiting as WaitingMark, Awaiting}
+use Rattle.cpc_tree.proofs.TypeRows.{list_back}
 use Rattle.cpc_store.specs.declared.values.Class.TheVariants.{Auto, Frame as FrameClass}
 use Rattle.cpc_store.specs.Store.{Value, Unset, Whole, Code}
 use Rattle.cpc_meaning.specs.Answer.{NoAnswer}
@@ -27,9 +28,8 @@ use Rattle.cpc_check_laws.specs.Sound.Typed.{TypedProgram, is_for}
 use Rattle.cpc_check_laws.specs.Sound.Promises.{TypedCallbacksNeverStuck}
 use Rattle.cpc_check_laws.proofs.Sound.Answers.{comes_then}
 use Rattle.cpc_check_laws.proofs.Sound.Conversions.{assigned_comes}
-use Rattle.cpc_check_laws.proofs.Sound.Types.{list_back}
 use Rattle.cpc_check_laws.proofs.Sound.Requests.{AllSuit, PrimitiveGiven, IsCallback, callback_type}
-use Rattle.cpc_check_laws.proofs.Sound.Frames.{given, given_none, Asking}
+use Rattle.cpc_check_laws.proofs.Sound.Frames.{given, Asking, given_none}
 use Rattle.cpc_check_laws.proofs.Sound.Agendas.{ready_one_ok, wait_ok, sleep_ok, io_ok}
 use Rattle.cpc_check_laws.proofs.Sound.Sections.{HasJob, allocated_comes, freed_comes}
 use Rattle.cpc_check_laws.proofs.Sound.Machines.{whole_is, cond_is, RestOk, StateOk, reply_comes, replies_come, acts_come, runs_come, submits_come, is_shared, OwnOk, runs_on_and_on}

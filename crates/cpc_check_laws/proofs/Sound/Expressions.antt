@@ -15,6 +15,7 @@ use Rattle.cpc_tree.specs.declared.program.UnaryOp.{UnaryOp}
 use Rattle.cpc_tree.specs.declared.program.UnaryOp.TheVariants.{Minus, Plus, Not, Complement, Dereference, AddressOf}
 use Rattle.cpc_tree.specs.Typing.{Meant, ALocal, AGlobal, AFunction, NotMeant, named, field, size, typing, type_named, Typed, AValue, APlace, used, typed_place, integer, target, struct_tag, field_type, is_scalar, is_testable, is_null, choice_type, cast_type, pointer_type, address_type, unary_type, sign_type, tested_type, binary_type, sum_type}
 use Rattle.cpc_tree.specs.Registers.{addresses, slot_of}
+use Rattle.cpc_tree.proofs.Options.{then_some}
 use Rattle.cpc_store.specs.declared.values.Class.{Class}
 use Rattle.cpc_store.specs.declared.values.Class.TheVariants.{Static, Auto}
 use Rattle.cpc_store.specs.declared.values.Scalar.TheVariants as S
@@ -24,7 +25,6 @@ use Rattle.cpc_meaning.specs.Eval.{Slot, Register, Boxed, Context, Spot, InSlot,
 use Rattle.cpc_check_laws.specs.Sound.Promises.{ExpressionsAnswer}
 use Rattle.cpc_check_laws.specs.Sound.Suits.{Comes, Suits, converts, SuitsSome, SuitSlots, ScopeOf, IsBoxed, AllBoxed, SuitsSpot}
 use Rattle.cpc_check_laws.proofs.Sound.Answers.{no_some, comes_then, comes_as, comes_needed, if_some}
-use Rattle.cpc_check_laws.proofs.Sound.Options.{then_some}
 use Rattle.cpc_check_laws.proofs.Sound.Operators.{moved_comes}
 use Rattle.cpc_check_laws.proofs.Sound.Conversions.{holds_comes, cast_comes, load_comes}
 use Rattle.cpc_check_laws.proofs.Sound.Binary.{binary_comes, sum_comes}

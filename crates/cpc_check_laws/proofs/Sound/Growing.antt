@@ -5,10 +5,11 @@ use Rattle.cpc_base.specs.Bytes.{Text}
 use Rattle.cpc_base.proofs.Truth.{or_neither}
 use Rattle.cpc_tree.specs.Syntax.{Ty, TyVoid, TyInt, TyCondvar, TyPointer, TyCode, TyStruct, TyArray, Variable, Item, StructItem, GlobalItem, PrototypeItem, FunctionItem, Program}
 use Rattle.cpc_tree.specs.Typing.{◌>>=◌, Cells, cells, cells_in, fields_cells, struct_cells, fields, fields_in, field, field_from, size}
+use Rattle.cpc_tree.proofs.Options.{then_some}
 use Rattle.cpc_check_rules.specs.ItemRules.{is_struct}
 use Rattle.cpc_meaning.proofs.Functions.{same_text}
 use Rattle.cpc_check_laws.proofs.Sound.Answers.{no_some}
-use Rattle.cpc_check_laws.proofs.Sound.Options.{then_some, then_of}
+use Rattle.cpc_check_laws.proofs.Sound.Options.{then_of}
 use Rattle.cpc_check_laws.proofs.Sound.Agreement.{Grows}
 use Rattle.cpc_check_laws.proofs.Sound.Items.{last_first}
 

@@ -8,7 +8,7 @@ use Rattle.cpc_tree.specs.declared.program.Mode.{Mode}
 use Rattle.cpc_tree.specs.declared.program.Mode.TheVariants.{Extern}
 use Rattle.cpc_tree.specs.Syntax.{Ty, TyVoid, TyInt, TyCondvar, TyPointer, TyCode, TyStruct, TyArray, Exprs, NoExpr, AndExpr, Expr, Variable, Function, Item, StructItem, GlobalItem, Program}
 use Rattle.cpc_tree.specs.Typing.{Scope, Meant, ALocal, AGlobal, AFunction, NotMeant, item_named, function_named, parameter_types}
-use Rattle.cpc_tree.specs.Primitives.{Primitive, primitive_in, primitive_named, primitives}
+use Rattle.cpc_tree.specs.Primitives.{Primitive, primitive_in, primitives}
 use Rattle.cpc_check_rules.specs.Scopes.{in_items}
 use Rattle.cpc_check_rules.specs.FunctionRules.{is_kept}
 use Rattle.cpc_check_rules.specs.ItemRules.{Signature, is_clash, is_disagreeing, is_item, is_function, is_long, all_long, is_host_like}
@@ -183,9 +183,6 @@ kept_in (q ∷ ps) x prim h e = go (bytes_eq q.0 x) refl e (kept_in ps x prim h.
 
 all_kept : Each (λ (q : Text × Primitive). is_kept q.0 ≡ true) primitives
 all_kept = (refl, (refl, (refl, (refl, (refl, (refl, (refl, (refl, (refl, (refl, (refl, (refl, (refl, (refl, (refl, (refl, (refl, (refl, (refl, (refl, (refl, (refl, (refl, (refl, tt))))))))))))))))))))))))
-
-pub primitive_kept : (x : Text) (prim : Primitive) → primitive_named x ≡ Some prim → is_kept x ≡ true
-primitive_kept x prim e = kept_in primitives x prim all_kept e
 
 -- ---- what a whole program knows
 

@@ -1,23 +1,12 @@
 -- What the names of a frame stand for has its slot.
 use Rattle.std.proofs.Common.{◌≡◌, ℕ, zero, suc, Bool, true, false, cond, List, [], ◌∷◌, ◌++◌, slice_get, Some, bytes_eq, sym, ◌∙◌, ap, subst}
 use Rattle.cpc_base.specs.Bytes.{Text}
-use Rattle.cpc_tree.specs.Syntax.{Ty, StructItem, GlobalItem, PrototypeItem, FunctionItem, Program}
-use Rattle.cpc_tree.specs.Typing.{Scope, Meant, ALocal, item_named, named}
+use Rattle.cpc_tree.specs.Syntax.{Ty, Program}
+use Rattle.cpc_tree.specs.Typing.{Scope, ALocal, named}
 use Rattle.cpc_tree.specs.Registers.{slot_of}
+use Rattle.cpc_tree.proofs.Named.{no_local}
 use Rattle.cpc_meaning.specs.Eval.{Slot}
 use Rattle.cpc_check_laws.specs.Sound.Suits.{SuitsSlot, SuitsSome, SuitSlots, ScopeOf, AllBoxed}
-
-no_either : (b : Bool) (a c : Meant) (k : ℕ) (t : Ty) → (a ≡ ALocal k t → ⊥) → (c ≡ ALocal k t → ⊥) → cond b a c ≡ ALocal k t → ⊥
-no_either true a c k t f g e = f e
-no_either false a c k t f g e = g e
-
--- an item is no local
-pub no_local : (n : ℕ) (p : Program) (x : Text) (k : ℕ) (t : Ty) → item_named n p x ≡ ALocal k t → ⊥
-no_local n [] x k t e = absurd (cc)
-no_local n (StructItem tag fs ∷ items) x k t e = no_local n items x k t e
-no_local n (GlobalItem g u start ∷ items) x k t e = no_either (bytes_eq g x) _ _ k t (λ h. absurd (cc)) (no_local (suc n) items x k t) e
-no_local n (PrototypeItem mode f r ps ∷ items) x k t e = no_either (bytes_eq f x) _ _ k t (λ h. absurd (cc)) (no_local n items x k t) e
-no_local n (FunctionItem f ∷ items) x k t e = no_either (bytes_eq f.called x) _ _ k t (λ h. absurd (cc)) (no_local n items x k t) e
 
 -- a local has its type, and is where `&` looks for it
 pub local_is : (ts : List Ty) (p : Program) (scope : Scope) (x : Text) (k : ℕ) (t : Ty) → ScopeOf ts scope → named p scope x ≡ ALocal k t → (slice_get ts k ≡ Some t) × (slot_of scope x ≡ k ∷ [])

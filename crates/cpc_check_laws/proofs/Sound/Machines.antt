@@ -36,7 +36,7 @@ use Rattle.cpc_check_rules.specs.Calls.{gives}
 use Rattle.cpc_meaning.proofs.Functions.{found_again}
 use Rattle.cpc_check_laws.proofs.Sound.Answers.{comes_then, comes_needed}
 use Rattle.cpc_check_laws.proofs.Sound.Requests.{AllSuit, IsWhole, AllWhole, IsCond, SectionGiven, PrimitiveGiven, IsRequest, AsksPrimitive, AsksHost, AsksSpawn, AsksSection}
-use Rattle.cpc_check_laws.proofs.Sound.Frames.{Given, Running, Asking, DoneOk, WentOk, entered, frame_comes, plain_comes, answer_comes}
+use Rattle.cpc_check_laws.proofs.Sound.Frames.{Running, Asking, DoneOk, WentOk, entered, frame_comes, plain_comes, answer_comes, Given}
 use Rattle.cpc_check_laws.proofs.Sound.Agendas.{Each, each_append, each_map, OkThen, DueOk, OutOk, AgendaOk, new_ok, ready_one_ok, begin_round_ok, cond_new_ok, cond_free_ok, signal_ok, signal_all_ok, section_ok, more_out, poll_ok, out_are}
 use Rattle.cpc_check_laws.proofs.Sound.Sections.{StoreActOk, allocated_comes, freed_comes, JobOk, HasJob, CollectedOk, collect_ok, copy_comes, submitted_ok, more_jobs, last_job}
 

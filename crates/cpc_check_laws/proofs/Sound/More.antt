@@ -9,8 +9,9 @@ use Rattle.cpc_num.specs.declared.kinds.Op.TheVariants.{Add, Sub}
 use Rattle.cpc_tree.specs.declared.program.UnaryOp.TheVariants.{AddressOf}
 use Rattle.cpc_tree.specs.Syntax.{Ty, TyInt, TyPointer, Expr, ENamed, EInteger, ECharacter, EText, EUnary, EBinary, EAnd, EOr, EChoose, ECast, ESizeOf, EIndex, EMember, EArrow, ECall, Program}
 use Rattle.cpc_tree.specs.Typing.{Meant, Typed, size, field, used, typed_place, target, struct_tag, type_named, sign_type, tested_type, movable, sum_type, difference_type, binary_type, field_type, is_null, same_type, typing_of}
+use Rattle.cpc_tree.proofs.Options.{then_some}
 use Rattle.cpc_check_laws.proofs.Sound.Answers.{no_some, if_some}
-use Rattle.cpc_check_laws.proofs.Sound.Options.{then_some, then_of}
+use Rattle.cpc_check_laws.proofs.Sound.Options.{then_of}
 use Rattle.cpc_check_laws.proofs.Sound.Expressions.{sign_some, tested_is}
 
 tested_more : (o u : Option Typed) (t : Ty) → ((d : Typed) → o ≡ Some d → u ≡ Some d) → tested_type o ≡ Some t → tested_type u ≡ Some t

@@ -29,14 +29,16 @@ use Rattle.cpc_check_laws.specs.Sound.Typed.{AllSized, BodyTyped, TypedFunction,
 use Rattle.cpc_meaning.proofs.Functions.{text_same}
 use Rattle.cpc_check_laws.proofs.Sound.Answers.{no_some}
 use Rattle.cpc_check_laws.proofs.Sound.Agendas.{Each}
-use Rattle.cpc_check_laws.proofs.Sound.Unbroken.{split, holds_not, holds_then}
+use Rattle.cpc_check_laws.proofs.Sound.Unbroken.{split, holds_then}
 use Rattle.cpc_check_laws.proofs.Sound.Agreement.{Matches, Grows, sizes_grow, Facts, At}
 use Rattle.cpc_check_laws.proofs.Sound.Shapes.{Written, AllWritten}
 use Rattle.cpc_check_laws.proofs.Sound.Bodies.{size_of, at_name, stmts_here, all_sized, stmts_sized}
 use Rattle.cpc_check_laws.proofs.Sound.Loops.{body_controlled}
 use Rattle.cpc_check_laws.proofs.Sound.Items.{signed, named_more, is_defined, function_there}
-use Rattle.cpc_check_laws.proofs.Sound.Knowing.{Same, Known, nothing_known, known_struct, known_global, known_function, primitive_kept, facts_of}
+use Rattle.cpc_check_laws.proofs.Sound.Knowing.{Same, Known, nothing_known, known_struct, known_global, known_function, facts_of}
 use Rattle.cpc_check_laws.proofs.Sound.Growing.{IsFresh, grows_step, grows_same, grows_on}
+use Rattle.cpc_check_laws.proofs.Run.Names.{primitive_kept}
+use Rattle.cpc_check_laws.proofs.Native.NativeValues.{unbroken}
 
 -- ---- shapes
 
@@ -62,7 +64,7 @@ kept_not D.Event x e = e
 kept_not D.Cpc x e = (or_neither (is_kept x) _ e).0
 
 free_name : (dialect : Dialect) (x : Ident) → reserved_breaks dialect (x ∷ []) ≡ [] → is_kept x.text ≡ false
-free_name dialect x h = kept_not dialect x.text (holds_not (is_reserved dialect x.text) x.place Reserved (split (at_if (is_reserved dialect x.text) x.place Reserved) [] h).0)
+free_name dialect x h = kept_not dialect x.text (unbroken (is_reserved dialect x.text) x.place Reserved (split (at_if (is_reserved dialect x.text) x.place Reserved) [] h).0)
 
 -- a function that is defined is not extern
 pub no_extern : (m : Mode) → is_own m ≡ true → is_extern m ≡ false
@@ -76,7 +78,7 @@ pub extern_is : (m : Mode) → m ≡ Extern → is_extern m ≡ true
 extern_is m e = ap is_extern e
 
 -- the signature of a function, as a declaration and as a definition
-abbrev signature : Mode → Ty → List LParameter → Bool → Signature
+abbrev pub signature : Mode → Ty → List LParameter → Bool → Signature
 signature mode r ps is_defined = record { mode = mode; result = r; parameters = types ps; is_defined = is_defined }
 
 module _ (dialect : Dialect) (program before rest : Program) (known : Known program before) where
@@ -92,9 +94,9 @@ module _ (dialect : Dialect) (program before rest : Program) (known : Known prog
       known_function program before known (bare_item (LPrototype q mode x r ps)) x.text new
       (λ p y. ap (λ ts. cond (bytes_eq x.text y) (AFunction mode r ts) (in_items p y)) (sym (types_are ps)))
       (λ k y. ap (λ ts. cond (bytes_eq x.text y) (AFunction mode r ts) NotMeant) (sym (types_are ps)))
-      (holds_not (is_clash x.text new before) x.place Twice c.0) (holds_not (is_disagreeing x.text new before) x.place Disagree c.1) (free_name dialect x h1.0)
-      (λ e. and_not_fails (is_extern mode) (is_host_like r (types ps)) (holds_not (is_extern mode && not (is_host_like r (types ps))) x.place Disagree h4.0) (extern_is mode e))
-      (λ o. and_not_fails (not (is_extern mode)) (is_function x.text program) (holds_not (not (is_extern mode) && not (is_function x.text program)) x.place Undeclared h5.0) (ap not (no_extern mode o)))
+      (unbroken (is_clash x.text new before) x.place Twice c.0) (unbroken (is_disagreeing x.text new before) x.place Disagree c.1) (free_name dialect x h1.0)
+      (λ e. and_not_fails (is_extern mode) (is_host_like r (types ps)) (unbroken (is_extern mode && not (is_host_like r (types ps))) x.place Disagree h4.0) (extern_is mode e))
+      (λ o. and_not_fails (not (is_extern mode)) (is_function x.text program) (unbroken (not (is_extern mode) && not (is_function x.text program)) x.place Undeclared h5.0) (ap not (no_extern mode o)))
       (λ y g e. no_some g e)
 
   known_definition : (f : LFunction) → ItemShape (LFunctionItem f) → program ≡ before ++ bare_item (LFunctionItem f) ∷ rest → function_breaks dialect before f ≡ [] → Known program (before ++ bare_item (LFunctionItem f) ∷ [])
@@ -107,7 +109,7 @@ module _ (dialect : Dialect) (program before rest : Program) (known : Known prog
       known_function program before known (bare_item (LFunctionItem f)) f.called.text new
       (λ p y. ap (λ ts. cond (bytes_eq f.called.text y) (AFunction f.mode f.result ts) (in_items p y)) (sym (types_are f.parameters)))
       (λ k y. ap (λ ts. cond (bytes_eq f.called.text y) (AFunction f.mode f.result ts) NotMeant) (sym (types_are f.parameters)))
-      (holds_not (is_clash f.called.text new before) f.called.place Twice c.0) (holds_not (is_disagreeing f.called.text new before) f.called.place Disagree c.1) (free_name dialect f.called h1.0)
+      (unbroken (is_clash f.called.text new before) f.called.place Twice c.0) (unbroken (is_disagreeing f.called.text new before) f.called.place Disagree c.1) (free_name dialect f.called h1.0)
       (λ e. by_false_true (sym (no_extern f.mode shape.0) ∙ extern_is f.mode e))
       (λ o. subst (λ p. is_function f.called.text p ≡ true) (sym whole) (function_there before rest (bare_function f) f.called.text (text_same f.called.text)))
       (λ y g e. is_new f y g e)
@@ -126,7 +128,7 @@ module _ (dialect : Dialect) (program before rest : Program) (known : Known prog
   known_item (LGlobal x t start) s whole h =
       let h1 = split (reserved_breaks dialect (x ∷ [])) _ h in
       let h2 = split (at_if (is_item x.text before) x.place Twice) _ h1.1 in
-      known_global program before known x.text t _ (holds_not (is_item x.text before) x.place Twice h2.0) (free_name dialect x h1.0)
+      known_global program before known x.text t _ (unbroken (is_item x.text before) x.place Twice h2.0) (free_name dialect x h1.0)
   known_item (LPrototype q mode x r ps) s whole h = known_prototype q mode x r ps h
   known_item (LFunctionItem f) s whole h = known_definition f s whole h
 
@@ -134,7 +136,7 @@ module _ (dialect : Dialect) (program before rest : Program) (known : Known prog
 fresh_item : (dialect : Dialect) (program before : Program) (x : LItem) → item_breaks dialect program before x ≡ [] → IsFresh before (bare_item x)
 fresh_item dialect program before (LStruct tag fs) h =
     let h1 = split (reserved_breaks dialect (tag ∷ [])) _ h in
-    holds_not (is_struct tag.text before) tag.place Twice (split (at_if (is_struct tag.text before) tag.place Twice) _ h1.1).0
+    unbroken (is_struct tag.text before) tag.place Twice (split (at_if (is_struct tag.text before) tag.place Twice) _ h1.1).0
 fresh_item dialect program before (LGlobal x t start) h = tt
 fresh_item dialect program before (LPrototype q mode x r ps) h = tt
 fresh_item dialect program before (LFunctionItem f) h = tt

@@ -24,7 +24,7 @@ use Rattle.cpc_check_laws.specs.Sound.Typed.{Delivers, TypedProgram, is_for}
 use Rattle.cpc_check_laws.specs.Sound.Promises.{TypedThreadsNeverStuck}
 use Rattle.cpc_check_laws.proofs.Sound.Answers.{comes_then, comes_as}
 use Rattle.cpc_check_laws.proofs.Sound.Requests.{SectionGiven, PrimitiveGiven}
-use Rattle.cpc_check_laws.proofs.Sound.Frames.{Given, given, given_none, Asking, Waiting, waiting_comes, resumes}
+use Rattle.cpc_check_laws.proofs.Sound.Frames.{given, Asking, Waiting, waiting_comes, resumes, Given, given_none}
 use Rattle.cpc_check_laws.proofs.Sound.Agendas.{OkThen, AgendaOk, ready_one_ok, wait_ok, sleep_ok, io_ok}
 use Rattle.cpc_check_laws.proofs.Sound.Sections.{HasJob}
 use Rattle.cpc_check_laws.proofs.Sound.Machines.{whole_is, cond_is, ok_comes, RestOk, StateOk, with_agenda_ok, reply_comes, runs_come, submits_come, is_shared, OwnOk, runs_on_and_on}

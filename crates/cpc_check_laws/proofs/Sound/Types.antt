@@ -1,8 +1,8 @@
 -- Types that are told to be one are one.
-use Rattle.std.proofs.Common.{◌≡◌, ◌==◌, true, List, [], ◌∷◌, refl, ◌∙◌, ap}
+use Rattle.std.proofs.Common.{◌≡◌, ◌==◌, true, refl, ◌∙◌, ap}
 use Rattle.cpc_base.proofs.Truth.{by_false_true, and_both, eq_means}
 use Rattle.cpc_tree.specs.Syntax.{Ty, TyVoid, TyInt, TyCondvar, TyPointer, TyCode, TyStruct, TyArray, Tys, NoTy, AndTy}
-use Rattle.cpc_tree.specs.Typing.{same_type, same_types, tys_of, list_of_tys}
+use Rattle.cpc_tree.specs.Typing.{same_type, same_types}
 use Rattle.cpc_meaning.proofs.Functions.{same_text}
 use Rattle.cpc_check_laws.proofs.Sound.Conversions.{kind_is}
 
@@ -27,7 +27,3 @@ mutual
       let h = and_both (same_type t u) (same_types ts us) e in
       ap (λ t. AndTy t ts) (type_is t u h.0) ∙ ap (λ ts. AndTy u ts) (types_are ts us h.1)
   types_are _ _ e = by_false_true e
-
-pub list_back : (ts : List Ty) → list_of_tys (tys_of ts) ≡ ts
-list_back [] = refl
-list_back (t ∷ ts) = ap (λ ts. t ∷ ts) (list_back ts)

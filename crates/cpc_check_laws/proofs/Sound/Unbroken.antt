@@ -23,6 +23,7 @@ use Rattle.cpc_check_rules.specs.Operators.{Where, typed_at, first, name_breaks,
 use Rattle.cpc_check_rules.specs.ExprRules.{expr_breaks}
 use Rattle.cpc_check_laws.proofs.Sound.Answers.{no_some}
 use Rattle.cpc_check_laws.proofs.Sound.Options.{then_of}
+use Rattle.cpc_check_laws.proofs.Native.NativeValues.{unbroken}
 
 -- ---- rows of broken rules
 
@@ -33,19 +34,15 @@ split (x ∷ xs) ys e = absurd (cc)
 pub not_broken : {A : Type 0} (x : Place × Rule) (xs : Broken) → x ∷ xs ≡ [] → A
 not_broken x xs e = absurd (cc)
 
-pub holds_not : (b : Bool) (q : Place) (rule : Rule) → at_if b q rule ≡ [] → b ≡ false
-holds_not true q rule e = not_broken (q, rule) [] e
-holds_not false q rule e = refl
-
 pub holds_then : (b : Bool) (q : Place) (rule : Rule) → at_if (not b) q rule ≡ [] → b ≡ true
-holds_then b q rule e = not_fails b (holds_not (not b) q rule e)
+holds_then b q rule e = not_fails b (unbroken (not b) q rule e)
 
 pub there : {A : Type 0} (o : Option A) → is_none o ≡ false → (x : A) × (o ≡ Some x)
 there None e = by_false_true (sym e)
 there (Some x) e = (x, refl)
 
 pub rule_some : (have : Bool) (whole : Option Typed) (q : Place) → no_rule have whole q ≡ [] → have ≡ true → (d : Typed) × (whole ≡ Some d)
-rule_some have whole q e h = there whole (and_fails_second have (is_none whole) (holds_not (have && is_none whole) q _ e) h)
+rule_some have whole q e h = there whole (and_fails_second have (is_none whole) (unbroken (have && is_none whole) q _ e) h)
 
 pub binary_some : (s : Scope) (op : Op) (a b whole : Option Typed) (q : Place) → binary_breaks s op a b whole q ≡ [] → is_some a ≡ true → is_some b ≡ true → (d : Typed) × (whole ≡ Some d)
 binary_some s op a b whole q e h k = go (is_incomplete_sum s op a b) e
@@ -70,7 +67,7 @@ struct_some s tag q x whole e = go (is_none (fields s.items tag)) e
   where
     go : (b : Bool) → cond b ((q, Incomplete) ∷ []) (at_if (is_none whole) x.place NoField) ≡ [] → (d : Typed) × (whole ≡ Some d)
     go true e = not_broken _ [] e
-    go false e = there whole (holds_not (is_none whole) x.place _ e)
+    go false e = there whole (unbroken (is_none whole) x.place _ e)
 
 field_some : (s : Scope) (o : Option Ty) (q : Place) (x : Ident) (whole : Option Typed) → field_breaks s o q x whole ≡ [] → (d : Typed) × (whole ≡ Some d)
 field_some s (Some (TyStruct tag)) q x whole e = struct_some s tag q x whole e
@@ -109,7 +106,7 @@ module _ (w : Where) where
   typed_of (LUnary q AddressOf v) h =
       let k = split (expr_breaks w v) (address_breaks (typed_at w v) (typed_at w (LUnary q AddressOf v)) (first v)) h in
       let d = typed_of v k.0 in
-      there (typed_at w (LUnary q AddressOf v)) (and_fails_second (is_some (typed_at w v)) (is_none (typed_at w (LUnary q AddressOf v))) (holds_not _ (first v) _ k.1) (ap is_some d.1))
+      there (typed_at w (LUnary q AddressOf v)) (and_fails_second (is_some (typed_at w v)) (is_none (typed_at w (LUnary q AddressOf v))) (unbroken _ (first v) _ k.1) (ap is_some d.1))
   typed_of (LUnary q Minus v) h = sign_of q Minus v (split (expr_breaks w v) _ h).1 (typed_of v (split (expr_breaks w v) _ h).0)
   typed_of (LUnary q Plus v) h = sign_of q Plus v (split (expr_breaks w v) _ h).1 (typed_of v (split (expr_breaks w v) _ h).0)
   typed_of (LUnary q Not v) h = sign_of q Not v (split (expr_breaks w v) _ h).1 (typed_of v (split (expr_breaks w v) _ h).0)
@@ -137,7 +134,7 @@ module _ (w : Where) where
       let k = split (expr_breaks w v) _ h in
       rule_some (is_some (typed_at w v)) _ q k.1 (ap is_some (typed_of v k.0).1)
   typed_of (LSizeOf q t) h =
-      let n = size_some t (holds_not (is_none (measured w.scope t)) q _ h) in
+      let n = size_some t (unbroken (is_none (measured w.scope t)) q _ h) in
       (AValue (TyInt ULong), then_of (size w.scope.items t) _ n.0 _ n.1 refl)
   typed_of (LIndex q v u) h =
       let k = split (expr_breaks w v) _ h in

@@ -21,11 +21,9 @@ use Rattle.cpc_meaning.specs.Machine.{IsStuck}
 use Rattle.cpc_meaning.specs.Threads.{threads, threaded}
 use Rattle.cpc_meaning.specs.Events.{callbacks, event}
 use Rattle.cpc_check_laws.specs.Sound.Typed.{TypedProgram}
+use Rattle.cpc_check_laws.specs.Run.Refusals.{here}
 
 -- ---- trees, all of whose parts stand at one place
-
-abbrev here : Place
-here = record { line = 1; column = 1 }
 
 abbrev called : Text → Ident
 called x = record { place = here; text = x }

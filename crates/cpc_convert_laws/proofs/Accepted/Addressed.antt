@@ -13,6 +13,8 @@ use Rattle.cpc_tree.specs.Primitives.{Primitive, Puts, RtDetach, takes_first, Ta
 use Rattle.cpc_tree.specs.Registers.{slot_of, addresses, addresses_all, addresses_if, addressed, variables, scope_in_function, outer_scope}
 use Rattle.cpc_tree.specs.Syntax.{Ty, TyVoid, TyInt, TyCondvar, TyPointer, TyCode, TyStruct, TyArray, Expr, ENamed, EInteger, ECharacter, EText, EUnary, EBinary, EAnd, EOr, EChoose, ECast, ESizeOf, EIndex, EMember, EArrow, ECall, Exprs, NoExpr, AndExpr, Stmt, Declare, Assign, Call, Detach, Spawn, Return, Variable, Function, Program}
 use Rattle.cpc_tree.specs.Typing.{Scope, ALocal, named, item_named, function_named, is_scalar, Typed, typing, tested_type, AValue, APlace, binary_type, choice_type, sum_type, target, is_null, parameter_types, list_of_tys, ◌>>=◌}
+use Rattle.cpc_tree.proofs.Named.{no_local}
+use Rattle.cpc_tree.proofs.Options.{then_some}
 use Rattle.cpc_meaning.specs.Act.{right_side}
 use Rattle.cpc_meaning.specs.Eval.{Slot, Register, Boxed}
 use Rattle.cpc_meaning.specs.Requests.{section_takes}
@@ -20,9 +22,7 @@ use Rattle.cpc_check_laws.specs.Sound.Suits.{IsBoxed, AllBoxed}
 use Rattle.cpc_check_laws.specs.Sound.Typed.{is_for, Gets, AllGet, EachGets, GetsTaken, AllGetTaken, TakesArguments, Delivers, Calls, CallsHost, CallsFunction, CallsPrimitive, CallsPointer, IsTyped, FoundTyped, BodyTyped}
 use Rattle.cpc_check_laws.proofs.Sound.Answers.{no_some}
 use Rattle.cpc_check_laws.proofs.Sound.Expressions.{sign_some, tested_is}
-use Rattle.cpc_check_laws.proofs.Sound.Options.{then_some}
 use Rattle.cpc_check_laws.proofs.Sound.Paths.{simple_addresses, found_addresses, function_boxed}
-use Rattle.cpc_check_laws.proofs.Sound.Lookups.{no_local}
 use Rattle.cpc_convert_chain_laws.specs.Addresses.{avoids, avoids_all, avoids_if}
 use Rattle.cpc_convert_image_laws.specs.Locals.{reading_of}
 use Rattle.cpc_convert_event.specs.AddressLaws.{bars, avoids_simple, avoids_found}

@@ -38,10 +38,10 @@ use Rattle.cpc_convert_laws.proofs.Accepted.Spawns.{Spawning, step_spawns}
 use Rattle.cpc_convert_laws.proofs.Accepted.Walk.{Next, next_so}
 
 -- nothing is said of a result
-abbrev Any : Value → Type 0
+abbrev pub Any : Value → Type 0
 Any v = Unit {0}
 
-any_values : (vs : List Value) → All Any vs
+pub any_values : (vs : List Value) → All Any vs
 any_values [] = All-nil Any
 any_values (v ∷ vs) = All-cons Any v vs tt (any_values vs)
 

@@ -1,17 +1,14 @@
 -- Rows of numbers below a bound: the numbers of a piece's rows are numbers of nodes, and those of boxes rise.
-use Rattle.std.proofs.Common.{◌≡◌, ℕ, zero, suc, ◌+◌, ◌≤◌, ◌<◌, Bool, true, false, not, ◌&&◌, ◌||◌, ◌==◌, if◌then◌else◌, cond, List, [], ◌∷◌, ◌++◌, length, nat_le, nat_lt, Option, Some, None, refl, subst, arith}
-use Rattle.cpc_base.specs.Bytes.{Text}
+use Rattle.std.proofs.Common.{◌≡◌, ℕ, suc, ◌+◌, ◌≤◌, ◌<◌, Bool, true, false, not, ◌&&◌, ◌||◌, ◌==◌, if◌then◌else◌, List, [], ◌∷◌, ◌++◌, length, nat_le, nat_lt, Option, Some, None, refl, arith}
 use Rattle.cpc_base.proofs.Truth.{eq_means}
 use Rattle.cpc_tree.specs.Lists.{holds_number}
 use Rattle.cpc_tree.specs.Syntax.{Program}
 use Rattle.cpc_forms.specs.Flow.{Place}
 use Rattle.cpc_forms.specs.Split.{number_if}
 use Rattle.cpc_forms.specs.Pieces.{is_owned_by, owned_from, without, fronted, first_of}
-use Rattle.cpc_lift_laws.specs.Boxes.{is_box}
-use Rattle.cpc_lift_laws.specs.Lift.{boxes_from}
 use Rattle.cpc_convert_event.specs.Routines.{Routine, chosen}
 use Rattle.cpc_convert_event.specs.Rows.{is_own, has_row, turned, rows_nodes, reached, stubs_of, row_of, falls, number_where, stub_behind, numbers_from, numbers_of}
-use Rattle.cpc_convert_event.proofs.Numbers.{AllBelow, NoneBelow, OneBelow, below_append, below_chosen, Rises, NoneRise, OneRise, rises_lower}
+use Rattle.cpc_convert_event.proofs.Numbers.{AllBelow, NoneBelow, OneBelow, below_append, below_chosen}
 
 -- a number that is held is below what all are below
 pub below_held : (high : ℕ) (ns : List ℕ) (n : ℕ) → AllBelow high ns → holds_number ns n ≡ true → n < high
@@ -67,12 +64,3 @@ below_numbers p r l high few leaders =
     let nodes = below_turned high (first_of r.split l) _ (below_chosen high (has_row r.split) _ (below_fronted high (first_of r.split l) _ (below_owned high l 0 r.split.owners (omega (arith, few))))) in
     let from = below_from p r l high (stubs_of r l) [] stubs (rows_nodes r.split l) nodes in
     below_append high (numbers_from p r l (stubs_of r l) [] (rows_nodes r.split l)) _ from (below_chosen high (λ n. not (holds_number (numbers_from p r l (stubs_of r l) [] (rows_nodes r.split l)) n)) (stubs_of r l) stubs)
-
--- the numbers of boxes rise
-pub boxes_rise : (p : Program) (f : Text) (k n : ℕ) → Rises (k + n) k (boxes_from p f k n)
-boxes_rise p f k zero = NoneRise k
-boxes_rise p f k (suc n) = go (is_box p f k) (subst (λ m. Rises m (suc k) (boxes_from p f (suc k) n)) (let z : suc k + n ≡ k + suc n = omega arith in z) (boxes_rise p f (suc k) n))
-  where
-    go : (b : Bool) → Rises (k + suc n) (suc k) (boxes_from p f (suc k) n) → Rises (k + suc n) k (cond b (k ∷ boxes_from p f (suc k) n) (boxes_from p f (suc k) n))
-    go true r = OneRise k k _ (omega arith) (omega arith) r
-    go false r = rises_lower (k + suc n) k (suc k) _ (omega arith) r

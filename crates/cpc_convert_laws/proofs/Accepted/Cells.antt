@@ -22,8 +22,9 @@ use Rattle.cpc_check_laws.proofs.Sound.Agendas.{Each}
 use Rattle.cpc_check_laws.proofs.Sound.Agreement.{Grows, sizes_grow}
 use Rattle.cpc_check_laws.proofs.Sound.Growing.{IsFresh, grows_step, grows_same, grows_on}
 use Rattle.cpc_check_laws.proofs.Sound.Programs.{BodyShape, ItemShape}
-use Rattle.cpc_check_laws.proofs.Sound.Unbroken.{split, holds_not, holds_then}
+use Rattle.cpc_check_laws.proofs.Sound.Unbroken.{split, holds_then}
 use Rattle.cpc_check_laws.proofs.Sound.Bodies.{behind_items, all_behind_items}
+use Rattle.cpc_check_laws.proofs.Native.NativeValues.{unbroken}
 use Rattle.cpc_convert.specs.Members.{Has, OnTop, Below}
 use Rattle.cpc_convert_laws.specs.Accepted.Pieces.{VariablesHaveCells}
 
@@ -136,7 +137,7 @@ module _ (p : Program) where
   fresh_item : (before : Program) (x : LItem) → item_breaks D.Cpc p before x ≡ [] → IsFresh before (bare_item x)
   fresh_item before (LStruct tag fs) h =
       let h1 = split (reserved_breaks D.Cpc (tag ∷ [])) _ h in
-      holds_not (is_struct tag.text before) tag.place Twice (split (at_if (is_struct tag.text before) tag.place Twice) _ h1.1).0
+      unbroken (is_struct tag.text before) tag.place Twice (split (at_if (is_struct tag.text before) tag.place Twice) _ h1.1).0
   fresh_item before (LGlobal x t start) h = tt
   fresh_item before (LPrototype q mode x r ps) h = tt
   fresh_item before (LFunctionItem f) h = tt

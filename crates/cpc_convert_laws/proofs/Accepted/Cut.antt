@@ -12,15 +12,16 @@ use Rattle.cpc_tree.specs.Typing.{Scope, function_named}
 use Rattle.cpc_meaning.specs.Threads.{is_cps_mode}
 use Rattle.cpc_meaning.specs.Trees.{scope_from}
 use Rattle.cpc_meaning.specs.Ways.{ways}
-use Rattle.cpc_forms.specs.Flow.{Place, Start, At, Flow, owner_of}
+use Rattle.cpc_forms.specs.Flow.{Place, Flow, owner_of}
 use Rattle.cpc_forms.specs.Graph.{Node, graph_of, graph_if, graph_where, graphs, at_node}
-use Rattle.cpc_forms.specs.Pieces.{same_place, is_owned_by}
+use Rattle.cpc_forms.specs.Pieces.{is_owned_by}
 use Rattle.cpc_forms.specs.Split.{Split, owners_from, split_of, splits, Position, InTree, InGraph, position_scope}
 use Rattle.cpc_graph_laws.specs.Going.{IsHeld, OutOfGraphs, OwnedNode}
 use Rattle.cpc_graph_laws.specs.Laws.{flow_in}
 use Rattle.cpc_graph_laws.proofs.Formed.{node_comes}
 use Rattle.cpc_graph_laws.proofs.Holding.{positions_are_held}
 use Rattle.cpc_graph_laws.proofs.Splits.{owner_there}
+use Rattle.cpc_graph_laws.proofs.Owning.{owned_is, place_same, place_self}
 use Rattle.cpc_lift_laws.specs.Lift.{variables_in, variable_count}
 use Rattle.cpc_lift_laws.specs.Nodes.{Member, First, Later}
 use Rattle.cpc_lift_laws.proofs.Scopes.{scopes_are_below}
@@ -30,27 +31,6 @@ use Rattle.cpc_convert_event.specs.Rows.{owner_at, is_own}
 use Rattle.cpc_convert_laws.specs.Accepted.Lifted.{ProgramsAreSplit}
 
 -- ---- owners
-
--- a place is itself
-pub place_self : (l : Place) → same_place l l ≡ true
-place_self Start = refl
-place_self (At n) = grind arith
-
--- places that are told the same are one
-pub place_same : (k l : Place) → same_place k l ≡ true → k ≡ l
-place_same Start Start e = refl
-place_same (At m) (At n) e = let i : m ≡ n = grind arith in ap (λ k. At k) i
-place_same Start (At n) e = absurd (cc)
-place_same (At m) Start e = absurd (cc)
-
-owned_is : (l : Place) (o : Option Place) → is_owned_by l o ≡ true → o ≡ Some l
-owned_is l None e = absurd (cc)
-owned_is l (Some k) e = ap (λ k. Some k) (place_same k l e)
-
--- as many owners as nodes
-pub owners_long : (flow : Flow) (n k : ℕ) → length (owners_from flow n k) ≡ k
-owners_long flow n zero = refl
-owners_long flow n (suc k) = ap suc (owners_long flow (suc n) k)
 
 none_beyond : (flow : Flow) (k size m : ℕ) → size ≤ m → slice_get (owners_from flow k size) m ≡ None
 none_beyond flow k zero m le = refl

@@ -15,13 +15,14 @@ use Rattle.cpc_meaning.specs.Threads.{is_cps_mode, is_cps, shown_in}
 use Rattle.cpc_meaning.specs.Trees.{scope_from}
 use Rattle.cpc_meaning.proofs.Functions.{same_text}
 use Rattle.cpc_check_rules.specs.declared.rule.Rule.TheVariants.{NoMain}
-use Rattle.cpc_check_rules.specs.FunctionRules.{begins_with, holds_underscores}
+use Rattle.cpc_check_rules.specs.FunctionRules.{begins_with}
 use Rattle.cpc_check_rules.specs.ItemRules.{items_breaks}
 use Rattle.cpc_check_rules.specs.Rule.{at_if}
 use Rattle.cpc_check_rules.specs.Rules.{is_main, has_main}
 use Rattle.cpc_base.specs.declared.stop.Dialect.TheVariants as D
-use Rattle.cpc_base.proofs.Truth.{by_false_true, and_both, or_neither}
+use Rattle.cpc_base.proofs.Truth.{by_false_true, and_both}
 use Rattle.cpc_check_laws.proofs.Sound.Unbroken.{split, holds_then}
+use Rattle.cpc_check_laws.proofs.Run.Stands.{whole}
 use Rattle.cpc_convert.specs.Marks.{has_marks}
 use Rattle.cpc_convert.specs.Converted.{marked}
 use Rattle.cpc_convert.specs.Members.{Has, OnTop, Below}
@@ -55,14 +56,6 @@ two_underscores b c x h = go (b == 95) (c == 95) refl refl
     go true true i j = absurd (let k : begins_with (95 ∷ 95 ∷ []) (b ∷ c ∷ x) ≡ true = simp (bar_turned b, bar_turned c, i, j) refl in let l : true ≡ false = sym k ∙ h in cc)
     go true false i j = refl
     go false e i j = refl
-
--- a name without two underscores is shown whole
-whole : (x : Text) → holds_underscores x ≡ false → before_underscores x ≡ x
-whole [] h = refl
-whole (b ∷ []) h = refl
-whole (b ∷ c ∷ x) h =
-    let k = or_neither (begins_with (95 ∷ 95 ∷ []) (b ∷ c ∷ x)) (holds_underscores (c ∷ x)) h in
-    ap (λ d. cut_where d (b ∷ before_underscores (c ∷ x))) (two_underscores b c x k.0) ∙ ap (λ y. b ∷ y) (whole (c ∷ x) k.1)
 
 -- what is behind the first two underscores is not shown
 before_rest : (f rest : Text) → before_underscores (f ++ 95 ∷ 95 ∷ rest) ≡ before_underscores (f ++ 95 ∷ 95 ∷ [])

@@ -35,7 +35,7 @@ use Rattle.cpc_lift_laws.proofs.Boxes.{programs_have_marks}
 use Rattle.cpc_lift_laws.proofs.Frames.{FramesAgree, FrameAgrees, StacksAgree, StackAgrees}
 use Rattle.cpc_lift_laws.proofs.Lifting.{lifted_is_tidy}
 use Rattle.cpc_lift_laws.proofs.Slots.{SlotsMeet, same_slot}
-use Rattle.cpc_lift_laws.proofs.Standing.{run_agrees}
+use Rattle.cpc_lift_laws.proofs.Standing.{run_agrees, one_length}
 use Rattle.cpc_convert_image_laws.specs.Held.{IsHeld, IsHeldSlot, IsHeldStore}
 use Rattle.cpc_convert_image_laws.specs.InPlace.{is_cps}
 use Rattle.cpc_convert_image_laws.specs.Native.{IsHeldIf}
@@ -48,13 +48,14 @@ use Rattle.cpc_check_laws.proofs.Kept.Runs.{nothing_points_to_frames}
 use Rattle.cpc_check_laws.proofs.Kept.Slots.{cleared_fit, slots_are_known}
 use Rattle.cpc_check_laws.proofs.Sound.Accepted.{accepted_facts}
 use Rattle.cpc_check_laws.proofs.Kept.Trees.{native_there, accepted_is_steady}
+use Rattle.cpc_check_laws.proofs.Kept.Passing.{all_both}
 use Rattle.cpc_convert.specs.Marks.{has_marks}
 use Rattle.cpc_convert_event.specs.ClosureLaws.{lifting}
 use Rattle.cpc_convert_laws.specs.Accepted.Known.{AreScalar, Stays, HoldsOfNatives, AcceptedCodesStay, KeptSlot, IsRegister, IsBox, FineFrame, FineStack, BeginsWell, FineThread, FineJob, FineState, AcceptedIsFine}
 use Rattle.cpc_convert_laws.specs.Accepted.Lifted.{kept_of, lifted_after}
 use Rattle.cpc_convert_laws.specs.Accepted.Functions.{HasMain}
 use Rattle.cpc_convert_laws.specs.Accepted.Points.{PositionsKnown}
-use Rattle.cpc_convert_laws.proofs.Accepted.Begins.{CodedJob, Begun, SpawnsScalars, run_begun}
+use Rattle.cpc_convert_laws.proofs.Accepted.Begins.{CodedJob, Begun, SpawnsScalars, run_begun, Any}
 use Rattle.cpc_convert_laws.proofs.Accepted.Functions.{accepted_has_main}
 use Rattle.cpc_convert_laws.proofs.Accepted.Lifted.{programs_are_closed}
 use Rattle.cpc_convert_laws.proofs.Accepted.Names.{accepted_has_names}
@@ -72,13 +73,6 @@ all_beside : {X Y : Type 0} {R : X → Y → Type 0} (U V : X → Type 0) (W : Y
 all_beside U V W f _ _ B.Ends h k = All-nil W
 all_beside U V W f _ _ (B.Goes x y xs ys r b) h k = All-cons W y ys (f x y r (All-head U x xs h) (All-head V x xs k)) (all_beside U V W f xs ys b (All-tail U x xs h) (All-tail V x xs k))
 
-all_both : {X Y : Type 0} {R : X → Y → Type 0} (U : X → Type 0) (W : Y → Type 0) → ((x : X) (y : Y) → R x y → U x → W y) → (xs : List X) (ys : List Y) → B.Both R xs ys → All U xs → All W ys
-all_both U W f xs ys b h = all_beside U U W (λ x y r u v. f x y r u) xs ys b h h
-
--- nothing is said of a result
-abbrev Any : Value → Type 0
-Any v = Unit {0}
-
 -- what holds of all items of an agenda, and what else does
 both_hold : {T : Type 0} (F G : T → Type 0) (a : Agenda T) → KeptAgenda F Any a → KeptAgenda G Any a → KeptAgenda (λ x. F x × G x) Any a
 both_hold {T = T} F G a h l = record {
@@ -91,12 +85,6 @@ both_hold {T = T} F G a h l = record {
 }
 
 -- ---- slots
-
-one_length : (keep box : ℕ → Bool) (xs ys : List Slot) → SlotsMeet keep box xs ys → length ys ≡ length xs
-one_length keep box [] [] m = refl
-one_length keep box (x ∷ xs) (y ∷ ys) m = ap (λ n. suc n) (one_length (λ k. keep (suc k)) (λ k. box (suc k)) xs ys m.1)
-one_length keep box [] (y ∷ ys) m = absurd m
-one_length keep box (x ∷ xs) [] m = absurd m
 
 -- slots that are unset where they are not kept are the others, some of them cleared
 cleared : (keep box : ℕ → Bool) (xs ys : List Slot) → SlotsMeet keep box xs ys → ((k : ℕ) (slot : Slot) → slice_get ys k ≡ Some slot → keep k ≡ false → slot ≡ Register Unset) → Cleared xs ys

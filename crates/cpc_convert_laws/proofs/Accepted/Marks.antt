@@ -8,7 +8,9 @@ use Rattle.cpc_tree.specs.Located.{Ident}
 use Rattle.cpc_check_rules.specs.declared.rule.Rule.TheVariants.{Reserved}
 use Rattle.cpc_check_rules.specs.Rule.{at_if}
 use Rattle.cpc_check_rules.specs.FunctionRules.{begins_with, holds_underscores, is_kept, is_reserved, reserved_breaks}
-use Rattle.cpc_check_laws.proofs.Sound.Unbroken.{split, holds_not}
+use Rattle.cpc_check_laws.proofs.Sound.Unbroken.{split}
+use Rattle.cpc_check_laws.proofs.Run.Names.{Unreserved, rest_unreserved}
+use Rattle.cpc_check_laws.proofs.Native.NativeValues.{unbroken}
 use Rattle.cpc_convert.specs.Marks.{marks_in}
 use Rattle.cpc_convert_laws.specs.Accepted.Names.{IsPlain}
 
@@ -42,18 +44,11 @@ mutual
 plain : (x : Text) → is_reserved D.Cpc x ≡ false → IsPlain x
 plain x h = let k = or_neither (is_kept x) (holds_underscores x) h in record { unmarked = marks_are x ∙ k.1; unkept = k.0 }
 
--- names of which none is reserved
-abbrev pub Unreserved : List Ident → Type 0
-Unreserved xs = reserved_breaks D.Cpc xs ≡ []
-
 abbrev pub texts : List Ident → List Text
 texts xs = map (λ (x : Ident). x.text) xs
 
 pub first_plain : (x : Ident) (xs : List Ident) → Unreserved (x ∷ xs) → IsPlain x.text
-first_plain x xs h = plain x.text (holds_not (is_reserved D.Cpc x.text) x.place Reserved (split (at_if (is_reserved D.Cpc x.text) x.place Reserved) (reserved_breaks D.Cpc xs) h).0)
-
-rest_unreserved : (x : Ident) (xs : List Ident) → Unreserved (x ∷ xs) → Unreserved xs
-rest_unreserved x xs h = (split (at_if (is_reserved D.Cpc x.text) x.place Reserved) (reserved_breaks D.Cpc xs) h).1
+first_plain x xs h = plain x.text (unbroken (is_reserved D.Cpc x.text) x.place Reserved (split (at_if (is_reserved D.Cpc x.text) x.place Reserved) (reserved_breaks D.Cpc xs) h).0)
 
 -- each of these names is plain
 abbrev pub AllPlain : List Ident → Type 0
@@ -63,10 +58,6 @@ pub all_plain : (xs : List Ident) → Unreserved xs → AllPlain xs
 all_plain [] h k x e = absurd (cc)
 all_plain (y ∷ ys) h zero x e = subst IsPlain (some_is y.text x e) (first_plain y ys h)
 all_plain (y ∷ ys) h (suc k) x e = all_plain ys (rest_unreserved y ys h) k x e
-
-pub front_unreserved : (xs ys : List Ident) → Unreserved (xs ++ ys) → Unreserved xs
-front_unreserved [] ys h = refl
-front_unreserved (x ∷ xs) ys h = simp ((split (at_if (is_reserved D.Cpc x.text) x.place Reserved) (reserved_breaks D.Cpc (xs ++ ys)) h).0, front_unreserved xs ys (rest_unreserved x (xs ++ ys) h)) refl
 
 -- names of two lists
 pub both_plain : (xs ys : List Ident) → AllPlain xs → AllPlain ys → AllPlain (xs ++ ys)

@@ -21,9 +21,10 @@ use Rattle.cpc_meaning.proofs.Functions.{same_text, text_same}
 use Rattle.cpc_check_laws.proofs.Sound.Agendas.{Each}
 use Rattle.cpc_check_laws.proofs.Sound.Items.{named_more, named_rest, agreed, Agreed, defined_rest}
 use Rattle.cpc_check_laws.proofs.Sound.Grammar.{items_shape}
-use Rattle.cpc_check_laws.proofs.Sound.Knowing.{primitive_kept}
 use Rattle.cpc_check_laws.proofs.Sound.Programs.{ItemShape, types_are}
-use Rattle.cpc_check_laws.proofs.Sound.Unbroken.{split, holds_not}
+use Rattle.cpc_check_laws.proofs.Sound.Unbroken.{split}
+use Rattle.cpc_check_laws.proofs.Run.Names.{primitive_kept, front_unreserved}
+use Rattle.cpc_check_laws.proofs.Native.NativeValues.{unbroken}
 use Rattle.cpc_convert.specs.Members.{Has, OnTop, Below}
 use Rattle.cpc_forms.specs.Flow.{Flow, flow_of, is_leader}
 use Rattle.cpc_forms.specs.Graph.{graph_of, node_of}
@@ -33,7 +34,7 @@ use Rattle.cpc_convert_event.specs.NameLaws.{IsUnmarked}
 use Rattle.cpc_convert_event.specs.Routines.{routine_of}
 use Rattle.cpc_convert_laws.specs.Accepted.Names.{IsPlain, name_of, IsFound, AcceptedHasNames, AcceptedIsNamed}
 use Rattle.cpc_convert_laws.proofs.Accepted.Counts.{few_variables, points_within}
-use Rattle.cpc_convert_laws.proofs.Accepted.Marks.{texts, first_plain, AllPlain, all_plain, front_unreserved, both_plain}
+use Rattle.cpc_convert_laws.proofs.Accepted.Marks.{texts, first_plain, AllPlain, all_plain, both_plain}
 
 -- ---- variables
 
@@ -152,8 +153,8 @@ function_known program before rest f named whole h =
     let h8 = split (label_breaks f.body) _ h7.1 in
     let h9 = split (stray_breaks f.body) (many_breaks D.Cpc f.parameters f.body) h8.1 in
     let c = split (at_if (is_clash f.called.text (defined f) before) f.called.place Twice) (at_if (is_disagreeing f.called.text (defined f) before) f.called.place Disagree) h3.0 in
-    let clash = holds_not (is_clash f.called.text (defined f) before) f.called.place Twice c.0 in
-    let disagrees = holds_not (is_disagreeing f.called.text (defined f) before) f.called.place Disagree c.1 in
+    let clash = unbroken (is_clash f.called.text (defined f) before) f.called.place Twice c.0 in
+    let disagrees = unbroken (is_disagreeing f.called.text (defined f) before) f.called.place Disagree c.1 in
     let ps = (split (repeated Twice [] (parameter_names f.parameters)) (reserved_breaks D.Cpc (parameter_names f.parameters)) h4.0).1 in (
       first_plain f.called [] h1.0,
       record {

@@ -5,8 +5,8 @@ use Rattle.cpc_tree.specs.Points.{Path, Nth, TheTest, TheYes, TheNo, TheStep, Th
 use Rattle.cpc_tree.specs.Registers.{as_variable, variables, or_empty, parameter_scope, outer_scope, scope_in_function}
 use Rattle.cpc_tree.specs.Syntax.{Ty, Stmt, Block, Declare, If, While, DoWhile, For, Label, Stmts, NoStmt, AndStmt, MaybeStmt, Absent, Present, Variable, Parameter, Function, StructItem, GlobalItem, PrototypeItem, FunctionItem, Program}
 use Rattle.cpc_tree.specs.Typing.{Local, Scope, Meant, ALocal, named, item_named}
+use Rattle.cpc_tree.proofs.Named.{no_local}
 use Rattle.cpc_meaning.proofs.Functions.{same_text}
-use Rattle.cpc_check_laws.proofs.Sound.Lookups.{no_local}
 
 -- a variable of this number in scope
 abbrev local_at : ℕ → Variable → Local
@@ -107,7 +107,7 @@ neither : (b : Bool) (a m : Meant) → is_local a ≡ false → is_local m ≡ f
 neither true a m e f = e
 neither false a m e f = f
 
-item_no_local : (n : ℕ) (items : Program) (x : Text) → is_local (item_named n items x) ≡ false
+pub item_no_local : (n : ℕ) (items : Program) (x : Text) → is_local (item_named n items x) ≡ false
 item_no_local n [] x = refl
 item_no_local n (StructItem tag fs ∷ items) x = item_no_local n items x
 item_no_local n (GlobalItem g u start ∷ items) x = neither (bytes_eq g x) _ _ refl (item_no_local (suc n) items x)

@@ -16,12 +16,12 @@ use Rattle.cpc_check_rules.specs.FunctionRules.{is_kept}
 use Rattle.cpc_check_rules.specs.Operators as O
 use Rattle.cpc_check_laws.specs.Sound.Suits.{converts}
 use Rattle.cpc_check_laws.specs.Sound.Typed.{is_for, is_variable, is_pointer_call, Assigns, Delivers, TakesArguments, Calls, CallsHost, CallsFunction, CallsPrimitive, CallsPointer, IsTyped, FoundTyped}
-use Rattle.cpc_check_laws.proofs.Sound.Knowing.{primitive_kept}
+use Rattle.cpc_check_laws.proofs.Run.Names.{primitive_kept}
 use Rattle.cpc_meaning.specs.Act.{right_side}
 use Rattle.cpc_meaning.specs.Eval.{Slot, Context, and_then}
 use Rattle.cpc_meaning.specs.Requests.{section_takes}
 use Rattle.cpc_convert_image_laws.specs.InPlace.{is_array, is_cps, IsWritten, IsWrittenIf, IsCalledInPlace}
-use Rattle.cpc_convert_image_laws.specs.Names.{AllNames, AllNamesIf, AllNamesAmong, AllNamesOf}
+use Rattle.cpc_meaning.specs.Names.{AllNames, AllNamesIf, AllNamesAmong, AllNamesOf}
 use Rattle.cpc_convert_image_laws.specs.Native.{IsNative}
 use Rattle.cpc_convert_laws.specs.Accepted.Names.{HasNames}
 use Rattle.cpc_convert_laws.specs.Accepted.Points.{UsedName, IsVariable, IsItem, AllNamesBeside, StaysItself, IsWrittenBy, in_scope, StatementKnown, FoundKnown}

@@ -6,16 +6,16 @@ use Rattle.cpc_tree.specs.Syntax.{Ty, TyVoid, TyInt, TyCondvar, TyPointer, TyCod
 use Rattle.cpc_tree.specs.Typing.{Scope, Meant, ALocal, AGlobal, AFunction, NotMeant, named, item_named, type_named, Typed, typing, used, tested_type, AValue, APlace, binary_type, choice_type, sum_type, target, is_null, ◌>>=◌}
 use Rattle.cpc_tree.specs.declared.program.Mode.TheVariants.{Extern, Native, Cps, Detached}
 use Rattle.cpc_tree.specs.declared.program.UnaryOp.TheVariants.{AddressOf}
+use Rattle.cpc_tree.proofs.Options.{then_some}
 use Rattle.cpc_check_laws.specs.Sound.Typed.{Gets, IsTest, AllGet, EachGets, NamesFunction, GetsTaken, AllGetTaken}
 use Rattle.cpc_check_laws.proofs.Sound.Answers.{no_some}
 use Rattle.cpc_check_laws.proofs.Sound.Expressions.{sign_some, tested_is}
-use Rattle.cpc_check_laws.proofs.Sound.Options.{then_some}
 use Rattle.cpc_check_laws.proofs.Sound.Agendas.{Each}
 use Rattle.cpc_meaning.proofs.Functions.{same_text}
 use Rattle.cpc_convert.specs.Marks.{has_marks}
 use Rattle.cpc_convert.specs.Members.{Has, OnTop, Below}
 use Rattle.cpc_convert_image_laws.specs.InPlace.{is_cps}
-use Rattle.cpc_convert_image_laws.specs.Names.{AllNames, AllNamesAmong}
+use Rattle.cpc_meaning.specs.Names.{AllNames, AllNamesAmong}
 use Rattle.cpc_convert_laws.specs.Accepted.Names.{name_of, HasNames}
 use Rattle.cpc_convert_laws.specs.Accepted.Points.{UsedName, IsVariable, IsItem}
 

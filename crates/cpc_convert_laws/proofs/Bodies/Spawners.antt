@@ -18,7 +18,7 @@ use Rattle.cpc_check_rules.specs.FunctionRules.{is_kept, parameter_names, reserv
 use Rattle.cpc_check_rules.specs.ItemRules.{parameter_block, body_breaks}
 use Rattle.cpc_check_laws.proofs.Native.NativeValues.{event}
 use Rattle.cpc_check_laws.proofs.Native.OnePlace.{parameter_here, stmt_here, item_again}
-use Rattle.cpc_check_laws.proofs.Sound.Knowing.{primitive_kept}
+use Rattle.cpc_check_laws.proofs.Run.Names.{primitive_kept}
 use Rattle.cpc_meaning.proofs.Functions.{text_same, texts_differ}
 use Rattle.cpc_convert.specs.Marks.{has_marks}
 use Rattle.cpc_convert.specs.Converted.{function_item}

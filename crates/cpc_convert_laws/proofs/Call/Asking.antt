@@ -25,7 +25,7 @@ use Rattle.cpc_meaning.specs.Ways.{InPlace, AsCps, manner_of}
 use Rattle.cpc_meaning_laws.proofs.Pointer.Blocks.{Only}
 use Rattle.cpc_convert_image_laws.specs.Held.{IsHeld, IsHeldSlot, IsHeldStore, IsLiveSlot, BoxesLive, beside}
 use Rattle.cpc_convert_image_laws.specs.Images.{Readings, image, images, image_if, image_stmt}
-use Rattle.cpc_convert_image_laws.specs.Names.{AllNames, AllNamesIf, AllNamesAmong}
+use Rattle.cpc_meaning.specs.Names.{AllNames, AllNamesIf, AllNamesAmong}
 use Rattle.cpc_convert_image_laws.specs.Relations.{Meets, BothGive, BothFault, Stuck, SameAct, BothGo, BothEnter, BothLeave, BothAsk}
 use Rattle.cpc_convert_image_laws.specs.Stacks.{frame_of}
 use Rattle.cpc_convert_image_laws.proofs.Acts.{arrives_alike}

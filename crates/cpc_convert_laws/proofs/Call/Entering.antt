@@ -23,7 +23,7 @@ use Rattle.cpc_meaning.specs.Ways.{ByFrame, AsCps, manner_of, ways}
 use Rattle.cpc_meaning_laws.proofs.Pointer.Blocks.{Only}
 use Rattle.cpc_convert_image_laws.specs.Held.{IsHeld, IsHeldSlot, IsHeldStore, BoxesLive, beside}
 use Rattle.cpc_convert_image_laws.specs.Images.{Readings, image, images, image_stmt}
-use Rattle.cpc_convert_image_laws.specs.Names.{AllNames, AllNamesAmong}
+use Rattle.cpc_meaning.specs.Names.{AllNames, AllNamesAmong}
 use Rattle.cpc_convert_image_laws.specs.Relations.{Meets, BothGive, BothFault, Stuck, SameAct, BothGo, BothEnter, BothLeave, BothAsk}
 use Rattle.cpc_convert_image_laws.specs.Stacks.{frame_of, EntersAlike}
 use Rattle.cpc_convert_image_laws.proofs.Calls.{calls_expr_alike}

@@ -17,7 +17,7 @@ use Rattle.cpc_convert_laws.proofs.Piece.Filled.{what_stands, no_arrival, no_end
 use Rattle.cpc_convert_laws.specs.Call.Laws.{FramedNode, FramedCallsArrive, NodesHaveManners}
 
 -- what is left over a frame is a call
-framed_call : (p : Program) (scope : Scope) (x : Found) → manner_of p scope x ≡ ByFrame → (to : Option Expr) × (g : Expr) × (es : Exprs) × (x ≡ Simple (Call to g es))
+pub framed_call : (p : Program) (scope : Scope) (x : Found) → manner_of p scope x ≡ ByFrame → (to : Option Expr) × (g : Expr) × (es : Exprs) × (x ≡ Simple (Call to g es))
 framed_call p scope (Simple (Call to g es)) e = (to, g, es, refl)
 framed_call p scope (Simple (Detach to g es)) e = absurd (cc)
 framed_call p scope x e = absurd (cc)

@@ -22,7 +22,7 @@ use Rattle.cpc_meaning.specs.Ways.{ByFrame}
 use Rattle.cpc_convert_image_laws.specs.Held.{IsHeld, IsHeldSlot, IsHeldStore, BoxesLive, beside}
 use Rattle.cpc_convert_image_laws.specs.Images.{Readings, image_if, image_stmt}
 use Rattle.cpc_convert_image_laws.specs.InPlace.{IsWrittenIf}
-use Rattle.cpc_convert_image_laws.specs.Names.{AllNamesIf}
+use Rattle.cpc_meaning.specs.Names.{AllNamesIf}
 use Rattle.cpc_convert_image_laws.specs.Relations.{Meets, BothGive, BothFault, Stuck, SameAct, BothGo, BothEnter, BothLeave, BothAsk}
 use Rattle.cpc_convert_image_laws.proofs.Acts.{arrives_alike}
 use Rattle.cpc_convert_image_laws.proofs.Live.{read_live}

@@ -10,7 +10,7 @@ use Rattle.cpc_tree.specs.Typing.{ALocal, AFunction, named, item_named, paramete
 use Rattle.cpc_meaning.proofs.Functions.{texts_differ}
 use Rattle.cpc_convert.specs.Marks.{has_marks}
 use Rattle.cpc_convert.specs.Converted.{marked, spawner_name}
-use Rattle.cpc_convert.proofs.Marks.{marked_is, no_bar_decimal, decimal_no_spawn}
+use Rattle.cpc_convert.proofs.Marks.{marked_is, no_bar_decimal, decimal_no_spawn, no_bar_spawn}
 use Rattle.cpc_forms.specs.Flow.{Place, Start, At}
 use Rattle.cpc_graph_laws.proofs.Formed.{in_either}
 use Rattle.cpc_lift_laws.proofs.Boxes.{boxes_are_below}
@@ -24,14 +24,14 @@ use Rattle.cpc_convert_event.specs.NameLaws.{IsCps, IsOwner}
 use Rattle.cpc_convert_event.specs.Names.{piece_name, variable_name}
 use Rattle.cpc_convert_event.specs.Pieces.{parameter_of, takes_value, value_load, loaded, loads_of, words_if, words_of, begun, declares_of, piece_function}
 use Rattle.cpc_convert_event.specs.Routines.{Routine, routine_of, closure_of, is_plain, is_parameter, passed, variable_of, locals_of, chosen}
-use Rattle.cpc_convert_event.proofs.Apart.{spawner_is, no_bar_spawn, no_bar_nothing, spawn_nothing}
-use Rattle.cpc_convert_event.proofs.Locals.{NoneCalled}
+use Rattle.cpc_convert_event.proofs.Apart.{spawner_is, no_bar_nothing, spawn_nothing}
+use Rattle.cpc_convert_event.proofs.Locals.{NoneCalled, none_append, passes}
 use Rattle.cpc_convert_event.proofs.Meanings.{items_meant}
 use Rattle.cpc_convert_event.proofs.Numbers.{chosen_is}
-use Rattle.cpc_convert_laws.proofs.Native.SpawnerScope.{variable_is}
+use Rattle.cpc_convert_event.proofs.Fields.{variable_is}
 use Rattle.cpc_convert_laws.specs.Piece.Known.{CpsKnown}
 use Rattle.cpc_convert_laws.proofs.Piece.Frames.{kept_small}
-use Rattle.cpc_convert_laws.proofs.Piece.Scopes.{unmarked_name, none_append, declared_other, loads_none, loads_append}
+use Rattle.cpc_convert_laws.proofs.Piece.Scopes.{unmarked_name, loads_none, loads_append}
 
 -- ---- a name that is that of no variable, and no word
 
@@ -89,7 +89,7 @@ module _ (p : Program) (f : Function) (known : CpsKnown p f) (l : Place) (owner 
     -- no local hides it
     pub not_hidden : named q (piece_scope p r l) y ≡ item_named 0 q y
     not_hidden =
-        declared_other q y _ _ (declares_of p r l) declares_none
+        passes q y _ _ (declares_of p r l) declares_none
         ∙ (loaded_other q y _ 2 (loads_of p r l) loaded_none
         ∙ (ap (λ b. cond b (ALocal 1 (TyPointer (TyStruct (piece_name f.called l)))) (named q (outer_scope (piece_function p r l)) y)) (word (codes "e") refl) ∙ ap (λ b. cond b (ALocal 0 any_pointer) (item_named 0 q y)) (word (codes "k") refl)))
 

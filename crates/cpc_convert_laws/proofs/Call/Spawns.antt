@@ -28,7 +28,7 @@ use Rattle.cpc_meaning.proofs.Functions.{gives_then}
 use Rattle.cpc_convert.specs.Converted.{spawner_name}
 use Rattle.cpc_convert_image_laws.specs.Held.{IsHeldSlot, IsHeldStore, BoxesLive, beside}
 use Rattle.cpc_convert_image_laws.specs.Images.{Readings, images}
-use Rattle.cpc_convert_image_laws.specs.Names.{AllNamesAmong}
+use Rattle.cpc_meaning.specs.Names.{AllNamesAmong}
 use Rattle.cpc_convert_image_laws.specs.Relations.{Meets, BothGive, BothFault, Stuck, SpawnAct, Spawned}
 use Rattle.cpc_convert_image_laws.specs.Stacks.{frame_of}
 use Rattle.cpc_convert_image_laws.proofs.Live.{read_live}

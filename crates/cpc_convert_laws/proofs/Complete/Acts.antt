@@ -14,9 +14,9 @@ use Rattle.cpc_check_rules.specs.Operators.{Where, typed_at, first, binary_break
 use Rattle.cpc_check_rules.specs.Calls.{Wanted, callee, result}
 use Rattle.cpc_check_rules.specs.ExprRules.{expr_breaks}
 use Rattle.cpc_check_rules.specs.StmtRules.{is_writable, place_breaks, target_breaks, type_of, fits_breaks, result_breaks, assign_breaks, given_breaks, to_breaks, is_tested, tested_breaks, test_breaks, maybe_test, start_breaks, is_void, unfit_return, return_breaks, stmt_breaks}
-use Rattle.cpc_check_laws.proofs.Native.NativeValues.{both_none}
+use Rattle.cpc_check_laws.proofs.Native.NativeValues.{both_none, unbroken}
 use Rattle.cpc_check_laws.proofs.Native.OnePlace.{here, ident_here, expr_here, exprs_here, stmt_here}
-use Rattle.cpc_check_laws.proofs.Sound.Unbroken.{split, holds_not, holds_then, binary_some}
+use Rattle.cpc_check_laws.proofs.Sound.Unbroken.{split, holds_then, binary_some}
 use Rattle.cpc_convert_image_laws.specs.Images.{Readings, image, images, image_if}
 use Rattle.cpc_convert_image_laws.proofs.Types.{same_null}
 use Rattle.cpc_convert_laws.specs.Complete.Reads.{Carries, stays_called}
@@ -133,7 +133,7 @@ module _ (w v : Where) (r : Readings) (c : Carries w v r) where
   return_carried same (Some e) h =
       let k = split (expr_breaks w (expr_here e)) _ h in
       let d = both_typed w v r c e k.0 in
-      let fit = or_neither (is_void w.result) _ (holds_not (unfit_return w (expr_here e) (Some d.0)) here BadReturn (subst (λ o. at_if (unfit_return w (expr_here e) o) here BadReturn ≡ []) d.1 k.1)) in
+      let fit = or_neither (is_void w.result) _ (unbroken (unfit_return w (expr_here e) (Some d.0)) here BadReturn (subst (λ o. at_if (unfit_return w (expr_here e) o) here BadReturn ≡ []) d.1 k.1)) in
       let takes = takes_there w v r c w.result e d.0 (not_fails (takes_typed w.result (bare_expr (expr_here e)) d.0) fit.1) in
       both_none _ _ (expr_carried w v r c e k.0)
       (ap (λ o. at_if (unfit_return v (expr_here (image r e)) o) here BadReturn) d.2

@@ -14,9 +14,9 @@ use Rattle.cpc_check_rules.specs.Scopes.{meant}
 use Rattle.cpc_check_rules.specs.Operators.{Where, typed_at, first, is_detached, is_cps, used_of}
 use Rattle.cpc_check_rules.specs.Calls.{Takes, unmeant_callee, unmeant_breaks, wants, gives, gives_up, is_rt, is_closed, is_event, primitive_breaks, function_breaks, code_callee, named_callee, callee, is_code, no_code, pointer_breaks, named_breaks, number_breaks, wanted, result}
 use Rattle.cpc_check_rules.specs.ExprRules.{expr_breaks, called_breaks, args_breaks, call_breaks}
-use Rattle.cpc_check_laws.proofs.Native.NativeValues.{both_none}
+use Rattle.cpc_check_laws.proofs.Native.NativeValues.{both_none, unbroken}
 use Rattle.cpc_check_laws.proofs.Native.OnePlace.{here, expr_here, exprs_here}
-use Rattle.cpc_check_laws.proofs.Sound.Unbroken.{split, not_broken, holds_not, holds_then}
+use Rattle.cpc_check_laws.proofs.Sound.Unbroken.{split, not_broken, holds_then}
 use Rattle.cpc_convert_image_laws.specs.Images.{Reading, Readings, image_named, image, images}
 use Rattle.cpc_convert_laws.specs.Complete.Reads.{Reads, ReadsLocal, ReadsField, StaysLocal, StaysGlobal, StaysFunction, IsCps, StaysNothing, Carries, stays_meant, stays_called}
 use Rattle.cpc_convert_laws.proofs.Complete.Carried.{both_typed, expr_carried}
@@ -45,7 +45,7 @@ module _ (w v : Where) (r : Readings) (c : Carries w v r) where
       let d = both_typed w v r c f k.0 in
       let code : is_code (used d.0) ≡ true = holds_then (is_code (used d.0)) (first (expr_here f)) Disagree (subst (λ o. no_code o (first (expr_here f)) ≡ []) d.1 l.1) in
       both_none _ _ (expr_carried w v r c f k.0)
-      (both_none _ _ (ap (λ b. at_if b (first (expr_here (image r f))) NotClosed) (c.closed ∙ holds_not (is_detached w.mode) (first (expr_here f)) NotClosed l.0))
+      (both_none _ _ (ap (λ b. at_if b (first (expr_here (image r f))) NotClosed) (c.closed ∙ unbroken (is_detached w.mode) (first (expr_here f)) NotClosed l.0))
       (ap (λ o. no_code o (first (expr_here (image r f)))) d.2 ∙ ap (λ b. at_if (not b) (first (expr_here (image r f))) Disagree) code))
 
   code_there : (f : Expr) → expr_breaks w (expr_here f) ≡ [] → code_callee (used_of (typed_at v (expr_here (image r f)))) ≡ code_callee (used_of (typed_at w (expr_here f)))
@@ -78,7 +78,7 @@ module _ (w v : Where) (r : Readings) (c : Carries w v r) where
       let k = split (at_if (gives_up prim && not (is_cps w.mode)) here CpsInNative) _ h in
       let l = split (at_if (is_detached w.mode && not (is_closed prim)) here NotClosed) _ k.1 in
       let m = split (at_if (is_rt prim && not (is_event w.dialect)) here RtCall) _ l.1 in
-      (and_true (is_rt prim) (subst (λ d. (is_rt prim && not (is_event d)) ≡ false) c.source (holds_not (is_rt prim && not (is_event w.dialect)) here RtCall m.0)), l.0)
+      (and_true (is_rt prim) (subst (λ d. (is_rt prim && not (is_event d)) ≡ false) c.source (unbroken (is_rt prim && not (is_event w.dialect)) here RtCall m.0)), l.0)
 
   primitive_there : (prim : Primitive) → gives_up prim ≡ false → primitive_breaks w here prim ≡ [] → primitive_breaks v here prim ≡ []
   primitive_there prim e h =

@@ -13,16 +13,16 @@ use Rattle.cpc_tree.specs.declared.program.UnaryOp.TheVariants.{Minus, Plus, Not
 use Rattle.cpc_tree.specs.Syntax.{Ty, TyVoid, TyInt, TyCondvar, TyPointer, TyCode, TyStruct, TyArray, Expr, ENamed, EInteger, ECharacter, EText, EUnary, EBinary, EAnd, EOr, EChoose, ECast, ESizeOf, EIndex, EMember, EArrow, ECall}
 use Rattle.cpc_tree.specs.Located.{Ident}
 use Rattle.cpc_tree.specs.Typing.{Meant, Typed, APlace, used, size, field, fields, field_type, target, same_type, typed_place, ◌>>=◌}
+use Rattle.cpc_tree.proofs.Options.{then_some}
 use Rattle.cpc_check_rules.specs.declared.rule.Rule.TheVariants.{Incomplete, NoField, NotClosed, NoPlace, Disagree}
 use Rattle.cpc_check_rules.specs.Rule.{at_if}
 use Rattle.cpc_check_rules.specs.Scopes.{Scope, meant, measured}
 use Rattle.cpc_check_rules.specs.Operators.{Where, typed_at, first, is_detached, open_name, name_breaks, no_rule, is_unmeasured, used_of, moves_unmeasured, between_unmeasured, binary_breaks, is_incomplete_sum, address_breaks, field_breaks, member_breaks, arrow_breaks, pointed}
 use Rattle.cpc_check_rules.specs.ExprRules.{expr_breaks}
-use Rattle.cpc_check_laws.proofs.Native.NativeValues.{both_none}
+use Rattle.cpc_check_laws.proofs.Native.NativeValues.{both_none, unbroken}
 use Rattle.cpc_check_laws.proofs.Native.OnePlace.{here, ident_here, expr_here}
 use Rattle.cpc_check_laws.proofs.Sound.Answers.{no_some}
-use Rattle.cpc_check_laws.proofs.Sound.Options.{then_some}
-use Rattle.cpc_check_laws.proofs.Sound.Unbroken.{split, not_broken, holds_not, typed_of}
+use Rattle.cpc_check_laws.proofs.Sound.Unbroken.{split, not_broken, typed_of}
 use Rattle.cpc_convert_image_laws.specs.Images.{Reading, Readings, image_named, image}
 use Rattle.cpc_convert_laws.specs.Complete.Reads.{Reads, ReadsLocal, ReadsField, StaysLocal, StaysGlobal, StaysFunction, IsCps, StaysNothing, Carries}
 use Rattle.cpc_convert_laws.proofs.Complete.Typing.{sizes, here_image}
@@ -223,7 +223,7 @@ module _ (w v : Where) (r : Readings) (c : Carries w v r) where
       let k = split (expr_breaks w (expr_here e)) _ h in
       let d = both_typed (ECast t e) h in
       both_none _ _ (expr_carried e k.0) (rule_none _ _ d.0 here d.2)
-  expr_carried (ESizeOf t) h = ap (λ b. at_if b here Incomplete) (none_there t (holds_not (is_none (measured w.scope t)) here Incomplete h))
+  expr_carried (ESizeOf t) h = ap (λ b. at_if b here Incomplete) (none_there t (unbroken (is_none (measured w.scope t)) here Incomplete h))
   expr_carried (EIndex a b) h =
       let k = split (expr_breaks w (expr_here a)) _ h in
       let l = split (expr_breaks w (expr_here b)) _ k.1 in

@@ -21,10 +21,10 @@ use Rattle.cpc_check_rules.specs.Calls.{Wanted, Of, Callee, Takes, NoCallee, spa
 use Rattle.cpc_check_rules.specs.ExprRules.{expr_breaks, called_breaks, arg_breaks, args_breaks, call_breaks}
 use Rattle.cpc_check_rules.specs.StmtRules.{variable, behind, all_behind, to_breaks, test_breaks, maybe_test, start_breaks, wrong_name, return_breaks, stmt_breaks, stmts_breaks, maybe_breaks}
 use Rattle.cpc_check_rules.specs.FunctionRules.{is_kept, is_reserved, holds_underscores, reserved_breaks, locals, locals_in, locals_maybe}
-use Rattle.cpc_check_laws.proofs.Native.NativeValues.{both_none, cpc, event}
+use Rattle.cpc_check_laws.proofs.Native.NativeValues.{both_none, cpc, event, unbroken}
 use Rattle.cpc_check_laws.proofs.Native.OnePlace.{here, ident_here, expr_here, exprs_here, stmt_here, stmts_here, maybe_here}
 use Rattle.cpc_check_laws.proofs.Sound.Agreement.{used_taken}
-use Rattle.cpc_check_laws.proofs.Sound.Unbroken.{split, not_broken, holds_not, holds_then}
+use Rattle.cpc_check_laws.proofs.Sound.Unbroken.{split, not_broken, holds_then}
 use Rattle.cpc_convert.specs.Converted.{spawner_name, respawned, respawned_all, respawned_arm}
 use Rattle.cpc_convert_image_laws.specs.Images.{image, image_if}
 use Rattle.cpc_convert_laws.specs.Complete.Reads.{Carries, stays_meant, stays_called}
@@ -45,7 +45,7 @@ reserved_both (x ∷ xs) ys h =
     (both_none _ _ k.0 l.0, l.1)
 
 pub barless : (x : Ident) (xs : List Ident) → reserved_breaks D.Cpc (x ∷ xs) ≡ [] → holds_underscores x.text ≡ false
-barless x xs h = (or_neither (is_kept x.text) (holds_underscores x.text) (holds_not (is_reserved D.Cpc x.text) x.place Reserved (split (at_if (is_reserved D.Cpc x.text) x.place Reserved) _ h).0)).1
+barless x xs h = (or_neither (is_kept x.text) (holds_underscores x.text) (unbroken (is_reserved D.Cpc x.text) x.place Reserved (split (at_if (is_reserved D.Cpc x.text) x.place Reserved) _ h).0)).1
 
 -- ---- arguments
 
@@ -169,9 +169,9 @@ module _ (before after : Program) (keeps : KeepsItems before after) (m : Mode) (
   function_stays Detached t ts o h = refl
 
   name_stays : (blocks : List S.Block) (x : Text) (k : Meant) (o : Option Primitive) → named_breaks (w blocks) (expr_here (ENamed x)) here (expr_breaks (w blocks) (expr_here (ENamed x))) k o ≡ [] → stays_meant k o ≡ true
-  name_stays blocks x (AFunction mode t ts) o h = function_stays mode t ts o (unless_cps (is_cps mode) (holds_not (is_cps mode && not (is_cps m)) here CpsInNative (split (at_if (is_cps mode && not (is_cps m)) here CpsInNative) _ h).0))
+  name_stays blocks x (AFunction mode t ts) o h = function_stays mode t ts o (unless_cps (is_cps mode) (unbroken (is_cps mode && not (is_cps m)) here CpsInNative (split (at_if (is_cps mode && not (is_cps m)) here CpsInNative) _ h).0))
   name_stays blocks x NotMeant None h = refl
-  name_stays blocks x NotMeant (Some prim) h = ap not (unless_cps (gives_up prim) (holds_not (gives_up prim && not (is_cps m)) here CpsInNative (split (at_if (gives_up prim && not (is_cps m)) here CpsInNative) _ h).0))
+  name_stays blocks x NotMeant (Some prim) h = ap not (unless_cps (gives_up prim) (unbroken (gives_up prim && not (is_cps m)) here CpsInNative (split (at_if (gives_up prim && not (is_cps m)) here CpsInNative) _ h).0))
   name_stays blocks x (ALocal k t) o h = refl
   name_stays blocks x (AGlobal k t) o h = refl
 
@@ -253,7 +253,7 @@ module _ (before after : Program) (keeps : KeepsItems before after) (m : Mode) (
       let found : meant (over after blocks) (spawner_name x) ≡ AFunction Native TyVoid t.1 =
       hides x (in_items (reverse after) (spawner_name x)) ∙ keeps.spawners x t.0 t.1 (function_below x blocks (in_items (reverse before) x) Cps t.0 t.1 t.2) scalar in
       let there : args_breaks (v blocks) ws (exprs_here es) ≡ [] = subst (λ es. args_breaks (v blocks) ws (exprs_here es) ≡ []) (images_unread es) (args_carried (w blocks) (v blocks) unread (carries blocks) ws es arguments) in
-      let is_open : is_detached m ≡ false = holds_not (is_detached m) here NotClosed h1.0 in
+      let is_open : is_detached m ≡ false = unbroken (is_detached m) here NotClosed h1.0 in
       function_called (v blocks) (spawner_name x) es t.1 TyVoid found (ap (λ b. at_if (b && true) here NotClosed) is_open) numbers there
 
   -- ---- statements

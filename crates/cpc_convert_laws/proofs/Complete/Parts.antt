@@ -19,7 +19,8 @@ use Rattle.cpc_check_rules.specs.Calls.{Wanted, Integer, Of, Callback, Callee, T
 use Rattle.cpc_check_rules.specs.ExprRules.{expr_breaks, called_breaks, arg_breaks, args_breaks}
 use Rattle.cpc_check_rules.specs.StmtRules.{is_writable, place_breaks, target_breaks, fits_breaks, given_breaks, to_breaks, is_tested, tested_breaks, test_breaks, start_breaks, wrong_name, started_breaks, is_void, unfit_return, stmt_breaks}
 use Rattle.cpc_check_laws.proofs.Native.OnePlace.{here, ident_here, expr_here, exprs_here, expr_again, stmt_here}
-use Rattle.cpc_check_laws.proofs.Sound.Unbroken.{split, not_broken, holds_not, holds_then, typed_of}
+use Rattle.cpc_check_laws.proofs.Sound.Unbroken.{split, not_broken, holds_then, typed_of}
+use Rattle.cpc_check_laws.proofs.Native.NativeValues.{unbroken}
 use Rattle.cpc_convert_laws.specs.Complete.Sets.{Has, Sets, Writes, AllSet, NoneSet, AndSet, Gives, Suits, AllSuit, NoneSuits, AndSuits, is_simple}
 use Rattle.cpc_convert_laws.proofs.Complete.Typing.{type_again}
 use Rattle.cpc_convert_laws.proofs.Complete.Called.{plain_suits}
@@ -72,7 +73,7 @@ module _ (w : Where) where
       let k = split (expr_breaks w (expr_here e)) _ h in
       let d = has_of e k.0 in
       let is : typed_at w (expr_here e) ≡ Some d.0 = type_again w e ∙ d.1.is_typed in
-      let fit = or_neither (is_void w.result) _ (holds_not (unfit_return w (expr_here e) (Some d.0)) here BadReturn (subst (λ o. at_if (unfit_return w (expr_here e) o) here BadReturn ≡ []) is k.1)) in
+      let fit = or_neither (is_void w.result) _ (unbroken (unfit_return w (expr_here e) (Some d.0)) here BadReturn (subst (λ o. at_if (unfit_return w (expr_here e) o) here BadReturn ≡ []) is k.1)) in
       (fit.0, record { type = d.0; has = d.1; takes = ap (λ e. takes_typed w.result e d.0) (sym (expr_again e)) ∙ not_fails (takes_typed w.result (bare_expr (expr_here e)) d.0) fit.1 })
 
   pub test_has : (e : Expr) → test_breaks w (expr_here e) ≡ [] → (d : Typed) × (t : Ty) × Has w e d × (used d ≡ Some t) × (is_testable t ≡ true)

@@ -5,11 +5,12 @@ use Rattle.cpc_base.proofs.Lists.{some_is}
 use Rattle.cpc_tree.specs.declared.program.UnaryOp.TheVariants.{AddressOf}
 use Rattle.cpc_tree.specs.Syntax.{Ty, Expr, ENamed, EInteger, ECharacter, EText, EUnary, EBinary, EAnd, EOr, EChoose, ECast, ESizeOf, EIndex, EMember, EArrow, ECall}
 use Rattle.cpc_tree.specs.Typing.{Meant, Typed, APlace, type_named, used, size, sign_type, tested_type, test_type, address_type, typing_of}
+use Rattle.cpc_tree.proofs.Options.{then_some}
 use Rattle.cpc_check_rules.specs.Scopes.{meant, typed}
 use Rattle.cpc_check_rules.specs.Operators.{Where, typed_at}
 use Rattle.cpc_check_laws.proofs.Native.OnePlace.{expr_here, expr_again}
 use Rattle.cpc_check_laws.proofs.Sound.Answers.{no_some}
-use Rattle.cpc_check_laws.proofs.Sound.Options.{then_some, then_of}
+use Rattle.cpc_check_laws.proofs.Sound.Options.{then_of}
 use Rattle.cpc_check_laws.proofs.Sound.Agreement.{Grows, sizes_grow}
 use Rattle.cpc_check_laws.proofs.Sound.Expressions.{sign_some, tested_is}
 use Rattle.cpc_check_laws.proofs.Sound.More.{typing_more}

@@ -24,12 +24,13 @@ use Rattle.cpc_forms.specs.Split.{Position, InGraph, first_position, owner_or, s
 use Rattle.cpc_graph_laws.specs.Laws.{flow_in}
 use Rattle.cpc_graph_laws.proofs.Leaders.{inside}
 use Rattle.cpc_graph_laws.proofs.Marked.{leaders_are_listed}
+use Rattle.cpc_graph_laws.proofs.Owning.{place_self}
 use Rattle.cpc_lift_laws.specs.Lifted.{tidy_slots}
 use Rattle.cpc_lift_laws.specs.Search.{closure}
 use Rattle.cpc_convert_image_laws.specs.Held.{beside}
 use Rattle.cpc_convert_chain_laws.specs.Chains.{Saved, frame_cells, Top}
 use Rattle.cpc_convert_chain_laws.specs.Driver.{any_pointer, DriverFacts, driving, entered}
-use Rattle.cpc_convert_chain_laws.specs.Fits.{Fits}
+use Rattle.cpc_meaning.specs.Eval.{Fits}
 use Rattle.cpc_convert_chain_laws.specs.Walks.{World, Walk, Climbs, running, frame_at}
 use Rattle.cpc_convert_chain_laws.proofs.Walks.{rise_climbs, climbs_append}
 use Rattle.cpc_convert_event.specs.BoxingLaws.{VariablesHaveSizes}
@@ -47,7 +48,6 @@ use Rattle.cpc_convert_laws.proofs.Related.Starting.{StartLeads, start_opens}
 use Rattle.cpc_convert_laws.proofs.Related.Tidy.{slot_kept}
 use Rattle.cpc_convert_laws.specs.Native.Instance.{cut_of}
 use Rattle.cpc_convert_laws.specs.Accepted.Lifted.{kept_of}
-use Rattle.cpc_convert_laws.proofs.Accepted.Cut.{place_self}
 use Rattle.cpc_convert_laws.proofs.Native.SpawnerCall.{passed_few}
 use Rattle.cpc_convert_laws.specs.Piece.Known.{CpsKnown}
 use Rattle.cpc_convert_laws.specs.Piece.Rows.{row_point}

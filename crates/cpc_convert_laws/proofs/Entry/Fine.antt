@@ -16,7 +16,7 @@ use Rattle.cpc_forms.specs.Flow.{Start, At}
 use Rattle.cpc_forms.specs.Graph.{graph_if, graph_where}
 use Rattle.cpc_forms.specs.Split.{InGraph, split_of}
 use Rattle.cpc_convert_image_laws.specs.Stacks.{frame_of}
-use Rattle.cpc_convert_chain_laws.specs.Fits.{Fits}
+use Rattle.cpc_meaning.specs.Eval.{Fits}
 use Rattle.cpc_convert_event.specs.BoxingLaws.{VariablesHaveSizes}
 use Rattle.cpc_convert_event.specs.ClosureLaws.{may_stand, lifting}
 use Rattle.cpc_convert_event.specs.FillLaws.{AllFit, NoneFit, OneFits}

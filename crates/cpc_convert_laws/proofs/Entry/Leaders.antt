@@ -12,6 +12,7 @@ use Rattle.cpc_forms.specs.Graph.{Node, node_of, graph_of, at_node}
 use Rattle.cpc_forms.specs.Order.{is_in, number_of}
 use Rattle.cpc_forms.specs.Pieces.{is_owned_by}
 use Rattle.cpc_forms.proofs.Numbers.{one_node}
+use Rattle.cpc_forms.proofs.Owners.{owners_long}
 use Rattle.cpc_graph_laws.specs.Laws.{flow_in}
 use Rattle.cpc_graph_laws.proofs.Controls.{led}
 use Rattle.cpc_graph_laws.proofs.Facts.{led_arrival}
@@ -25,9 +26,8 @@ use Rattle.cpc_graph_laws.proofs.Standing.{begin_is_in}
 use Rattle.cpc_convert_event.specs.NameLaws.{ALeader}
 use Rattle.cpc_convert_event.specs.Routines.{Routine, routine_of}
 use Rattle.cpc_convert_event.specs.Rows.{owner_at, is_own, stands_with, has_row}
-use Rattle.cpc_convert_laws.proofs.Accepted.Cut.{owners_long}
+use Rattle.cpc_convert_event.proofs.Boxing.{held_has}
 use Rattle.cpc_convert_laws.specs.Piece.Stood.{NodeAt}
-use Rattle.cpc_convert_laws.proofs.Piece.Frames.{held_has}
 use Rattle.cpc_convert_laws.specs.Entry.Laws.{LeadersHaveRows}
 
 owned_is : (n : ℕ) (o : Option (Option Place)) → is_owned_by (At n) (owner_at o) ≡ true → o ≡ Some (Some (At n))

@@ -1,12 +1,12 @@
 -- The opening of a piece: it takes up its frame, loads its locals, makes its boxes, gives the frame back, and stands before its first row.
-use Rattle.std.proofs.Common.{◌≡◌, ℕ, zero, suc, ◌+◌, Bool, true, false, ◌&&◌, cond, List, [], ◌∷◌, ◌++◌, map, length, slice_get, slice_set, option_map, Some, None, refl, sym, ◌∙◌, ap, subst, codes, arith}
+use Rattle.std.proofs.Common.{◌≡◌, ℕ, zero, suc, ◌+◌, Bool, true, false, cond, List, [], ◌∷◌, ◌++◌, map, length, slice_get, slice_set, option_map, Some, None, refl, sym, ◌∙◌, ap, subst, codes, arith}
 use Rattle.cpc_base.specs.Bytes.{Text}
 use Rattle.cpc_base.proofs.Lists.{length_of_map, length_of_append}
 use Rattle.cpc_tree.specs.Lists.{rest_of}
 use Rattle.cpc_tree.specs.Points.{Point}
 use Rattle.cpc_tree.specs.Primitives.{RtFrameFree}
 use Rattle.cpc_tree.specs.Registers.{variables, outer_scope}
-use Rattle.cpc_tree.specs.Syntax.{TyVoid, ENamed, Stmt, Stmts, NoStmt, AndStmt, Variable, Function, Program}
+use Rattle.cpc_tree.specs.Syntax.{TyVoid, ENamed, Stmts, NoStmt, AndStmt, Variable, Function, Program}
 use Rattle.cpc_store.specs.declared.values.Class.TheVariants.{Frame}
 use Rattle.cpc_store.specs.Store.{Value, Unset, At as Pointer, Store, empty_store, blocks, with_blocks, cells_of}
 use Rattle.cpc_store.proofs.CellLemmas.{store_cells-free}
@@ -28,7 +28,7 @@ use Rattle.cpc_convert_chain_laws.proofs.Flat.{at_first}
 use Rattle.cpc_convert_chain_laws.proofs.LineSteps.{frame_free_step}
 use Rattle.cpc_convert_chain_laws.proofs.Pieces.{registers_call, blank_slots}
 use Rattle.cpc_convert_chain_laws.proofs.Prologue.{opens_walk, past_opened}
-use Rattle.cpc_convert_chain_laws.proofs.Scopes.{all_lines, past_lines}
+use Rattle.cpc_convert_chain_laws.proofs.Scopes.{past_lines}
 use Rattle.cpc_convert_chain_laws.proofs.Walks.{rise_climbs, rise_then, climbs_more, climbs_append, swell_climbs}
 use Rattle.cpc_convert_event.specs.FlatLaws.{opening, piece_scope, piece_count}
 use Rattle.cpc_convert_event.specs.Frames.{arriving_type}
@@ -40,8 +40,8 @@ use Rattle.cpc_convert_event.specs.Pieces.{load_of, called_so, takes_value, load
 use Rattle.cpc_convert_event.specs.Routines.{Routine, routine_of, locals_of, variable_if}
 use Rattle.cpc_convert_event.specs.Rows.{row_of, numbers_of, is_own, lines_by, put_lines, put_rows, rows_statements, piece_statements}
 use Rattle.cpc_convert_event.proofs.Addresses.{variables_are_registers}
-use Rattle.cpc_convert_event.proofs.Flat.{boxes_done, pieces_flat}
-use Rattle.cpc_convert_event.proofs.Lines.{AreLines, bare_lines}
+use Rattle.cpc_convert_event.proofs.Flat.{boxes_done, pieces_flat, all_true}
+use Rattle.cpc_convert_event.proofs.Lines.{bare_lines}
 use Rattle.cpc_convert_laws.specs.Piece.Known.{CpsKnown}
 use Rattle.cpc_convert_laws.specs.Piece.Rows.{put_row, RowAt, row_index, row_rest, row_point}
 use Rattle.cpc_convert_laws.proofs.Piece.Frames.{Target, code, body, is_code}
@@ -51,10 +51,6 @@ use Rattle.cpc_convert_laws.proofs.Piece.Rows.{same_next}
 blank_more : (a b : ℕ) → blank (a + b) [] ≡ blank a (blank b [])
 blank_more zero b = ap (λ n. blank n []) (let z : 0 + b ≡ b = omega arith in z)
 blank_more (suc a) b = ap (λ n. blank n []) (let z : suc a + b ≡ suc (a + b) = omega arith in z) ∙ ap (λ xs. Register Unset ∷ xs) (blank_more a b)
-
-all_true : (ss : List Stmt) → AreLines ss → all_lines ss ≡ true
-all_true [] h = refl
-all_true (s ∷ ss) h = ap (λ b. b && all_lines ss) h.0 ∙ all_true ss h.1
 
 -- ---- the first row
 

@@ -16,7 +16,7 @@ use Rattle.cpc_convert_image_laws.specs.Held.{beside}
 use Rattle.cpc_convert_chain_laws.specs.Boxes.{AndSlot}
 use Rattle.cpc_convert_chain_laws.specs.Chains.{Saved, frame_cells, Chain, NoChain, AndChain, Top}
 use Rattle.cpc_convert_chain_laws.specs.Driver.{any_pointer}
-use Rattle.cpc_convert_chain_laws.specs.Fits.{Fits}
+use Rattle.cpc_meaning.specs.Eval.{Fits}
 use Rattle.cpc_convert_chain_laws.specs.Flat.{before}
 use Rattle.cpc_convert_chain_laws.specs.Frames.{Loading, blank, frees_frame}
 use Rattle.cpc_convert_chain_laws.proofs.Walks.{swell_stay}

@@ -11,7 +11,7 @@ use Rattle.cpc_forms.specs.Flow.{Place}
 use Rattle.cpc_convert_image_laws.specs.Locals.{Stands, AsValue, AsBlock, FitsAt, local_type}
 use Rattle.cpc_convert_chain_laws.specs.Boxes.{AllRegisters, NoSlot, AndSlot}
 use Rattle.cpc_convert_chain_laws.specs.Driver.{any_pointer}
-use Rattle.cpc_convert_chain_laws.specs.Fits.{Fits}
+use Rattle.cpc_meaning.specs.Eval.{Fits}
 use Rattle.cpc_convert_chain_laws.specs.Frames.{Load, Loading, NoLoading, AndLoading, blank}
 use Rattle.cpc_convert_event.specs.FillLaws.{AllFit, NoneFit, OneFits, value_before}
 use Rattle.cpc_convert_event.specs.LocalLaws.{piece_locals}

@@ -22,7 +22,7 @@ use Rattle.cpc_convert_image_laws.specs.Held.{beside}
 use Rattle.cpc_convert_chain_laws.specs.Boxes.{AllRegisters, AndSlot, with_boxes}
 use Rattle.cpc_convert_chain_laws.specs.Chains.{frame_cells, moved}
 use Rattle.cpc_convert_chain_laws.specs.Driver.{any_pointer}
-use Rattle.cpc_convert_chain_laws.specs.Fits.{Fits}
+use Rattle.cpc_meaning.specs.Eval.{Fits}
 use Rattle.cpc_convert_chain_laws.specs.Flat.{before}
 use Rattle.cpc_convert_chain_laws.specs.Frames.{Loading, blank, frees_frame}
 use Rattle.cpc_convert_chain_laws.specs.Walks.{World, Swell, at_line}
@@ -31,7 +31,7 @@ use Rattle.cpc_convert_chain_laws.proofs.Boxes.{boxes_walk}
 use Rattle.cpc_convert_event.specs.BoxingLaws.{VariablesHaveSizes, ArePlaces, StartBoxes}
 use Rattle.cpc_convert_event.specs.FillLaws.{AllFit, NoneFit, OneFits}
 use Rattle.cpc_convert_event.specs.FlatLaws.{piece_scope, piece_count}
-use Rattle.cpc_convert_event.specs.LocalLaws.{piece_locals, StandsIn}
+use Rattle.cpc_convert_event.specs.LocalLaws.{piece_locals}
 use Rattle.cpc_convert_event.specs.NameLaws.{IsOwner, TheStart}
 use Rattle.cpc_convert_event.specs.Names.{piece_name, pointer_name, frame_name}
 use Rattle.cpc_convert_event.specs.Pieces.{called_so, loaded, loads_of, words_of, begun, declares_of, boxing_of}
@@ -41,6 +41,7 @@ use Rattle.cpc_convert_event.proofs.Boxing.{starts_box}
 use Rattle.cpc_convert_event.proofs.Fields.{variables_apart, word_apart}
 use Rattle.cpc_convert_event.proofs.Filling.{frames_filled, passed_at, fit_at}
 use Rattle.cpc_convert_event.proofs.Numbers.{chosen_has}
+use Rattle.cpc_convert_event.proofs.Locals.{in_back}
 use Rattle.cpc_convert_laws.specs.Related.Items.{value_in}
 use Rattle.cpc_convert_laws.specs.Piece.Known.{CpsKnown}
 use Rattle.cpc_convert_laws.specs.Piece.Stood.{LocalsStand}
@@ -53,10 +54,6 @@ use Rattle.cpc_convert_laws.proofs.Entry.Opening.{locals_number, opened, before_
 use Rattle.cpc_convert_laws.proofs.Entry.Standing.{got_register, all_registers, registers_number, loading_number, KeptOf, value_at, HasValue, locals_stand}
 
 -- ---- lists
-
-in_back : (x : Variable) (xs ys : List Variable) → StandsIn x ys → StandsIn x (xs ++ ys)
-in_back x [] ys h = h
-in_back x (y ∷ xs) ys h = let i = in_back x xs ys h in (suc i.0, i.1)
 
 blank_at : (ys : List Variable) (i : ℕ) (y : Variable) → slice_get ys i ≡ Some y → slice_get (blank (length ys) []) i ≡ Some (Register Unset)
 blank_at [] i y e = absurd (cc)

@@ -13,13 +13,14 @@ use Rattle.cpc_check_rules.specs.Scopes.{is_sized}
 use Rattle.cpc_check_laws.proofs.Sound.Agreement.{Grows}
 use Rattle.cpc_check_laws.proofs.Sound.Bodies.{size_of}
 use Rattle.cpc_check_laws.proofs.Sound.Growing.{IsFresh, grows_step, grows_same, grows_on}
-use Rattle.cpc_check_laws.proofs.Sound.Options.{then_some}
-use Rattle.cpc_check_laws.proofs.Sound.Unbroken.{split, holds_not, holds_then}
+use Rattle.cpc_check_laws.proofs.Sound.Unbroken.{split, holds_then}
+use Rattle.cpc_check_laws.proofs.Native.NativeValues.{unbroken as holds_not}
 use Rattle.cpc_tree.specs.Grammar.{IsProgram}
 use Rattle.cpc_tree.specs.Tokens.{Placed}
 use Rattle.cpc_tree.specs.Located.{LProgram, LItem, LStruct, LGlobal, LPrototype, LFunctionItem, bare_item, bare}
 use Rattle.cpc_tree.specs.Syntax.{Ty, Expr, Item, GlobalItem, Program}
 use Rattle.cpc_tree.specs.Typing.{cells}
+use Rattle.cpc_tree.proofs.Options.{then_some}
 use Rattle.cpc_convert.specs.Members.{Has, OnTop, Below}
 use Rattle.cpc_convert_laws.specs.Native.Convertible.{GlobalsComplete}
 

@@ -22,8 +22,9 @@ use Rattle.cpc_check_laws.specs.Sound.Typed.{Calls, CallsHost, CallsFunction, Ca
 use Rattle.cpc_check_laws.proofs.Sound.Agreement.{Matches, Facts, At, item_of}
 use Rattle.cpc_check_laws.proofs.Sound.Bodies.{at_name, stmt_here}
 use Rattle.cpc_check_laws.proofs.Sound.Shapes.{StepWritten, Written, AllWritten, MaybeWritten, all_first_written}
-use Rattle.cpc_check_laws.proofs.Sound.Unbroken.{split, not_broken, holds_not}
-use Rattle.cpc_convert_image_laws.specs.Names.{AllNames, AllNamesIf, AllNamesAmong, AllNamesFound}
+use Rattle.cpc_check_laws.proofs.Sound.Unbroken.{split, not_broken}
+use Rattle.cpc_check_laws.proofs.Native.NativeValues.{unbroken}
+use Rattle.cpc_meaning.specs.Names.{AllNames, AllNamesIf, AllNamesAmong, AllNamesFound}
 use Rattle.cpc_convert_laws.specs.Native.Instance.{ClosedName}
 
 module _ (p : Program) (facts : Facts p) (f : Function) (det : is_detached f.mode ≡ true) where
@@ -41,7 +42,7 @@ module _ (p : Program) (facts : Facts p) (f : Function) (det : is_detached f.mod
     name_closed x q (AGlobal j t) h e mode r ps i = absurd (let k = sym h.1 ∙ i in cc)
     name_closed x q (AFunction Detached r ps) h e mode u us i = let g = facts.function x Detached r ps (item_of p scope x Detached r ps h) refl in record { function = g.0; named = g.1; detached = ap is_detached g.2 }
     name_closed x q (AFunction Native r ps) h e mode u us i =
-        absurd (let a = holds_not (is_detached w.mode && not (is_detached Native)) q NotClosed e in let b = ap (λ b. b && not (is_detached Native)) around_is in let z : true ≡ false = sym b ∙ a in cc)
+        absurd (let a = unbroken (is_detached w.mode && not (is_detached Native)) q NotClosed e in let b = ap (λ b. b && not (is_detached Native)) around_is in let z : true ≡ false = sym b ∙ a in cc)
     name_closed x q (AFunction Cps r ps) h e mode u us i = not_broken _ _ e
     name_closed x q (AFunction Extern r ps) h e mode u us i = not_broken _ _ e
     name_closed x q NotMeant h e mode r ps i = not_broken _ _ e

@@ -19,7 +19,7 @@ use Rattle.cpc_check_rules.specs.Scopes as R
 use Rattle.cpc_check_rules.specs.Scopes.{in_items, meant}
 use Rattle.cpc_check_rules.specs.Operators.{Where, is_detached}
 use Rattle.cpc_check_rules.specs.FunctionRules.{is_kept, is_reserved, reserved_breaks}
-use Rattle.cpc_check_rules.specs.ItemRules.{outside, is_extern, Signature, is_clash, is_disagreeing, is_item, is_function, declared_breaks, is_host_like, types, cps_breaks, parameters_breaks, prototype_breaks, sized_breaks, parameter_block, in_body, body_breaks, function_breaks, item_breaks, items_breaks}
+use Rattle.cpc_check_rules.specs.ItemRules.{outside, is_extern, is_clash, is_disagreeing, is_item, is_function, declared_breaks, is_host_like, types, cps_breaks, parameters_breaks, prototype_breaks, sized_breaks, parameter_block, in_body, body_breaks, function_breaks, item_breaks, items_breaks}
 use Rattle.cpc_meaning.proofs.Functions.{text_same}
 use Rattle.cpc_check_laws.proofs.Sound.Agendas.{Each}
 use Rattle.cpc_check_laws.proofs.Sound.Agreement.{Matches, Grows, Facts, At}
@@ -28,10 +28,11 @@ use Rattle.cpc_check_laws.proofs.Sound.Bodies.{at_name}
 use Rattle.cpc_check_laws.proofs.Sound.Grammar.{items_shape}
 use Rattle.cpc_check_laws.proofs.Sound.Items.{signed, named_more, function_there}
 use Rattle.cpc_check_laws.proofs.Sound.Knowing.{Same, Known, nothing_known, known_struct, known_global, known_function}
-use Rattle.cpc_check_laws.proofs.Sound.Programs.{BodyShape, ItemShape, types_are, no_extern, extern_is}
+use Rattle.cpc_check_laws.proofs.Sound.Programs.{BodyShape, ItemShape, types_are, no_extern, extern_is, signature}
 use Rattle.cpc_check_laws.proofs.Sound.Accepted.{accepted_facts}
-use Rattle.cpc_check_laws.proofs.Sound.Unbroken.{split, holds_not}
-use Rattle.cpc_convert_image_laws.specs.Names.{AllNamesFound}
+use Rattle.cpc_check_laws.proofs.Sound.Unbroken.{split}
+use Rattle.cpc_check_laws.proofs.Native.NativeValues.{unbroken as holds_not}
+use Rattle.cpc_meaning.specs.Names.{AllNamesFound}
 use Rattle.cpc_convert_laws.specs.Accepted.Names.{HasNames}
 use Rattle.cpc_convert_laws.proofs.Accepted.Names.{accepted_has_names}
 use Rattle.cpc_convert_laws.specs.Native.Instance.{ClosedName}
@@ -43,9 +44,6 @@ use Rattle.cpc_convert_laws.proofs.Native.Closing.{in_closed}
 
 free_name : (x : Ident) → reserved_breaks D.Cpc (x ∷ []) ≡ [] → is_kept x.text ≡ false
 free_name x h = (or_neither (is_kept x.text) _ (holds_not (is_reserved D.Cpc x.text) x.place Reserved (split (at_if (is_reserved D.Cpc x.text) x.place Reserved) [] h).0)).0
-
-abbrev signature : Mode → Ty → List LParameter → Bool → Signature
-signature mode r ps is_defined = record { mode = mode; result = r; parameters = types ps; is_defined = is_defined }
 
 module _ (program before rest : Program) (known : Known program before) where
   known_prototype : (q : Place) (mode : Mode) (x : Ident) (r : Ty) (ps : List LParameter) → prototype_breaks D.Cpc program before q mode x r ps ≡ [] → Known program (before ++ bare_item (LPrototype q mode x r ps) ∷ [])

@@ -1,11 +1,11 @@
 -- Names of code that stays mean the same in both programs.
-use Rattle.std.proofs.Common.{◌≡◌, ℕ, suc, Bool, true, false, cond, List, [], ◌∷◌, Option, Some, None, bytes_eq, refl, sym, ◌∙◌, ap, subst}
+use Rattle.std.proofs.Common.{◌≡◌, ℕ, Bool, true, false, cond, List, [], ◌∷◌, Option, Some, None, bytes_eq, refl, sym, ◌∙◌, ap, subst}
 use Rattle.cpc_base.specs.Bytes.{Text}
 use Rattle.cpc_tree.specs.Points.{Found, Simple, Test, Nothing}
-use Rattle.cpc_tree.specs.Syntax.{Ty, Expr, ENamed, EInteger, ECharacter, EText, EUnary, EBinary, EAnd, EOr, EChoose, ECast, ESizeOf, EIndex, EMember, EArrow, ECall, Exprs, NoExpr, AndExpr, Stmt, Block, Empty, Declare, Assign, Call, Detach, Spawn, If, While, DoWhile, For, Goto, Label, Break, Continue, Return, StructItem, GlobalItem, PrototypeItem, FunctionItem, Program}
+use Rattle.cpc_tree.specs.Syntax.{Ty, Expr, ENamed, EInteger, ECharacter, EText, EUnary, EBinary, EAnd, EOr, EChoose, ECast, ESizeOf, EIndex, EMember, EArrow, ECall, Exprs, NoExpr, AndExpr, Stmt, Block, Empty, Declare, Assign, Call, Detach, Spawn, If, While, DoWhile, For, Goto, Label, Break, Continue, Return, Program}
 use Rattle.cpc_tree.specs.Typing.{Scope, Meant, ALocal, AGlobal, AFunction, NotMeant, named, item_named}
 use Rattle.cpc_tree.specs.declared.program.Mode.{Mode}
-use Rattle.cpc_convert_image_laws.specs.Names.{AllNames, AllNamesIf, AllNamesAmong, AllNamesOf, AllNamesFound}
+use Rattle.cpc_meaning.specs.Names.{AllNames, AllNamesIf, AllNamesAmong, AllNamesOf, AllNamesFound}
 use Rattle.cpc_convert_image_laws.specs.Native.{KeptItem, KeptGlobal, KeptFunction, KeptNothing, KeptName, KeptLocal, KeptAsItem}
 use Rattle.cpc_convert_image_laws.proofs.Names.{names_more_if, names_more_of}
 use Rattle.cpc_convert_event.specs.Converted.{converted}
@@ -13,21 +13,9 @@ use Rattle.cpc_convert_event.specs.NameLaws.{IsNamed}
 use Rattle.cpc_convert_event.proofs.Meanings.{items_meant}
 use Rattle.cpc_convert_laws.specs.Accepted.Known.{Stays}
 use Rattle.cpc_convert_laws.specs.Accepted.Points.{UsedName, IsVariable, IsItem}
-use Rattle.cpc_convert_laws.proofs.Accepted.Scoped.{is_local}
+use Rattle.cpc_convert_laws.proofs.Accepted.Scoped.{is_local, item_no_local}
 
 -- ---- items
-
--- no item is a variable
-neither : (b : Bool) (a m : Meant) → is_local a ≡ false → is_local m ≡ false → is_local (cond b a m) ≡ false
-neither true a m e f = e
-neither false a m e f = f
-
-item_no_local : (n : ℕ) (items : Program) (x : Text) → is_local (item_named n items x) ≡ false
-item_no_local n [] x = refl
-item_no_local n (StructItem tag fs ∷ items) x = item_no_local n items x
-item_no_local n (GlobalItem g u start ∷ items) x = neither (bytes_eq g x) _ _ refl (item_no_local (suc n) items x)
-item_no_local n (PrototypeItem mode f r ps ∷ items) x = neither (bytes_eq f x) _ _ refl (item_no_local n items x)
-item_no_local n (FunctionItem f ∷ items) x = neither (bytes_eq f.called x) _ _ refl (item_no_local n items x)
 
 no_local : {A : Type 0} (p : Program) (x : Text) (k : ℕ) (t : Ty) → item_named 0 p x ≡ ALocal k t → A
 no_local p x k t e = absurd (let i : true ≡ false = sym (ap is_local e) ∙ item_no_local 0 p x in cc)

@@ -16,7 +16,7 @@ use Rattle.cpc_meaning.specs.Ways.{only_if, way_from, arrival_from, goes_in_step
 use Rattle.cpc_convert.specs.Converted.{respawned}
 use Rattle.cpc_convert.proofs.Respawn.{founds, respawned_found}
 use Rattle.cpc_forms.specs.Split.{Position, InTree, split_form}
-use Rattle.cpc_convert_image_laws.specs.Names.{AllNamesFound, AllNamesStood}
+use Rattle.cpc_meaning.specs.Names.{AllNamesFound, AllNamesStood}
 use Rattle.cpc_convert_image_laws.specs.Native.{KeptName, IsArrival, IsNativeStood}
 use Rattle.cpc_convert_image_laws.specs.Relations as R
 use Rattle.cpc_convert_image_laws.specs.Stacks.{frame_of, Onwards, BothGoTo, GoesNowhere, NativePoint}

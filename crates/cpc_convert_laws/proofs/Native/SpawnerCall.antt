@@ -16,23 +16,22 @@ use Rattle.cpc_meaning.proofs.Functions.{text_same, gives_then}
 use Rattle.cpc_convert_chain_laws.specs.Boxes.{AllRegisters, NoSlot, AndSlot}
 use Rattle.cpc_convert_chain_laws.specs.Driver.{head_fields, readies}
 use Rattle.cpc_convert_chain_laws.specs.Flat.{before, are_flat}
-use Rattle.cpc_convert_chain_laws.specs.Frames.{Save, Saving, NoSaving, AndSaving, saves_one, register_slots, Scalars, NoScalars, AndScalar}
+use Rattle.cpc_convert_chain_laws.specs.Frames.{Save, Saving, saves_one, register_slots, Scalars, NoScalars, AndScalar}
 use Rattle.cpc_convert_chain_laws.specs.Structs.{NotCalled, NotSo, ScalarFields, AndField, IsStruct}
 use Rattle.cpc_convert_chain_laws.proofs.Fits.{assigned_fits}
 use Rattle.cpc_convert_chain_laws.proofs.Pieces.{registers_call, registers_unaddressed}
+use Rattle.cpc_convert_chain_laws.proofs.Structs.{type_of}
 use Rattle.cpc_convert_event.specs.FillLaws.{AllFit, NoneFit, OneFits, AllHold, NoneHold, OneHolds}
 use Rattle.cpc_convert_event.specs.Lines.{save_of}
 use Rattle.cpc_convert_event.specs.Names.{start_name, frame_name, variable_name}
 use Rattle.cpc_convert_event.specs.Pieces.{parameter_of, spawner_function}
 use Rattle.cpc_convert_event.specs.Routines.{variable_if, passed_from, passed}
 use Rattle.cpc_convert_event.proofs.Fields.{Rising, NoneRises, OneRises}
+use Rattle.cpc_convert_event.proofs.Filling.{saving_from}
 use Rattle.cpc_convert_laws.proofs.Accepted.Pieces.{converts_scalar}
 use Rattle.cpc_convert_laws.proofs.Native.SpawnerScope.{past}
 
 -- ---- what is passed
-
-abbrev pub type_of : Variable → Ty
-type_of x = x.type
 
 -- all of these are scalar
 abbrev pub AllScalar : List Ty → Type 0
@@ -157,16 +156,6 @@ holds_all q top slots k _ _ more scope (AndField _ _ sc none distinct) (NotSo _ 
           ∙ (past q x.called (suc k) xs (here ∷ scope) none ∙ ap (λ b. cond b (ALocal k x.type) (named q scope x.called)) (text_same x.called));
       is_slot = ap (slice_get slots) (let z : k ≡ k + 0 = omega arith in z) ∙ at 0;
     }) fit (holds_all q top slots (suc k) xs vs more (here ∷ scope) distinct apart fits (λ i. ap (slice_get slots) (let z : suc k + i ≡ k + suc i = omega arith in z) ∙ at (suc i)))
-
--- the fields of these variables, the first of which is at this offset
-abbrev FieldsFrom : Program → Text → ℕ → List Variable → Type 0
-FieldsFrom q tag base xs = (i : ℕ) (x : Variable) → slice_get xs i ≡ Some x → field q tag x.called ≡ Some (base + i, x.type)
-
-saving_from : (q : Program) (scope : Scope) (slots : List Slot) (tag : Text) (base : ℕ) (xs : List Variable) (vs : List Value) → FieldsFrom q tag base xs → AllHold q scope slots xs vs → Saving q scope slots tag base (map save_of xs) vs
-saving_from q scope slots tag base _ _ fs NoneHold = NoSaving base
-saving_from q scope slots tag base _ _ fs (OneHolds x v xs vs h fits more) =
-    AndSaving base (save_of x) x.type x.type v (map save_of xs) vs (fs 0 x refl ∙ ap (λ n. Some (n, x.type)) (let z : base + 0 ≡ base = omega arith in z)) h fits
-    (saving_from q scope slots tag (suc base) xs vs (λ i y e. fs (suc i) y e ∙ ap (λ n. Some (n, y.type)) (let z : base + suc i ≡ suc base + i = omega arith in z)) more)
 
 -- they are saved in the fields of a frame behind its head
 pub saves_all : (q : Program) (scope : Scope) (slots : List Slot) (tag : Text) (t : Ty) (xs : List Variable) (vs : List Value) → IsStruct q tag (head_fields t xs) → AllHold q scope slots xs vs → Saving q scope slots tag 3 (map save_of xs) vs

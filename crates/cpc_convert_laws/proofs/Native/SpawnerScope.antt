@@ -1,8 +1,6 @@
 -- What names mean in a spawner: its parameters and its frame hide no name of an item.
-use Rattle.std.proofs.Common.{◌≡◌, ℕ, suc, ◌<◌, ◌^◌, Bool, true, false, cond, List, [], ◌∷◌, map, decimal, bytes_eq, refl, sym, ◌∙◌, ap, subst, codes, arith}
+use Rattle.std.proofs.Common.{◌≡◌, ℕ, suc, ◌<◌, ◌^◌, Bool, true, false, cond, List, [], ◌∷◌, map, decimal, bytes_eq, refl, sym, ◌∙◌, ap, codes, arith}
 use Rattle.std.proofs.lemmas.Fmt.{decimal_is_IsNumeral}
-use Rattle.std.specs.Str.Parse.{AllDigits}
-use Rattle.std.specs.Char.{digit_value}
 use Rattle.cpc_base.specs.Bytes.{Text}
 use Rattle.cpc_base.proofs.Truth.{bytes_eq_fails_back, not_under_ten}
 use Rattle.cpc_tree.specs.Registers.{parameter_scope}
@@ -11,25 +9,16 @@ use Rattle.cpc_tree.specs.Typing.{Local, Scope, ALocal, named, item_named}
 use Rattle.cpc_meaning.proofs.Functions.{texts_differ}
 use Rattle.cpc_convert.specs.Marks.{has_marks}
 use Rattle.cpc_convert.specs.Converted.{marked}
-use Rattle.cpc_convert.proofs.Marks.{differs_marked, marked_is, no_bar_decimal}
+use Rattle.cpc_convert.proofs.Marks.{differs_marked, marked_is, no_bar_decimal, not_digits}
 use Rattle.cpc_forms.specs.Flow.{Start}
 use Rattle.cpc_convert_chain_laws.specs.Driver.{drive_name}
 use Rattle.cpc_convert_chain_laws.specs.Structs.{NotCalled, NoneSo, NotSo}
 use Rattle.cpc_convert_event.specs.Names.{piece_name, frame_name, variable_name}
 use Rattle.cpc_convert_event.specs.Pieces.{parameter_of}
 use Rattle.cpc_convert_event.proofs.Apart.{behind, piece_is, driver_is, no_underscore_behind, no_bar_nothing, piece_nothing}
-use Rattle.cpc_convert_event.proofs.Fields.{word_apart, Rising, NoneRises, OneRises}
+use Rattle.cpc_convert_event.proofs.Fields.{word_apart, Rising, NoneRises, OneRises, variable_is}
 
 -- ---- texts
-
--- the name of a variable is its number and its word
-pub variable_is : (k : ℕ) (x : Text) → variable_name k x ≡ marked x (decimal k)
-unfolding variable_name
-variable_is k x = refl
-
--- what begins with no digit are no digits
-pub not_digits : (c : ℕ) (d e : Text) → (digit_value c < 10 → ⊥) → AllDigits 10 d → d ≡ c ∷ e → ⊥
-not_digits c d e h a k = h (subst (AllDigits 10) k a).0
 
 -- a number is not spelled so
 no_start : (n : ℕ) → n < 2 ^ 63 → decimal n ≡ codes "start" → ⊥

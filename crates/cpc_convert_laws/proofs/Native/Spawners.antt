@@ -36,7 +36,7 @@ use Rattle.cpc_forms.specs.Flow.{Start}
 use Rattle.cpc_forms.specs.Split.{Position, InTree, split_form}
 use Rattle.cpc_convert_image_laws.specs.Held.{IsHeldSlot, beside}
 use Rattle.cpc_convert_image_laws.specs.InPlace as P
-use Rattle.cpc_convert_image_laws.specs.Names.{AllNamesAmong}
+use Rattle.cpc_meaning.specs.Names.{AllNamesAmong}
 use Rattle.cpc_convert_image_laws.specs.Relations.{Meets, SpawnAct}
 use Rattle.cpc_convert_image_laws.specs.Stacks.{frame_of}
 use Rattle.cpc_convert_image_laws.proofs.Natives.{native_spawn}

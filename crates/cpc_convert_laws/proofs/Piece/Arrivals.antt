@@ -20,7 +20,7 @@ use Rattle.cpc_meaning.specs.Ways.{AsCps}
 use Rattle.cpc_convert_image_laws.specs.Held.{IsHeld, IsHeldSlot, IsHeldStore, BoxesLive}
 use Rattle.cpc_convert_image_laws.specs.Images.{image}
 use Rattle.cpc_convert_image_laws.specs.InPlace.{IsWritten, IsWrittenIf}
-use Rattle.cpc_convert_image_laws.specs.Names.{AllNames, AllNamesIf}
+use Rattle.cpc_meaning.specs.Names.{AllNames, AllNamesIf}
 use Rattle.cpc_convert_image_laws.specs.Stacks.{frame_of}
 use Rattle.cpc_convert_image_laws.proofs.Live.{read_live}
 use Rattle.cpc_convert_image_laws.proofs.Rows.{arrival_alike}

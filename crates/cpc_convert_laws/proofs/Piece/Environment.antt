@@ -7,12 +7,12 @@ use Rattle.cpc_tree.specs.Lists.{holds_number}
 use Rattle.cpc_tree.specs.Registers.{variables}
 use Rattle.cpc_tree.specs.Syntax.{Ty, Variable, Function, Program}
 use Rattle.cpc_tree.specs.Typing.{Meant, ALocal, AGlobal, AFunction, NotMeant, named, item_named, is_scalar}
+use Rattle.cpc_tree.proofs.Named.{no_local}
 use Rattle.cpc_store.specs.Store.{Value}
 use Rattle.cpc_meaning.specs.Eval.{Slot, Register}
 use Rattle.cpc_meaning.specs.Ways.{ways}
 use Rattle.cpc_meaning.proofs.Functions.{text_same}
 use Rattle.cpc_convert.specs.Marks.{has_marks}
-use Rattle.cpc_check_laws.proofs.Sound.Lookups.{no_local}
 use Rattle.cpc_convert_image_laws.specs.InPlace.{is_cps}
 use Rattle.cpc_convert_image_laws.specs.Locals.{HasField, StandsFor, local_type}
 use Rattle.cpc_convert_image_laws.specs.Native.{KeptItem, KeptGlobal, KeptFunction, LeftOut, KeptNothing}
@@ -33,12 +33,13 @@ use Rattle.cpc_convert_event.proofs.BoxesThere.{structs_there}
 use Rattle.cpc_convert_event.proofs.Fields.{variables_apart, word_apart}
 use Rattle.cpc_convert_event.proofs.Meanings.{items_meant}
 use Rattle.cpc_convert_event.proofs.Scopes.{nothing_hidden}
+use Rattle.cpc_convert_event.proofs.Boxing.{held_has}
 use Rattle.cpc_convert_laws.specs.Accepted.Known.{Stays}
 use Rattle.cpc_convert_laws.specs.Accepted.Points.{UsedName, IsVariable, IsItem}
 use Rattle.cpc_convert_laws.proofs.Accepted.Functions.{scopes_mean_variables}
 use Rattle.cpc_convert_laws.specs.Piece.Known.{CpsKnown}
 use Rattle.cpc_convert_laws.specs.Piece.Stood.{NodeAt, LocalsStand}
-use Rattle.cpc_convert_laws.proofs.Piece.Frames.{Target, scope, kept_small, held_has}
+use Rattle.cpc_convert_laws.proofs.Piece.Frames.{Target, scope, kept_small}
 use Rattle.cpc_convert_laws.proofs.Piece.Scopes.{unmarked_name, meant}
 use Rattle.cpc_convert_laws.proofs.Piece.Ways.{is_split}
 

@@ -1,7 +1,7 @@
 -- A piece makes the frame of a leader, and gives it to the driver.
 use Rattle.std.proofs.Common.{◌≡◌, ℕ, suc, ◌+◌, ◌<◌, ◌≤◌, ◌^◌, Bool, true, false, ◌||◌, ◌==◌, List, [], ◌∷◌, ◌++◌, map, length, slice_get, slice_set, bytes_eq, Option, Some, refl, sym, ◌∙◌, ap, subst, codes, arith}
 use Rattle.cpc_base.specs.Bytes.{Text}
-use Rattle.cpc_base.proofs.Truth.{eq_reflexive, eq_means, or_by_second}
+use Rattle.cpc_base.proofs.Truth.{eq_reflexive, or_by_second}
 use Rattle.cpc_base.proofs.Lists.{length_of_map}
 use Rattle.cpc_tree.specs.Lists.{holds_number}
 use Rattle.cpc_tree.specs.Points.{Point}
@@ -16,7 +16,7 @@ use Rattle.cpc_meaning.specs.Plain.{Frame as CallFrame}
 use Rattle.cpc_meaning.specs.Runs.{slots_registers}
 use Rattle.cpc_meaning.proofs.Functions.{text_same}
 use Rattle.cpc_convert.specs.Marks.{has_marks}
-use Rattle.cpc_convert.specs.Members.{Has, OnTop, Below}
+use Rattle.cpc_convert.specs.Members.{Has}
 use Rattle.cpc_convert_image_laws.specs.Held.{beside}
 use Rattle.cpc_convert_image_laws.specs.Locals.{Stands, AsValue, AsBlock, local_type}
 use Rattle.cpc_convert_image_laws.proofs.Locals.{stands_apart}
@@ -25,7 +25,7 @@ use Rattle.cpc_forms.specs.Flow.{Place, At}
 use Rattle.cpc_convert_chain_laws.specs.Boxes.{AllRegisters, NoSlot, AndSlot}
 use Rattle.cpc_convert_chain_laws.specs.Chains.{frame_cells}
 use Rattle.cpc_convert_chain_laws.specs.Driver.{code_field, next_field, any_pointer, frame_tag}
-use Rattle.cpc_convert_chain_laws.specs.Fits.{Fits}
+use Rattle.cpc_meaning.specs.Eval.{Fits}
 use Rattle.cpc_convert_chain_laws.specs.Flat.{before, LineAt}
 use Rattle.cpc_convert_chain_laws.specs.Frames.{Holds, Save, asks_block, fills_frame, frame_through, pointed_slots}
 use Rattle.cpc_convert_chain_laws.specs.Walks.{World, Walk, at_line}
@@ -69,14 +69,6 @@ same_registers p r l xs ys a b lower s t =
     omega (arith, e, i, m, n)
 
 -- ---- numbers
-
-pub held_has : (ns : List ℕ) (n : ℕ) → holds_number ns n ≡ true → Has n ns
-held_has [] n h = absurd (cc)
-held_has (m ∷ ns) n h = go (m == n) refl h (λ i. held_has ns n i)
-  where
-    go : (b : Bool) → (m == n) ≡ b → (b || holds_number ns n) ≡ true → (holds_number ns n ≡ true → Has n ns) → Has n (m ∷ ns)
-    go true e i deeper = subst (λ k. Has k (m ∷ ns)) (eq_means m n e) (OnTop m ns)
-    go false e i deeper = Below n m ns (deeper i)
 
 rises_length : (high low : ℕ) (ns : List ℕ) → Rises high low ns → low ≤ high → length ns + low ≤ high
 rises_length high low _ (NoneRise _) h = omega (arith, h)

@@ -24,7 +24,7 @@ use Rattle.cpc_convert_event.specs.Pieces.{piece_body, piece_function}
 use Rattle.cpc_convert_event.specs.FlatLaws.{opening, piece_scope, piece_count}
 use Rattle.cpc_convert_event.specs.LabelLaws.{put_in}
 use Rattle.cpc_convert_event.proofs.Flat.{statements_stand}
-use Rattle.cpc_convert_event.proofs.Labels.{labels_lead}
+use Rattle.cpc_convert_event.proofs.Labels.{labels_lead, rows_apart}
 use Rattle.cpc_convert_laws.specs.Piece.Rows.{next_number, put_row, RowAt, row_index, row_rest, row_point}
 use Rattle.cpc_convert_laws.proofs.Piece.Rows.{rows_stand, only_row}
 
@@ -32,10 +32,6 @@ use Rattle.cpc_convert_laws.proofs.Piece.Rows.{rows_stand, only_row}
 same_behind : {X : Type 0} (xs : List X) (ys zs : List X) → xs ++ ys ≡ xs ++ zs → ys ≡ zs
 same_behind [] ys zs e = e
 same_behind (x ∷ xs) ys zs e = same_behind xs ys zs (cc)
-
-rows_apart : (all front back : List PutRow) → rows_statements all (front ++ back) ≡ rows_statements all front ++ rows_statements all back
-rows_apart all [] back = refl
-rows_apart all (r ∷ front) back = ap (λ ss. row_statements all r ++ ss) (rows_apart all front back) ∙ sym (append_grouped (row_statements all r) (rows_statements all front) (rows_statements all back))
 
 pub wanted_in : (n : ℕ) (front back : List PutRow) (r : PutRow) → any_leads n r.puts ≡ true → is_wanted n (front ++ r ∷ back) ≡ true
 wanted_in n [] back r e = ap (λ b. b || is_wanted n back) e

@@ -26,6 +26,7 @@ use Rattle.cpc_forms.specs.Pieces.{is_owned_by}
 use Rattle.cpc_forms.specs.Split.{Position, InGraph, split_form}
 use Rattle.cpc_graph_laws.specs.Laws.{flow_in}
 use Rattle.cpc_graph_laws.proofs.Formed.{mapped}
+use Rattle.cpc_graph_laws.proofs.Owning.{place_self}
 use Rattle.cpc_convert_chain_laws.specs.Driver.{driving}
 use Rattle.cpc_convert_chain_laws.specs.Flat.{before, point_at, bare, is_line, is_test, standing, onward}
 use Rattle.cpc_convert_chain_laws.specs.Frames.{at as Here_at}
@@ -41,7 +42,6 @@ use Rattle.cpc_convert_event.specs.Names.{piece_name}
 use Rattle.cpc_convert_event.specs.Routines.{Routine, routine_of}
 use Rattle.cpc_convert_event.specs.Rows.{owner_at, is_own, has_row, lines_by, Put, Plain, Jump, is_next, put_line, put_lines, put_statement, leads, any_leads, is_wanted, row_statements, rows_statements}
 use Rattle.cpc_convert_laws.specs.Accepted.Known.{Stays}
-use Rattle.cpc_convert_laws.proofs.Accepted.Cut.{place_self}
 use Rattle.cpc_convert_laws.specs.Related.Bounds.{Bounds}
 use Rattle.cpc_convert_laws.proofs.Related.Inside.{Onward, Does as Performs, Sticks, Breaks, Moves}
 use Rattle.cpc_convert_laws.proofs.Related.Relation.{Shared, world_of}

@@ -8,13 +8,9 @@ use Rattle.cpc_forms.specs.Pieces.{Once, AndOther}
 use Rattle.cpc_convert_event.specs.Routines.{Routine, routine_of}
 use Rattle.cpc_convert_event.specs.Rows.{is_own, lines_by, Row, row_of, numbers_of, first_number, put_lines, PutRow, put_rows}
 use Rattle.cpc_convert_event.specs.LabelLaws.{put_in}
-use Rattle.cpc_convert_event.proofs.Labels.{rows_stand_once}
+use Rattle.cpc_convert_event.proofs.Labels.{rows_stand_once, numbers}
 use Rattle.cpc_convert_laws.specs.Piece.Rows.{next_number, put_row, RowAt}
 use Rattle.cpc_convert_laws.specs.Piece.Laws.{AllRowsStand}
-
--- the numbers of rows
-abbrev pub numbers : List PutRow → List ℕ
-numbers rs = map (λ (r : PutRow). r.number) rs
 
 -- the row behind is the first of those that are put behind
 pub same_next : (rs : List Row) → next_number (put_rows rs) ≡ first_number rs

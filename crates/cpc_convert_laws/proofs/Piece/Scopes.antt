@@ -1,5 +1,5 @@
 -- What names mean in a piece: words, primitives, pieces, the driver and spawners; and what its locals hold.
-use Rattle.std.proofs.Common.{◌≡◌, ℕ, suc, ◌+◌, ◌<◌, ◌^◌, Bool, true, false, cond, List, [], ◌∷◌, ◌++◌, map, length, decimal, slice_get, bytes_eq, Option, Some, None, refl, sym, ◌∙◌, ap, subst, codes, arith}
+use Rattle.std.proofs.Common.{◌≡◌, ℕ, ◌+◌, ◌<◌, ◌^◌, Bool, true, false, cond, List, [], ◌∷◌, ◌++◌, map, length, decimal, slice_get, bytes_eq, Option, Some, None, refl, sym, ◌∙◌, ap, subst, codes, arith}
 use Rattle.std.proofs.lemmas.Fmt.{decimal_is_IsNumeral}
 use Rattle.cpc_base.specs.Bytes.{Text}
 use Rattle.cpc_base.proofs.Truth.{not_under_ten}
@@ -8,19 +8,19 @@ use Rattle.cpc_tree.specs.declared.program.Mode.TheVariants.{Native}
 use Rattle.cpc_tree.specs.Primitives.{Primitive, primitive_named}
 use Rattle.cpc_tree.specs.Registers.{variables, outer_scope}
 use Rattle.cpc_tree.specs.Syntax.{Ty, TyPointer, TyStruct, Variable, Function, Program}
-use Rattle.cpc_tree.specs.Typing.{Scope, ALocal, AFunction, NotMeant, named, item_named, is_scalar}
+use Rattle.cpc_tree.specs.Typing.{ALocal, AFunction, NotMeant, named, item_named, is_scalar}
 use Rattle.cpc_store.specs.Store.{Value}
 use Rattle.cpc_meaning.specs.Eval.{Slot, Register}
 use Rattle.cpc_meaning.proofs.Functions.{texts_differ}
 use Rattle.cpc_convert.specs.Marks.{has_marks}
 use Rattle.cpc_convert.specs.Converted.{marked}
-use Rattle.cpc_convert.proofs.Marks.{marked_is, no_bar_decimal}
+use Rattle.cpc_convert.proofs.Marks.{marked_is, no_bar_decimal, not_digits}
 use Rattle.cpc_convert_image_laws.specs.InPlace.{is_cps}
 use Rattle.cpc_forms.specs.Flow.{Place, Start, At}
 use Rattle.cpc_lift_laws.specs.Lift.{variables_in, variable_count}
 use Rattle.cpc_convert_chain_laws.specs.Boxes.{AllRegisters}
 use Rattle.cpc_convert_chain_laws.specs.Driver.{any_pointer}
-use Rattle.cpc_convert_chain_laws.specs.Frames.{Holds, Load, declared_scope}
+use Rattle.cpc_convert_chain_laws.specs.Frames.{Holds, Load}
 use Rattle.cpc_convert_chain_laws.proofs.Boxes.{register_at}
 use Rattle.cpc_convert_chain_laws.proofs.Scopes.{NotLoaded, NoneLoaded, NotThisLoad, loaded_other}
 use Rattle.cpc_convert_event.specs.Names.{piece_name, variable_name, next_name}
@@ -32,12 +32,11 @@ use Rattle.cpc_convert_event.specs.FlatLaws.{piece_scope}
 use Rattle.cpc_convert_event.specs.LocalLaws.{piece_locals, MeansLocals}
 use Rattle.cpc_convert_event.specs.NameLaws.{IsCps, IsOwner}
 use Rattle.cpc_convert_event.proofs.Apart.{behind, piece_is, no_underscore_behind, no_bar_nothing, piece_nothing}
-use Rattle.cpc_convert_event.proofs.Locals.{NoneCalled, closure_rise, loaded_below, locals_meant}
+use Rattle.cpc_convert_event.proofs.Locals.{NoneCalled, closure_rise, loaded_below, locals_meant, boxes_rise, none_append, passes}
 use Rattle.cpc_convert_event.proofs.Meanings.{items_meant}
 use Rattle.cpc_convert_event.proofs.Numbers.{AllBelow, NoneBelow, OneBelow, below_append, below_chosen, Rises, rises_below}
 use Rattle.cpc_convert_event.proofs.Scopes.{nothing_hidden}
-use Rattle.cpc_convert_laws.proofs.Accepted.Below.{boxes_rise}
-use Rattle.cpc_convert_laws.proofs.Native.SpawnerScope.{not_digits, variable_is}
+use Rattle.cpc_convert_event.proofs.Fields.{variable_is}
 use Rattle.cpc_convert_laws.specs.Piece.Known.{CpsKnown}
 use Rattle.cpc_convert_laws.specs.Piece.Stood.{LocalsStand}
 
@@ -58,16 +57,6 @@ word_piece w f m hw hf =
     texts_differ (marked w (codes "")) (marked f (behind m)) (λ (e : marked w (codes "") ≡ marked f (behind m)). piece_nothing m (sym (marked_is w f (codes "") (behind m) hw hf no_bar_nothing (no_underscore_behind m) e).1))
 
 -- ---- scopes
-
--- names that are declared hide no other
-pub declared_other : (q : Program) (y : Text) (scope : Scope) (n : ℕ) (vs : List Variable) → NoneCalled y vs → named q (declared_scope scope n vs) y ≡ named q scope y
-declared_other q y scope n [] h = refl
-declared_other q y scope n (v ∷ vs) h = declared_other q y (record { called = v.called; type = v.type; slot = n } ∷ scope) (suc n) vs h.1 ∙ ap (λ b. cond b (ALocal n v.type) (named q scope y)) h.0
-
--- a name that neither row has, both have not
-pub none_append : (y : Text) (xs ys : List Variable) → NoneCalled y xs → NoneCalled y ys → NoneCalled y (xs ++ ys)
-none_append y [] ys h g = g
-none_append y (x ∷ xs) ys h g = (h.0, none_append y xs ys h.1 g)
 
 -- a name that no variable has is not loaded
 pub loads_none : (y : Text) (xs : List Variable) → NoneCalled y xs → NotLoaded y (map load_of xs)
@@ -158,7 +147,7 @@ module _ (p : Program) (f : Function) (known : CpsKnown p f) where
     -- no local hides a piece
     piece_shown : (l : Place) → named q (piece_scope p r l) its ≡ item_named 0 q its
     piece_shown l =
-        declared_other q its _ _ (declares_of p r l) (declares_none l)
+        passes q its _ _ (declares_of p r l) (declares_none l)
         ∙ (loaded_other q its _ 2 (loads_of p r l) (loaded_none l)
         ∙ (ap (λ b. cond b (ALocal 1 (TyPointer (TyStruct (piece_name f.called l)))) (named q (outer_scope (piece_function p r l)) its)) (word_piece (codes "e") f.called m refl unmarked)
         ∙ ap (λ b. cond b (ALocal 0 any_pointer) (item_named 0 q its)) (word_piece (codes "k") f.called m refl unmarked)))

@@ -30,12 +30,13 @@ use Rattle.cpc_convert_event.specs.Routines.{Routine, routine_of, closure_of}
 use Rattle.cpc_convert_event.specs.Rows.{rows_nodes, stubs_of, reached, is_own, lines_by, put_lines, put_statement, rows_statements}
 use Rattle.cpc_convert_event.proofs.Fields.{word_apart}
 use Rattle.cpc_convert_event.proofs.Numbers.{chosen_is}
+use Rattle.cpc_convert_event.proofs.Boxing.{held_has}
 use Rattle.cpc_convert_laws.specs.Piece.Known.{CpsKnown}
 use Rattle.cpc_convert_laws.specs.Piece.Rows.{next_number, put_row, RowAt, row_index, row_point}
 use Rattle.cpc_convert_laws.specs.Piece.Stood.{LocalsStand}
 use Rattle.cpc_convert_laws.proofs.Piece.Places.{first_line}
 use Rattle.cpc_convert_laws.proofs.Piece.Scopes.{meant, local_slot, local_holds}
-use Rattle.cpc_convert_laws.proofs.Piece.Frames.{held_has, puts_do, Target, code, body, scope, is_code, Word, word_set, saves_of, fills_of, with_frame, frame_passed, frame_walk}
+use Rattle.cpc_convert_laws.proofs.Piece.Frames.{puts_do, Target, code, body, scope, is_code, Word, word_set, saves_of, fills_of, with_frame, frame_passed, frame_walk}
 
 -- a row that holds a number is not empty
 pub some_there : (xs : List ℕ) (n : ℕ) → holds_number xs n ≡ true → not (is_empty xs) ≡ true

@@ -1,23 +1,22 @@
 -- The names that occur at a node are of variables that its owner keeps, or of items that stay.
-use Rattle.std.proofs.Common.{◌≡◌, ℕ, Bool, true, false, ◌||◌, ◌==◌, cond, List, [], ◌∷◌, ◌++◌, bytes_eq, Option, Some, None, sym, ◌∙◌, ap}
+use Rattle.std.proofs.Common.{◌≡◌, ℕ, true, List, ◌++◌, Option, Some, None, sym, ◌∙◌, ap}
 use Rattle.cpc_base.specs.Bytes.{Text}
-use Rattle.cpc_base.proofs.Truth.{eq_reflexive}
 use Rattle.cpc_tree.specs.Lists.{holds_number}
 use Rattle.cpc_tree.specs.Points.{Nothing}
 use Rattle.cpc_tree.specs.Registers.{slot_of}
-use Rattle.cpc_tree.specs.Syntax.{Ty, Expr, ENamed, EInteger, ECharacter, EText, EUnary, EBinary, EAnd, EOr, EChoose, ECast, ESizeOf, EIndex, EMember, EArrow, ECall, Exprs, NoExpr, AndExpr, Function, Program}
-use Rattle.cpc_tree.specs.Typing.{Scope, ALocal, named}
+use Rattle.cpc_tree.specs.Syntax.{Expr, ENamed, EInteger, ECharacter, EText, EUnary, EBinary, EAnd, EOr, EChoose, ECast, ESizeOf, EIndex, EMember, EArrow, ECall, Exprs, NoExpr, AndExpr, Function, Program}
+use Rattle.cpc_tree.specs.Typing.{Scope}
 use Rattle.cpc_store.specs.Store.{Value}
 use Rattle.cpc_meaning.specs.Eval.{Slot}
 use Rattle.cpc_meaning.specs.Act.{AtStatement}
 use Rattle.cpc_meaning.specs.Ways.{ways}
-use Rattle.cpc_check_laws.proofs.Sound.Lookups.{no_local}
 use Rattle.cpc_forms.specs.Flow.{Place}
 use Rattle.cpc_forms.specs.Graph.{at_node}
 use Rattle.cpc_forms.specs.Split.{InGraph, split_form, position_stood}
 use Rattle.cpc_graph_laws.proofs.Formed.{in_left, in_right}
 use Rattle.cpc_lift_laws.specs.Used.{used_in, used_among, used_if, used_at}
-use Rattle.cpc_convert_image_laws.specs.Names.{AllNames, AllNamesIf, AllNamesAmong}
+use Rattle.cpc_lift_laws.proofs.Kept.{number_of}
+use Rattle.cpc_meaning.specs.Names.{AllNames, AllNamesIf, AllNamesAmong}
 use Rattle.cpc_convert_event.specs.NameLaws.{IsOwner}
 use Rattle.cpc_convert_event.specs.Routines.{routine_of, closure_of}
 use Rattle.cpc_convert_laws.specs.Accepted.Points.{UsedName}
@@ -26,14 +25,6 @@ use Rattle.cpc_convert_laws.specs.Piece.Known.{CpsKnown}
 use Rattle.cpc_convert_laws.specs.Piece.Stood.{NodeAt, LocalsStand}
 use Rattle.cpc_convert_laws.proofs.Piece.Environment.{Used, scope_is}
 use Rattle.cpc_convert_laws.proofs.Piece.Ways.{is_split, kept_is, stands_there}
-
-slot_held : (p : Program) (scope : Scope) (x : Text) (k : ℕ) (t : Ty) → named p scope x ≡ ALocal k t → holds_number (slot_of scope x) k ≡ true
-slot_held p [] x k t e = absurd (no_local 0 p x k t e)
-slot_held p (l ∷ scope) x k t e = go (bytes_eq l.called x) e (λ i. slot_held p scope x k t i)
-  where
-    go : (b : Bool) → cond b (ALocal l.slot l.type) (named p scope x) ≡ ALocal k t → (named p scope x ≡ ALocal k t → holds_number (slot_of scope x) k ≡ true) → holds_number (cond b (l.slot ∷ []) (slot_of scope x)) k ≡ true
-    go true i deeper = let same : l.slot ≡ k = cc in ap (λ b. b || false) (ap (λ m. m == k) same ∙ eq_reflexive k)
-    go false i deeper = deeper i
 
 -- names of one family that occur among variables that are kept are of another
 module _ (L M : Text → Type 0) (scope : Scope) (K : ℕ → Type 0) (more : (x : Text) → L x → ((k : ℕ) → holds_number (slot_of scope x) k ≡ true → K k) → M x) where
@@ -79,7 +70,7 @@ module _ (p : Program) (f : Function) (known : CpsKnown p f) (l : Place) (owner 
   IsKept k = holds_number (closure_of (routine_of p f) l) k ≡ true
 
   pub use_kept : (x : Text) → UsedName p at.node.scope x → ((k : ℕ) → holds_number (slot_of at.node.scope x) k ≡ true → IsKept k) → Used p f known l owner n at slots slots' lower stands x
-  use_kept x u h = record { used = u; kept = λ k t e. h k (slot_held p at.node.scope x k t e) }
+  use_kept x u h = record { used = u; kept = λ k t e. h k (number_of p at.node.scope x k t e) }
 
   pub stood_is : (split_form p).code.stood f.called (InGraph l n) ≡ at.node.stood
   stood_is = ap (λ o. position_stood ((ways p).code.stood f.called) o (InGraph l n)) (is_split p f known) ∙ ap (at_node (AtStatement Nothing) (λ k. k.stood)) at.is_node

@@ -18,7 +18,7 @@ use Rattle.cpc_graph_laws.proofs.Leaders.{inside}
 use Rattle.cpc_graph_laws.proofs.Marked.{leaders_are_listed}
 use Rattle.cpc_graph_laws.proofs.MoreFacts.{ways_stay_or_lead}
 use Rattle.cpc_graph_laws.proofs.Going.{positions_go_on}
-use Rattle.cpc_graph_laws.proofs.Owning.{pieces_hold_theirs}
+use Rattle.cpc_graph_laws.proofs.Owning.{pieces_hold_theirs, place_self, place_same}
 use Rattle.cpc_graph_laws.proofs.Splits.{owner_there}
 use Rattle.cpc_graph_laws.proofs.Standing.{IsIn, IsNoArrival, way_is_in, way_no_arrival}
 use Rattle.cpc_lift_laws.specs.Lift.{closure_in}
@@ -30,7 +30,6 @@ use Rattle.cpc_convert_event.proofs.Labels.{rows_stand_once}
 use Rattle.cpc_convert_event.proofs.Numbers.{chosen_has}
 use Rattle.cpc_convert_laws.specs.Accepted.Lifted.{kept_of}
 use Rattle.cpc_convert_laws.proofs.Accepted.Lifted.{programs_are_closed}
-use Rattle.cpc_convert_laws.proofs.Accepted.Cut.{place_self, place_same}
 use Rattle.cpc_convert_laws.specs.Piece.Known.{CpsKnown}
 use Rattle.cpc_convert_laws.specs.Piece.Rows.{RowAt}
 use Rattle.cpc_convert_laws.specs.Piece.Stood.{NodeAt}

@@ -32,6 +32,7 @@ use Rattle.cpc_convert_image_laws.proofs.Beside as S
 use Rattle.cpc_convert_image_laws.proofs.Entering.{slots_beside}
 use Rattle.cpc_convert_image_laws.proofs.Stacks.{native_step, native_answered}
 use Rattle.cpc_convert_image_laws.proofs.Stores.{cells_none, cells_more, alloc_holds}
+use Rattle.cpc_convert_image_laws.proofs.Example.{empty_held}
 use Rattle.cpc_convert_laws.proofs.Related.Setting.{Setting, from_form, to_form, CollectedAlike, BothGave, BothFailed, SourceStuck, HeldJob}
 
 -- a point of a function that sections run, which is the same in both
@@ -100,9 +101,6 @@ empty_has Static n = no_cells n
 empty_has Auto n = no_cells n
 empty_has Heap n = no_cells n
 empty_has Frame n = no_cells n
-
-empty_held : (C : Text → Type 0) → IsHeldStore C empty_store
-empty_held C class n k cells v e i = absurd (let none = empty_has class n in cc)
 
 ints_cells : (C : Text → Type 0) (cells : List Value) → all_integers cells ≡ true → (k : ℕ) (v : Value) → slice_get cells k ≡ Some v → IsHeld C v
 ints_cells C [] e = cells_none C

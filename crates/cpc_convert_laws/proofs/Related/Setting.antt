@@ -12,7 +12,7 @@ use Rattle.cpc_meaning.specs.Agenda.{Due}
 use Rattle.cpc_meaning.specs.Answer.{Gives}
 use Rattle.cpc_num.specs.declared.kinds.Kind.TheVariants.{Int}
 use Rattle.cpc_meaning.specs.Plain.{Form, Frame, Asks, asking, context, frames_step}
-use Rattle.cpc_meaning.specs.Requests.{Request, Asked, Builtin, Host, ToSpawn, Section, Primitive, Print, Putc, Puts, Now, CondNew, CondFree, Signal, SignalAll, Exit, Malloc, Free}
+use Rattle.cpc_meaning.specs.Requests.{Request, Primitive, Print, Putc, Puts, Now, CondNew, CondFree, Signal, SignalAll, Exit, Malloc, Free, Asked, Builtin, Host, ToSpawn, Section}
 use Rattle.cpc_tree.specs.Points.{Found}
 use Rattle.cpc_convert_image_laws.specs.Native.{IsArrival}
 use Rattle.cpc_meaning.specs.Section.{Job, all_integers}

@@ -16,7 +16,7 @@ use Rattle.cpc_meaning_laws.proofs.Cell.Going.{going_on_keeps}
 use Rattle.cpc_convert_chain_laws.proofs.Walks.{stay, rise_cons, walk_append, walk_as, walk_cons, walk_one}
 use Rattle.cpc_convert_chain_laws.specs.Boxes.{Unboxing, unboxes_one}
 use Rattle.cpc_convert_chain_laws.specs.Driver.{driving, patches}
-use Rattle.cpc_convert_chain_laws.specs.Fits.{Fits}
+use Rattle.cpc_meaning.specs.Eval.{Fits}
 use Rattle.cpc_convert_chain_laws.specs.Flat.{LineAt, Stands, before, point_at}
 use Rattle.cpc_convert_chain_laws.specs.Frames.{Holds, at as Here_at}
 use Rattle.cpc_convert_chain_laws.specs.Walks.{FaultsAfter, Here, Walk, World, at_line, frame_at, running}

@@ -24,6 +24,7 @@ use Rattle.cpc_lift_laws.specs.Lift.{boxes_from, variable_count, variables_in}
 use Rattle.cpc_convert_chain_laws.specs.Driver.{any_pointer, value_field}
 use Rattle.cpc_convert_chain_laws.specs.Flat.{before, is_line, is_flat, are_flat}
 use Rattle.cpc_convert_chain_laws.specs.Frames.{Load, loads_one, declares_one, frees_frame}
+use Rattle.cpc_convert_chain_laws.proofs.Rows.{before_append}
 use Rattle.cpc_convert_event.specs.Frames.{arriving_type}
 use Rattle.cpc_convert_event.specs.NameLaws.{IsOwner}
 use Rattle.cpc_convert_event.specs.Names.{piece_name, pointer_name, frame_name, next_name, value_name, node_label}
@@ -32,7 +33,7 @@ use Rattle.cpc_convert_event.specs.Pieces as P
 use Rattle.cpc_convert_event.specs.Routines.{Routine, routine_of, closure_of, is_plain, is_parameter, variable_of, variable_or, local_of, locals_of, chosen, number_before}
 use Rattle.cpc_convert_event.specs.Rows.{is_own, row_of, numbers_of, first_number, PutRow, put_rows, put_lines, put_statement, is_wanted, row_statements, rows_statements, piece_statements}
 use Rattle.cpc_convert_event.specs.LabelLaws.{put_in}
-use Rattle.cpc_convert_event.proofs.Flat.{boxes_done, before_append, pieces_flat}
+use Rattle.cpc_convert_event.proofs.Flat.{boxes_done, pieces_flat}
 use Rattle.cpc_convert_event.proofs.Lines.{AreLines, bare_lines, lines_append, piece_lines, puts_done, lines_done}
 use Rattle.cpc_convert_laws.specs.Accepted.Pieces.{VariablesHaveCells}
 use Rattle.cpc_convert_laws.specs.Piece.Known.{CpsKnown}

@@ -33,7 +33,7 @@ use Rattle.cpc_convert_event.specs.Routines.{Routine, routine_of, closure_of, lo
 use Rattle.cpc_convert_event.specs.Rows.{stub_lines}
 use Rattle.cpc_convert_event.proofs.BoxesThere.{structs_there}
 use Rattle.cpc_convert_event.proofs.Fields.{frame_fields, NoneRises, passed_rise}
-use Rattle.cpc_convert_event.proofs.Locals.{closure_rise, locals_scalar}
+use Rattle.cpc_convert_event.proofs.Locals.{closure_rise, locals_scalar, in_locals}
 use Rattle.cpc_convert_event.proofs.Numbers.{rises_below}
 use Rattle.cpc_convert_laws.proofs.Native.SpawnerCall.{passed_few}
 use Rattle.cpc_convert_laws.specs.Piece.Known.{CpsKnown}
@@ -45,7 +45,7 @@ use Rattle.cpc_convert_laws.proofs.Bodies.Spawners.{struct_there}
 use Rattle.cpc_convert_laws.proofs.RowBodies.InPlace.{v, next_local, pointed}
 use Rattle.cpc_convert_laws.proofs.RowBodies.Inside.{local, free, piece, start}
 use Rattle.cpc_convert_laws.proofs.RowBodies.Nodes.{IsFormed}
-use Rattle.cpc_convert_laws.proofs.RowBodies.Opening.{struct, kept, in_locals, measured_is, passed_has}
+use Rattle.cpc_convert_laws.proofs.RowBodies.Opening.{struct, kept, measured_is, passed_has}
 use Rattle.cpc_convert_laws.proofs.RowBodies.Rowing.{LinesRun, all_run}
 
 -- a parameter of a function stands first among its variables

@@ -7,12 +7,12 @@ use Rattle.cpc_tree.specs.Registers.{outer_scope}
 use Rattle.cpc_tree.specs.Syntax.{Ty, TyVoid, TyInt, Variable, Function, Program}
 use Rattle.cpc_tree.specs.Typing.{Meant, ALocal, AFunction, NotMeant, named, item_named, parameter_type}
 use Rattle.cpc_tree.specs.Typing as T
+use Rattle.cpc_tree.proofs.Named.{no_local}
 use Rattle.cpc_check_rules.specs.Scopes as S
 use Rattle.cpc_check_rules.specs.Scopes.{in_items, meant}
 use Rattle.cpc_check_rules.specs.Operators.{Where}
 use Rattle.cpc_check_laws.proofs.Native.NativeValues.{event}
-use Rattle.cpc_check_laws.proofs.Sound.Knowing.{primitive_kept}
-use Rattle.cpc_check_laws.proofs.Sound.Lookups.{no_local}
+use Rattle.cpc_check_laws.proofs.Run.Names.{primitive_kept}
 use Rattle.cpc_convert_laws.specs.Complete.Standing.{local_named, Tells}
 use Rattle.cpc_convert_laws.specs.Complete.Flat.{all_named_at}
 use Rattle.cpc_convert_laws.proofs.Complete.Flat.{opened}

@@ -1,26 +1,21 @@
 -- No two rows of a piece have one label, and each goto leads to the label of a row.
-use Rattle.std.proofs.Common.{◌≡◌, ◌⊎◌, inl, inr, ⊎_elim, ℕ, ◌+◌, ◌<◌, ◌^◌, Bool, true, false, ◌==◌, List, [], ◌∷◌, ◌++◌, map, reverse, length, decimal, bytes_eq, codes, refl, sym, ◌∙◌, ap, subst, arith}
-use Rattle.std.proofs.lemmas.List.{reverse-append, reverse-reverse}
+use Rattle.std.proofs.Common.{◌≡◌, ◌⊎◌, inl, inr, ⊎_elim, ℕ, ◌+◌, ◌<◌, ◌^◌, Bool, true, false, ◌==◌, List, [], ◌∷◌, ◌++◌, map, length, refl, sym, ◌∙◌, ap, subst, arith}
 use Rattle.cpc_base.specs.Bytes.{Text}
 use Rattle.cpc_base.proofs.Truth.{eq_reflexive, or_neither}
 use Rattle.cpc_tree.specs.Lists.{holds_number}
 use Rattle.cpc_tree.specs.Syntax.{Stmt, Label, Function, Program}
-use Rattle.cpc_meaning.proofs.Functions.{texts_differ}
 use Rattle.cpc_convert_laws.specs.Complete.Flat.{NoneOf, NoText, AndOther, Distinct, NoneDistinct, AndDistinct, line_labels, labels_of}
-use Rattle.cpc_convert.specs.Converted.{marked}
-use Rattle.cpc_convert.proofs.Marks.{decimal_is}
 use Rattle.cpc_forms.specs.Flow.{Place, flow_of}
 use Rattle.cpc_forms.specs.Graph.{graph_of}
 use Rattle.cpc_forms.specs.Pieces as P
+use Rattle.cpc_forms.proofs.Owners.{owners_long}
 use Rattle.cpc_convert_event.specs.Names.{node_label}
 use Rattle.cpc_convert_event.specs.Routines.{Routine, routine_of}
 use Rattle.cpc_convert_event.specs.Rows.{is_own, row_of, PutRow, numbers_of, first_number, put_rows, put_statement, is_wanted, label_if, row_statements, rows_statements, piece_statements}
 use Rattle.cpc_convert_event.proofs.Lines.{is_bare, AreBare, lines_done, puts_done}
-use Rattle.cpc_convert_event.proofs.Labels.{leaders_rise, rows_stand_once}
+use Rattle.cpc_convert_event.proofs.Labels.{leaders_rise, rows_stand_once, numbers, labels_apart}
 use Rattle.cpc_convert_event.proofs.Numbers.{AllBelow, NoneBelow, OneBelow, Rises, rises_below}
 use Rattle.cpc_convert_laws.proofs.Accepted.Below.{below_numbers}
-use Rattle.cpc_convert_laws.proofs.Accepted.Cut.{owners_long}
-use Rattle.cpc_convert_laws.proofs.Piece.Rows.{numbers}
 use Rattle.cpc_convert_laws.specs.RowBodies.Laws.{LabelsStandOnce}
 
 -- ---- labels of statements
@@ -46,24 +41,6 @@ pub row_labels : (b : Bool) (l : Text) (ss : List Stmt) → AreBare ss → (labe
 row_labels true l [] h = inl refl
 row_labels true l (s ∷ ss) h = inr (ap (λ ls. l ∷ (ls ++ labels_of ss)) (bare_has s h.0) ∙ ap (λ ls. l ∷ ls) (bare_labels ss h.1))
 row_labels false l ss h = inl (bare_labels ss h)
-
-label_is : (n : ℕ) → node_label n ≡ marked (codes "at" ++ decimal n) (codes "")
-unfolding node_label
-label_is n = refl
-
-behind_label : (x y : Text) → x ++ codes "__" ≡ y ++ codes "__" → x ≡ y
-behind_label x y e =
-    let back : codes "__" ++ reverse x ≡ codes "__" ++ reverse y = sym (reverse-append x (codes "__")) ∙ (ap reverse e ∙ reverse-append y (codes "__")) in
-    let same : reverse x ≡ reverse y = cc in
-    sym (reverse-reverse x) ∙ (ap reverse same ∙ reverse-reverse y)
-
--- labels of different numbers
-labels_apart : (m n : ℕ) → m < 2 ^ 63 → n < 2 ^ 63 → (m ≡ n → ⊥) → bytes_eq (node_label m) (node_label n) ≡ false
-labels_apart m n hm hn d =
-    texts_differ (node_label m) (node_label n)
-    (λ (e : node_label m ≡ node_label n).
-    let whole : codes "at" ++ decimal m ≡ codes "at" ++ decimal n = behind_label (codes "at" ++ decimal m) (codes "at" ++ decimal n) (sym (label_is m) ∙ (e ∙ label_is n)) in
-    let digits : decimal m ≡ decimal n = cc in d (decimal_is m n hm hn digits))
 
 -- ---- rows
 

@@ -19,7 +19,7 @@ use Rattle.cpc_convert_laws.specs.Complete.Sets.{Sets, Writes, AllSet, Gives, Al
 use Rattle.cpc_convert_laws.proofs.Complete.Acts.{sets_carried, writes_carried, all_carried, gives_carried, all_suit_carried, assign_carried, call_carried, test_carried}
 use Rattle.cpc_convert_laws.proofs.Complete.Kept.{over}
 use Rattle.cpc_convert_image_laws.specs.Images.{Readings, image_named, image, images, image_if}
-use Rattle.cpc_convert_image_laws.specs.Names.{AllNames, AllNamesIf, AllNamesAmong}
+use Rattle.cpc_meaning.specs.Names.{AllNames, AllNamesIf, AllNamesAmong}
 use Rattle.cpc_graph_laws.proofs.Formed.{in_left, in_right}
 use Rattle.cpc_lift_laws.specs.Used.{used_in, used_among, used_if}
 use Rattle.cpc_convert_laws.proofs.Piece.Uses.{names_kept, names_kept_if, names_kept_among}

@@ -39,10 +39,10 @@ use Rattle.cpc_convert_event.specs.Names.{piece_name, box_tag, variable_name, fr
 use Rattle.cpc_convert_event.specs.Pieces.{called_so}
 use Rattle.cpc_convert_event.specs.Routines.{Routine, routine_of, closure_of, is_plain, variable_of, variable_or, local_of, stood_variable, readings_of}
 use Rattle.cpc_convert_event.proofs.BoxesThere.{structs_there}
+use Rattle.cpc_convert_event.proofs.Boxing.{held_has}
 use Rattle.cpc_convert_laws.proofs.Accepted.Scoped.{means_variable}
 use Rattle.cpc_convert_laws.proofs.Accepted.Used.{primitive_unmarked}
 use Rattle.cpc_convert_laws.specs.Piece.Known.{CpsKnown}
-use Rattle.cpc_convert_laws.proofs.Piece.Frames.{held_has}
 use Rattle.cpc_convert_laws.proofs.Piece.Scopes as scopes
 use Rattle.cpc_convert_laws.specs.Rules.Laws.{Knows}
 use Rattle.cpc_convert_laws.proofs.Rules.Items.{Declares}

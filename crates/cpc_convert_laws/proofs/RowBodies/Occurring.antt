@@ -24,7 +24,7 @@ use Rattle.cpc_check_rules.specs.Calls.{Wanted, Integer, Of, Callback, String, F
 use Rattle.cpc_check_rules.specs.ExprRules.{called_breaks, arg_breaks, expr_breaks, args_breaks}
 use Rattle.cpc_check_rules.specs.StmtRules.{place_breaks, target_breaks, fits_breaks, result_breaks, assign_breaks, given_breaks, to_breaks, tested_breaks, test_breaks, stmt_breaks}
 use Rattle.cpc_check_laws.proofs.Native.OnePlace.{here, ident_here, expr_here, exprs_here, stmt_here}
-use Rattle.cpc_convert_image_laws.specs.Names.{AllNames, AllNamesIf, AllNamesAmong}
+use Rattle.cpc_meaning.specs.Names.{AllNames, AllNamesIf, AllNamesAmong}
 use Rattle.cpc_check_laws.proofs.Native.NativeValues.{both_none}
 use Rattle.cpc_check_laws.proofs.Sound.Unbroken.{split, not_broken}
 use Rattle.cpc_convert_laws.specs.Complete.Sets.{Has, Sets, Writes, AllSet, NoneSet, AndSet, Gives, AllSuit, NoneSuits, AndSuits}

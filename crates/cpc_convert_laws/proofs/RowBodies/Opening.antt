@@ -2,7 +2,7 @@
 use Rattle.std.proofs.Common.{◌≡◌, ℕ, zero, suc, ◌+◌, ◌<◌, ◌≤◌, ◌^◌, Bool, true, false, not, ◌&&◌, ◌==◌, ◌||◌, cond, List, [], ◌∷◌, ◌++◌, map, length, slice_get, nat_le, bytes_eq, Option, Some, None, refl, sym, ◌∙◌, ap, subst, arith}
 use Rattle.std.proofs.lemmas.Bool.Decides.{nat_tests}
 use Rattle.cpc_base.specs.Bytes.{Text}
-use Rattle.cpc_base.proofs.Truth.{eq_reflexive, eq_means, lt_means, or_by_second, and_both}
+use Rattle.cpc_base.proofs.Truth.{eq_reflexive, lt_means, or_by_second, and_both}
 use Rattle.cpc_num.specs.declared.kinds.Kind.TheVariants.{Int}
 use Rattle.cpc_tree.specs.Lists.{holds_number}
 use Rattle.cpc_tree.specs.Points.{locals}
@@ -19,7 +19,7 @@ use Rattle.cpc_convert_laws.specs.Complete.Flat.{Runs, NoRow, AndLine, NoneOf, N
 use Rattle.cpc_convert_laws.proofs.Complete.Flat.{opens_run, fresh_in, runs_both, none_apart}
 use Rattle.cpc_convert_laws.proofs.Complete.Frames.{boxes_fine, fills_fine, frees_fine}
 use Rattle.cpc_convert_laws.proofs.Complete.Makers.{takes_itself}
-use Rattle.cpc_meaning.proofs.Functions.{texts_differ}
+use Rattle.cpc_meaning.proofs.Functions.{texts_differ, scalar_size}
 use Rattle.cpc_convert_image_laws.specs.Locals.{local_type}
 use Rattle.cpc_convert_image_laws.specs.Relations.{Less, AsIs, Untold}
 use Rattle.cpc_forms.specs.Flow.{Place, Start, At}
@@ -28,7 +28,6 @@ use Rattle.cpc_lift_laws.proofs.Lift.{boxes_exact}
 use Rattle.cpc_convert_chain_laws.specs.Driver.{next_field, value_field, any_pointer, head_fields}
 use Rattle.cpc_convert_chain_laws.specs.Frames.{Load, loads_one, declares_one, frees_frame, Scalars, NoScalars, AndScalar}
 use Rattle.cpc_convert_chain_laws.specs.Structs.{IsStruct}
-use Rattle.cpc_convert_chain_laws.proofs.Structs.{scalar_size}
 use Rattle.cpc_convert_event.specs.Converted.{converted}
 use Rattle.cpc_convert_event.specs.FlatLaws.{piece_scope}
 use Rattle.cpc_convert_event.specs.Frames.{arriving_type}
@@ -41,12 +40,12 @@ use Rattle.cpc_convert_event.specs.Routines.{Routine, routine_of, closure_of, is
 use Rattle.cpc_convert_event.specs.StructLaws.{IsBox}
 use Rattle.cpc_convert_event.proofs.BoxesThere.{structs_there}
 use Rattle.cpc_convert_event.proofs.Fields.{frame_fields, passed_rise, kept_rises, plain_scalar}
-use Rattle.cpc_convert_event.proofs.Locals.{locals_meant}
+use Rattle.cpc_convert_event.proofs.Locals.{locals_meant, in_locals}
 use Rattle.cpc_convert_event.proofs.Numbers.{chosen_is}
 use Rattle.cpc_convert_event.proofs.StructsThere.{arriving_scalar}
+use Rattle.cpc_convert_event.proofs.Boxing.{held_has}
 use Rattle.cpc_convert_laws.specs.Accepted.Pieces.{VariablesHaveCells}
 use Rattle.cpc_convert_laws.specs.Piece.Known.{CpsKnown}
-use Rattle.cpc_convert_laws.proofs.Piece.Frames.{held_has}
 use Rattle.cpc_convert_laws.proofs.Piece.Scopes as scopes
 use Rattle.cpc_convert_laws.specs.Rules.Laws.{Knows}
 use Rattle.cpc_convert_laws.proofs.Bodies.Spawners.{struct_there}
@@ -117,14 +116,6 @@ scalars_right (x ∷ xs) ys (AndScalar _ _ e h) = scalars_right xs ys h
 scalars_left : (xs ys : List Variable) → Scalars (xs ++ ys) → Scalars xs
 scalars_left [] ys h = NoScalars
 scalars_left (x ∷ xs) ys (AndScalar _ _ e h) = AndScalar x xs e (scalars_left xs ys h)
-
-pub in_locals : (r : Routine) (k : ℕ) (ks : List ℕ) → holds_number ks k ≡ true → StandsIn (local_of r k) (locals_of r ks)
-in_locals r k [] h = absurd (cc)
-in_locals r k (j ∷ ks) h = go (j == k) refl h (λ i. in_locals r k ks i)
-  where
-    go : (b : Bool) → (j == k) ≡ b → (b || holds_number ks k) ≡ true → (holds_number ks k ≡ true → StandsIn (local_of r k) (locals_of r ks)) → StandsIn (local_of r k) (local_of r j ∷ locals_of r ks)
-    go true e i deeper = (0, ap (λ m. Some (local_of r m)) (eq_means j k e))
-    go false e i deeper = let d = deeper i in (suc d.0, d.1)
 
 scalars_past : (b : Bool) (x : Variable) (xs : List Variable) → Scalars (variable_if b x xs) → Scalars xs
 scalars_past true x xs (AndScalar _ _ e h) = h

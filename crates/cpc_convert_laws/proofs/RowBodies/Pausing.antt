@@ -18,8 +18,9 @@ use Rattle.cpc_check_rules.specs.ExprRules.{called_breaks, expr_breaks}
 use Rattle.cpc_check_rules.specs.StmtRules.{to_breaks, stmt_breaks}
 use Rattle.cpc_check_laws.proofs.Native.OnePlace.{here, expr_here, exprs_here, stmt_here}
 use Rattle.cpc_check_laws.proofs.Sound.Items.{named_more}
-use Rattle.cpc_check_laws.proofs.Sound.Knowing.{Same, primitive_kept}
+use Rattle.cpc_check_laws.proofs.Sound.Knowing.{Same}
 use Rattle.cpc_check_laws.proofs.Sound.Unbroken.{split, not_broken}
+use Rattle.cpc_check_laws.proofs.Run.Names.{primitive_kept}
 use Rattle.cpc_meaning.specs.Act.{AtStatement}
 use Rattle.cpc_meaning.specs.Threads.{is_cps}
 use Rattle.cpc_meaning.specs.Ways.{AsCps, primitive_manner}

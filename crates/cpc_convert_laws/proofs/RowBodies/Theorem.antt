@@ -1,15 +1,14 @@
 -- An accepted program is converted to a program that breaks no rule of the dialect Event.
-use Rattle.std.proofs.Common.{◌≡◌, ◌∙◌, ◌&&◌, List, [], ◌∷◌, map, Option, Some, None, option_map, refl, ap₂, arith}
-use Rattle.std.specs.Prelude.{is_some}
+use Rattle.std.proofs.Common.{◌≡◌, ◌∙◌, List, [], ◌∷◌, map, refl, arith}
 use Rattle.std.proofs.lemmas.List.{length-map}
 use Rattle.cpc_base.specs.declared.stop.Place.{Place}
 use Rattle.cpc_base.specs.declared.stop.Dialect.TheVariants as D
 use Rattle.cpc_tree.specs.Grammar.{IsProgram}
-use Rattle.cpc_tree.specs.ItemGrammar.{all_named}
 use Rattle.cpc_tree.specs.Located as L
-use Rattle.cpc_tree.specs.Located.{Ident, LParameter, LStmt, LItem, LStruct, LGlobal, LPrototype, LFunctionItem, LProgram, bare, bare_item, bare_stmt, bare_stmts, bare_parameter}
-use Rattle.cpc_tree.specs.Syntax.{Stmts, Block, Parameter, Function, FunctionItem}
+use Rattle.cpc_tree.specs.Located.{LStmt, LItem, LStruct, LGlobal, LPrototype, LFunctionItem, LProgram, bare, bare_item, bare_stmt, bare_stmts}
+use Rattle.cpc_tree.specs.Syntax.{Stmts, Block, Function, FunctionItem}
 use Rattle.cpc_tree.specs.Tokens.{Placed}
+use Rattle.cpc_tree.proofs.Options.{named_bare}
 use Rattle.cpc_check_rules.specs.Rules.{breaks}
 use Rattle.cpc_check_laws.proofs.Sound.Accepted.{accepted_is_typed}
 use Rattle.cpc_check_laws.proofs.Sound.Agendas.{Each}
@@ -32,14 +31,6 @@ use Rattle.cpc_convert_laws.proofs.RowBodies.Nodes.{IsFormed}
 
 -- ---- the form of a function
 
-bare_named : (ps : List LParameter) → all_named (λ (q : Parameter). q.called) (map bare_parameter ps) ≡ all_named (λ (q : LParameter). q.called) ps
-bare_named [] = refl
-bare_named (q ∷ ps) = ap₂ (λ a b. a && b) (is_same q.called) (bare_named ps)
-  where
-    is_same : (o : Option Ident) → is_some (option_map (λ (x : Ident). x.text) o) ≡ is_some o
-    is_same None = refl
-    is_same (Some x) = refl
-
 body_block : (s : LStmt) → BodyShape s → (ss : Stmts) × (bare_stmt s ≡ Block ss)
 body_block (L.Block q ss) h = (bare_stmts ss, refl)
 body_block s h = absurd h
@@ -49,7 +40,7 @@ items_formed [] s f h = elim h [ ]
 items_formed (LStruct tag fs ∷ xs) s f (Below _ _ _ h) = items_formed xs s.1 f h
 items_formed (LGlobal x t o ∷ xs) s f (Below _ _ _ h) = items_formed xs s.1 f h
 items_formed (LPrototype q m x r ps ∷ xs) s f (Below _ _ _ h) = items_formed xs s.1 f h
-items_formed (LFunctionItem g ∷ xs) s _ (OnTop _ _) = let b = body_block g.body s.0.2 in record { statements = b.0; is_block = b.1; named = bare_named g.parameters ∙ s.0.1 }
+items_formed (LFunctionItem g ∷ xs) s _ (OnTop _ _) = let b = body_block g.body s.0.2 in record { statements = b.0; is_block = b.1; named = named_bare g.parameters ∙ s.0.1 }
 items_formed (LFunctionItem g ∷ xs) s f (Below _ _ _ h) = items_formed xs s.1 f h
 
 -- ---- what is known of the cps functions of an accepted program

@@ -22,7 +22,7 @@ use Rattle.cpc_graph_laws.proofs.Formed.{node_comes}
 use Rattle.cpc_graph_laws.proofs.Leaders.{inside as flow_inside}
 use Rattle.cpc_graph_laws.proofs.Marked.{leaders_are_listed}
 use Rattle.cpc_graph_laws.proofs.MoreFacts.{entries_are_first}
-use Rattle.cpc_graph_laws.proofs.Owning.{pieces_hold_theirs}
+use Rattle.cpc_graph_laws.proofs.Owning.{pieces_hold_theirs, place_self}
 use Rattle.cpc_graph_laws.proofs.Splits.{owner_there}
 use Rattle.cpc_lift_laws.specs.Search.{closure}
 use Rattle.cpc_convert_event.specs.Lines.{node_lines, behind_arrival}
@@ -35,10 +35,10 @@ use Rattle.cpc_convert_event.specs.Routines.{Routine, routine_of, chosen, closur
 use Rattle.cpc_convert_event.specs.Rows.{owner_at, is_own, stands_with, has_row, rows_nodes, behind_call, onwards, onwards_all, reached, stubs_of, lines_by, row_of, numbers_from, numbers_of, first_number, PutRow, put_rows, put_lines, put_statement, is_wanted, row_statements, rows_statements, piece_statements}
 use Rattle.cpc_convert_event.proofs.Lines.{puts_done, lines_done}
 use Rattle.cpc_convert_event.proofs.Numbers.{held_either, chosen_is}
-use Rattle.cpc_convert_laws.proofs.Accepted.Cut.{place_self}
+use Rattle.cpc_convert_event.proofs.Boxing.{held_has}
+use Rattle.cpc_convert_event.proofs.Labels.{turned_is}
 use Rattle.cpc_convert_laws.specs.Piece.Known.{CpsKnown}
 use Rattle.cpc_convert_laws.specs.Piece.Stood.{NodeAt}
-use Rattle.cpc_convert_laws.proofs.Piece.Frames.{held_has}
 use Rattle.cpc_convert_laws.proofs.Piece.Scopes as scopes
 use Rattle.cpc_convert_laws.proofs.Piece.Stubs.{first_word, some_there}
 use Rattle.cpc_convert_laws.proofs.Piece.Ways.{way_next, owner_is, other_leads, keeps_along}
@@ -46,7 +46,7 @@ use Rattle.cpc_convert_laws.proofs.Call.Framed.{framed_calls_arrive}
 use Rattle.cpc_convert_laws.specs.Rules.Laws.{Knows}
 use Rattle.cpc_convert_laws.proofs.Rules.KeptRows.{Source}
 use Rattle.cpc_convert_laws.proofs.Shape.Calls.{CpsTyped}
-use Rattle.cpc_convert_laws.proofs.Shape.Numbers.{own_row, owned_below, turned_is, from_is}
+use Rattle.cpc_convert_laws.proofs.Shape.Numbers.{own_row, owned_below, from_is}
 use Rattle.cpc_convert_laws.proofs.Shape.Rows.{own_point}
 use Rattle.cpc_convert_laws.proofs.Shape.Shape.{has_held}
 use Rattle.cpc_convert_laws.proofs.RowBodies.Framing.{stub_run}

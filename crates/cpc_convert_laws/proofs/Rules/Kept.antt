@@ -1,16 +1,16 @@
 -- What stays of the items of a program: each item that stays stands behind those that stay of the items before it, and names stand for the same.
-use Rattle.std.proofs.Common.{◌≡◌, Bool, true, false, cond, List, [], ◌∷◌, ◌++◌, reverse, map, Option, bytes_eq, refl, sym, ◌∙◌, ap, subst, append_assoc}
+use Rattle.std.proofs.Common.{◌≡◌, Bool, true, false, List, [], ◌∷◌, ◌++◌, reverse, map, Option, bytes_eq, refl, sym, ◌∙◌, ap, subst, append_assoc}
 use Rattle.std.proofs.lemmas.List.{reverse-append}
 use Rattle.cpc_base.specs.Bytes.{Text}
 use Rattle.cpc_tree.specs.declared.program.Mode.{Mode}
-use Rattle.cpc_tree.specs.declared.program.Mode.TheVariants.{Native, Cps, Detached, Extern}
 use Rattle.cpc_tree.specs.Syntax.{Ty, Expr, Variable, Parameter, Function, Item, StructItem, GlobalItem, PrototypeItem, FunctionItem, Program}
-use Rattle.cpc_tree.specs.Typing.{Meant, AGlobal, AFunction, NotMeant, parameter_type}
+use Rattle.cpc_tree.specs.Typing.{AGlobal, AFunction, NotMeant, parameter_type}
 use Rattle.cpc_check_rules.specs.Scopes.{in_items}
 use Rattle.cpc_meaning.specs.Threads.{is_cps_mode}
 use Rattle.cpc_convert.specs.Members.{Has, OnTop, Below}
 use Rattle.cpc_convert_image_laws.specs.InPlace.{is_cps}
 use Rattle.cpc_convert_event.specs.Converted.{kept_function, item_unless, kept_items}
+use Rattle.cpc_convert_event.proofs.Meanings.{cps_meant, here_or, left_out}
 
 -- ---- items that stay
 
@@ -137,20 +137,6 @@ kept_reverse (x ∷ xs) =
     ∙ ap kept_items (sym (reverse-append (x ∷ []) xs))
 
 -- ---- what names stand for
-
-cps_meant : (m : Mode) (r : Ty) (ps : List Ty) → is_cps_mode m ≡ true → is_cps (AFunction m r ps) ≡ true
-cps_meant Native r ps e = absurd (cc)
-cps_meant Cps r ps e = refl
-cps_meant Detached r ps e = absurd (cc)
-cps_meant Extern r ps e = absurd (cc)
-
-here_or : (b : Bool) (m rest rest' : Meant) → is_cps (cond b m rest) ≡ false → (is_cps rest ≡ false → rest' ≡ rest) → cond b m rest' ≡ cond b m rest
-here_or true m rest rest' e h = refl
-here_or false m rest rest' e h = h e
-
-left_out : (b : Bool) (m rest rest' : Meant) → is_cps m ≡ true → is_cps (cond b m rest) ≡ false → (is_cps rest ≡ false → rest' ≡ rest) → rest' ≡ cond b m rest
-left_out true m rest rest' c e h = absurd (cc)
-left_out false m rest rest' c e h = h e
 
 module _ (tail : Program) (x : Text) where
   prototype_meant : (d : Bool) (m : Mode) (f : Text) (r : Ty) (ps : List Parameter) (its : Program) → is_cps_mode m ≡ d → is_cps (in_items (PrototypeItem m f r ps ∷ its) x) ≡ false

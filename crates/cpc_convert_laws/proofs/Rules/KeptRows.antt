@@ -15,7 +15,8 @@ use Rattle.cpc_meaning.proofs.Functions.{same_text, text_same}
 use Rattle.cpc_check_laws.specs.Sound.Typed.{is_own}
 use Rattle.cpc_check_laws.proofs.Sound.Agreement.{Grows}
 use Rattle.cpc_check_laws.proofs.Sound.Items.{named_more, is_defined, function_there}
-use Rattle.cpc_check_laws.proofs.Sound.Knowing.{Known, Same, primitive_kept}
+use Rattle.cpc_check_laws.proofs.Sound.Knowing.{Known, Same}
+use Rattle.cpc_check_laws.proofs.Run.Names.{primitive_kept}
 use Rattle.cpc_convert_laws.specs.Complete.Kept.{KeptName, KeptLocal, KeptGlobal, KeptFunction, KeptCps, KeptNothing, all_scalar, KeepsItems}
 use Rattle.cpc_convert_laws.specs.Complete.Steps.{HasSteps}
 use Rattle.cpc_convert.specs.Marks.{has_marks}

@@ -26,7 +26,8 @@ use Rattle.cpc_convert_event.proofs.Structs.{all_boxes_are}
 use Rattle.cpc_check_laws.proofs.Sound.Agreement.{Grows}
 use Rattle.cpc_check_laws.proofs.Sound.Growing.{grows_on}
 use Rattle.cpc_check_laws.proofs.Sound.Items.{named_more}
-use Rattle.cpc_check_laws.proofs.Sound.Knowing.{Known, Same, primitive_kept}
+use Rattle.cpc_check_laws.proofs.Sound.Knowing.{Known, Same}
+use Rattle.cpc_check_laws.proofs.Run.Names.{primitive_kept}
 use Rattle.cpc_convert_laws.specs.Complete.Kept.{KeptName, KeptGlobal, KeptFunction, KeptNothing, all_scalar, KeepsItems}
 use Rattle.cpc_convert_laws.specs.Rules.Laws.{Knows}
 use Rattle.cpc_convert_laws.proofs.Rules.Items.{Declares}

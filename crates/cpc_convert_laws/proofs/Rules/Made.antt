@@ -1,8 +1,8 @@
 -- What is made of the cps functions of a program has names of its own: functions each once, and so structs.
-use Rattle.std.proofs.Common.{◌≡◌, inl, inr, ℕ, ◌+◌, ◌==◌, ◌||◌, Bool, true, false, List, [], ◌∷◌, ◌++◌, map, bytes_eq, refl, sym, ◌∙◌, ap, subst, append_assoc, codes}
+use Rattle.std.proofs.Common.{◌≡◌, inl, inr, ℕ, ◌+◌, ◌||◌, Bool, true, false, List, [], ◌∷◌, ◌++◌, map, bytes_eq, refl, sym, ◌∙◌, ap, subst, append_assoc, codes}
 use Rattle.cpc_base.specs.Bytes.{Text}
 use Rattle.cpc_base.specs.declared.stop.Dialect.TheVariants as D
-use Rattle.cpc_base.proofs.Truth.{eq_reflexive, or_by_second, never_both}
+use Rattle.cpc_base.proofs.Truth.{never_both}
 use Rattle.cpc_tree.specs.Lists.{holds_number}
 use Rattle.cpc_tree.specs.Syntax.{Function, StructItem, GlobalItem, PrototypeItem, FunctionItem, Program}
 use Rattle.cpc_meaning.specs.Threads.{is_cps_mode}
@@ -11,7 +11,7 @@ use Rattle.cpc_convert.specs.Marks.{has_marks}
 use Rattle.cpc_convert.specs.Converted.{marked, spawner_name}
 use Rattle.cpc_convert.specs.Members.{Has, OnTop, Below}
 use Rattle.cpc_convert.proofs.Members.{has_right}
-use Rattle.cpc_convert.proofs.Marks.{NoUnderscore, marked_is}
+use Rattle.cpc_convert.proofs.Marks.{NoUnderscore, marked_is, no_bar_spawn}
 use Rattle.cpc_forms.specs.Flow.{Place, Start, At, flow_of}
 use Rattle.cpc_forms.specs.Graph.{graph_of}
 use Rattle.cpc_forms.specs.Pieces as P
@@ -20,19 +20,16 @@ use Rattle.cpc_convert_event.specs.Routines.{Routine, routine_of}
 use Rattle.cpc_convert_event.specs.Pieces.{piece_function, leader_function, spawner_function, made_of}
 use Rattle.cpc_convert_event.specs.Converted.{routine_if, routines_in, routines, all_made}
 use Rattle.cpc_convert_event.specs.NameLaws.{IsNamed, IsCps}
-use Rattle.cpc_convert_event.proofs.Apart.{behind, piece_is, spawner_is, no_underscore_behind, no_bar_spawn, piece_spawn, Small, StartIsSmall, NumberIsSmall, behind_is}
+use Rattle.cpc_convert_event.proofs.Apart.{behind, piece_is, spawner_is, no_underscore_behind, piece_spawn, Small, StartIsSmall, NumberIsSmall, behind_is}
 use Rattle.cpc_convert_event.proofs.Labels.{leaders_rise}
 use Rattle.cpc_convert_event.proofs.Made.{Made, MadeSpawner, MadePiece, Mapped, OfNumber, map_has, made_is}
 use Rattle.cpc_convert_event.proofs.Numbers.{rises_once}
+use Rattle.cpc_convert_event.proofs.Framed.{held}
 use Rattle.cpc_convert_laws.proofs.Rules.Items.{Beside, beside_each}
 use Rattle.cpc_convert_laws.proofs.Rules.Rows.{rows, Once, NoneOnce, AndOnce, once_both, has_at}
 use Rattle.cpc_convert_laws.proofs.Rules.Source.{signature, defined_once}
 
 -- ---- numbers each once
-
-pub held : (k : ℕ) (ks : List ℕ) → Has k ks → holds_number ks k ≡ true
-held k _ (OnTop _ ks) = ap (λ b. b || holds_number ks k) (eq_reflexive k)
-held k _ (Below _ j ks h) = or_by_second (j == k) (holds_number ks k) (held k ks h)
 
 -- what is made of numbers each of which stands once, where it tells them by its names
 pub once_map : {A : Type 0} (called : A → Text) (F : ℕ → A) (ns : List ℕ) → P.Once ns → ((m n : ℕ) → Has m ns → Has n ns → called (F m) ≡ called (F n) → m ≡ n) → Once called (map F ns)

@@ -3,6 +3,7 @@ use Rattle.std.proofs.Common.{◌≡◌, ⊎_elim, Bool, true, false, cond, List
 use Rattle.std.proofs.lemmas.List.{reverse-append}
 use Rattle.cpc_base.specs.Bytes.{Text}
 use Rattle.cpc_base.proofs.Truth.{never_both}
+use Rattle.cpc_base.proofs.Lists.{append_empty}
 use Rattle.cpc_tree.specs.Syntax.{Item, StructItem, GlobalItem, PrototypeItem, FunctionItem, Program}
 use Rattle.cpc_tree.specs.Typing.{Meant, AGlobal, AFunction, NotMeant, parameter_type}
 use Rattle.cpc_check_rules.specs.Scopes.{in_items}
@@ -39,13 +40,9 @@ pass_by x (PrototypeItem m f r ps ∷ xs) ys h = not_so (bytes_eq f x) (AFunctio
 pass_by x (FunctionItem f ∷ xs) ys h =
     not_so (bytes_eq f.called x) (AFunction f.mode f.result (map parameter_type f.parameters)) _ (h _ (OnTop _ xs)) ∙ pass_by x xs ys (λ i k. h i (Below _ _ xs k))
 
-append_nil : (xs : Program) → xs ++ [] ≡ xs
-append_nil [] = refl
-append_nil (x ∷ xs) = ap (λ ys. x ∷ ys) (append_nil xs)
-
 -- a name that none declares stands for nothing
 pub nothing_meant : (x : Text) (xs : Program) → ((i : Item) → Has i xs → Declares x i → ⊥) → in_items (reverse xs) x ≡ NotMeant
-nothing_meant x xs h = ap (λ ys. in_items ys x) (sym (append_nil (reverse xs))) ∙ pass_by x (reverse xs) [] (λ i k. h i (from_reverse xs i k))
+nothing_meant x xs h = ap (λ ys. in_items ys x) (sym (append_empty (reverse xs))) ∙ pass_by x (reverse xs) [] (λ i k. h i (from_reverse xs i k))
 
 -- behind items that do not declare it, it stands for what it stood for
 pub behind_meant : (x : Text) (xs ys : Program) → ((i : Item) → Has i ys → Declares x i → ⊥) → in_items (reverse (xs ++ ys)) x ≡ in_items (reverse xs) x

@@ -14,15 +14,16 @@ use Rattle.cpc_convert.specs.Marks.{has_marks}
 use Rattle.cpc_convert.specs.Converted.{marked, prototype, function_item}
 use Rattle.cpc_convert.specs.Members.{Has, OnTop, Below}
 use Rattle.cpc_convert.proofs.Members.{has_either}
-use Rattle.cpc_convert.proofs.Marks.{NoUnderscore, marked_has, marked_is}
+use Rattle.cpc_convert.proofs.Marks.{NoUnderscore, marked_has, marked_is, no_bar_spawn}
 use Rattle.cpc_convert_chain_laws.specs.Driver.{drive_name, drive_function, any_pointer, frame_tag}
 use Rattle.cpc_convert_event.specs.Routines.{Routine}
 use Rattle.cpc_convert_event.specs.Frames.{any_frame}
 use Rattle.cpc_convert_event.specs.Converted.{kept_items, routines, all_structs, all_boxes, all_made, main_function, main_if, converted_with, converted}
 use Rattle.cpc_convert_event.specs.NameLaws.{IsNamed}
-use Rattle.cpc_convert_event.proofs.Apart.{behind, frame_is, driver_is, spawner_is, piece_is, no_bar_nothing, no_bar_spawn, no_underscore_behind, spawn_nothing, piece_nothing}
+use Rattle.cpc_convert_event.proofs.Apart.{behind, frame_is, driver_is, spawner_is, piece_is, no_bar_nothing, no_underscore_behind, spawn_nothing, piece_nothing}
 use Rattle.cpc_convert_event.proofs.Made.{Made, MadeSpawner, MadePiece, made_is, made_one_name}
 use Rattle.cpc_convert_event.proofs.Structs.{AreStructs, NoneAre, OneIs, all_structs_are, all_boxes_are}
+use Rattle.cpc_convert_event.proofs.StructsThere.{no_prototype}
 use Rattle.cpc_convert_laws.specs.Accepted.Names.{HasNames}
 use Rattle.cpc_convert_laws.proofs.Rules.Items.{Declares}
 use Rattle.cpc_convert_laws.proofs.Rules.Kept.{KeptItem, KeepStruct, KeepGlobal, KeepPrototype, KeepFunction, kept_has}
@@ -159,10 +160,6 @@ marked_struct _ (OneIs t gs xs m a) tag fs (Below _ _ _ h) = marked_struct xs a 
 
 pub boxes_marked : (p : Program) (tag : Text) (fs : List Variable) → Has (StructItem tag fs) (all_boxes (routines p)) → has_marks tag ≡ true
 boxes_marked p tag fs h = marked_struct (all_boxes (routines p)) (all_boxes_are (routines p)) tag fs h
-
-no_prototype : (fs : List Function) (tag : Text) (gs : List Variable) → Has (StructItem tag gs) (map prototype fs) → ⊥
-no_prototype [] tag gs h = elim h [ ]
-no_prototype (f ∷ fs) tag gs (Below _ _ _ h) = no_prototype fs tag gs h
 
 no_driver : (tag : Text) (gs : List Variable) → Has (StructItem tag gs) driver → ⊥
 no_driver tag gs (Below _ _ _ h) = elim h [ ]

@@ -13,12 +13,11 @@ use Rattle.cpc_check_rules.specs.Rule.{at_if}
 use Rattle.cpc_check_rules.specs.Scopes.{in_items}
 use Rattle.cpc_check_rules.specs.FunctionRules.{is_kept, is_reserved, holds_underscores, reserved_breaks}
 use Rattle.cpc_check_rules.specs.ItemRules.{Signature, is_struct, is_item, is_function, is_clash, is_disagreeing, is_extern, is_host_like, types, cps_breaks, declared_breaks, item_breaks}
-use Rattle.cpc_check_laws.proofs.Native.NativeValues.{left_none, right_none}
+use Rattle.cpc_check_laws.proofs.Native.NativeValues.{left_none, right_none, unbroken}
 use Rattle.cpc_check_laws.proofs.Native.OnePlace.{here, ident_here, parameter_here, item_here}
 use Rattle.cpc_meaning.proofs.Functions.{text_same}
 use Rattle.cpc_check_laws.specs.Sound.Typed.{is_own}
 use Rattle.cpc_check_laws.proofs.Sound.Answers.{no_some}
-use Rattle.cpc_check_laws.proofs.Sound.Unbroken.{holds_not}
 use Rattle.cpc_check_laws.proofs.Sound.Items.{signed, function_there}
 use Rattle.cpc_check_laws.proofs.Sound.Knowing.{Known, nothing_known, known_struct, known_global, known_function}
 use Rattle.cpc_check_laws.proofs.Sound.Programs.{no_extern}
@@ -47,13 +46,13 @@ signature m r ps is_defined = record { mode = m; result = r; parameters = types 
 
 -- a name that is not reserved
 pub free_name : (x : Text) → reserved_breaks D.Cpc (ident_here x ∷ []) ≡ [] → is_kept x ≡ false
-free_name x h = (or_neither (is_kept x) (holds_underscores x) (holds_not (is_reserved D.Cpc x) here Reserved (left_none _ _ h))).0
+free_name x h = (or_neither (is_kept x) (holds_underscores x) (unbroken (is_reserved D.Cpc x) here Reserved (left_none _ _ h))).0
 
 -- what a name may be declared beside
 pub settles : (before : Program) (x : Text) (new : Signature) → declared_breaks before (ident_here x) new ≡ [] → (is_clash x new before ≡ false) × (is_disagreeing x new before ≡ false)
 settles before x new h = (
-  holds_not (is_clash x new before) here Twice (left_none _ _ h),
-  holds_not (is_disagreeing x new before) here Disagree (right_none (at_if (is_clash x new before) here Twice) _ h),
+  unbroken (is_clash x new before) here Twice (left_none _ _ h),
+  unbroken (is_disagreeing x new before) here Disagree (right_none (at_if (is_clash x new before) here Twice) _ h),
 )
 
 -- ---- what is known
@@ -66,9 +65,9 @@ module _ (p before rest : Program) (known : Known p before) where
       let h2 = right_none (cps_breaks D.Cpc m here) _ h1 in
       let s = settles before x new (left_none _ _ h2) in
       let h3 = right_none (declared_breaks before (ident_here x) new) _ h2 in
-      let host = holds_not (is_extern m && not (is_host_like r (types (map parameter_here ps)))) here Disagree (left_none _ _ h3) in
+      let host = unbroken (is_extern m && not (is_host_like r (types (map parameter_here ps)))) here Disagree (left_none _ _ h3) in
       let h4 = right_none (at_if (is_extern m && not (is_host_like r (types (map parameter_here ps)))) here Disagree) _ h3 in
-      let there = holds_not (not (is_extern m) && not (is_function x p)) here Undeclared (left_none _ _ h4) in
+      let there = unbroken (not (is_extern m) && not (is_function x p)) here Undeclared (left_none _ _ h4) in
       known_function p before known (PrototypeItem m x r ps) x new
       (λ q y. ap (λ ts. cond (bytes_eq x y) (AFunction m r ts) (in_items q y)) (sym (types_here ps)))
       (λ k y. ap (λ ts. cond (bytes_eq x y) (AFunction m r ts) NotMeant) (sym (types_here ps)))
@@ -98,7 +97,7 @@ module _ (p before rest : Program) (known : Known p before) where
   known_one (StructItem tag fs) own whole h = known_struct p before known tag fs
   known_one (GlobalItem x t s) own whole h =
       let h1 = right_none (reserved_breaks D.Cpc (ident_here x ∷ [])) _ h in
-      known_global p before known x t s (holds_not (is_item x before) here Twice (left_none _ _ h1)) (free_name x (left_none _ _ h))
+      known_global p before known x t s (unbroken (is_item x before) here Twice (left_none _ _ h1)) (free_name x (left_none _ _ h))
   known_one (PrototypeItem m x r ps) own whole h = known_prototype m x r ps h
   known_one (FunctionItem f) own whole h = known_definition f (own f (subst (Has (FunctionItem f)) (sym whole) (has_at before rest (FunctionItem f)))) whole h
 
@@ -134,4 +133,4 @@ module _ (p : Program) (h : rows D.Cpc p [] p ≡ []) where
   pub struct_once : (front : Program) (tag : Text) (fs : List Variable) (back : Program) → p ≡ front ++ StructItem tag fs ∷ back → is_struct tag front ≡ false
   struct_once front tag fs back e =
       let r = row_split D.Cpc p [] p h front (StructItem tag fs) back e in
-      holds_not (is_struct tag front) here Twice (left_none _ _ (right_none (reserved_breaks D.Cpc (ident_here tag ∷ [])) _ r))
+      unbroken (is_struct tag front) here Twice (left_none _ _ (right_none (reserved_breaks D.Cpc (ident_here tag ∷ [])) _ r))

@@ -14,7 +14,7 @@ use Rattle.cpc_check_rules.specs.Scopes.{in_items, is_sized}
 use Rattle.cpc_check_rules.specs.FunctionRules.{repeated, reserved_breaks, parameter_names}
 use Rattle.cpc_check_rules.specs.StmtRules.{start_breaks}
 use Rattle.cpc_check_rules.specs.ItemRules.{Signature, outside, is_struct, is_item, is_function, is_oversized, field_names, fields_breaks, is_extern, is_host_like, types, cps_breaks, declared_breaks, parameters_breaks, global_start, item_breaks}
-use Rattle.cpc_check_laws.proofs.Native.NativeValues.{left_none, right_none, both_none}
+use Rattle.cpc_check_laws.proofs.Native.NativeValues.{left_none, right_none, both_none, unbroken}
 use Rattle.cpc_check_laws.proofs.Native.OnePlace.{here, ident_here, expr_here, variable_here, parameter_here, item_here, item_again}
 use Rattle.cpc_check_laws.proofs.Native.NativeItems.{reserved_native}
 use Rattle.cpc_meaning.specs.Threads.{is_cps_mode}
@@ -22,7 +22,7 @@ use Rattle.cpc_meaning.proofs.Functions.{text_same}
 use Rattle.cpc_check_laws.specs.Sound.Typed.{is_own}
 use Rattle.cpc_check_laws.proofs.Sound.Agreement.{Grows, sizes_grow}
 use Rattle.cpc_check_laws.proofs.Sound.Items.{last_first}
-use Rattle.cpc_check_laws.proofs.Sound.Unbroken.{holds_not, holds_then}
+use Rattle.cpc_check_laws.proofs.Sound.Unbroken.{holds_then}
 use Rattle.cpc_convert_laws.specs.Complete.Kept.{KeepsItems}
 use Rattle.cpc_convert_laws.specs.Complete.Reads.{Carries}
 use Rattle.cpc_convert_laws.proofs.Complete.Acts.{start_carried}
@@ -90,9 +90,9 @@ module _ (p front q : Program) (source : Source p) (ahead : Front p front) (insi
       let h = of_source before back (StructItem tag fs) is in
       let g = grown p front source ahead before (part before back (StructItem tag fs) is) in
       let h1 = right_none (reserved_breaks D.Cpc (ident_here tag ∷ [])) _ h in
-      let twice = holds_not (is_struct tag before) here Twice (left_none _ _ h1) in
+      let twice = unbroken (is_struct tag before) here Twice (left_none _ _ h1) in
       let h2 = right_none (at_if (is_struct tag before) here Twice) _ h1 in
-      let over = holds_not (is_oversized (size (before ++ StructItem tag (map bare_variable (map variable_here fs)) ∷ []) (TyStruct tag))) here Incomplete (left_none _ _ h2) in
+      let over = unbroken (is_oversized (size (before ++ StructItem tag (map bare_variable (map variable_here fs)) ∷ []) (TyStruct tag))) here Incomplete (left_none _ _ h2) in
       let h3 = right_none (at_if (is_oversized (size (before ++ StructItem tag (map bare_variable (map variable_here fs)) ∷ []) (TyStruct tag))) here Incomplete) _ h2 in
       let h4 = right_none (repeated Twice [] (field_names (map variable_here fs))) _ h3 in
       both_none _ _ (reserved_native (ident_here tag ∷ []) (left_none _ _ h)) (both_none _ _ (ap (λ b. at_if b here Twice) (none twice))
@@ -153,7 +153,7 @@ module _ (p front q : Program) (source : Source p) (ahead : Front p front) (insi
       let h = of_source before back (GlobalItem y t o) is in
       let g = grown p front source ahead before (part before back (GlobalItem y t o) is) in
       let h1 = right_none (reserved_breaks D.Cpc (ident_here y ∷ [])) _ h in
-      let twice = holds_not (is_item y before) here Twice (left_none _ _ h1) in
+      let twice = unbroken (is_item y before) here Twice (left_none _ _ h1) in
       let h2 = right_none (at_if (is_item y before) here Twice) _ h1 in
       let s = holds_then (is_sized (outside D.Cpc before).scope t) here Incomplete (left_none _ _ h2) in
       let h3 = right_none (at_if (not (is_sized (outside D.Cpc before).scope t)) here Incomplete) _ h2 in
@@ -176,7 +176,7 @@ module _ (p front q : Program) (source : Source p) (ahead : Front p front) (insi
       let h2 = right_none (cps_breaks D.Cpc m here) _ h1 in
       let h3 = right_none (declared_breaks before (ident_here f) new) _ h2 in
       let h4 = right_none (at_if (is_extern m && not (is_host_like r (types (map parameter_here ps)))) here Disagree) _ h3 in
-      let there = holds_not (not (is_extern m) && not (is_function f p)) here Undeclared (left_none _ _ h4) in
+      let there = unbroken (not (is_extern m) && not (is_function f p)) here Undeclared (left_none _ _ h4) in
       let h5 = right_none (at_if (not (is_extern m) && not (is_function f p)) here Undeclared) _ h4 in
       both_none _ _ (reserved_native (ident_here f ∷ []) (left_none _ _ h)) (both_none _ _ (no_form m e)
       (both_none _ _ (settled before back (PrototypeItem m f r ps) is f new (source.names.items (PrototypeItem m f r ps) (it_is before back (PrototypeItem m f r ps) is)).unmarked (left_none _ _ h2))

@@ -9,6 +9,7 @@ use Rattle.cpc_num.specs.declared.kinds.Kind.TheVariants.{Int}
 use Rattle.cpc_tree.specs.Registers.{variables}
 use Rattle.cpc_tree.specs.Syntax.{TyInt, TyVoid, TyStruct, Variable, Function, Item, StructItem, GlobalItem, PrototypeItem, FunctionItem, Program}
 use Rattle.cpc_tree.specs.Typing.{◌>>=◌, cells, size, is_scalar, struct_cells, fields_cells}
+use Rattle.cpc_tree.proofs.Options.{then_some}
 use Rattle.cpc_check_rules.specs.declared.rule.Rule.TheVariants.{Twice, Incomplete}
 use Rattle.cpc_check_rules.specs.Rule.{at_if}
 use Rattle.cpc_check_rules.specs.Scopes.{has_cells}
@@ -18,7 +19,7 @@ use Rattle.cpc_check_laws.proofs.Native.NativeValues.{both_none}
 use Rattle.cpc_check_laws.proofs.Native.OnePlace.{here, item_here, item_again}
 use Rattle.cpc_meaning.specs.Threads.{is_cps_mode}
 use Rattle.cpc_check_laws.proofs.Sound.Agreement.{Grows, sizes_grow}
-use Rattle.cpc_check_laws.proofs.Sound.Options.{then_some, then_of}
+use Rattle.cpc_check_laws.proofs.Sound.Options.{then_of}
 use Rattle.cpc_convert.specs.Marks.{has_marks}
 use Rattle.cpc_convert.specs.Converted.{marked}
 use Rattle.cpc_convert.specs.Members.{Has, OnTop, Below}
@@ -38,7 +39,7 @@ use Rattle.cpc_convert_event.specs.NameLaws.{IsCps}
 use Rattle.cpc_convert_event.proofs.Apart.{behind, piece_is, value_is, box_is}
 use Rattle.cpc_convert_event.proofs.Extending.{Beyond}
 use Rattle.cpc_convert_event.proofs.Fields.{kept_rises, passed_rise, frame_fields, NoneRises}
-use Rattle.cpc_convert_event.proofs.Framed.{tag_of}
+use Rattle.cpc_convert_event.proofs.Framed.{tag_of, held}
 use Rattle.cpc_convert_event.proofs.Locals.{closure_rise}
 use Rattle.cpc_convert_event.proofs.Numbers.{Rises, NoneRise, OneRise}
 use Rattle.cpc_convert_event.proofs.StructsThere.{arriving_scalar}
@@ -47,7 +48,6 @@ use Rattle.cpc_convert_laws.specs.Accepted.Pieces.{VariablesHaveCells}
 use Rattle.cpc_convert_laws.proofs.Rules.Items.{no_struct}
 use Rattle.cpc_convert_laws.proofs.Rules.Kept.{KeptItem, KeepStruct, kept_has}
 use Rattle.cpc_convert_laws.proofs.Rules.KeptRows.{Source}
-use Rattle.cpc_convert_laws.proofs.Rules.Made.{held}
 use Rattle.cpc_convert_laws.proofs.Rules.Names.{made_unkept}
 use Rattle.cpc_convert_laws.proofs.Rules.Parts.{frames, front_of, front_structs, boxes_marked, struct_in_frames}
 use Rattle.cpc_convert_laws.proofs.Rules.Rows.{rows, Once, each_row, once_front, has_at}

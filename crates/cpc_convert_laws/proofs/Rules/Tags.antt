@@ -9,7 +9,7 @@ use Rattle.cpc_convert.specs.Marks.{has_marks}
 use Rattle.cpc_convert.specs.Converted.{marked}
 use Rattle.cpc_convert.specs.Members.{Has, OnTop, Below}
 use Rattle.cpc_convert.proofs.Members.{has_either}
-use Rattle.cpc_convert.proofs.Marks.{NoUnderscore, marked_is, decimal_is}
+use Rattle.cpc_convert.proofs.Marks.{NoUnderscore, marked_is, decimal_is, no_bar_of}
 use Rattle.cpc_forms.specs.Flow.{Place, Start, At}
 use Rattle.cpc_forms.specs.Pieces as P
 use Rattle.cpc_lift_laws.specs.Boxes.{is_box}
@@ -22,12 +22,12 @@ use Rattle.cpc_convert_event.specs.Routines.{routine_of}
 use Rattle.cpc_convert_event.specs.Frames.{any_frame, value_struct_if, start_struct, leader_struct, structs_of, box_of, boxes_of}
 use Rattle.cpc_convert_event.specs.Converted.{routine_if, routines_in, routines, all_structs, all_boxes}
 use Rattle.cpc_convert_event.specs.NameLaws.{IsNamed, IsCps}
-use Rattle.cpc_convert_event.proofs.Apart.{behind, piece_is, value_is, box_is, frame_is, no_underscore, differ_at, no_underscore_behind, no_bar_nothing}
-use Rattle.cpc_convert_event.proofs.Framed.{tag_of}
+use Rattle.cpc_convert_event.proofs.Apart.{behind, piece_is, value_is, box_is, frame_is, differ_at, no_underscore_behind, no_bar_nothing}
+use Rattle.cpc_convert_event.proofs.Framed.{tag_of, held, no_bar_box, value_piece}
 use Rattle.cpc_convert_event.proofs.Made.{Mapped, OfNumber, map_has}
 use Rattle.cpc_convert_event.proofs.Numbers.{rises_once}
-use Rattle.cpc_convert_laws.proofs.Accepted.Below.{boxes_rise}
-use Rattle.cpc_convert_laws.proofs.Rules.Made.{held, once_map, leaders_once, MadeOf, apart_of, leaders_told, start_told}
+use Rattle.cpc_convert_event.proofs.Locals.{boxes_rise}
+use Rattle.cpc_convert_laws.proofs.Rules.Made.{once_map, leaders_once, MadeOf, apart_of, leaders_told, start_told}
 use Rattle.cpc_convert_laws.proofs.Rules.Rows.{rows, Once, NoneOnce, AndOnce, once_both, has_at}
 
 -- a text behind the underscores of a tag: a frame's begins with a letter that no box's does
@@ -41,11 +41,7 @@ piece_end Start = record { underscore = no_underscore_behind Start; some = λ k.
 piece_end (At n) = record { underscore = no_underscore_behind (At n); some = λ k. differ_at 0 (behind (At n)) [] (λ e. absurd (omega arith)) k; no_box = λ e. absurd (omega arith) }
 
 pub value_end : FrameEnd (codes "value")
-value_end = record { underscore = no_underscore _ (λ k. absurd (omega arith)); some = λ k. differ_at 0 (codes "value") [] (λ e. absurd (omega arith)) k; no_box = λ e. absurd (omega arith) }
-
-value_piece : (l : Place) → codes "value" ≡ behind l → ⊥
-value_piece Start k = differ_at 0 (codes "value") (codes "start") (λ e. absurd (omega arith)) k
-value_piece (At n) k = differ_at 0 (codes "value") (codes "at" ++ decimal n) (λ e. absurd (omega arith)) k
+value_end = record { underscore = no_bar_of _ (λ k. absurd (omega arith)); some = λ k. differ_at 0 (codes "value") [] (λ e. absurd (omega arith)) k; no_box = λ e. absurd (omega arith) }
 
 -- the tag of a frame of a function among these items
 pub record FrameTag (items : Program) (tag : Text) : Type 0 where
@@ -65,9 +61,6 @@ frame_later x items tag t = record { made = made_later x items tag t.made; end =
 
 box_later : (x : Item) (items : Program) (tag : Text) → BoxTag items tag → BoxTag (x ∷ items) tag
 box_later x items tag t = record { made = made_later x items tag t.made; is_box = t.is_box }
-
-no_bar_box : (k : ℕ) → NoUnderscore (codes "box" ++ decimal k)
-no_bar_box k = no_underscore _ (λ e. absurd (omega arith))
 
 module _ (p : Program) where
   frame_of : (f : Function) (items : Program) → is_cps_mode f.mode ≡ true → (tag rest : Text) → tag ≡ marked f.called rest → FrameEnd rest → FrameTag (FunctionItem f ∷ items) tag

@@ -3,9 +3,10 @@ use Rattle.std.proofs.Common.{◌≡◌, ℕ, suc, ◌≤◌, true, false, not, 
 use Rattle.std.proofs.lemmas.Bool.Decides.{nat_tests}
 use Rattle.cpc_base.specs.Bytes.{Text}
 use Rattle.cpc_base.specs.declared.stop.Dialect.TheVariants as D
-use Rattle.cpc_tree.specs.Syntax.{Ty, TyVoid, TyInt, TyCondvar, TyPointer, TyCode, TyStruct, TyArray, Variable, Item, StructItem, GlobalItem, PrototypeItem, FunctionItem, Program}
+use Rattle.cpc_tree.specs.Syntax.{Ty, TyStruct, Variable, Item, StructItem, GlobalItem, PrototypeItem, FunctionItem, Program}
 use Rattle.cpc_tree.specs.Located.{Ident, LVariable, LParameter}
-use Rattle.cpc_tree.specs.Typing.{◌>>=◌, Cells, both, cells_in, cells, fields_cells, struct_cells, field, size, is_scalar}
+use Rattle.cpc_tree.specs.Typing.{◌>>=◌, Cells, both, cells, fields_cells, struct_cells, field, size, is_scalar}
+use Rattle.cpc_tree.proofs.Options.{then_some}
 use Rattle.cpc_check_rules.specs.declared.rule.Rule.TheVariants.{Twice, Incomplete}
 use Rattle.cpc_check_rules.specs.Rule.{at_if}
 use Rattle.cpc_check_rules.specs.Scopes.{Scope, has_cells, is_sized}
@@ -14,8 +15,7 @@ use Rattle.cpc_check_rules.specs.ItemRules.{is_oversized, field_names, fields_br
 use Rattle.cpc_check_laws.proofs.Native.NativeValues.{left_none, right_none, both_none}
 use Rattle.cpc_check_laws.proofs.Native.OnePlace.{here, variable_here}
 use Rattle.cpc_meaning.proofs.Functions.{text_same, scalar_size}
-use Rattle.cpc_check_laws.proofs.Sound.Answers.{no_some}
-use Rattle.cpc_check_laws.proofs.Sound.Options.{then_some, then_of}
+use Rattle.cpc_check_laws.proofs.Sound.Options.{then_of}
 use Rattle.cpc_check_laws.proofs.Sound.Agreement.{Grows, sizes_grow}
 use Rattle.cpc_check_laws.proofs.Sound.Bodies.{size_of}
 use Rattle.cpc_check_laws.proofs.Sound.Growing.{IsFresh, grows_step, grows_same, grows_on}
@@ -23,25 +23,22 @@ use Rattle.cpc_check_laws.proofs.Sound.Items.{last_first}
 use Rattle.cpc_check_laws.proofs.Sound.Unbroken.{holds_then}
 use Rattle.cpc_convert.specs.Marks.{has_marks}
 use Rattle.cpc_convert.specs.Members.{Has, OnTop, Below}
-use Rattle.cpc_convert_image_laws.specs.Relations.{Less, AsIs, Untold}
 use Rattle.cpc_convert_chain_laws.specs.Structs.{NotCalled, NotSo, ScalarFields, NoFields, AndField}
+use Rattle.cpc_convert_chain_laws.proofs.Structs.{scalar_cells}
 use Rattle.cpc_convert_event.specs.Converted.{kept_items}
 use Rattle.cpc_convert_event.specs.NameLaws.{IsUnmarked}
 use Rattle.cpc_convert_event.proofs.Extending.{Beyond, BothEnd, BothHave, OneMore, LeftHas, RightHas, beyond_append, beyond_more, extending}
+use Rattle.cpc_convert_event.proofs.Boxing.{size_known}
 use Rattle.cpc_convert_laws.proofs.Rules.Rows.{rows}
 use Rattle.cpc_convert_laws.proofs.Rules.Source.{struct_once}
 use Rattle.cpc_convert_laws.proofs.Rules.Kept.{KeptItem, KeepStruct, KeepGlobal, KeepPrototype, KeepFunction, Stays, DoesStay, IsLeft, stays, kept_more}
 
 -- ---- more items
 
-some_of : {A : Type 0} (o u : Option A) (x : A) → Less o u → o ≡ Some x → u ≡ Some x
-some_of _ _ x (AsIs o) e = e
-some_of _ _ x (Untold u) e = no_some x e
-
 pub grows_of : (p q : Program) → Beyond p q → Grows p q
 grows_of p q b =
     let e = extending p q b in
-    record { cells = λ t ts h. some_of (cells p t) (cells q t) ts (e.cells t) h; fields = λ tag x f h. some_of (field p tag x) (field q tag x) f (e.fields tag x) h }
+    record { cells = λ t ts h. size_known (cells p t) (cells q t) ts (e.cells t) h; fields = λ tag x f h. size_known (field p tag x) (field q tag x) f (e.fields tag x) h }
 
 -- items of which all structs are marked
 pub beyond_none : (xs : Program) → ((tag : Text) (fs : List Variable) → Has (StructItem tag fs) xs → has_marks tag ≡ true) → Beyond [] xs
@@ -162,15 +159,6 @@ struct_more s u g tag fs h e =
 
 abbrev pub types_of : List Variable → List Ty
 types_of fs = map (λ (x : Variable). x.type) fs
-
-scalar_cells : (tags : Text → Cells) (t : Ty) → is_scalar t ≡ true → cells_in tags t ≡ Some (t ∷ [])
-scalar_cells tags (TyInt k) e = refl
-scalar_cells tags TyCondvar e = refl
-scalar_cells tags (TyPointer t) e = refl
-scalar_cells tags (TyCode r ps) e = refl
-scalar_cells tags TyVoid e = absurd (cc)
-scalar_cells tags (TyStruct tag) e = absurd (cc)
-scalar_cells tags (TyArray t n) e = absurd (cc)
 
 scalars_cells : (tags : Text → Cells) (fs : List Variable) → ScalarFields fs → fields_cells tags fs ≡ Some (types_of fs)
 scalars_cells tags _ NoFields = refl

@@ -1,7 +1,7 @@
 -- Once a native `main` has begun, each call that is to begin is one of a cps function.
 use Rattle.std.proofs.Common.{◌≡◌, ◌⊎◌, inl, inr, ℕ, zero, suc, true, List, [], ◌∷◌, Option, Some, None, option_map, Result, Ok, refl, sym, ◌∙◌, ap, subst}
 use Rattle.std.specs.List.{All}
-use Rattle.std.proofs.lemmas.List.Elements.{All-nil, All-cons, All-tail}
+use Rattle.std.proofs.lemmas.List.Elements.{All-tail}
 use Rattle.cpc_num.specs.declared.kinds.Fault.{Fault}
 use Rattle.cpc_store.specs.Store.{Value, Store}
 use Rattle.cpc_tree.specs.Syntax.{Program}
@@ -30,14 +30,7 @@ use Rattle.cpc_convert_laws.proofs.Accepted.Spawns.{step_spawns}
 use Rattle.cpc_convert_laws.proofs.Accepted.Walk.{Next, next_so}
 use Rattle.cpc_convert_laws.proofs.Accepted.Counts.{cps_same}
 use Rattle.cpc_convert_laws.specs.Runs.Runs.{NamesCps}
-
--- nothing is said of a result
-abbrev Any : Value → Type 0
-Any v = Unit {0}
-
-any_values : (vs : List Value) → All Any vs
-any_values [] = All-nil Any
-any_values (v ∷ vs) = All-cons Any v vs tt (any_values vs)
+use Rattle.cpc_convert_laws.proofs.Accepted.Begins.{Any, any_values}
 
 module _ (p : Program) where
   abbrev pub OfCps : Thread Position → Type 0

@@ -17,8 +17,9 @@ use Rattle.cpc_check_rules.specs.FunctionRules.{reserved_breaks}
 use Rattle.cpc_check_rules.specs.ItemRules.{Signature, is_clash, is_disagreeing, declared_breaks, types, cps_breaks, prototype_breaks, function_breaks, item_breaks}
 use Rattle.cpc_meaning.proofs.Functions.{same_text, text_same}
 use Rattle.cpc_check_laws.proofs.Sound.Items.{last_first, named_more, named_rest, signed, Agreed, agreed}
-use Rattle.cpc_check_laws.proofs.Sound.Unbroken.{split, holds_not}
+use Rattle.cpc_check_laws.proofs.Sound.Unbroken.{split}
 use Rattle.cpc_check_laws.proofs.Sound.Programs.{types_are}
+use Rattle.cpc_check_laws.proofs.Native.NativeValues.{unbroken}
 
 -- ---- declarations
 
@@ -45,7 +46,7 @@ module _ (p before rest : Program) where
       let h3 = split (declared_breaks before x new) _ h2.1 in
       let c = split (at_if (is_clash x.text new before) x.place Twice) (at_if (is_disagreeing x.text new before) x.place Disagree) h3.0 in
       signs (bare_item (LPrototype q mode x r ps)) x.text new whole (λ k. ap (λ b. cond b (AFunction mode r (map parameter_type (map bare_parameter ps))) (item_named k rest x.text)) (text_same x.text) ∙ ap (λ ts. AFunction mode r ts) (sym (types_are ps)))
-      (holds_not (is_clash x.text new before) x.place Twice c.0) (holds_not (is_disagreeing x.text new before) x.place Disagree c.1)
+      (unbroken (is_clash x.text new before) x.place Twice c.0) (unbroken (is_disagreeing x.text new before) x.place Disagree c.1)
       ∙ ap (λ ts. AFunction mode r ts) (types_are ps)
 
   function_declares : (f : LFunction) → p ≡ before ++ bare_item (LFunctionItem f) ∷ rest → function_breaks D.Cpc before f ≡ [] → Declares p (bare_item (LFunctionItem f))
@@ -57,7 +58,7 @@ module _ (p before rest : Program) where
       let c = split (at_if (is_clash f.called.text new before) f.called.place Twice) (at_if (is_disagreeing f.called.text new before) f.called.place Disagree) h3.0 in
       signs (bare_item (LFunctionItem f)) f.called.text new whole
       (λ k. ap (λ b. cond b (AFunction f.mode f.result (map parameter_type (map bare_parameter f.parameters))) (item_named k rest f.called.text)) (text_same f.called.text) ∙ ap (λ ts. AFunction f.mode f.result ts) (sym (types_are f.parameters)))
-      (holds_not (is_clash f.called.text new before) f.called.place Twice c.0) (holds_not (is_disagreeing f.called.text new before) f.called.place Disagree c.1)
+      (unbroken (is_clash f.called.text new before) f.called.place Twice c.0) (unbroken (is_disagreeing f.called.text new before) f.called.place Disagree c.1)
       ∙ ap (λ ts. AFunction f.mode f.result ts) (types_are f.parameters)
 
   pub item_declares : (x : LItem) → p ≡ before ++ bare_item x ∷ rest → item_breaks D.Cpc p before x ≡ [] → Declares p (bare_item x)

@@ -19,6 +19,7 @@ use Rattle.cpc_graph_laws.proofs.MoreFacts.{entries_are_first}
 use Rattle.cpc_graph_laws.proofs.Owned.{reaches, is_owned}
 use Rattle.cpc_graph_laws.proofs.Owners.{owner_owns}
 use Rattle.cpc_graph_laws.proofs.Splits.{owner_there}
+use Rattle.cpc_graph_laws.proofs.Owning.{place_self}
 use Rattle.cpc_lift_laws.specs.Lift.{closure_in}
 use Rattle.cpc_lift_laws.specs.Used.{used_at}
 use Rattle.cpc_convert_event.specs.ClosureLaws.{may_stand, lifting}
@@ -32,7 +33,6 @@ use Rattle.cpc_convert_event.proofs.Closures.{closures_lifted}
 use Rattle.cpc_convert_event.proofs.Locals.{locals_meant}
 use Rattle.cpc_convert_laws.specs.Accepted.Lifted.{kept_of}
 use Rattle.cpc_convert_laws.proofs.Accepted.Lifted.{programs_are_closed}
-use Rattle.cpc_convert_laws.proofs.Accepted.Cut.{place_self}
 use Rattle.cpc_convert_laws.specs.Shape.Shape.{HasLocals}
 use Rattle.cpc_convert_laws.proofs.Shape.Calls.{CpsTyped}
 use Rattle.cpc_convert_laws.proofs.Shape.Owned.{got_has}

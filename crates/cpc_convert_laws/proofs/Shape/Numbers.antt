@@ -1,5 +1,5 @@
 -- Which numbers have rows in a piece: those of the nodes that its owner owns and that have a row, and leaders that are not its own.
-use Rattle.std.proofs.Common.{◌≡◌, ◌⊎◌, inl, inr, ⊎_elim, ℕ, ◌<◌, Bool, true, false, not, ◌&&◌, ◌||◌, ◌==◌, List, [], ◌∷◌, ◌++◌, length, nat_le, nat_lt, Option, Some, None, refl, ◌∙◌, ap, subst}
+use Rattle.std.proofs.Common.{◌≡◌, ◌⊎◌, inl, inr, ⊎_elim, ℕ, ◌<◌, Bool, true, false, not, ◌&&◌, ◌||◌, ◌==◌, List, [], ◌∷◌, ◌++◌, length, Option, Some, None, refl, ◌∙◌, ap, subst}
 use Rattle.cpc_base.proofs.Truth.{eq_means}
 use Rattle.cpc_base.proofs.Lists.{found_within}
 use Rattle.cpc_tree.specs.Lists.{holds_number}
@@ -10,13 +10,12 @@ use Rattle.cpc_forms.specs.Pieces.{is_owned_by, piece_nodes, first_of}
 use Rattle.cpc_graph_laws.specs.Laws.{flow_in}
 use Rattle.cpc_graph_laws.proofs.Leaders.{inside, leader_below}
 use Rattle.cpc_graph_laws.proofs.Owners.{owner_owns}
-use Rattle.cpc_graph_laws.proofs.Owning.{pieces_hold_theirs}
+use Rattle.cpc_graph_laws.proofs.Owning.{pieces_hold_theirs, place_self}
 use Rattle.cpc_graph_laws.proofs.Splits.{owner_there}
 use Rattle.cpc_convert_event.specs.Routines.{Routine, routine_of, chosen}
-use Rattle.cpc_convert_event.specs.Rows.{owner_at, is_own, has_row, turned, rows_nodes, reached, stubs_of, row_of, falls, number_where, stub_behind, numbers_from, numbers_of}
-use Rattle.cpc_convert_event.proofs.Labels.{rows_stand_once}
+use Rattle.cpc_convert_event.specs.Rows.{owner_at, is_own, has_row, rows_nodes, reached, stubs_of, row_of, falls, number_where, stub_behind, numbers_from, numbers_of}
+use Rattle.cpc_convert_event.proofs.Labels.{rows_stand_once, turned_is}
 use Rattle.cpc_convert_event.proofs.Numbers.{held_either, chosen_is}
-use Rattle.cpc_convert_laws.proofs.Accepted.Cut.{place_self}
 use Rattle.cpc_convert_laws.proofs.Piece.Ways.{listed}
 
 -- a number that is listed where both tests hold
@@ -48,10 +47,6 @@ from_is p r l stubs placed (n ∷ ns) m h = go (n == m) refl h (λ i. from_is p 
     go false e i deeper =
         held_either b (numbers_from p r l stubs (b ++ placed) ns) m ((holds_number ns m ≡ true) ⊎ (holds_number stubs m ≡ true)) i
         (λ j. inr (behind_is stubs placed (falls (row_of p r l n).lines) m j)) (λ j. deeper j)
-
--- a row that is turned holds no other number
-pub turned_is : (m : ℕ) (ns : List ℕ) (n : ℕ) → holds_number (turned m ns) n ≡ true → holds_number ns n ≡ true
-turned_is m ns n h = held_either (chosen (λ k. nat_le m k) ns) (chosen (λ k. nat_lt k m) ns) n (holds_number ns n ≡ true) h (λ i. (chosen_is (λ k. nat_le m k) ns n i).0) (λ i. (chosen_is (λ k. nat_lt k m) ns n i).0)
 
 not_own : (a b : Bool) → (a && not b) ≡ true → b ≡ true → ⊥
 not_own true true e h = absurd (cc)

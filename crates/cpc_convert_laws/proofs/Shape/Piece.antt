@@ -8,13 +8,13 @@ use Rattle.cpc_forms.specs.Flow.{Place, Start, At}
 use Rattle.cpc_graph_laws.specs.Laws.{place_of, is_node}
 use Rattle.cpc_convert_chain_laws.specs.Flat.{before}
 use Rattle.cpc_convert_chain_laws.specs.Frames.{Load, loads_one, declares_one, frees_frame}
+use Rattle.cpc_convert_chain_laws.proofs.Rows.{before_append}
 use Rattle.cpc_convert_event.specs.NameLaws.{IsOwner}
 use Rattle.cpc_convert_event.specs.Names.{piece_name, box_tag, variable_name, pointer_name, frame_name}
 use Rattle.cpc_convert_event.specs.Pieces.{fills_if, box_lines, boxing_lines, boxing_of, loads_of, declares_of, piece_body}
 use Rattle.cpc_convert_event.specs.Routines.{Routine, routine_of, stood_variable, variable_of, is_parameter}
 use Rattle.cpc_convert_event.specs.Rows.{piece_statements}
 use Rattle.cpc_convert_event.proofs.Apart.{behind, piece_is}
-use Rattle.cpc_convert_event.proofs.Flat.{before_append}
 use Rattle.cpc_convert_laws.specs.Shape.Help.{TakesUp, Loads, Declares, GivesFrame, MakesBox, FillsBox, Between, Done, Helps}
 use Rattle.cpc_convert_laws.specs.Shape.Shape.{IsPiece}
 use Rattle.cpc_convert_laws.proofs.Shape.Locals.{apart, locals_typed}

@@ -2,13 +2,12 @@
 use Rattle.std.proofs.Common.{◌≡◌, ℕ, true, List, [], ◌∷◌, ◌++◌, Option, Some, option_map, refl, sym, ap, subst}
 use Rattle.cpc_base.specs.Bytes.{Text}
 use Rattle.cpc_base.proofs.Lists.{append_empty}
-use Rattle.cpc_tree.specs.Points.{Path, Point, Here, Arrival, End, Found, Simple, Test, found}
+use Rattle.cpc_tree.specs.Points.{Path, Point, Here, Arrival, End, Test, found}
 use Rattle.cpc_tree.specs.Registers.{scope_in_function}
-use Rattle.cpc_tree.specs.Syntax.{Expr, Exprs, Stmt, Call, Detach, Function, Program}
-use Rattle.cpc_tree.specs.Typing.{Scope}
+use Rattle.cpc_tree.specs.Syntax.{Expr, Stmt, Call, Function, Program}
 use Rattle.cpc_meaning.specs.Act.{Stood, AtStatement, AtArrival, AtEnd}
 use Rattle.cpc_meaning.specs.Trees.{stood_at}
-use Rattle.cpc_meaning.specs.Ways.{Manner, InPlace, ByFrame, AsCps, arrives_later, only_if, manner_of, manner_at}
+use Rattle.cpc_meaning.specs.Ways.{Manner, InPlace, ByFrame, AsCps, arrives_later, only_if, manner_at}
 use Rattle.cpc_forms.specs.Control.{Node, Entry}
 use Rattle.cpc_forms.specs.Graph.{manner_from, node_of}
 use Rattle.cpc_forms.specs.Order.{is_in, number_of}
@@ -27,6 +26,7 @@ use Rattle.cpc_convert_laws.specs.Shape.Shape.{names_at}
 use Rattle.cpc_convert_laws.proofs.Shape.Strewn.{bares, put, goes_help}
 use Rattle.cpc_convert_laws.proofs.Shape.Images.{found_one, RowImage, in_place_row, cps_row, arrival_row, end_row}
 use Rattle.cpc_convert_laws.proofs.Shape.Calls.{CpsTyped, cps_called}
+use Rattle.cpc_convert_laws.proofs.Call.Framed.{framed_call}
 
 -- what is made for a node of control
 abbrev pub made_in : Program → Function → Node → Function
@@ -46,11 +46,6 @@ points_with p f a = a ∷ []
 abbrev pub IsRow : Program → Function → Point → Type 0
 IsRow p f (Arrival path) = manner_at p f path ≡ AsCps
 IsRow p f a = Unit {0}
-
-framed_call : (p : Program) (scope : Scope) (x : Found) → manner_of p scope x ≡ ByFrame → (to : Option Expr) × (g : Expr) × (es : Exprs) × (x ≡ Simple (Call to g es))
-framed_call p scope (Simple (Call to g es)) e = (to, g, es, refl)
-framed_call p scope (Simple (Detach to g es)) e = absurd (cc)
-framed_call p scope x e = absurd (cc)
 
 module _ (p : Program) (f : Function) (known : CpsTyped p f) (o : Option ℕ) where
   abbrev r : Routine

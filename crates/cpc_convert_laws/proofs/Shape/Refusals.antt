@@ -13,7 +13,7 @@ use Rattle.cpc_meaning.proofs.Functions.{text_same}
 use Rattle.cpc_convert.specs.Converted.{marked}
 use Rattle.cpc_convert.specs.Members.{Has, OnTop, Below}
 use Rattle.cpc_convert.proofs.Members.{has_left, has_right}
-use Rattle.cpc_convert.proofs.Marks.{marked_is, marked_differs}
+use Rattle.cpc_convert.proofs.Marks.{marked_is, marked_differs, no_bar_spawn}
 use Rattle.cpc_forms.specs.Control as C
 use Rattle.cpc_forms.specs.Flow.{Place, Start, At, is_leader}
 use Rattle.cpc_forms.specs.Graph.{manner_from}
@@ -30,7 +30,7 @@ use Rattle.cpc_convert_event.specs.Converted.{kept_function}
 use Rattle.cpc_convert_event.specs.NameLaws.{IsCps, IsKept}
 use Rattle.cpc_convert_event.specs.Names.{piece_name, pointer_name, frame_name, next_name}
 use Rattle.cpc_convert_event.specs.Pieces.{spawner_function}
-use Rattle.cpc_convert_event.proofs.Apart.{behind, piece_is as piece_named, spawner_is, driver_is, no_underscore_behind, no_bar_spawn, no_bar_nothing, piece_spawn, piece_nothing, StartIsSmall, NumberIsSmall, behind_is}
+use Rattle.cpc_convert_event.proofs.Apart.{behind, piece_is as piece_named, spawner_is, driver_is, no_underscore_behind, no_bar_nothing, piece_spawn, piece_nothing, StartIsSmall, NumberIsSmall, behind_is}
 use Rattle.cpc_convert_laws.specs.Shape.Help.{Between, Done, Helps, Stands}
 use Rattle.cpc_convert_laws.specs.Shape.Images.{IsQuiet, AnEmpty, ADeclare, AGoto, ABreak, AContinue, IsImage, ATest, AnAssign, ACall, AStart, ASpawn, Quietly, NoTest, AWait, ASection, ACpsCall, AnArrival, NoArrival, AResult, AReturn, AnEnd, Images, NoImage, AnImage, WithArrival}
 use Rattle.cpc_convert_laws.specs.Shape.Refusals.{prints, f_name, f_function, idle_main, two_prints, first_print, second_print, one_print, EveryStatementAFunction, AStatementIsDropped}

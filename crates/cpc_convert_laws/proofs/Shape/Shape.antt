@@ -29,9 +29,9 @@ use Rattle.cpc_convert_event.specs.Routines.{routine_of}
 use Rattle.cpc_convert_event.proofs.Apart.{behind, piece_is, no_underscore_behind, Small, StartIsSmall, NumberIsSmall, behind_is}
 use Rattle.cpc_convert_event.proofs.Lookups.{functions_found}
 use Rattle.cpc_convert_event.proofs.Made.{Made, MadeSpawner, MadePiece}
+use Rattle.cpc_convert_event.proofs.Boxing.{held_has}
 use Rattle.cpc_convert_laws.specs.Accepted.Names.{HasNames}
 use Rattle.cpc_convert_laws.proofs.Accepted.Names.{accepted_has_names, accepted_is_named}
-use Rattle.cpc_convert_laws.proofs.Piece.Frames.{held_has}
 use Rattle.cpc_convert_laws.specs.Shape.Laws.{AcceptedShape}
 use Rattle.cpc_convert_laws.specs.Shape.Shape.{Origin, Kept, ASpawner, APiece, TheDriver, TheMain, Shape}
 use Rattle.cpc_convert_laws.proofs.Shape.Calls.{CpsTyped}

@@ -5,7 +5,7 @@ use Rattle.cpc_num.specs.declared.kinds.Fault.{Fault}
 use Rattle.cpc_tree.specs.Lists.{first_or, rest_of}
 use Rattle.cpc_tree.specs.Points.{Point, Simple}
 use Rattle.cpc_tree.specs.Points as P
-use Rattle.cpc_tree.specs.Primitives.{Primitive, Yield, Sleep, IoWait, Wait, RtReady, RtWait, RtSleep, RtIo, RtDetach, primitive_named, takes_first, callback_and_pointer}
+use Rattle.cpc_tree.specs.Primitives.{Primitive, Yield, Sleep, IoWait, Wait, RtDetach, primitive_named, takes_first, callback_and_pointer}
 use Rattle.cpc_tree.specs.Syntax.{Expr, Exprs, Call, Stmts, AndStmt, Function, Program}
 use Rattle.cpc_tree.specs.Trace.{Submitted, Failed}
 use Rattle.cpc_tree.specs.Typing.{Scope, function_named}
@@ -31,6 +31,7 @@ use Rattle.cpc_convert_chain_laws.proofs.Steps.{step_asks, step_fails, step_faul
 use Rattle.cpc_convert_event.specs.Lines.{runtime_name}
 use Rattle.cpc_convert_laws.specs.Related.Waits.{Awaited, ATurn, ATime, ADescriptor, ACondition, awaited, put_waiting, wait_marks}
 use Rattle.cpc_convert_laws.proofs.Related.Setting.{is_common}
+use Rattle.cpc_convert_laws.proofs.Complete.Frames.{runtime}
 
 -- ---- steps
 
@@ -68,13 +69,6 @@ module _ (q : Program) (w : World) (fn : Text) (g : Function) (body : Stmts) (be
       step_faults q w fn g below is_g slots s (line_path g body k scope n x rest l) scope (line_scope g body k scope n x rest l _) (Simple x) (line_found g body k scope n x rest l) fault is_act
 
 -- ---- primitives
-
--- what a primitive that waits becomes
-abbrev pub runtime : Primitive → Primitive
-runtime Sleep = RtSleep
-runtime IoWait = RtIo
-runtime Wait = RtWait
-runtime prim = RtReady
 
 -- what is known of one that waits, and of what it becomes
 pub record IsWait (prim : Primitive) : Type 0 where

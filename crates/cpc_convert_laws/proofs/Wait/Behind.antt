@@ -25,6 +25,7 @@ use Rattle.cpc_graph_laws.proofs.Leaders.{inside}
 use Rattle.cpc_graph_laws.proofs.Marked.{leaders_are_listed}
 use Rattle.cpc_graph_laws.proofs.MoreFacts.{cps_statements_wait}
 use Rattle.cpc_convert_event.specs.Routines.{routine_of, closure_of}
+use Rattle.cpc_convert_event.proofs.Boxing.{held_has}
 use Rattle.cpc_convert_laws.specs.Accepted.Names.{HasNames}
 use Rattle.cpc_convert_laws.proofs.Accepted.Lifted.{programs_are_closed}
 use Rattle.cpc_convert_laws.specs.Piece.Known.{CpsKnown}
@@ -32,7 +33,6 @@ use Rattle.cpc_convert_laws.specs.Piece.Stood.{NodeAt}
 use Rattle.cpc_convert_laws.specs.Wait.Waiting.{Waiting, CallsCps, CallsWait, Submits}
 use Rattle.cpc_convert_laws.specs.Wait.Laws.{CpsStatementsWait}
 use Rattle.cpc_convert_laws.proofs.Piece.Filled.{what_stands, no_arrival, no_end}
-use Rattle.cpc_convert_laws.proofs.Piece.Frames.{held_has}
 use Rattle.cpc_convert_laws.proofs.Piece.Ways.{is_split, kept_is, stands_there}
 
 -- ---- the arrival

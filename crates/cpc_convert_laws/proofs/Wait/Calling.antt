@@ -24,7 +24,8 @@ use Rattle.cpc_meaning.specs.Start.{before_underscores}
 use Rattle.cpc_meaning.specs.Threads.{shown_in, is_cps}
 use Rattle.cpc_meaning.specs.Ways.{AsCps}
 use Rattle.cpc_convert_image_laws.specs.Held.{IsHeld, IsHeldSlot, IsHeldStore, BoxesLive, beside}
-use Rattle.cpc_convert_image_laws.specs.Names.{AllNamesAmong}
+use Rattle.cpc_meaning.specs.Names.{AllNamesAmong}
+use Rattle.cpc_meaning.proofs.Chained.{then_assoc}
 use Rattle.cpc_convert_image_laws.specs.OneByOne.{OneByOne}
 use Rattle.cpc_convert_image_laws.specs.Stacks.{frame_of}
 use Rattle.cpc_convert_image_laws.proofs.Acts.{arguments_alike}
@@ -157,7 +158,7 @@ module _ (p : Program) (facts : ProgramKnown p) (names : HasNames p) (fine : Cal
   source_is result' =
       source_act p facts f known l owner n at slots slots' lower stands w result' o (AtStatement (Simple s)) stood
       ∙ (ap (λ m. calls_named here x es m (primitive_named x) (function_named p x)) meant ∙ (ap (λ k. calls_named here x es (AFunction Cps res ps) (primitive_named x) k) is_g
-      ∙ A.then_assoc (values here es) (arguments ts) (λ ws. Gives (Enters g ws))))
+      ∙ then_assoc (values here es) (arguments ts) (λ ws. Gives (Enters g ws))))
 
   one : ¬ (arrived ≡ NoAnswer) → OneByOne here ts es arrived
   one = one_by_one here ts es (arguments_convert p f known l owner n at slots slots' lower stands (Simple s) stood w.store ts es gets (named_there slots' stands) apart)

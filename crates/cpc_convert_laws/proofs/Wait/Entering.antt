@@ -31,6 +31,7 @@ use Rattle.cpc_convert_chain_laws.proofs.Making.{holds_set, holds_new}
 use Rattle.cpc_convert_chain_laws.proofs.Pieces.{return_step}
 use Rattle.cpc_convert_chain_laws.proofs.Rows.{before_append}
 use Rattle.cpc_convert_chain_laws.proofs.Walks.{rise_append, walk_append}
+use Rattle.cpc_convert_chain_laws.proofs.Structs.{type_of}
 use Rattle.cpc_convert_event.specs.FlatLaws.{piece_count}
 use Rattle.cpc_convert_event.specs.Lines.{gives_from, call_lines, all_do, frame_lines, hands_over, node_lines}
 use Rattle.cpc_convert_event.specs.LocalLaws.{piece_locals}
@@ -42,7 +43,7 @@ use Rattle.cpc_convert_event.specs.Rows.{has_row}
 use Rattle.cpc_convert_event.proofs.StructsThere.{start_there}
 use Rattle.cpc_convert_event.proofs.BoxesThere.{structs_there}
 use Rattle.cpc_convert_laws.specs.Related.Bounds.{Bounds}
-use Rattle.cpc_convert_laws.proofs.Native.SpawnerCall.{type_of, get_scalar, passed_types}
+use Rattle.cpc_convert_laws.proofs.Native.SpawnerCall.{get_scalar, passed_types}
 use Rattle.cpc_convert_laws.specs.Piece.Known.{CpsKnown}
 use Rattle.cpc_convert_laws.specs.Piece.Rows.{RowAt, row_point}
 use Rattle.cpc_convert_laws.specs.Piece.Stood.{NodeAt, LocalsStand}

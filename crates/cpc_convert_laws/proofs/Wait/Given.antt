@@ -13,7 +13,7 @@ use Rattle.cpc_meaning.proofs.Functions.{gives_then}
 use Rattle.cpc_check_laws.specs.Kept.Fits.{FitAll}
 use Rattle.cpc_convert_image_laws.specs.Held.{IsHeld, IsHeldSlot, IsHeldStore, beside}
 use Rattle.cpc_convert_image_laws.specs.Images.{Readings, image, images}
-use Rattle.cpc_convert_image_laws.specs.Names.{AllNames, AllNamesAmong}
+use Rattle.cpc_meaning.specs.Names.{AllNames, AllNamesAmong}
 use Rattle.cpc_convert_image_laws.specs.OneByOne as O
 use Rattle.cpc_convert_image_laws.specs.Relations.{Common, Means}
 use Rattle.cpc_convert_image_laws.proofs.Acts.{value_alike}

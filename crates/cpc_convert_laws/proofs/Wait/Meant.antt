@@ -28,13 +28,13 @@ use Rattle.cpc_convert_event.specs.Pieces.{takes_value, value_load, loaded, load
 use Rattle.cpc_convert_event.specs.Routines.{Routine, routine_of, variable_of, locals_of, is_parameter, is_plain, closure_of}
 use Rattle.cpc_convert_event.proofs.Apart.{behind, piece_is, no_underscore_behind, no_bar_nothing, piece_nothing}
 use Rattle.cpc_convert_event.proofs.Fields.{word_apart}
-use Rattle.cpc_convert_event.proofs.Locals.{NoneCalled}
+use Rattle.cpc_convert_event.proofs.Locals.{NoneCalled, none_append}
 use Rattle.cpc_convert_event.proofs.Meanings.{items_meant}
 use Rattle.cpc_convert_event.proofs.Numbers.{chosen_is}
 use Rattle.cpc_convert_laws.specs.Piece.Known.{CpsKnown}
 use Rattle.cpc_convert_laws.specs.Wait.Laws.{StartsAreMeant}
 use Rattle.cpc_convert_laws.proofs.Piece.Frames.{Target, kept_small}
-use Rattle.cpc_convert_laws.proofs.Piece.Scopes.{unmarked_name, none_append, loads_none, loads_append}
+use Rattle.cpc_convert_laws.proofs.Piece.Scopes.{unmarked_name, loads_none, loads_append}
 
 -- a name that is no word of a piece and no variable's
 pub record IsOther (y : Text) : Type 0 where

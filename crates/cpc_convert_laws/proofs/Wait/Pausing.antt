@@ -23,7 +23,7 @@ use Rattle.cpc_meaning.specs.Trees.{trees}
 use Rattle.cpc_meaning.specs.Ways.{AsCps, primitive_manner}
 use Rattle.cpc_convert_image_laws.specs.Held.{IsHeldSlot, IsHeldStore, BoxesLive, beside}
 use Rattle.cpc_convert_image_laws.specs.Images.{images, followed}
-use Rattle.cpc_convert_image_laws.specs.Names.{AllNamesAmong}
+use Rattle.cpc_meaning.specs.Names.{AllNamesAmong}
 use Rattle.cpc_convert_image_laws.specs.Relations.{Meets, BothGive, BothFault, Stuck, WaitAct, Waited}
 use Rattle.cpc_convert_image_laws.specs.Stacks.{frame_of}
 use Rattle.cpc_convert_image_laws.proofs.Live.{read_live}
@@ -63,10 +63,11 @@ use Rattle.cpc_convert_laws.proofs.Piece.Scopes.{primitive_meant}
 use Rattle.cpc_convert_laws.proofs.Piece.Uses.{names_kept_among, use_kept, IsKept}
 use Rattle.cpc_convert_laws.proofs.Piece.Words.{wait_word}
 use Rattle.cpc_convert_laws.specs.Wait.Asked.{IsWide}
-use Rattle.cpc_convert_laws.proofs.Wait.Asking.{asking_stack, asked_step, asked_fault, argument_fault, runtime, IsWait, is_wait}
+use Rattle.cpc_convert_laws.proofs.Wait.Asking.{asking_stack, asked_step, asked_fault, argument_fault, IsWait, is_wait}
 use Rattle.cpc_convert_laws.proofs.Wait.Behind.{Behind, arrival_there}
 use Rattle.cpc_convert_laws.proofs.Wait.Handing as H
 use Rattle.cpc_convert_laws.proofs.Wait.Meant.{driver_meant}
+use Rattle.cpc_convert_laws.proofs.Complete.Frames.{runtime}
 
 module _ (p : Program) (facts : ProgramKnown p) (fine : CallFrame Position → Option Value → Type 0) (given : Text → List Value → Type 0) (bounds : Bounds) (wide : IsWide p bounds.leads) (f : Function) (known : CpsKnown p f) (enough : 5 + length (variables f) ≤ bounds.onward) (begins : 0 < bounds.leads) (l : Place) (owner : IsOwner (routine_of p f) l)
     (shown : before_underscores (piece_name f.called l) ≡ shown_in p f.called) (lower pointer result frame : Value)

@@ -31,7 +31,7 @@ use Rattle.cpc_convert.specs.Members.{Has}
 use Rattle.cpc_convert_image_laws.specs.Held.{IsHeld, IsHeldSlot, IsHeldStore, BoxesLive, beside}
 use Rattle.cpc_convert_image_laws.specs.Images.{images}
 use Rattle.cpc_convert_image_laws.specs.InPlace.{is_cps}
-use Rattle.cpc_convert_image_laws.specs.Names.{AllNamesAmong}
+use Rattle.cpc_meaning.specs.Names.{AllNamesAmong}
 use Rattle.cpc_convert_image_laws.specs.Relations.{Found, BothFound, NoneFound, SameHead, Meets, BothGive, BothFault, Stuck, Same, SectionAct, Detached as Handed}
 use Rattle.cpc_convert_image_laws.specs.Stacks.{frame_of}
 use Rattle.cpc_convert_image_laws.proofs.Answers as A

@@ -21,7 +21,7 @@ use Rattle.cpc_meaning.specs.Answer.{Answer, Gives, Faults, NoAnswer}
 use Rattle.cpc_meaning.specs.Eval.{Slot, Boxed, Context, value, assigned}
 use Rattle.cpc_meaning.proofs.SameValues as S
 use Rattle.cpc_convert_image_laws.specs.Locals.{Stands, AsValue, AsBlock, FitsAt, readings_in, reading_of, local_type}
-use Rattle.cpc_convert_image_laws.specs.Names.{AllNames, AllNamesAmong}
+use Rattle.cpc_meaning.specs.Names.{AllNames, AllNamesAmong}
 use Rattle.cpc_convert_image_laws.specs.OneByOne.{AllConvert}
 use Rattle.cpc_forms.specs.Flow.{Place}
 use Rattle.cpc_forms.specs.Graph.{Node, node_of, graph_of}

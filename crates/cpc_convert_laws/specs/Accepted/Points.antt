@@ -17,7 +17,7 @@ use Rattle.cpc_check_rules.specs.Operators as O
 use Rattle.cpc_check_laws.specs.Sound.Typed.{is_for, FoundTyped}
 use Rattle.cpc_forms.specs.Split.{Position, split_form}
 use Rattle.cpc_convert_image_laws.specs.InPlace.{is_cps, IsWritten, IsWrittenIf}
-use Rattle.cpc_convert_image_laws.specs.Names.{AllNamesIf, AllNamesAmong, AllNamesOf}
+use Rattle.cpc_meaning.specs.Names.{AllNamesIf, AllNamesAmong, AllNamesOf}
 use Rattle.cpc_convert_image_laws.specs.Native.{IsNative}
 use Rattle.cpc_convert_laws.specs.Accepted.Accepted.{OfAccepted}
 use Rattle.cpc_convert_laws.specs.Accepted.Known.{Stays}

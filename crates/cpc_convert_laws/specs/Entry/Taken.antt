@@ -9,7 +9,7 @@ use Rattle.cpc_meaning.specs.Eval.{Slot, Register, Boxed}
 use Rattle.cpc_meaning.specs.Plain.{Frame}
 use Rattle.cpc_forms.specs.Flow.{At}
 use Rattle.cpc_forms.specs.Split.{Position, InGraph}
-use Rattle.cpc_convert_chain_laws.specs.Fits.{Fits}
+use Rattle.cpc_meaning.specs.Eval.{Fits}
 use Rattle.cpc_convert_event.specs.FillLaws.{AllFit, ParametersAreScalar}
 use Rattle.cpc_convert_event.specs.Frames.{arriving_type}
 use Rattle.cpc_convert_event.specs.NameLaws.{IsCps}

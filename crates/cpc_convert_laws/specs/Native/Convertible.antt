@@ -7,7 +7,7 @@ use Rattle.cpc_tree.specs.Registers.{scope_in_function}
 use Rattle.cpc_tree.specs.Syntax.{Ty, Expr, Function, GlobalItem, Program}
 use Rattle.cpc_tree.specs.Typing.{cells, function_named}
 use Rattle.cpc_convert.specs.Members.{Has}
-use Rattle.cpc_convert_image_laws.specs.Names.{AllNamesFound}
+use Rattle.cpc_meaning.specs.Names.{AllNamesFound}
 use Rattle.cpc_convert_event.specs.NameLaws.{IsNamed}
 use Rattle.cpc_convert_laws.specs.Accepted.Functions.{IsShown, HasMain}
 use Rattle.cpc_convert_laws.specs.Accepted.Names.{HasNames}

@@ -17,7 +17,7 @@ use Rattle.cpc_forms.specs.Graph.{Node}
 use Rattle.cpc_convert_image_laws.specs.Locals.{Stands, FitsAt}
 use Rattle.cpc_convert_chain_laws.specs.Boxes.{AllRegisters}
 use Rattle.cpc_convert_chain_laws.specs.Driver.{any_pointer}
-use Rattle.cpc_convert_chain_laws.specs.Fits.{Fits}
+use Rattle.cpc_meaning.specs.Eval.{Fits}
 use Rattle.cpc_convert_chain_laws.specs.Walks.{frame_at}
 use Rattle.cpc_convert_event.specs.Names.{piece_name, value_name}
 use Rattle.cpc_convert_event.specs.Routines.{Routine, routine_of, keeper, closure_of, is_plain, local_of, variable_of}

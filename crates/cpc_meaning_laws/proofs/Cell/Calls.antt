@@ -1,12 +1,12 @@
 -- The cells that a call takes, and those that it gives back when it is left.
 use Rattle.std.proofs.Common.{◌≡◌, ℕ, zero, suc, ◌+◌, Bool, true, false, cond, List, [], ◌∷◌, length, Option, Some, None, refl, sym, ap, subst, arith}
-use Rattle.std.specs.Prelude.{not, ◌&&◌, slice_get, slice_set, is_some, Result, Ok, Err}
+use Rattle.std.specs.Prelude.{◌&&◌, slice_get, slice_set, is_some, Result, Ok, Err}
 use Rattle.std.specs.Option.{option_map}
 use Rattle.std.proofs.lemmas.List.{length-replicate}
 use Rattle.cpc_num.specs.declared.kinds.Fault.{Fault}
 use Rattle.cpc_num.specs.declared.kinds.Fault.TheVariants as F
-use Rattle.cpc_tree.specs.Lists.{first_or, rest_of, holds_number}
-use Rattle.cpc_tree.specs.Registers.{variables, is_register, addressed}
+use Rattle.cpc_tree.specs.Lists.{first_or, rest_of}
+use Rattle.cpc_tree.specs.Registers.{variables, is_register}
 use Rattle.cpc_tree.specs.Syntax.{Ty, Variable, Function, Program}
 use Rattle.cpc_tree.specs.Typing as T
 use Rattle.cpc_tree.specs.Typing.{is_scalar}
@@ -17,7 +17,8 @@ use Rattle.cpc_meaning.specs.Answer.{Gives, of_result, needed}
 use Rattle.cpc_meaning.specs.Eval.{Slot, Register, Boxed}
 use Rattle.cpc_meaning.specs.Slots.{first_cells, make_slot, make_slots, free_slots}
 use Rattle.cpc_meaning.specs.Runs.{slot_registers, slots_registers}
-use Rattle.cpc_meaning.proofs.Functions.{gives_then, scalar_size}
+use Rattle.cpc_meaning.proofs.Functions.{gives_then, scalar_size, register_scalar}
+use Rattle.cpc_meaning.proofs.Machines.{needed_is}
 use Rattle.cpc_meaning_laws.specs.Cell.Cells.{or_zero, variables_cells, slots_cells}
 use Rattle.cpc_meaning_laws.specs.Cell.Laws.{CallTakes, LeavingGivesBack}
 
@@ -28,17 +29,9 @@ length-first_cells : (n : ℕ) (v : Value) → length (first_cells n v) ≡ n
 length-first_cells zero v = refl
 length-first_cells (suc n) v = ap (λ k. suc k) (length-replicate n Unset)
 
-needed_is : {A : Type 0} (o : Option A) (x : A) → needed o ≡ Gives x → o ≡ Some x
-needed_is None x e = absurd (cc)
-needed_is (Some y) x e = let h : y ≡ x = cc in ap Some h
-
 both_true : (a b : Bool) → a && b ≡ true → a ≡ true
 both_true true b e = refl
 both_true false b e = e
-
--- a register is scalar
-register_scalar : (f : Function) (n : ℕ) (x : Variable) → is_register f n x ≡ true → is_scalar x.type ≡ true
-register_scalar f n x e = both_true (is_scalar x.type) (not (holds_number (addressed f) n)) e
 
 -- one variable takes its cells, as a register or with a block
 slot_takes : (p : Program) (t : Ty) (in_register : Bool) (n : ℕ) (v : Value) (s : Store) → (in_register ≡ true → is_scalar t ≡ true) → T.size p t ≡ Some n

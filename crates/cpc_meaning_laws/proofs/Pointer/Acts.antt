@@ -31,11 +31,11 @@ pub record SlotsMade (s : Store) (r : List Slot × Store) : Type 0 where
   pub onward : Onward s r.1
   pub slots : All (IsMadeSlot r.1) r.0
 
-first_made : (s : Store) (vs : List Value) → All (IsMade s) vs → IsMade s (first_or Unset vs)
+pub first_made : (s : Store) (vs : List Value) → All (IsMade s) vs → IsMade s (first_or Unset vs)
 first_made s [] h = tt
 first_made s (v ∷ vs) h = All-head (IsMade s) v vs h
 
-rest_made : (s : Store) (vs : List Value) → All (IsMade s) vs → All (IsMade s) (rest_of vs)
+pub rest_made : (s : Store) (vs : List Value) → All (IsMade s) vs → All (IsMade s) (rest_of vs)
 rest_made s [] h = h
 rest_made s (v ∷ vs) h = All-tail (IsMade s) v vs h
 

@@ -91,7 +91,7 @@ class_cases Frame Frame = inl refl
 class_cases _ _ = inr (λ e. absurd (cc))
 
 -- the cells of a block that was set are what it was set to
-set_live : (bs : Blocks) (n : ℕ) (b : Option (List Value)) (cells : List Value) → live (slice_get (slice_set bs n b) n) ≡ Some cells → b ≡ Some cells
+pub set_live : (bs : Blocks) (n : ℕ) (b : Option (List Value)) (cells : List Value) → live (slice_get (slice_set bs n b) n) ≡ Some cells → b ≡ Some cells
 set_live [] n b cells e = absurd (cc)
 set_live (x ∷ bs) zero b cells e = e
 set_live (x ∷ bs) (suc n) b cells e = set_live bs n b cells e

@@ -2,7 +2,7 @@ use Rattle.std.proofs.Common.{◌≡◌, ◌+◌, ◌≤◌, drop}
 use Rattle.cpc_tree.specs.Erase.{Names}
 use Rattle.cpc_tree.specs.Locate.{located_list}
 use Rattle.cpc_check_rules.specs.FunctionRules.{statements_in}
-use Rattle.cpc_check_names.specs.Counts.{capped}
+use Rattle.cpc_base.specs.Counts.{capped}
 use Rattle.cpc_check_names.proofs.counts.+counted.Given as goal
 
 -- with what is left, all of the row is counted

@@ -2,8 +2,9 @@ use Rattle.std.proofs.Common.{◌∙◌, map, List, sym, ap, subst}
 use Rattle.cpc_tree.specs.Erase.{Table, in_table, item_of}
 use Rattle.cpc_tree.specs.declared.program.Item as GItem
 use Rattle.cpc_convert_names.specs.Tables.{HasGrown}
+use Rattle.cpc_convert_names.proofs.Growing.{grown_none}
 use Rattle.cpc_convert_items.specs.Listed.{listed}
-use Rattle.cpc_convert_code.proofs.Meant.{grown_none, after_none, converts}
+use Rattle.cpc_convert_code.proofs.Meant.{after_none, converts}
 use Rattle.cpc_convert_code.proofs.converting.convert.Goals as goal
 
 pub returns-clause-is : goal.returns-clause-is

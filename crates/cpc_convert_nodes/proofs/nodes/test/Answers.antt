@@ -10,7 +10,8 @@ use Rattle.cpc_convert_event.specs.Rows.{put_statement, JumpIf}
 use Rattle.cpc_convert_lines.specs.Around.{reads}
 use Rattle.cpc_convert_lines.specs.Written.{written, puts}
 use Rattle.cpc_convert_lines.specs.Puts.{statements_before}
-use Rattle.cpc_convert_nodes.proofs.Read.{both, some_alike, never_tests}
+use Rattle.cpc_convert_lines.proofs.Puts.{behind}
+use Rattle.cpc_convert_nodes.proofs.Read.{some_alike, never_tests}
 use Rattle.cpc_convert_nodes.proofs.nodes.test.Goals as goal
 
 pub returns-in_ok-go_on-in-Some-0₀ : goal.returns-in_ok-go_on-in-Some-0₀
@@ -23,7 +24,7 @@ returns-in_ok-go_on-in-Some-0₀ c = λ source from to p r st yes other same.
     let alike = some_alike _ _ (sym by_from ∙ (same ∙ by_to)) in
     let made = c.in_ok-made-in-Some-0₀.ensures from to (is_plain r) (c.readings.ensures.read source from to p r st) alike ∙ ap (λ (n : I.Readings). I.image n e) (c.readings.ensures.are from r) in
     let goes = c.in_ok-goto_where-in-Some-0₀.ensures source from to p r st (yes c.in-Some-0₀.number c.in-Some-0₀.is) ∙ ap (λ (x : S.Expr). puts u (put_statement (JumpIf x c.in-Some-0₀.number) ∷ [])) made in
-    both u _ _ (put_statement (JumpIf (I.image names e) c.in-Some-0₀.number) ∷ []) (statements_before c.args.following (L.goes c.args.ways.1)) goes (c.in_ok-go_on-in-Some-0₀.ensures source from to p r st other)
+    behind u _ _ (put_statement (JumpIf (I.image names e) c.in-Some-0₀.number) ∷ []) (statements_before c.args.following (L.goes c.args.ways.1)) goes (c.in_ok-go_on-in-Some-0₀.ensures source from to p r st other)
     ∙ (ap (λ (o : Option ℕ). puts u (statements_before c.args.following (L.test_lines names (Some e) o c.args.ways.1))) (sym c.in-Some-0₀.is)
     ∙ ap (λ (o : Option S.Expr). puts u (statements_before c.args.following (L.test_lines names o c.args.ways.0 c.args.ways.1))) (sym by_from))
 

@@ -12,8 +12,8 @@ use Rattle.cpc_convert_images.proofs.Rows.{alike_at}
 use Rattle.cpc_convert_lines.specs.Around.{reads}
 use Rattle.cpc_convert_lines.specs.Written.{written, puts}
 use Rattle.cpc_convert_lines.specs.Puts.{gives}
+use Rattle.cpc_convert_lines.proofs.Puts.{behind}
 use Rattle.cpc_convert_nodes.proofs.Arguments.{give_put, all_given}
-use Rattle.cpc_convert_nodes.proofs.Read.{both}
 use Rattle.cpc_convert_nodes.proofs.waiting.call.Goals as goal
 
 pub loop-number-preserved : goal.loop-number-preserved
@@ -47,5 +47,5 @@ returns c = λ source from to p r st called alike same.
     ∙ ap (λ (x : S.Expr). puts asked (fills_frame (S.ENamed to_name) (S.ENamed to_name) code_field next_field (start_name g.called) x [])) below)) in
     let given = all_given tag xs names from c.args.arguments.now c.loop-number.number (written to c.loop-number.out) _ c.loop-number-test.false (c.loop-number.invariant source from to p r st called same)
     ∙ (ap (λ (x : Text). puts begun (gives x 0 xs names es)) is_tag ∙ ap (λ (vs : List S.Variable). puts begun (gives (start_name g.called) 0 vs names es)) are) in
-    both u asked _ (asks_block to_name (start_name g.called) ∷ []) (fills_frame (S.ENamed to_name) (S.ENamed to_name) code_field next_field (start_name g.called) (S.ENamed under_name) [] ++ gives (start_name g.called) 0 (R.variables g) names es) asks
-    (both asked begun _ (fills_frame (S.ENamed to_name) (S.ENamed to_name) code_field next_field (start_name g.called) (S.ENamed under_name) []) (gives (start_name g.called) 0 (R.variables g) names es) begins given)
+    behind u asked _ (asks_block to_name (start_name g.called) ∷ []) (fills_frame (S.ENamed to_name) (S.ENamed to_name) code_field next_field (start_name g.called) (S.ENamed under_name) [] ++ gives (start_name g.called) 0 (R.variables g) names es) asks
+    (behind asked begun _ (fills_frame (S.ENamed to_name) (S.ENamed to_name) code_field next_field (start_name g.called) (S.ENamed under_name) []) (gives (start_name g.called) 0 (R.variables g) names es) begins given)

@@ -9,8 +9,9 @@ use Rattle.cpc_convert_names.specs.declared.called.Called.{Called}
 use Rattle.cpc_convert_standing.specs.Known.{IsAlike}
 use Rattle.cpc_convert_lines.specs.Around.{reads}
 use Rattle.cpc_convert_lines.specs.Written.{written, puts}
-use Rattle.cpc_convert_nodes.proofs.Called.{callee_found, lifted_found}
-use Rattle.cpc_convert_nodes.proofs.Read.{both}
+use Rattle.cpc_convert_lines.proofs.Puts.{behind}
+use Rattle.cpc_convert_lines.proofs.Within.{found as callee_found}
+use Rattle.cpc_convert_nodes.proofs.Called.{lifted_found}
 use Rattle.cpc_convert_nodes.proofs.waiting.call_waiting.Goals as goal
 
 pub returns-in_ok-hand_over-in-Some : goal.returns-in_ok-hand_over-in-Some
@@ -29,8 +30,8 @@ returns-in_ok-hand_over-in-Some c = λ source from to p r st leads means same.
     let alike = lifted_found (IsAlike from to) from items x callee st.functions found in
     let frame = c.in_ok-make_frame_if-in-Some.ensures source from to p r st leads ∙ ap (λ (y : Text). puts u (L.frame_lines_if r y c.args.arrival)) st.book.own.under in
     let over = c.in_ok-hand_over-in-Some.ensures to ∙ ap (λ (y : Text). puts entered (L.hands_over y ∷ [])) st.book.own.given in
-    both u framed _ (L.frame_lines_if r under_name c.args.arrival) (L.call_lines g names es ++ (L.hands_over to_name ∷ [])) frame
-    (both framed entered _ (L.call_lines g names es) (L.hands_over to_name ∷ []) (c.in_ok-call-in-Some.ensures source from to p r st called alike same) over)
+    behind u framed _ (L.frame_lines_if r under_name c.args.arrival) (L.call_lines g names es ++ (L.hands_over to_name ∷ [])) frame
+    (behind framed entered _ (L.call_lines g names es) (L.hands_over to_name ∷ []) (c.in_ok-call-in-Some.ensures source from to p r st called alike same) over)
     ∙ ap (λ (o : Option S.Function). puts u (L.waits_lines r names c.args.arrival x o es)) (sym (means ∙ ap (option_map (λ (d : Called). function_of from (function_in d.lifted.now))) found))
 
 pub returns-in_ok-wait-in-None : goal.returns-in_ok-wait-in-None

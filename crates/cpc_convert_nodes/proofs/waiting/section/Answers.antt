@@ -11,7 +11,8 @@ use Rattle.cpc_convert_event.specs.Routines.{is_plain}
 use Rattle.cpc_convert_event.specs.Lines as L
 use Rattle.cpc_convert_lines.specs.Around.{reads}
 use Rattle.cpc_convert_lines.specs.Written.{written, puts}
-use Rattle.cpc_convert_nodes.proofs.Read.{both, call_put}
+use Rattle.cpc_convert_lines.proofs.Puts.{behind}
+use Rattle.cpc_convert_nodes.proofs.Read.{call_put}
 use Rattle.cpc_convert_nodes.proofs.waiting.section.Goals as goal
 
 pub returns : goal.returns
@@ -34,5 +35,5 @@ returns c = λ source from to p r st leads function same.
     ∙ (ap (λ (x : Text). S.AndExpr (S.ENamed drive_name) (S.AndExpr (S.ENamed to_name) (S.AndExpr (S.ENamed x) (exprs_of to c.in_ok-made.made.items)))) (sym function)
     ∙ ap (λ (xs : S.Exprs). S.AndExpr (S.ENamed drive_name) (S.AndExpr (S.ENamed to_name) (S.AndExpr (S.ENamed (from c.args.function.name)) xs))) made))) in
     let called = call_put framed _ _ _ _ _ _ _ (c.in_ok-call.ensures to) refl (ap S.ENamed st.book.of_loop.detach) row in
-    both u framed _ (L.frame_lines_if r to_name c.args.arrival) (detaches to_name (from c.args.function.name) (I.images names es) ∷ L.hands_nothing ∷ []) frame
-    (both framed _ _ (detaches to_name (from c.args.function.name) (I.images names es) ∷ []) (L.hands_nothing ∷ []) called (c.in_ok-hand_nothing.ensures to))
+    behind u framed _ (L.frame_lines_if r to_name c.args.arrival) (detaches to_name (from c.args.function.name) (I.images names es) ∷ L.hands_nothing ∷ []) frame
+    (behind framed _ _ (detaches to_name (from c.args.function.name) (I.images names es) ∷ []) (L.hands_nothing ∷ []) called (c.in_ok-hand_nothing.ensures to))

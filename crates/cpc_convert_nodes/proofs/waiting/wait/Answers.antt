@@ -11,8 +11,9 @@ use Rattle.cpc_convert_event.specs.Routines.{is_plain}
 use Rattle.cpc_convert_event.specs.Lines as L
 use Rattle.cpc_convert_lines.specs.Around.{reads}
 use Rattle.cpc_convert_lines.specs.Written.{written, puts}
+use Rattle.cpc_convert_lines.proofs.Puts.{behind}
 use Rattle.cpc_convert_nodes.proofs.Arguments.{followed_by}
-use Rattle.cpc_convert_nodes.proofs.Read.{both, call_put}
+use Rattle.cpc_convert_nodes.proofs.Read.{call_put}
 use Rattle.cpc_tree.specs.Primitives.{primitive_named}
 use Rattle.cpc_convert_nodes.proofs.waiting.wait.Goals as goal
 
@@ -32,5 +33,5 @@ returns c = λ source from to p r st leads same.
     ∙ (ap (λ (x : S.Expr). I.followed (I.images names es) x (expr_of to c.named-2.result)) drive ∙ ap (λ (x : S.Expr). I.followed (I.images names es) (S.ENamed drive_name) x) given))) in
     let word = c.runtime_word-word.ensures to st.book.of_loop ∙ ap L.runtime_name (c.builtin_at.ensures from (subst (λ (t : Table). Spells t from) (sym st.texts) st.spells)) in
     let called = call_put framed _ _ _ _ _ _ _ (c.in_ok-call.ensures to) refl (ap S.ENamed word) row in
-    both u framed _ (L.frame_lines_if r to_name c.args.arrival) (S.Call None (S.ENamed (L.runtime_name (primitive_named (from c.args.name)))) (I.followed (I.images names es) (S.ENamed drive_name) (S.ENamed to_name)) ∷ L.hands_nothing ∷ []) frame
-    (both framed _ _ (S.Call None (S.ENamed (L.runtime_name (primitive_named (from c.args.name)))) (I.followed (I.images names es) (S.ENamed drive_name) (S.ENamed to_name)) ∷ []) (L.hands_nothing ∷ []) called (c.in_ok-hand_nothing.ensures to))
+    behind u framed _ (L.frame_lines_if r to_name c.args.arrival) (S.Call None (S.ENamed (L.runtime_name (primitive_named (from c.args.name)))) (I.followed (I.images names es) (S.ENamed drive_name) (S.ENamed to_name)) ∷ L.hands_nothing ∷ []) frame
+    (behind framed _ _ (S.Call None (S.ENamed (L.runtime_name (primitive_named (from c.args.name)))) (I.followed (I.images names es) (S.ENamed drive_name) (S.ENamed to_name)) ∷ []) (L.hands_nothing ∷ []) called (c.in_ok-hand_nothing.ensures to))

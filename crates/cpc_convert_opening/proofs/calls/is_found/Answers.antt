@@ -1,7 +1,8 @@
 use Rattle.std.proofs.Common.{is_some, ◌∙◌, ap, sym}
+use Rattle.cpc_base.proofs.Lists.{some_seen}
 use Rattle.cpc_tree.specs.Erase as E
 use Rattle.cpc_tree.specs.Syntax as S
-use Rattle.cpc_convert_opening.proofs.Found.{entered, some_seen}
+use Rattle.cpc_convert_opening.proofs.Found.{entered}
 use Rattle.cpc_convert_opening.proofs.calls.is_found.Goals as goal
 
 pub returns-in-Name : goal.returns-in-Name

@@ -1,7 +1,8 @@
 use Rattle.std.proofs.Common.{ap, ◌&&◌, ◌∙◌, ◌++◌, get_or, arith}
 use Rattle.cpc_convert_event.specs.Routines.{is_parameter, is_plain}
 use Rattle.cpc_convert_event.specs.Rows.{number_where}
-use Rattle.cpc_convert_opening.proofs.Knowing.{chosen_left, chosen_done}
+use Rattle.cpc_convert_rows.proofs.Turned.{chosen_left}
+use Rattle.cpc_convert_opening.proofs.Knowing.{chosen_done}
 use Rattle.cpc_convert_opening.proofs.kept.passed.Goals as goal
 
 pub loop-number-preserved : goal.loop-number-preserved

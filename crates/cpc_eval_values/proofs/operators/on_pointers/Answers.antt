@@ -5,7 +5,7 @@ use Rattle.cpc_eval_values.specs.Shown.{store_of, value_of, shown}
 use Rattle.cpc_eval_values.specs.Counted.{IsSize}
 use Rattle.cpc_meaning.specs.Eval as E
 use Rattle.cpc_num.specs.Number.{IsOf}
-use Rattle.cpc_eval_values.proofs.Integers.{IsOfSome-IsOf}
+use Rattle.cpc_num.proofs.KindLemmas.{IsOfSome-IsOf}
 use Rattle.cpc_eval_values.proofs.Sized.{negated_passed}
 use Rattle.cpc_eval_values.proofs.Operating.{distance_meets, ordered_meets, unruled}
 use Rattle.cpc_eval_values.proofs.operators.on_pointers.Goals as goal

@@ -1,5 +1,6 @@
 use Rattle.std.proofs.Common.{sym, arith}
-use Rattle.cpc_lexer.proofs.Places.{behind_none, behind_line, behind_other}
+use Rattle.cpc_tree.proofs.Behind.{behind_none}
+use Rattle.cpc_lexer.proofs.Places.{behind_line, behind_other}
 use Rattle.cpc_lexer.proofs.text.place_behind.Goals as goal
 use Rattle.cpc_lexer.proofs.text.place_behind.Goals.{then-b-eq10, else-b-eq10}
 

@@ -1,8 +1,8 @@
 use Rattle.std.proofs.Common.{◌≡◌, sym}
 use Rattle.cpc_tree.specs.Erase.{stmt_of, list_of}
 use Rattle.cpc_tree.specs.Syntax.{Absent, Present}
+use Rattle.cpc_tree.proofs.Nodes.{block_seen}
 use Rattle.cpc_native_points.specs.Parts as S
-use Rattle.cpc_native_points.proofs.Nodes.{block_seen}
 use Rattle.cpc_native_points.proofs.Finding.{stands_empty, stands_not}
 use Rattle.cpc_native_points.proofs.control.simple.Goals as goal
 

@@ -1,6 +1,6 @@
 use Rattle.std.proofs.Common.{sym, arith}
 use Rattle.cpc_tree.specs.Erase.{list_of}
-use Rattle.cpc_native_points.proofs.Nodes.{block_seen, for_seen}
+use Rattle.cpc_tree.proofs.Nodes.{block_seen, for_seen}
 use Rattle.cpc_native_points.proofs.Rows.{begun_block, begun_for}
 use Rattle.cpc_native_points.proofs.Fitting.{block_long, for_long}
 use Rattle.cpc_native_points.proofs.entering.+entered.Goals as goal

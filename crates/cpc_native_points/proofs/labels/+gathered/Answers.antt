@@ -5,10 +5,11 @@ use Rattle.std.proofs.lemmas.Result.{on_ok_weaker}
 use Rattle.cpc_tree.specs.Erase.{list_of, expr_of, stmt_of, maybe_at}
 use Rattle.cpc_tree.specs.Points as P
 use Rattle.cpc_tree.specs.Syntax as S
+use Rattle.cpc_tree.proofs.Nodes.{block_seen, if_seen}
 use Rattle.cpc_native_points.specs.Parts.{child}
 use Rattle.cpc_native_points.specs.declared.parts.Part.TheVariants as V
 use Rattle.cpc_native_points.proofs.Gathering.{Added, grows_added, grows_both, grows_same, gathers_as, gathers_both, gathers_part, gathers_label, row_labelled, HasBody, while_body, do_body, for_body}
-use Rattle.cpc_native_points.proofs.Nodes.{block_seen, if_seen, label_seen, nth_there}
+use Rattle.cpc_native_points.proofs.Nodes.{label_seen, nth_there}
 use Rattle.cpc_native_points.proofs.labels.+gathered.Goals as goal
 
 pub gather-returns-in-Block-clause-led : goal.gather-returns-in-Block-clause-led

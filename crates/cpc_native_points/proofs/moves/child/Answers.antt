@@ -1,7 +1,7 @@
 use Rattle.std.proofs.Common.{ap, ◌∙◌}
 use Rattle.cpc_tree.specs.Erase.{list_of}
+use Rattle.cpc_tree.proofs.Nodes.{block_seen, for_seen}
 use Rattle.cpc_native_points.specs.Parts as S
-use Rattle.cpc_native_points.proofs.Nodes.{block_seen, for_seen}
 use Rattle.cpc_native_points.proofs.moves.child.Goals as goal
 
 pub returns-in-Nth : goal.returns-in-Nth

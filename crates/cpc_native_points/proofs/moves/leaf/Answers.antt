@@ -1,8 +1,9 @@
 use Rattle.std.proofs.Common.{◌≡◌}
 use Rattle.cpc_tree.specs.Erase.{stmt_of, list_of}
 use Rattle.cpc_tree.specs.Syntax.{Absent, Present}
+use Rattle.cpc_tree.proofs.Nodes.{block_seen}
 use Rattle.cpc_native_points.specs.Parts as S
-use Rattle.cpc_native_points.proofs.Nodes.{block_seen, leaf_empty, leaf_full}
+use Rattle.cpc_native_points.proofs.Nodes.{leaf_empty, leaf_full}
 use Rattle.cpc_native_points.proofs.moves.leaf.Goals as goal
 
 pub returns-in-None : goal.returns-in-None

@@ -1,10 +1,11 @@
 use Rattle.std.proofs.Common.{suc, ◌∷◌}
 use Rattle.cpc_tree.specs.Erase.{stmt_of, list_of}
 use Rattle.cpc_tree.specs.Points as P
+use Rattle.cpc_tree.proofs.Nodes.{block_seen, for_seen, if_seen}
 use Rattle.cpc_native_points.specs.Parts as S
 use Rattle.cpc_native_points.specs.Leads.{Leads}
 use Rattle.cpc_native_points.specs.Seen.{part_of}
-use Rattle.cpc_native_points.proofs.Nodes.{block_seen, for_seen, if_seen, while_seen, do_seen, label_seen}
+use Rattle.cpc_native_points.proofs.Nodes.{while_seen, do_seen, label_seen}
 use Rattle.cpc_native_points.proofs.Moving.{under_leads}
 use Rattle.cpc_native_points.proofs.moves.out_of.Goals as goal
 

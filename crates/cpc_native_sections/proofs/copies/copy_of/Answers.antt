@@ -1,4 +1,5 @@
 use Rattle.std.proofs.Common.{◌≡◌, None, Some, Ok, map, reverse, sym, ap, subst, ◌∙◌}
+use Rattle.cpc_base.proofs.Lists.{some_is}
 use Rattle.cpc_store.specs.declared.values.Value.TheVariants as V
 use Rattle.cpc_tree.specs.Erase.{type_of, item_of, function_of}
 use Rattle.cpc_tree.specs.Syntax.{Function}
@@ -8,7 +9,7 @@ use Rattle.cpc_meaning.specs.Layout.{layout}
 use Rattle.cpc_eval_values.specs.Meets.{Meets}
 use Rattle.cpc_eval_values.specs.Shown.{value_of, values_of, store_of}
 use Rattle.cpc_native.specs.Stops.{MeetsOr, row_shown}
-use Rattle.cpc_native_sections.proofs.Pointing.{same_one, row_pointed, none_pointed}
+use Rattle.cpc_native_sections.proofs.Pointing.{row_pointed, none_pointed}
 use Rattle.cpc_native_sections.proofs.copies.copy_of.Goals as goal
 
 pub returns-in-Some-2-clause-value : goal.returns-in-Some-2-clause-value
@@ -18,7 +19,7 @@ returns-in-Some-2-clause-value c = λ names apart are g is.
     let b = c.in-At.block in
     let f = function_of names c.in-Some.function.now in
     let found : Some f ≡ function_named p (names c.args.function) = c.in-Some.ensures names apart ∙ ap (λ xs. function_named (map (item_of names) xs) (names c.args.function)) c.deref.ensures.value in
-    let one : g ≡ f = same_one g f (sym is ∙ sym found) in
+    let one : g ≡ f = some_is g f (sym is ∙ sym found) in
     let row : Some c.in-Some-2.row.items ≡ layout p (type_of names c.in-Some-pointed_type.of.now) = rw c.in-Some-2.is at (c.in_ok-row.ensures names (reverse p) are) in
     subst (MeetsOr (row_shown names c.copied.result))
     (sym (ap (λ v. C.copy_of p g (value_of names v) s) c.in-At.is
@@ -34,7 +35,7 @@ returns-in-None-clause-value c = λ names apart are g is.
     let b = c.in-At.block in
     let f = function_of names c.in-Some.function.now in
     let found : Some f ≡ function_named p (names c.args.function) = c.in-Some.ensures names apart ∙ ap (λ xs. function_named (map (item_of names) xs) (names c.args.function)) c.deref.ensures.value in
-    let one : g ≡ f = same_one g f (sym is ∙ sym found) in
+    let one : g ≡ f = some_is g f (sym is ∙ sym found) in
     let row : None ≡ layout p (type_of names c.in-Some-pointed_type.of.now) = rw c.in-None.is at (c.in_ok-row.ensures names (reverse p) are) in
     subst (Meets (Ok (values_of names c.new-in-None.result.items)))
     (sym (ap (λ v. C.copy_of p g (value_of names v) s) c.in-At.is

@@ -6,8 +6,9 @@ use Rattle.cpc_meaning.specs.Trees.{trees}
 use Rattle.cpc_eval_values.specs.Shown.{values_of, store_of}
 use Rattle.cpc_eval_index.specs.Indexed.{items_of}
 use Rattle.cpc_native.specs.Stacks.{stack_of}
+use Rattle.cpc_native.proofs.Same.{runs_same}
 use Rattle.cpc_sections.specs.Jobs.{EndsAs, job_of}
-use Rattle.cpc_native_sections.proofs.Running.{begun_in, runs_same}
+use Rattle.cpc_native_sections.proofs.Running.{begun_in}
 use Rattle.cpc_native_sections.proofs.entered.entered.Goals as goal
 
 pub returns-clause-entered : goal.returns-clause-entered

@@ -2,8 +2,9 @@ use Rattle.std.proofs.Common.{◌≡◌, ◌==◌, length, vec_len, ap, map, sub
 use Rattle.cpc_tree.specs.Erase.{item_of}
 use Rattle.cpc_eval_index.specs.Indexed.{items_of}
 use Rattle.cpc_sections.specs.Jobs.{EndsAs}
+use Rattle.cpc_native.proofs.Same.{runs_same}
 use Rattle.cpc_native_sections.specs.Led.{run_of}
-use Rattle.cpc_native_sections.proofs.Running.{from_both, runs_same, none_there}
+use Rattle.cpc_native_sections.proofs.Running.{from_both, none_there}
 use Rattle.cpc_native_sections.proofs.run.run_section.Goals as goal
 
 pub returns : goal.returns

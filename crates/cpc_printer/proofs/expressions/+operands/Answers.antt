@@ -1,6 +1,6 @@
 use Rattle.std.proofs.Common.{arith}
 use Rattle.std.proofs.lemmas.Grind.{common_steps}
-use Rattle.cpc_printer.proofs.TypeRows.{on_ok}
+use Rattle.cpc_base.proofs.Results.{on_ok}
 use Rattle.cpc_printer.proofs.ExprRows.{bare_call}
 use Rattle.cpc_printer.proofs.expressions.+operands.Goals as goal
 

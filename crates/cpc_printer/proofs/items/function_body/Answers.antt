@@ -1,6 +1,6 @@
 use Rattle.std.proofs.Common.{arith}
 use Rattle.std.proofs.lemmas.Grind.{common_steps}
-use Rattle.cpc_printer.proofs.TypeRows.{on_ok}
+use Rattle.cpc_base.proofs.Results.{on_ok}
 use Rattle.cpc_printer.proofs.ItemRows.{body_block}
 use Rattle.cpc_printer.proofs.items.function_body.Goals as goal
 

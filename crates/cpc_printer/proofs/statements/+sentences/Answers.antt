@@ -1,6 +1,6 @@
 use Rattle.std.proofs.Common.{arith}
 use Rattle.std.proofs.lemmas.Grind.{common_steps}
-use Rattle.cpc_printer.proofs.TypeRows.{on_ok}
+use Rattle.cpc_base.proofs.Results.{on_ok}
 use Rattle.cpc_printer.proofs.StmtRows.{stmt_block, stmt_if_none, stmt_if_some, stmt_for}
 use Rattle.cpc_printer.proofs.statements.+sentences.Goals as goal
 

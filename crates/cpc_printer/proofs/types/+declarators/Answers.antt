@@ -1,7 +1,8 @@
 use Rattle.std.proofs.Common.{arith, append-nil}
 use Rattle.std.proofs.lemmas.Grind.{common_steps}
 use Rattle.cpc_base.proofs.Lists.{no_length}
-use Rattle.cpc_printer.proofs.TypeRows.{param_array, param_other, list_none, behind_code, on_ok}
+use Rattle.cpc_base.proofs.Results.{on_ok}
+use Rattle.cpc_printer.proofs.TypeRows.{param_array, param_other, list_none, behind_code}
 use Rattle.cpc_printer.specs.Types.{called_by}
 use Rattle.cpc_printer.proofs.types.+declarators.Goals as goal
 

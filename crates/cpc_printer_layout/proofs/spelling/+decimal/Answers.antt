@@ -1,6 +1,7 @@
 use Rattle.std.proofs.Common.{append_assoc, refl, ◌+◌, ◌/◌, ◌%◌, [], ◌∷◌}
 use Rattle.std.specs.Prelude.{decimal}
-use Rattle.cpc_printer_layout.proofs.Digits.{decimal_more, decimal_last}
+use Rattle.cpc_base.proofs.Digits.{decimal_last}
+use Rattle.cpc_printer_layout.proofs.Digits.{decimal_more}
 use Rattle.cpc_printer_layout.proofs.spelling.+decimal.Goals as goal
 use Rattle.cpc_printer_layout.proofs.spelling.+decimal.Goals.{then-n-ge10+in_ok-decimal, else-n-ge10}
 

@@ -5,11 +5,11 @@ use Rattle.cpc_tree.specs.declared.program.Statement.{Statement}
 use Rattle.cpc_tree.specs.Erase.{expr_of, stmt_of, list_of, maybe_at}
 use Rattle.cpc_tree.specs.Points.{locals, locals_in, locals_arm, extended, extended_all}
 use Rattle.cpc_tree.specs.Registers.{addresses_by, addresses_in, addresses_if, addresses_arm}
+use Rattle.cpc_tree.proofs.Nodes.{row_end}
 use Rattle.cpc_eval_variables.specs.Scoped.{scope_of}
 use Rattle.cpc_eval_variables.specs.Typed.{types_in, types_of}
 use Rattle.cpc_eval_variables.proofs.Addressing.{both_added}
 use Rattle.cpc_eval_variables.proofs.Walking.{kept_longer, kept_on, later_count, told_same, header_added, block_locals, block_addresses, for_locals, for_addresses, types_more, scope_more, addressed_more, both_types, scope_same, if_locals, if_added, while_added, while_locals, do_added, do_locals, label_locals, label_addresses}
-use Rattle.cpc_eval_variables.proofs.Nodes.{row_end}
 use Rattle.cpc_eval_variables.proofs.walk.Walk.+walked.Goals as goal
 
 pub inside-returns-in-Block-clause-types : goal.inside-returns-in-Block-clause-types

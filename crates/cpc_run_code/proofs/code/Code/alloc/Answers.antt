@@ -1,11 +1,13 @@
 use Rattle.std.proofs.Common.{[], sym, ap, ◌∙◌, arith}
+use Rattle.cpc_base.proofs.Results.{on_ok}
 use Rattle.cpc_tree.specs.Erase.{Names}
 use Rattle.cpc_eval_index.specs.Indexed.{items_of}
 use Rattle.cpc_store.specs.Codes.{map_store}
 use Rattle.cpc_store.specs.Store as S
 use Rattle.cpc_store.proofs.CodeLemmas.{store_cells-map, next_block-map, alloc-map, unset_cells-map}
+use Rattle.cpc_native.proofs.Same.{runs_same, same_stack}
 use Rattle.cpc_run_code.specs.Code.{items_in, store_in, stack_in, IsWell, Runs}
-use Rattle.cpc_run_code.proofs.Coded.{runs_same, same_stack, on_ok, if_ok}
+use Rattle.cpc_run_code.proofs.Coded.{if_ok}
 use Rattle.cpc_run_code.proofs.code.Code.alloc.Goals as goal
 
 pub alloc-requires-clause-well : goal.alloc-requires-clause-well

@@ -3,8 +3,9 @@ use Rattle.cpc_eval_index.specs.Indexed.{items_of}
 use Rattle.cpc_meaning.specs.Plain as P
 use Rattle.cpc_meaning.specs.Trees.{trees}
 use Rattle.cpc_eval_values.specs.Shown.{value_of}
+use Rattle.cpc_native.proofs.Same.{runs_same}
 use Rattle.cpc_run_code.specs.Code.{items_in, store_in, stack_in, IsWell, Runs}
-use Rattle.cpc_run_code.proofs.Coded.{runs_same, answer_is}
+use Rattle.cpc_run_code.proofs.Coded.{answer_is}
 use Rattle.cpc_run_code.proofs.code.Code.answer.Goals as goal
 
 pub returns-clause-items : goal.returns-clause-items

@@ -1,7 +1,8 @@
 use Rattle.std.proofs.Common.{ap}
+use Rattle.cpc_base.proofs.Results.{on_ok}
 use Rattle.cpc_eval_index.specs.Indexed.{items_of}
+use Rattle.cpc_native.proofs.Same.{runs_same}
 use Rattle.cpc_run_code.specs.Code.{items_in, store_in, stack_in, IsWell, Runs}
-use Rattle.cpc_run_code.proofs.Coded.{runs_same, on_ok}
 use Rattle.cpc_run_code.proofs.code.Code.call.Goals as goal
 
 pub returns-clause-items : goal.returns-clause-items

@@ -2,8 +2,9 @@ use Rattle.std.proofs.Common.{sym, ap, ◌∙◌}
 use Rattle.cpc_eval_index.specs.Indexed.{items_of}
 use Rattle.cpc_store.specs.Seen.{seen}
 use Rattle.cpc_store.proofs.CodeLemmas.{free-map}
+use Rattle.cpc_native.proofs.Same.{runs_same, same_stack}
 use Rattle.cpc_run_code.specs.Code.{items_in, store_in, stack_in, IsWell, Runs}
-use Rattle.cpc_run_code.proofs.Coded.{runs_same, same_stack, result_shown}
+use Rattle.cpc_run_code.proofs.Coded.{result_shown}
 use Rattle.cpc_run_code.proofs.code.Code.free.Goals as goal
 
 pub free-requires-clause-well : goal.free-requires-clause-well

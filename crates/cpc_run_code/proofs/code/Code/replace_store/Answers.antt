@@ -1,8 +1,8 @@
 use Rattle.std.proofs.Common.{ap, ◌∙◌}
 use Rattle.cpc_eval_index.specs.Indexed.{items_of}
 use Rattle.cpc_eval_values.specs.Shown.{store_of}
+use Rattle.cpc_native.proofs.Same.{runs_same, same_stack}
 use Rattle.cpc_run_code.specs.Code.{items_in, store_in, stack_in, IsIdle, IsWell, Runs}
-use Rattle.cpc_run_code.proofs.Coded.{runs_same, same_stack}
 use Rattle.cpc_run_code.proofs.code.Code.replace_store.Goals as goal
 
 pub replace_store-requires : goal.replace_store-requires

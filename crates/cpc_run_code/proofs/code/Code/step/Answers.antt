@@ -4,8 +4,9 @@ use Rattle.cpc_meaning.specs.Plain as P
 use Rattle.cpc_meaning.specs.Trees.{trees}
 use Rattle.cpc_eval_values.specs.Meets.{Meets}
 use Rattle.cpc_native.specs.Stacks.{done_of as native_done}
+use Rattle.cpc_native.proofs.Same.{runs_same}
 use Rattle.cpc_run_code.specs.Code.{items_in, store_in, stack_in, IsWell, Runs}
-use Rattle.cpc_run_code.proofs.Coded.{runs_same, if_ok, ok_names, ends_idle, asked_in, step_is}
+use Rattle.cpc_run_code.proofs.Coded.{if_ok, ok_names, ends_idle, asked_in, step_is}
 use Rattle.cpc_run_code.proofs.code.Code.step.Goals as goal
 
 pub returns-clause-items : goal.returns-clause-items

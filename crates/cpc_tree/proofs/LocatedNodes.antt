@@ -1,4 +1,4 @@
--- What a statement with its places is, by the form that the code finds, and rows of statements one by one.
+-- What a statement of the tree with its places is, by the form that code finds, and rows of statements one by one.
 use Rattle.std.proofs.Common.{◌≡◌, ℕ, ◌+◌, ◌<◌, ◌≤◌, List, length, get_or, drop, sym, ap, ◌∙◌, Vec, Box, Global, Option, option_map}
 use Rattle.std.proofs.lemmas.List.{drop_all}
 use Rattle.cpc_base.specs.declared.stop.Place.{Place}
