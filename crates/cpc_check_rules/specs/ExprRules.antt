@@ -1,7 +1,7 @@
 -- The rules that expressions and calls break.
 use Rattle.std.specs.Prelude.{◌&&◌, List, [], ◌∷◌, ◌++◌, is_some}
 use Rattle.std.specs.Option.{is_none}
-use Rattle.cpc_num.specs.declared.kinds.Op.TheVariants.{Add}
+use Rattle.cpc_tree.specs.OpVariants.{Add}
 use Rattle.cpc_tree.specs.declared.program.UnaryOp.TheVariants.{AddressOf}
 use Rattle.cpc_tree.specs.Located.{LExpr, LNamed, LInteger, LCharacter, LText, LUnary, LBinary, LAnd, LOr, LChoose, LCast, LSizeOf, LIndex, LMember, LArrow, LCall, LExprs, NoLExpr, AndLExpr}
 use Rattle.cpc_tree.specs.Primitives.{primitive_named}

@@ -3,7 +3,7 @@ use Rattle.std.specs.Prelude.{ℕ, Bool, true, false, ◌&&◌, ◌||◌, not, L
 use Rattle.cpc_base.specs.Bytes.{Text}
 use Rattle.cpc_base.specs.declared.stop.Place.{Place}
 use Rattle.cpc_base.specs.declared.stop.Dialect.{Dialect}
-use Rattle.cpc_num.specs.declared.kinds.Kind.TheVariants.{Char, Long}
+use Rattle.cpc_tree.specs.KindVariants.{Char, Long}
 use Rattle.cpc_tree.specs.declared.program.Mode.{Mode}
 use Rattle.cpc_tree.specs.declared.program.Mode.TheVariants.{Extern, Native, Cps, Detached}
 use Rattle.cpc_tree.specs.Syntax.{Ty, TyVoid, TyInt, TyStruct, TyArray, StructItem, GlobalItem, PrototypeItem, FunctionItem, Program}

@@ -4,8 +4,8 @@ use Rattle.std.specs.Prelude.{Bool, true, false, ◌&&◌, not, if◌then◌else
 use Rattle.std.specs.Option.{is_none}
 use Rattle.cpc_base.specs.declared.stop.Place.{Place}
 use Rattle.cpc_base.specs.declared.stop.Dialect.{Dialect}
-use Rattle.cpc_num.specs.declared.kinds.Op.{Op}
-use Rattle.cpc_num.specs.declared.kinds.Op.TheVariants.{Add, Sub}
+use Rattle.cpc_tree.specs.Op.{Op}
+use Rattle.cpc_tree.specs.OpVariants.{Add, Sub}
 use Rattle.cpc_tree.specs.declared.program.Mode.{Mode}
 use Rattle.cpc_tree.specs.declared.program.Mode.TheVariants.{Extern, Native, Cps, Detached}
 use Rattle.cpc_tree.specs.Syntax.{Ty, TyVoid, TyInt, TyPointer, TyStruct}

@@ -1,8 +1,8 @@
 -- The rules that statements break, but for those that speak of a whole function.
 use Rattle.std.specs.Prelude.{Bool, true, false, ◌||◌, not, [], ◌∷◌, ◌++◌, Option, Some, None}
 use Rattle.cpc_base.specs.declared.stop.Place.{Place}
-use Rattle.cpc_num.specs.declared.kinds.Op.{Op}
-use Rattle.cpc_num.specs.declared.kinds.Kind.TheVariants.{Int}
+use Rattle.cpc_tree.specs.Op.{Op}
+use Rattle.cpc_tree.specs.KindVariants.{Int}
 use Rattle.cpc_tree.specs.Syntax.{Ty, TyVoid, TyInt, TyStruct, TyArray, EBinary, Variable}
 use Rattle.cpc_tree.specs.Located.{Ident, LExpr, LExprs, LStmt, Block, Empty, Declare, Assign, Call, Detach, Spawn, If, While, DoWhile, For, Goto, Label, Break, Continue, Return, LStmts, NoLStmt, AndLStmt, MaybeLStmt, NoneLStmt, SomeLStmt, bare_expr}
 use Rattle.cpc_tree.specs.Typing.{Meant, NotMeant, Typed, AValue, APlace, used, is_testable}

@@ -16,7 +16,7 @@ use Rattle.cpc_convert_names.specs.Called.{name_in, IsNamed}
 use Rattle.cpc_convert_names.specs.Book.{find}
 use Rattle.cpc_convert_names.specs.declared.called.Called.{Called}
 use Rattle.cpc_convert_names.specs.declared.book.Book.{Book}
-use Rattle.cpc_convert_standing.specs.Known.{IsAlike}
+use Rattle.cpc_convert_stands_laws.specs.Known.{IsAlike}
 use Rattle.cpc_convert_code.specs.Given.{AreGiven}
 use Rattle.cpc_convert_code.proofs.Standing.{one_of}
 

@@ -6,7 +6,7 @@ use Rattle.std.proofs.Math.Logic.{∥∥₁_elim}
 use Rattle.cpc_tree.specs.Erase.{Names, Table, in_table, item_of, program_of}
 use Rattle.cpc_tree.specs.Syntax.{Item, FunctionItem, Program}
 use Rattle.cpc_convert.specs.Converted.{prototype}
-use Rattle.cpc_convert_laws.specs.Accepted.Names.{HasNames}
+use Rattle.cpc_convert_stands_laws.specs.Names.{HasNames}
 use Rattle.cpc_convert_chain_laws.specs.Driver.{drive_function}
 use Rattle.cpc_convert_event.specs.Routines.{Routine}
 use Rattle.cpc_convert_event.specs.Frames.{any_frame}
@@ -19,8 +19,8 @@ use Rattle.cpc_convert_names.specs.Called.{IsNamed}
 use Rattle.cpc_convert_names.specs.Book.{IsBook}
 use Rattle.cpc_convert_names.specs.declared.called.Called.{Called}
 use Rattle.cpc_convert_names.specs.declared.book.Book.{Book}
-use Rattle.cpc_convert_standing.specs.Known.{IsAlike, IsRoutine}
-use Rattle.cpc_convert_standing.specs.Whole.{IsComplete}
+use Rattle.cpc_convert_stands_laws.specs.Known.{IsAlike, IsRoutine}
+use Rattle.cpc_convert_stands_laws.specs.Whole.{IsComplete}
 use Rattle.cpc_convert_stands_laws.specs.Laws.{AreTexts, AreOf, AreAlike, AreRoutines, AreComplete, routine_in}
 use Rattle.cpc_convert_stands_laws.proofs.Alike.{lifted_are_alike}
 use Rattle.cpc_convert_stands_laws.proofs.Routines.{lifted_are_routines, lifted_are_complete}

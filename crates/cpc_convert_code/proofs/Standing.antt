@@ -7,8 +7,8 @@ use Rattle.cpc_convert_names.specs.Called.{AreCalled}
 use Rattle.cpc_convert_names.specs.Book.{IsBook}
 use Rattle.cpc_convert_names.specs.declared.called.Called.{Called}
 use Rattle.cpc_convert_names.specs.declared.book.Book.{Book}
-use Rattle.cpc_convert_standing.specs.Known.{IsAlike, IsRoutine}
-use Rattle.cpc_convert_standing.specs.Whole.{IsComplete}
+use Rattle.cpc_convert_stands_laws.specs.Known.{IsAlike, IsRoutine}
+use Rattle.cpc_convert_stands_laws.specs.Whole.{IsComplete}
 use Rattle.cpc_convert_pieces.specs.Around.{Stands}
 use Rattle.cpc_convert_pieces.specs.ConvertLinesAround.{Around}
 use Rattle.cpc_convert_code.specs.Given.{AreGiven, lifted_by, routine_by}

@@ -12,8 +12,8 @@ use Rattle.cpc_convert_names.specs.Called.{IsNamed}
 use Rattle.cpc_convert_names.specs.Book.{IsBook, find}
 use Rattle.cpc_convert_names.specs.declared.called.Called.{Called}
 use Rattle.cpc_convert_names.specs.declared.book.Book.{Book}
-use Rattle.cpc_convert_standing.specs.Known.{IsAlike, IsRoutine}
-use Rattle.cpc_convert_standing.specs.Whole.{IsComplete}
+use Rattle.cpc_convert_stands_laws.specs.Known.{IsAlike, IsRoutine}
+use Rattle.cpc_convert_stands_laws.specs.Whole.{IsComplete}
 use Rattle.cpc_convert_stands_laws.specs.Laws.{routine_in}
 
 -- the lifted functions of a book

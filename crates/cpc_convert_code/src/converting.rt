@@ -2,7 +2,7 @@
 ghost use Rattle.std.specs.Prelude.{◌≡◌, ◌++◌, map, IfOk, OnOk};
 ghost use Rattle.cpc_tree.specs.Erase as E;
 ghost use Rattle.cpc_tree.specs.Erase.{in_table, item_of, program_of};
-ghost use Rattle.cpc_convert_laws.specs.Accepted.Names.{HasNames};
+ghost use Rattle.cpc_convert_stands_laws.specs.Names.{HasNames};
 ghost use Rattle.cpc_convert_event.specs.Converted.{converted, converted_with};
 ghost use Rattle.cpc_convert_names.specs.Tables.{AreWithin};
 ghost use Rattle.cpc_convert_stands_laws.specs.Laws.{AreOf};

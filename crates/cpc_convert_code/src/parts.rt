@@ -7,7 +7,7 @@ ghost use Rattle.cpc_convert.specs.Converted.{prototype, function_item};
 ghost use Rattle.cpc_convert_event.specs.Routines.{Routine};
 ghost use Rattle.cpc_convert_event.specs.Pieces.{made_of};
 ghost use Rattle.cpc_convert_event.specs.Converted.{all_structs, all_boxes, all_made};
-ghost use Rattle.cpc_convert_standing.specs.Whole.{IsComplete};
+ghost use Rattle.cpc_convert_stands_laws.specs.Whole.{IsComplete};
 ghost use Rattle.cpc_convert_pieces.specs.Around.{Stands};
 ghost use Rattle.cpc_convert_items.specs.Listed.{listed};
 ghost use Rattle.cpc_convert_code.specs.Given.{AreGiven, routines_by};

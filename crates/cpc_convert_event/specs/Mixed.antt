@@ -6,7 +6,7 @@ use Rattle.cpc_tree.specs.declared.program.UnaryOp.TheVariants.{Dereference, Add
 use Rattle.cpc_tree.specs.declared.program.Mode.TheVariants.{Native, Cps}
 use Rattle.cpc_tree.specs.Syntax.{TyVoid, TyInt, TyPointer, TyCode, TyArray, NoTy, AndTy, ENamed, EInteger, EUnary, EBinary, EIndex, NoExpr, AndExpr, Block, Declare, Assign, Call, Spawn, If, While, DoWhile, For, Goto, Label, Break, Continue, Return, NoStmt, AndStmt, Absent, GlobalItem, PrototypeItem, FunctionItem, Program}
 use Rattle.cpc_tree.specs.Trace.{Ended}
-use Rattle.cpc_meaning_laws.specs.Worked.Shown.{no_polls}
+use Rattle.cpc_convert_image_laws.specs.Shown.{no_polls}
 use Rattle.cpc_convert_event.specs.Worked.{RunsAlike}
 
 -- int d;

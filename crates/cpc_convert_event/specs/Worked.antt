@@ -8,7 +8,7 @@ use Rattle.cpc_tree.specs.Texts.{output}
 use Rattle.cpc_meaning.specs.History.{History}
 use Rattle.cpc_meaning.specs.Threads.{threaded}
 use Rattle.cpc_meaning.specs.Events.{event}
-use Rattle.cpc_meaning_laws.specs.Worked.Shown.{no_polls, polls}
+use Rattle.cpc_convert_image_laws.specs.Shown.{no_polls, polls}
 use Rattle.cpc_convert_event.specs.Converted.{converted}
 use Rattle.cpc_convert_event.specs.Programs.{two_counters, two_ways_in, two_ways_in_over_globals, many_calls, diving, asking_main}
 use Rattle.cpc_convert_event.specs.BoxPrograms.{boxed_code, boxed_parts, counting}

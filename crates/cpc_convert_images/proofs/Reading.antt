@@ -9,7 +9,7 @@ use Rattle.cpc_tree.specs.Registers.{slot_of, or_empty}
 use Rattle.cpc_tree.specs.Syntax.{Expr, ENamed}
 use Rattle.cpc_forms_code.specs.declared.boxed.Variable.{Variable}
 use Rattle.cpc_forms_code.specs.Seen.{scope_seen}
-use Rattle.cpc_convert_event.specs.Names.{variable_name}
+use Rattle.cpc_convert_names.specs.Names.{variable_name}
 use Rattle.cpc_convert_image_laws.specs.Images as I
 use Rattle.cpc_convert_image_laws.specs.Locals.{readings_in, reading_of}
 use Rattle.cpc_convert_names.specs.Counted.{called_of}

@@ -6,7 +6,7 @@ use Rattle.cpc_forms_code.specs.declared.boxed.Variable.{Variable}
 use Rattle.cpc_forms_code.specs.Seen.{scope_seen, AreNamed}
 use Rattle.cpc_convert_image_laws.specs.Images as I
 use Rattle.cpc_convert_image_laws.specs.Locals.{readings_in}
-use Rattle.cpc_convert_event.specs.Names.{variable_name}
+use Rattle.cpc_convert_names.specs.Names.{variable_name}
 use Rattle.cpc_convert_names.specs.Counted.{locals_from}
 use Rattle.cpc_convert_images.specs.declared.readings.Readings.{Readings}
 

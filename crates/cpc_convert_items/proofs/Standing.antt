@@ -11,7 +11,7 @@ use Rattle.cpc_forms.specs.Flow.{At}
 use Rattle.cpc_lift_laws.specs.Search.{Link, keepers, closure_from}
 use Rattle.cpc_convert_event.specs.Routines.{Routine, variable_of, variable_or, closure_of}
 use Rattle.cpc_convert_names.specs.Called.{function_in, variables_in, name_in}
-use Rattle.cpc_convert_standing.specs.Known.{plain_seen, boxes_among, number_unless}
+use Rattle.cpc_convert_lines.specs.Known.{plain_seen, boxes_among, number_unless}
 use Rattle.cpc_convert_lines.specs.Around.{Stands, IsVariable}
 use Rattle.cpc_convert_lines.specs.declared.around.Around.{Around}
 

@@ -11,7 +11,7 @@ ghost use Rattle.cpc_convert_event.specs.Frames as F;
 ghost use Rattle.cpc_convert_names.specs.Book.{IsBook};
 ghost use Rattle.cpc_convert_names.specs.Called.{variables_in, nodes_in};
 ghost use Rattle.cpc_convert_lines.specs.Around.{Stands, IsVariable, IsNode};
-ghost use Rattle.cpc_convert_standing.specs.Known.{number_unless};
+ghost use Rattle.cpc_convert_lines.specs.Known.{number_unless};
 ghost use Rattle.cpc_convert_items.specs.Listed.{listed};
 
 use crate::items::Items;

@@ -3,3 +3,4 @@ pub mod Counted
 pub mod Words
 pub mod Called
 pub mod Book
+pub use Rattle.cpc_convert_event.specs.Names

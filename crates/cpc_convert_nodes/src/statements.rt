@@ -10,7 +10,7 @@ ghost use Rattle.cpc_convert_event.specs.Lines as L;
 ghost use Rattle.cpc_convert_lines.specs.Written.{written, puts};
 ghost use Rattle.cpc_convert_lines.specs.Puts.{statements_before};
 ghost use Rattle.cpc_convert_lines.specs.Around.{Stands, reads, Leads};
-ghost use Rattle.cpc_convert_standing.specs.Known.{MeansFound};
+ghost use Rattle.cpc_convert_lines.specs.Known.{MeansFound};
 
 use crate::waiting::{call_waiting, section};
 use cpc_base::NoMemory;

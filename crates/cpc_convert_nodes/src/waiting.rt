@@ -18,7 +18,7 @@ ghost use Rattle.cpc_convert_event.specs.Routines.{Routine};
 ghost use Rattle.cpc_convert_event.specs.Lines as L;
 ghost use Rattle.cpc_convert_lines.specs.Written.{written, puts};
 ghost use Rattle.cpc_convert_lines.specs.Puts.{gives};
-ghost use Rattle.cpc_convert_standing.specs.Known.{MeansFound, IsAlike, plain_seen};
+ghost use Rattle.cpc_convert_lines.specs.Known.{MeansFound, IsAlike, plain_seen};
 ghost use Rattle.cpc_convert_lines.specs.Around.{Stands, reads, Leads};
 
 use cpc_base::{Name, Names, NoMemory};

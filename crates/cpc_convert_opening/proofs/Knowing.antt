@@ -16,7 +16,7 @@ use Rattle.cpc_convert_event.specs.Pieces.{loaded, begun}
 use Rattle.cpc_convert_event.specs.Rows.{number_where, numbers_of}
 use Rattle.cpc_convert_names.specs.Called.{function_in, variables_in, nodes_in, name_in}
 use Rattle.cpc_convert_lines.specs.Around.{Stands, IsVariable, IsNode}
-use Rattle.cpc_convert_standing.specs.Known.{number_unless, boxes_among}
+use Rattle.cpc_convert_lines.specs.Known.{number_unless, boxes_among}
 use Rattle.cpc_convert_lines.specs.declared.around.Around.{Around}
 use Rattle.cpc_convert_rows.specs.Steps.{IsOwner, step_of}
 use Rattle.cpc_convert_rows.specs.declared.stepped.Stepped.{Stepped}

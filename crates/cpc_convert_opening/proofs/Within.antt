@@ -11,7 +11,7 @@ use Rattle.cpc_forms_code.specs.declared.boxed.Variable as V
 use Rattle.cpc_convert_event.specs.Routines.{Routine, closure_of, is_parameter, is_plain, number_before, chosen}
 use Rattle.cpc_convert_event.specs.Pieces.{loaded, begun}
 use Rattle.cpc_convert_event.specs.Rows.{owner_at, is_own, has_row, turned, rows_nodes, reached, stubs_of, row_of, falls, number_where, stub_behind, numbers_from, numbers_of}
-use Rattle.cpc_convert_standing.specs.Known.{number_unless, boxes_among}
+use Rattle.cpc_convert_lines.specs.Known.{number_unless, boxes_among}
 
 module _ (Q : ℕ → Type 0) where
   rest_all : (k : ℕ) (ks : List ℕ) → All Q (k ∷ ks) → All Q ks

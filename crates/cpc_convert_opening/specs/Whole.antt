@@ -10,7 +10,7 @@ use Rattle.cpc_convert_names.specs.Book.{find}
 use Rattle.cpc_convert_lines.specs.declared.around.Around.{Around}
 use Rattle.cpc_convert_rows.specs.Steps.{IsStepped}
 use Rattle.cpc_convert_rows.specs.declared.stepped.Stepped.{Stepped}
-use Rattle.cpc_convert_standing.specs.Whole.{IsComplete, rows_of}
+use Rattle.cpc_convert_lines.specs.Whole.{IsComplete, rows_of}
 
 -- the closures of the owners of a function
 abbrev pub rows_in : Around → List (List ℕ)

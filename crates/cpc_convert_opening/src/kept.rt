@@ -10,7 +10,7 @@ ghost use Rattle.cpc_convert_event.specs.Routines as R;
 ghost use Rattle.cpc_convert_event.specs.Routines.{Routine};
 ghost use Rattle.cpc_convert_event.specs.Rows.{number_where};
 ghost use Rattle.cpc_convert_lines.specs.Around.{Stands, IsVariable};
-ghost use Rattle.cpc_convert_standing.specs.Known.{number_unless, boxes_among};
+ghost use Rattle.cpc_convert_lines.specs.Known.{number_unless, boxes_among};
 ghost use Rattle.cpc_convert_opening.specs.Whole.{IsWhole, rows_in};
 ghost use Rattle.cpc_convert_rows.specs.Steps.{IsStepped, IsOwner};
 

@@ -12,7 +12,7 @@ ghost use Rattle.cpc_convert_event.specs.Routines.{Routine, local_of, locals_of,
 ghost use Rattle.cpc_convert_event.specs.Pieces.{next_load, below_if, value_load, load_of, words_if, called_so, to_frame, boxing_lines};
 ghost use Rattle.cpc_convert_names.specs.Called.{variables_in};
 ghost use Rattle.cpc_convert_lines.specs.Written.{written, puts};
-ghost use Rattle.cpc_convert_standing.specs.Known.{number_unless};
+ghost use Rattle.cpc_convert_lines.specs.Known.{number_unless};
 ghost use Rattle.cpc_convert_lines.specs.Around.{Stands, IsVariable};
 
 use cpc_base::{Name, NoMemory};

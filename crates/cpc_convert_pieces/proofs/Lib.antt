@@ -1,1 +1,2 @@
 mod Rowed
+pub use Rattle.cpc_convert_opening.proofs.Made

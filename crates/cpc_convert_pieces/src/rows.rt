@@ -8,7 +8,7 @@ ghost use Rattle.cpc_forms_code.specs.Splits.{place_of};
 ghost use Rattle.cpc_convert_event.specs.Names.{node_label};
 ghost use Rattle.cpc_convert_event.specs.Routines.{Routine};
 ghost use Rattle.cpc_convert_event.specs.Rows as R;
-ghost use Rattle.cpc_convert_names.specs.Called.{nodes_in};
+ghost use Rattle.cpc_convert_lines.specs.Called.{nodes_in};
 ghost use Rattle.cpc_convert_lines.specs.Around.{Stands, IsNode};
 ghost use Rattle.cpc_convert_lines.specs.Written.{written, puts};
 ghost use Rattle.cpc_convert_opening.specs.Labels.{label_where};

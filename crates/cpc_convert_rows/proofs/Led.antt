@@ -5,7 +5,7 @@ use Rattle.cpc_tree.specs.Syntax.{Expr, Stmt, Block, Empty, Declare, Assign, Cal
 use Rattle.cpc_tree.specs.Points.{Simple, Test, Nothing}
 use Rattle.cpc_meaning.specs.Act.{Stood, AtStatement, AtArrival, AtEnd, target_of}
 use Rattle.cpc_meaning.specs.Ways.{Manner, InPlace, ByFrame, AsCps}
-use Rattle.cpc_convert_image_laws.specs.Images.{Readings}
+use Rattle.cpc_convert_event.specs.Images.{Readings}
 use Rattle.cpc_forms.specs.Graph.{Node}
 use Rattle.cpc_convert_event.specs.Routines.{Routine, readings_of}
 use Rattle.cpc_convert_event.specs.Lines as L

@@ -14,7 +14,7 @@ use Rattle.cpc_forms_code.specs.declared.graph.Node.{Node}
 use Rattle.cpc_forms_code.specs.declared.lifted.LiftedFunction.{LiftedFunction}
 use Rattle.cpc_forms_code.specs.Seen.{stood_seen, AreNamed}
 use Rattle.cpc_forms_code.specs.Graphs.{node_seen}
-use Rattle.cpc_convert_event.specs.Routines.{Routine, is_plain, closure_of}
+use Rattle.cpc_convert_rows.specs.Routines.{Routine, is_plain, closure_of}
 use Rattle.cpc_convert_names.specs.Counted.{called_of}
 use Rattle.cpc_convert_names.specs.Called.{function_in, variables_in, nodes_in}
 use Rattle.cpc_convert_names.specs.Book.{find}

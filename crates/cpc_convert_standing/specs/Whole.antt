@@ -8,8 +8,8 @@ use Rattle.cpc_forms.specs.Flow.{Place, Start}
 use Rattle.cpc_forms_code.specs.declared.lifted.LiftedFunction.{LiftedFunction}
 use Rattle.cpc_lift_laws.specs.Search.{closure}
 use Rattle.cpc_meaning.specs.Threads.{is_cps_mode}
-use Rattle.cpc_convert_event.specs.Routines.{Routine, owner_number, keeper, closure_of}
-use Rattle.cpc_convert_event.specs.Rows.{is_own}
+use Rattle.cpc_convert_rows.specs.Routines.{Routine, owner_number, keeper, closure_of}
+use Rattle.cpc_convert_rows.specs.Rows.{is_own}
 use Rattle.cpc_convert_names.specs.Called.{function_in, variables_in, nodes_in}
 use Rattle.cpc_convert_rows.specs.Steps.{IsOf}
 

@@ -47,7 +47,7 @@ use Rattle.cpc_convert_event.specs.Rows.{is_own}
 use Rattle.cpc_convert_names.specs.Called.{function_in, variables_in, nodes_in}
 use Rattle.cpc_convert_names.specs.Book.{find}
 use Rattle.cpc_convert_names.specs.declared.called.Called.{Called}
-use Rattle.cpc_convert_rows.specs.Steps.{IsOf}
+use Rattle.cpc_convert_standing.specs.Steps.{IsOf}
 use Rattle.cpc_convert_standing.specs.Known as K
 use Rattle.cpc_convert_standing.specs.Known.{plain_seen, Waits, IsKnown, IsRoutine}
 use Rattle.cpc_convert_standing.specs.Whole.{IsCps, IsComplete, rows_of}

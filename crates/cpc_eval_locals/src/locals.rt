@@ -2,7 +2,7 @@
 ghost use Rattle.std.specs.Prelude.{◌≡◌, ◌<◌, ◌^◌, length, map, [], false, None, Some, if◌then◌else◌, bytes_eq, IfOk};
 ghost use Rattle.cpc_tree.specs.Erase.{Names, type_of, stmt_of, parameter_of, function_of};
 ghost use Rattle.cpc_tree.specs.Registers as R;
-ghost use Rattle.cpc_check_rules.specs.Apart.{AreApart};
+ghost use Rattle.cpc_shapes.specs.Apart.{AreApart};
 ghost use Rattle.cpc_native_points.specs.Bodies.{body_of};
 ghost use Rattle.cpc_native_points.specs.Seen.{path_of};
 ghost use Rattle.cpc_eval_variables.specs.Told.{IsTold};

@@ -3,7 +3,7 @@ ghost use Rattle.std.specs.Prelude.{◌≡◌, ◌+◌, ◌<◌, ◌^◌, ◌∷
 ghost use Rattle.cpc_base.specs.Bytes.{Text};
 ghost use Rattle.cpc_tree.specs.Erase.{Names, type_of};
 ghost use Rattle.cpc_tree.specs.Points.{Path};
-ghost use Rattle.cpc_check_rules.specs.Apart.{AreApart};
+ghost use Rattle.cpc_shapes.specs.Apart.{AreApart};
 ghost use Rattle.cpc_native_points.specs.Seen.{part_of, path_of};
 ghost use Rattle.cpc_eval_locals.specs.Marks as M;
 ghost use Rattle.cpc_eval_locals.specs.Seen.{own_seen, mark_seen, marks_seen};

@@ -3,3 +3,4 @@ pub mod Kept
 pub mod Scoped
 pub mod Told
 pub mod Typed
+pub use Rattle.cpc_check_rules.specs.Apart

@@ -7,7 +7,7 @@ use Rattle.cpc_tree.specs.declared.program.Item.{Item}
 use Rattle.cpc_tree.specs.declared.program.Item.TheVariants as I
 use Rattle.cpc_tree.specs.declared.program.Program.{Program}
 use Rattle.cpc_meaning.specs.Threads.{is_cps_mode}
-use Rattle.cpc_check_rules.specs.Apart.{Spells}
+use Rattle.cpc_eval_variables.specs.Apart.{Spells}
 use Rattle.cpc_eval_variables.specs.Told.{IsTold}
 
 -- a function before others, where it is a cps function

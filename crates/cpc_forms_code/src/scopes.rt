@@ -3,7 +3,7 @@ ghost use Rattle.std.specs.Prelude.{◌≡◌, [], false, None, bytes_eq, option
 ghost use Rattle.cpc_base.specs.declared.names.Name as N;
 ghost use Rattle.cpc_tree.specs.Erase.{Names, text_of};
 ghost use Rattle.cpc_tree.specs.Registers.{slot_of, or_empty};
-ghost use Rattle.cpc_check_rules.specs.Apart.{AreApart};
+ghost use Rattle.cpc_eval_variables.specs.Apart.{AreApart};
 ghost use Rattle.cpc_forms_code.specs.Seen.{scope_seen, AreNamed};
 
 use crate::boxed::Variable;

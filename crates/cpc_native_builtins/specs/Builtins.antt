@@ -3,7 +3,7 @@ use Rattle.std.specs.Prelude.{List, [], ◌∷◌, Option, Some, None, codes}
 use Rattle.cpc_base.specs.Bytes.{Text}
 use Rattle.cpc_tree.specs.Primitives as P
 use Rattle.cpc_tree.specs.Erase.{Names}
-use Rattle.cpc_meaning.specs.Requests.{Asked, Builtin, Host}
+use Rattle.cpc_eval_values.specs.Requests.{Asked, Builtin, Host}
 use Rattle.cpc_native_builtins.specs.declared.builtins.Builtin as D
 use Rattle.cpc_native_builtins.specs.declared.builtins.Builtin.TheVariants as B
 use Rattle.cpc_native_builtins.specs.declared.call.Call.{Call}

@@ -11,10 +11,10 @@ use Rattle.cpc_meaning.specs.Plain.{context}
 use Rattle.cpc_meaning.specs.Trees.{trees, stood_at}
 use Rattle.cpc_native_points.specs.Seen.{point_of}
 use Rattle.cpc_eval_values.specs.Shown.{store_of}
-use Rattle.cpc_eval_index.specs.declared.index.Index.{Index}
-use Rattle.cpc_eval_index.specs.Indexed.{items_of}
+use Rattle.cpc_native_frames.specs.Index.{Index}
+use Rattle.cpc_native_frames.specs.Indexed.{items_of}
 use Rattle.cpc_eval_variables.specs.Told.{IsTold}
-use Rattle.cpc_eval.specs.Numbers.{FoundNumbers}
+use Rattle.cpc_native_frames.specs.Numbers.{FoundNumbers}
 use Rattle.cpc_native_builtins.specs.Served.{is_served_found, is_served_program}
 use Rattle.cpc_native_frames.specs.declared.frame.Frame.{Frame}
 use Rattle.cpc_native_frames.specs.Frames.{frame_of}

@@ -9,7 +9,7 @@ use Rattle.cpc_tree.specs.declared.program.Program as GProgram
 use Rattle.cpc_store.specs.Codes.{map_store}
 use Rattle.cpc_store.specs.Seen.{result_with}
 use Rattle.cpc_store.specs.Store.{StoreOf}
-use Rattle.cpc_native_frames.specs.Frames.{frame_of}
+use Rattle.cpc_native.specs.Frames.{frame_of}
 use Rattle.cpc_native.specs.Runs.{Runs as RunsOf}
 use Rattle.cpc_run_code.specs.declared.code.Code.{Code}
 use Rattle.cpc_base.specs.declared.stop.NoMemory.{NoMemory}

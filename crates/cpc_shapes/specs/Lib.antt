@@ -5,3 +5,4 @@ pub mod Found
 pub mod Indexed
 pub mod Listed
 pub mod Shapes
+pub use Rattle.cpc_check_rules.specs.Apart

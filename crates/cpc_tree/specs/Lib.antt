@@ -22,3 +22,6 @@ pub mod TypePrint
 pub mod ExprPrint
 pub mod StmtPrint
 pub mod ItemPrint
+pub use Rattle.cpc_num.specs.declared.kinds.Kind.TheVariants as KindVariants
+pub use Rattle.cpc_num.specs.declared.kinds.Op
+pub use Rattle.cpc_num.specs.declared.kinds.Op.TheVariants as OpVariants

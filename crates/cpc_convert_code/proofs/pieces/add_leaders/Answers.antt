@@ -4,7 +4,7 @@ use Rattle.cpc_convert.specs.Converted.{function_item}
 use Rattle.cpc_forms.specs.Flow.{At}
 use Rattle.cpc_convert_event.specs.Pieces.{piece_function, leader_function}
 use Rattle.cpc_convert_items.specs.Listed.{listed}
-use Rattle.cpc_convert_opening.proofs.Made.{leader_more, leaders_done}
+use Rattle.cpc_convert_pieces.proofs.Made.{leader_more, leaders_done}
 use Rattle.cpc_convert_code.proofs.pieces.add_leaders.Goals as goal
 
 pub loop-leader-init : goal.loop-leader-init

@@ -6,7 +6,7 @@ use Rattle.cpc_convert_event.specs.Pieces.{leader_function}
 use Rattle.cpc_convert_event.specs.Routines.{Routine}
 use Rattle.cpc_convert_items.specs.Listed.{listed}
 use Rattle.cpc_convert_pieces.specs.Around.{Stands}
-use Rattle.cpc_convert_opening.specs.Whole.{IsWhole}
+use Rattle.cpc_convert_pieces.specs.Whole.{IsWhole}
 use Rattle.cpc_convert_code.proofs.pieces.add_leaders.Given as goal
 
 -- with those that are left, all are there

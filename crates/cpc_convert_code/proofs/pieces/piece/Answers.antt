@@ -1,7 +1,7 @@
 use Rattle.cpc_forms_code.specs.Splits.{place_of}
 use Rattle.cpc_convert_items.specs.Listed.{listed}
-use Rattle.cpc_convert_lines.specs.Written.{written}
-use Rattle.cpc_convert_opening.proofs.Made.{piece_made}
+use Rattle.cpc_convert_pieces.specs.Written.{written}
+use Rattle.cpc_convert_pieces.proofs.Made.{piece_made}
 use Rattle.cpc_convert_code.proofs.pieces.piece.Goals as goal
 
 pub returns : goal.returns

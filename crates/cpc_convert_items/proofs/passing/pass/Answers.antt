@@ -5,7 +5,7 @@ use Rattle.cpc_tree.specs.Erase.{field_of, type_of}
 use Rattle.cpc_tree.specs.Registers.{variables}
 use Rattle.cpc_tree.specs.Typing.{is_scalar}
 use Rattle.cpc_forms_code.specs.declared.boxed.Variable as V
-use Rattle.cpc_convert_standing.specs.Known.{plain_seen}
+use Rattle.cpc_convert_lines.specs.Known.{plain_seen}
 use Rattle.cpc_convert_names.specs.Called.{variables_in}
 use Rattle.cpc_convert_items.specs.Passed.{passed_one}
 use Rattle.cpc_convert_items.proofs.Passes.{passed_scalar, passed_no_value}

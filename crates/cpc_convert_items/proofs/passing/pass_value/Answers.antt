@@ -5,7 +5,7 @@ use Rattle.cpc_tree.specs.Erase.{field_of, type_of}
 use Rattle.cpc_tree.specs.Syntax.{Variable}
 use Rattle.cpc_convert_event.specs.Pieces.{called_so}
 use Rattle.cpc_convert_event.specs.Names.{variable_name}
-use Rattle.cpc_convert_standing.specs.Known.{plain_seen}
+use Rattle.cpc_convert_lines.specs.Known.{plain_seen}
 use Rattle.cpc_convert_names.specs.Called.{variables_in}
 use Rattle.cpc_convert_items.specs.Passed.{passed_always}
 use Rattle.cpc_convert_items.proofs.Standing.{there, variable_is}

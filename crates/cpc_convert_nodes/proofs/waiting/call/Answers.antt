@@ -7,7 +7,7 @@ use Rattle.cpc_convert_chain_laws.specs.Driver.{code_field, next_field}
 use Rattle.cpc_convert_chain_laws.specs.Frames.{asks_block, fills_frame}
 use Rattle.cpc_convert_event.specs.Names.{start_name, to_name, under_name}
 use Rattle.cpc_convert_names.specs.Called.{function_in, variables_in}
-use Rattle.cpc_convert_standing.specs.Known.{plain_seen}
+use Rattle.cpc_convert_lines.specs.Known.{plain_seen}
 use Rattle.cpc_convert_images.proofs.Rows.{alike_at}
 use Rattle.cpc_convert_lines.specs.Around.{reads}
 use Rattle.cpc_convert_lines.specs.Written.{written, puts}

@@ -6,7 +6,7 @@ use Rattle.cpc_convert_lines.specs.Written.{written, puts}
 use Rattle.cpc_tree.specs.Erase.{exprs_of}
 use Rattle.cpc_convert_names.specs.Called.{AreCalled, variables_in}
 use Rattle.cpc_convert_lines.specs.Puts.{gives}
-use Rattle.cpc_convert_standing.specs.Known.{plain_seen}
+use Rattle.cpc_convert_lines.specs.Known.{plain_seen}
 use Rattle.cpc_convert_lines.specs.Around.{Stands, reads}
 use Rattle.cpc_convert_nodes.proofs.waiting.call.Given as goal
 

@@ -6,7 +6,7 @@ use Rattle.cpc_convert_event.specs.Names.{to_name, under_name}
 use Rattle.cpc_convert_event.specs.Lines as L
 use Rattle.cpc_convert_names.specs.Called.{AreCalled, function_in}
 use Rattle.cpc_convert_names.specs.declared.called.Called.{Called}
-use Rattle.cpc_convert_standing.specs.Known.{IsAlike}
+use Rattle.cpc_convert_lines.specs.Known.{IsAlike}
 use Rattle.cpc_convert_lines.specs.Around.{reads}
 use Rattle.cpc_convert_lines.specs.Written.{written, puts}
 use Rattle.cpc_convert_lines.proofs.Puts.{behind}

@@ -8,7 +8,7 @@ use Rattle.cpc_convert_chain_laws.specs.Frames.{frame_through}
 use Rattle.cpc_convert_event.specs.Names.{to_name}
 use Rattle.cpc_convert_event.specs.Routines.{is_plain}
 use Rattle.cpc_convert_names.specs.Called.{variables_in}
-use Rattle.cpc_convert_standing.specs.Known.{plain_seen}
+use Rattle.cpc_convert_lines.specs.Known.{plain_seen}
 use Rattle.cpc_convert_lines.specs.Around.{reads}
 use Rattle.cpc_convert_lines.specs.Written.{written, puts}
 use Rattle.cpc_convert_nodes.proofs.Arguments.{given_at}

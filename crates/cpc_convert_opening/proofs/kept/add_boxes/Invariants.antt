@@ -1,5 +1,5 @@
 use Rattle.std.proofs.Common.{◌≡◌, ◌++◌, drop}
-use Rattle.cpc_convert_standing.specs.Known.{boxes_among}
+use Rattle.cpc_convert_lines.specs.Known.{boxes_among}
 use Rattle.cpc_convert_opening.proofs.kept.add_boxes.Given as goal
 
 -- with those that are left, all are there

@@ -1,6 +1,6 @@
 use Rattle.std.proofs.Common.{ap, sym, not, ◌&&◌, ◌∙◌, ◌++◌, get_or, arith}
 use Rattle.cpc_convert_event.specs.Routines.{is_parameter, is_plain, chosen}
-use Rattle.cpc_convert_standing.specs.Known.{boxes_among}
+use Rattle.cpc_convert_lines.specs.Known.{boxes_among}
 use Rattle.cpc_convert_event.specs.Rows.{number_where}
 use Rattle.cpc_convert_rows.proofs.Turned.{chosen_left}
 use Rattle.cpc_convert_opening.proofs.Knowing.{chosen_done}

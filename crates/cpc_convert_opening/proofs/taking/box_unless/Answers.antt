@@ -3,7 +3,7 @@ use Rattle.std.proofs.lemmas.Bool.{and_parts}
 use Rattle.cpc_tree.specs.Typing.{is_scalar}
 use Rattle.cpc_convert_event.specs.Pieces.{boxing_lines}
 use Rattle.cpc_convert_event.specs.Routines.{is_parameter, variable_of}
-use Rattle.cpc_convert_standing.specs.Known.{number_unless}
+use Rattle.cpc_convert_lines.specs.Known.{number_unless}
 use Rattle.cpc_convert_lines.specs.Written.{written, puts}
 use Rattle.cpc_convert_lines.proofs.Framing.{box_made}
 use Rattle.cpc_convert_opening.proofs.taking.box_unless.Goals as goal

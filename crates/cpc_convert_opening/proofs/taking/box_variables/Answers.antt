@@ -2,7 +2,7 @@ use Rattle.std.proofs.Common.{◌≡◌, ◌<◌, ◌+◌, ℕ, List, [], length
 use Rattle.cpc_forms_code.specs.declared.boxed.Variable.{Variable}
 use Rattle.cpc_convert_names.specs.Called.{variables_in}
 use Rattle.cpc_convert_event.specs.Pieces.{boxing_lines}
-use Rattle.cpc_convert_standing.specs.Known.{boxes_among, number_unless}
+use Rattle.cpc_convert_lines.specs.Known.{boxes_among, number_unless}
 use Rattle.cpc_convert_lines.specs.Written.{written, puts}
 use Rattle.cpc_convert_lines.proofs.Framing.{boxing_rows}
 use Rattle.cpc_convert_lines.proofs.Puts.{box_put, boxes_put}

@@ -4,7 +4,7 @@ use Rattle.cpc_tree.specs.Syntax.{Program}
 use Rattle.cpc_convert_event.specs.Routines.{Routine}
 use Rattle.cpc_convert_lines.specs.Written.{written, puts}
 use Rattle.cpc_convert_event.specs.Pieces.{boxing_lines}
-use Rattle.cpc_convert_standing.specs.Known.{boxes_among}
+use Rattle.cpc_convert_lines.specs.Known.{boxes_among}
 use Rattle.cpc_convert_lines.specs.Around.{Stands}
 use Rattle.cpc_convert_opening.proofs.taking.box_variables.Given as goal
 

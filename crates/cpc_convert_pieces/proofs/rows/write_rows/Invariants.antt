@@ -4,7 +4,7 @@ use Rattle.cpc_tree.specs.Syntax.{Program}
 use Rattle.cpc_forms_code.specs.Splits.{place_of}
 use Rattle.cpc_convert_event.specs.Routines.{Routine}
 use Rattle.cpc_convert_event.specs.Rows.{row_of, put_rows, is_wanted, rows_statements}
-use Rattle.cpc_convert_names.specs.Called.{nodes_in}
+use Rattle.cpc_convert_lines.specs.Called.{nodes_in}
 use Rattle.cpc_convert_lines.specs.Around.{Stands, IsNode}
 use Rattle.cpc_convert_lines.specs.Written.{written}
 use Rattle.cpc_convert_rows.specs.Marks.{is_set}

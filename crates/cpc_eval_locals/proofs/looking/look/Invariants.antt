@@ -1,6 +1,6 @@
 use Rattle.std.proofs.Common.{◌≡◌, drop}
 use Rattle.cpc_tree.specs.Erase.{Names}
-use Rattle.cpc_check_rules.specs.Apart.{AreApart}
+use Rattle.cpc_shapes.specs.Apart.{AreApart}
 use Rattle.cpc_eval_locals.specs.Locals.{look_from}
 use Rattle.cpc_eval_locals.specs.Seen.{marks_seen}
 use Rattle.cpc_eval_locals.proofs.looking.look.Given as goal

@@ -1,7 +1,7 @@
 use Rattle.std.proofs.Common.{◌≡◌, length}
 use Rattle.cpc_tree.specs.Erase.{Names}
 use Rattle.cpc_tree.specs.Registers.{slot_of}
-use Rattle.cpc_check_rules.specs.Apart.{AreApart}
+use Rattle.cpc_eval_variables.specs.Apart.{AreApart}
 use Rattle.cpc_forms_code.specs.Seen.{scope_within, AreNamed}
 use Rattle.cpc_forms_code.proofs.scopes.slot.Given as goal
 

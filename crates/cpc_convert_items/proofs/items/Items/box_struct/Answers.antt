@@ -9,7 +9,7 @@ use Rattle.cpc_convert_event.specs.Frames.{box_of}
 use Rattle.cpc_convert_event.specs.Names.{box_tag}
 use Rattle.cpc_convert_event.specs.Pieces.{called_so}
 use Rattle.cpc_convert_event.specs.Routines.{variable_of}
-use Rattle.cpc_convert_standing.specs.Known.{number_unless}
+use Rattle.cpc_convert_lines.specs.Known.{number_unless}
 use Rattle.cpc_convert_names.specs.Called.{variables_in}
 use Rattle.cpc_convert_items.specs.Listed.{listed}
 use Rattle.cpc_convert_items.proofs.Standing.{variable_is}

@@ -2,7 +2,7 @@ use Rattle.std.proofs.Common.{◌≡◌, ◌∙◌, [], ◌++◌, map, take, len
 use Rattle.std.proofs.lemmas.List.{append-nil, take_all, map-append}
 use Rattle.std.proofs.lemmas.Option.{slice_get_read}
 use Rattle.cpc_convert_event.specs.Frames.{box_of}
-use Rattle.cpc_convert_standing.specs.Known.{boxes_among, number_unless}
+use Rattle.cpc_convert_lines.specs.Known.{boxes_among, number_unless}
 use Rattle.cpc_convert_names.specs.Called.{variables_in}
 use Rattle.cpc_convert_items.specs.Listed.{listed}
 use Rattle.cpc_convert_items.proofs.Standing.{among_more}

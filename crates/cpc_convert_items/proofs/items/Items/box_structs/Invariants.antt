@@ -3,7 +3,7 @@ use Rattle.cpc_tree.specs.Erase.{Names, Table}
 use Rattle.cpc_tree.specs.Syntax.{Program}
 use Rattle.cpc_convert_event.specs.Routines.{Routine}
 use Rattle.cpc_convert_event.specs.Frames.{box_of}
-use Rattle.cpc_convert_standing.specs.Known.{boxes_among}
+use Rattle.cpc_convert_lines.specs.Known.{boxes_among}
 use Rattle.cpc_convert_lines.specs.Around.{Stands}
 use Rattle.cpc_convert_items.specs.Listed.{listed}
 use Rattle.cpc_convert_items.proofs.items.Items.box_structs.Given as goal
