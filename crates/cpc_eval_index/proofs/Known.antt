@@ -22,6 +22,7 @@ use Rattle.cpc_eval_index.specs.Sized.{capped, capped_size, capped_field, declar
 use Rattle.cpc_eval_index.specs.Tabled.{AreTables, globals_before}
 use Rattle.cpc_eval_index.specs.declared.tables.Tables.{Tables}
 use Rattle.cpc_eval_index.proofs.First.{first_absent, first_missing, first_found}
+use Rattle.cpc_eval_index.proofs.Standing.{cells_in, cells_skip}
 
 module _ (names : Names) (apart : AreApart names) where
   -- ---- names
@@ -100,29 +101,21 @@ module _ (names : Names) (apart : AreApart names) where
 
   -- ---- sizes
 
-  cells_in : Name → List Item → T.Cells
-  cells_in tag rs = T.struct_cells (map (item_of names) rs) (names tag)
-
-  cells_skip : (tag : Name) (y : Item) (ys : List Item) → is_name tag.0 (tag_of y) ≡ false → cells_in tag (y ∷ ys) ≡ cells_in tag ys
-  unfolding cells_in
-  cells_skip tag (I.Struct t fs) ys e = rw (apart.told t.name tag ∙ e) refl
-  cells_skip tag _ ys e = refl
-
-  cells_found : (tag : Name) (y : Item) (rs : List Item) (p : Program) → map (item_of names) rs ≡ reverse p → is_name tag.0 (tag_of y) ≡ true → option_map capped (count (cells_in tag (y ∷ rs))) ≡ declared_size names p y
+  cells_found : (tag : Name) (y : Item) (rs : List Item) (p : Program) → map (item_of names) rs ≡ reverse p → is_name tag.0 (tag_of y) ≡ true → option_map capped (count (cells_in names tag (y ∷ rs))) ≡ declared_size names p y
   unfolding cells_in
   cells_found tag (I.Struct t fs) rs p e is = rw (apart.told t.name tag ∙ is) (ap (λ ys. option_map capped (count (T.fields_cells (T.struct_cells ys) (map (field_of names) fs.items)))) e)
   cells_found tag _ rs p e is = cc
 
   -- the last place of all
-  last_of : (xs : List Item) (tag : Name) → last_place tag.0 (map tag_of xs) ≡ last_below (length xs) (map tag_of xs) tag.0
+  pub last_of : (xs : List Item) (tag : Name) → last_place tag.0 (map tag_of xs) ≡ last_below (length xs) (map tag_of xs) tag.0
   last_of xs tag = ap (λ ks. latest tag.0 (reverse ks)) (sym (ap (λ n. take n (map tag_of xs)) (sym (length-map xs tag_of)) ∙ take-length (map tag_of xs)))
 
   size_at_last : (xs : List Item) (t : Tables) (tag : Name) (o : Option ℕ) → AreTables xs t → last_below (length xs) (map tag_of xs) tag.0 ≡ o
-      → size_at t.sizes.items o ≡ option_map capped (count (cells_in tag (reverse (take (length xs) xs))))
+      → size_at t.sizes.items o ≡ option_map capped (count (cells_in names tag (reverse (take (length xs) xs))))
   unfolding cells_in
-  size_at_last xs t tag None d e = ap (λ c. option_map capped (count c)) (sym (absent Item T.Cells tag_of (cells_in tag) tag.0 (cells_skip tag) xs (length xs) e))
+  size_at_last xs t tag None d e = ap (λ c. option_map capped (count c)) (sym (absent Item T.Cells tag_of (cells_in names tag) tag.0 (cells_skip names apart tag) xs (length xs) e))
   size_at_last xs t tag (Some k) d e =
-      let f = found Item T.Cells tag_of (cells_in tag) tag.0 (cells_skip tag) xs (length xs) k (omega arith) e in
+      let f = found Item T.Cells tag_of (cells_in names tag) tag.0 (cells_skip names apart tag) xs (length xs) k (omega arith) e in
       d.sized k f.item f.at names apart
       ∙ sym (cells_found tag f.item (reverse (take k xs)) (map (item_of names) (take k xs)) (map_reverse (item_of names) (take k xs)) f.is)
       ∙ ap (λ c. option_map capped (count c)) (sym f.same)

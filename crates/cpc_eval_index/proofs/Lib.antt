@@ -1,8 +1,10 @@
 pub mod Crossing
 pub mod Kept
 pub mod Cells
+pub mod Ended
 pub mod First
 pub mod Known
 pub mod Numbers
 pub mod Offsets
+pub mod Standing
 pub mod Tabled

@@ -1,4 +1,5 @@
 pub mod Bodies
+pub mod Ends
 pub mod Indexed
 pub mod Meanings
 pub mod Placed

@@ -6,6 +6,7 @@ use Rattle.cpc_check_rules.specs.Apart.{AreApart}
 use Rattle.cpc_tree.specs.declared.program.Item.{Item}
 use Rattle.cpc_shapes.specs.Counted.{name_of, tag_of}
 use Rattle.cpc_eval_index.specs.Bodies.{AreFunctionTables}
+use Rattle.cpc_eval_index.specs.Ends.{inner_place, end_by}
 use Rattle.cpc_eval_index.specs.Placed.{place_at, first_place, last_place, definition_of, globals_in}
 use Rattle.cpc_eval_index.specs.Sized.{declared_size}
 use Rattle.cpc_eval_index.specs.declared.index.ProgramTable.{ProgramTable}
@@ -25,6 +26,8 @@ pub record AreTables (xs : List Item) (t : Tables) : Type 0 where
   pub before : (k : ℕ) (x : Item) → slice_get xs k ≡ Some x → get_or t.globals.items k 0 ≡ globals_before xs k
   pub sizes : length t.sizes.items ≡ length xs
   pub sized : (k : ℕ) (x : Item) → slice_get xs k ≡ Some x → (names : Names) → AreApart names → get_or t.sizes.items k None ≡ declared_size names (map (item_of names) (take k xs)) x
+  pub ends : length t.ends.items ≡ length xs
+  pub ended : (k : ℕ) (x : Item) → slice_get xs k ≡ Some x → get_or t.ends.items k k ≡ end_by t.ends.items k (inner_place (take k xs) x)
 
 -- the table of a program of these items: what their names stand for, and the tables of their functions
 pub record IsProgramTable (xs : List Item) (t : ProgramTable) : Type 0 where

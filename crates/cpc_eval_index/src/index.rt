@@ -1,5 +1,5 @@
 //! An index of a program by name.
-ghost use Rattle.std.specs.Prelude.{◌≡◌, IfOk, Some, map, option_map, slice_get};
+ghost use Rattle.std.specs.Prelude.{◌≡◌, ◌<◌, ◌≤◌, IfOk, IfSome, Some, length, map, option_map, slice_get};
 ghost use Rattle.cpc_tree.specs.Erase.{Names, type_of, field_of, function_of};
 ghost use Rattle.cpc_check_rules.specs.Apart.{AreApart};
 ghost use Rattle.cpc_tree.specs.Typing as T;
@@ -7,10 +7,12 @@ ghost use Rattle.cpc_eval_locals.specs.Owners.{owner_of};
 ghost use Rattle.cpc_eval_index.specs.Bodies.{IsItemTable, function_defined};
 ghost use Rattle.cpc_tree.specs.declared.program.Item.{Item};
 ghost use Rattle.cpc_eval_index.specs.Tabled.{IsProgramTable};
+ghost use Rattle.cpc_eval_index.specs.Ends.{items_before, cells_at};
 ghost use Rattle.cpc_eval_index.specs.Meanings.{definition_seen, meant_if};
 ghost use Rattle.cpc_eval_index.specs.Sized.{capped_size, capped_field};
 
 use crate::bodies::{function_tables, table_at};
+use crate::ends::last_struct;
 use crate::items::{fields_of, function_of};
 use crate::meant::{Meant, meaning};
 use crate::sizes::{field_in, measure};
@@ -154,6 +156,27 @@ impl<'p> Index<'p> {
             None => None,
             Some(fields) => field_in(fields, name, &self.table.items),
         }
+    }
+
+    /// The items of the program, in order.
+    pub fn items(&self) -> &'p [Item]
+        ensures { result.now ≡ program_items self.now }
+    {
+        &self.program.items
+    }
+
+    /// The place of a struct that has the cells of the last struct of a tag among the first items, of which there are so many.
+    /// Of structs each of which has no field but the next, the last one is told, so that no chain of these is walked.
+    pub fn struct_before(&self, tag: Name, before: usize) -> Option<usize>
+        requires { before ≤ length (program_items self.now) }
+        ensures earlier { IfSome result (λ place. place < before) }
+        ensures cells { (names : Names) → AreApart names → cells_at names (program_items self.now) result ≡ T.struct_cells (items_before names (program_items self.now) before) (names tag) }
+    {
+        let last = self.table.items.tagged.at(tag)?;
+        if last < before {
+            return Some(self.table.items.end(last));
+        }
+        last_struct(&self.program.items, tag, before)
     }
 
     // The fields of the struct that has a tag.

@@ -2,6 +2,7 @@
 #![tactic(auto)]
 
 mod bodies;
+mod ends;
 mod index;
 mod items;
 mod meant;

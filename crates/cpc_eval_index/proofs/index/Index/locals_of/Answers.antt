@@ -1,4 +1,4 @@
-use Rattle.std.proofs.Common.{◌≡◌, ◌∙◌, get_or, None, Some, ap, sym}
+use Rattle.std.proofs.Common.{◌≡◌, ◌∙◌, get_or, None, Some, ap}
 use Rattle.cpc_eval_index.specs.Bodies.{function_defined}
 use Rattle.cpc_eval_index.proofs.Kept.{one_known}
 use Rattle.cpc_eval_index.proofs.index.Index.locals_of.Goals as goal
