@@ -1,16 +1,18 @@
 -- What the cells of types hold, part by part.
-use Rattle.std.proofs.Common.{◌≡◌, ℕ, zero, suc, ◌+◌, ◌-◌, ◌*◌, ◌<◌, ◌≤◌, Bool, true, false, cond, List, [], ◌∷◌, ◌++◌, length, take, drop, get_or, map, Option, Some, None, option_map, refl, sym, ap, ◌∙◌, add-one, append_assoc, arith}
+use Rattle.std.proofs.Common.{◌≡◌, ℕ, zero, suc, ◌+◌, ◌-◌, ◌*◌, ◌<◌, ◌≤◌, Bool, true, false, cond, List, [], ◌∷◌, ◌++◌, length, take, drop, get_or, map, reverse, Option, Some, None, option_map, refl, sym, ap, ◌∙◌, add-one, append_assoc, arith}
 use Rattle.std.specs.Prelude.{bytes_eq}
 use Rattle.std.proofs.lemmas.List.{append-nil, length-append}
-use Rattle.std.proofs.Math.Seq.{drop-cons}
+use Rattle.std.proofs.Math.Seq.{drop-cons, take-length}
 use Rattle.cpc_base.specs.Bytes.{Text}
 use Rattle.cpc_store.specs.declared.values.Scalar.{Scalar}
 use Rattle.cpc_store.specs.declared.values.Scalar.TheVariants as S
-use Rattle.cpc_tree.specs.Erase.{Names, type_of, field_of}
+use Rattle.cpc_tree.specs.Erase.{Names, type_of, field_of, item_of}
 use Rattle.cpc_tree.specs.declared.program.Field.{Field}
+use Rattle.cpc_tree.specs.declared.program.Item as G
 use Rattle.cpc_tree.specs.Syntax.{Ty, TyVoid, TyInt, TyCondvar, TyPointer, TyCode, TyStruct, TyArray, Variable, Item, StructItem, GlobalItem, PrototypeItem, FunctionItem}
 use Rattle.cpc_tree.specs.Typing.{Cells, both, times, cells_in, fields_cells, struct_cells, ◌>>=◌}
 use Rattle.cpc_meaning.specs.Layout.{scalar_of, scalars}
+use Rattle.cpc_eval_index.specs.Ends.{items_before}
 use Rattle.cpc_run_globals.specs.Rows.{held, type_layout, fields_layout, repeated, joined}
 
 -- ---- rows
@@ -208,3 +210,7 @@ joined_start (Some xs) = refl
 -- a row of its own
 pub of_row : (o r : Option (List Scalar)) (xs : List Scalar) → xs ≡ [] → joined (Some xs) o ≡ r → r ≡ o
 of_row o r xs is e = sym e ∙ ap (λ ys. joined (Some ys) o) is ∙ sym (joined_start o)
+
+-- before the end stand all items
+pub all_before : (names : Names) (xs : List G.Item) (n : ℕ) → n ≡ length xs → items_before names xs n ≡ reverse (map (item_of names) xs)
+all_before names xs n e = ap (λ ys. reverse (map (item_of names) ys)) (ap (λ m. take m xs) e ∙ take-length xs)

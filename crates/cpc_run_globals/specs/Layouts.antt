@@ -1,13 +1,12 @@
--- What a table of layouts says of items.
-use Rattle.std.specs.Prelude.{◌≡◌, List, length}
+-- What layouts say of items.
+use Rattle.std.specs.Prelude.{◌≡◌, List, reverse}
 use Rattle.cpc_tree.specs.Erase.{Names}
 use Rattle.cpc_tree.specs.Syntax as S
 use Rattle.cpc_check_rules.specs.Apart.{AreApart}
+use Rattle.cpc_eval_index.specs.Indexed.{items_of}
 use Rattle.cpc_run_globals.specs.declared.layouts.Layouts.{Layouts}
-use Rattle.cpc_run_globals.specs.Places.{ArePlaces, items_before}
 
--- these items, the last first, are those of the table
+-- these items, the last first, are those of the program of the layouts
 pub record AreLayouts (l : Layouts) (names : Names) (items : List S.Item) : Type 0 where
   pub apart : AreApart names
-  pub places : ArePlaces l.items.now (length l.items.now) l.places
-  pub same : items ≡ items_before names l.items.now (length l.items.now)
+  pub same : items ≡ reverse (items_of names l.index)

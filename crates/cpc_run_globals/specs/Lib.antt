@@ -1,5 +1,4 @@
 pub mod Counts
 pub mod Layouts
-pub mod Places
 pub mod Rows
 pub mod Starts

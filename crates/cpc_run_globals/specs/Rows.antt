@@ -1,7 +1,8 @@
 -- What the cells of types hold.
-use Rattle.std.specs.Prelude.{ℕ, zero, suc, List, [], ◌∷◌, ◌++◌, Option, Some, None}
+use Rattle.std.specs.Prelude.{ℕ, zero, suc, map, List, [], ◌∷◌, ◌++◌, Option, Some, None}
 use Rattle.cpc_store.specs.declared.values.Scalar.{Scalar}
-use Rattle.cpc_tree.specs.Erase.{Names}
+use Rattle.cpc_tree.specs.Erase.{Names, field_of}
+use Rattle.cpc_tree.specs.declared.program.Field.{Field}
 use Rattle.cpc_tree.specs.Syntax.{Ty, TyStruct, Variable, Item}
 use Rattle.cpc_tree.specs.Typing.{Cells, cells_in, fields_cells, struct_cells, ◌>>=◌}
 use Rattle.cpc_meaning.specs.Layout.{scalars}
@@ -19,6 +20,11 @@ type_layout items t = held (cells_in (struct_cells items) t)
 -- what the cells of fields hold
 abbrev pub fields_layout : List Item → List Variable → Option (List Scalar)
 fields_layout items fs = held (fields_cells (struct_cells items) fs)
+
+-- the same of fields that may be absent
+abbrev pub fields_row : Names → List Item → Option (List Field) → Option (List Scalar)
+fields_row names items None = None
+fields_row names items (Some fields) = fields_layout items (map (field_of names) fields)
 
 -- a row so many times over
 abbrev pub repeated : ℕ → List Scalar → List Scalar

@@ -1,27 +1,24 @@
 //! What the cells of types hold.
-ghost use Rattle.std.specs.Prelude.{◌≡◌, ◌∷◌, ◌++◌, ◌<◌, ◌≤◌, List, [], Some, None, map, option_map, slice_get, IfOk, IfSome, OnOk, length, reverse, if◌then◌else◌};
-ghost use Rattle.std.proofs.Props.{props};
+ghost use Rattle.std.specs.Prelude.{◌≡◌, ◌∷◌, ◌++◌, ◌<◌, ◌≤◌, List, [], Some, None, map, option_map, slice_get, IfOk, OnOk, length, reverse, if◌then◌else◌};
 ghost use Rattle.cpc_store.specs.declared.values.Scalar as V;
-ghost use Rattle.cpc_tree.specs.Erase.{Names, type_of, field_of, item_of};
+ghost use Rattle.cpc_tree.specs.Erase.{Names, type_of};
 ghost use Rattle.cpc_tree.specs.Syntax as S;
-ghost use Rattle.cpc_tree.specs.Syntax.{TyStruct};
 ghost use Rattle.cpc_check_rules.specs.Apart.{AreApart};
-ghost use Rattle.cpc_run_globals.specs.Rows.{type_layout, element_layout, fields_layout, joined, repeated};
-ghost use Rattle.cpc_run_globals.specs.Places.{EndsBelow, items_before, row_at, item_row, fields_row};
+ghost use Rattle.cpc_eval_index.specs.Ends.{items_before, declared_cells, cells_at};
+ghost use Rattle.cpc_eval_index.specs.Indexed.{program_items, items_of};
+ghost use Rattle.cpc_run_globals.specs.Rows.{held, type_layout, element_layout, fields_row, joined, repeated};
 
 use crate::peeled::{Element, peel};
-use crate::places::{Places, last_struct};
-use cpc_base::{Name, NoMemory};
+use cpc_base::NoMemory;
+use cpc_eval_index::Index;
 use cpc_store::Scalar;
 use cpc_tree::program::{CType, Field, Item};
 use std::alloc::Global;
 
-/// Where the structs of items stand, by which it is found what the cells of a type hold. Of no struct a row is kept.
-#[derive(Drop)]
+/// What the cells of types hold, by the index of a program, which tells where its structs stand. Nothing is kept of any struct.
+#[derive(Clone, Copy)]
 pub struct Layouts<'p> {
-    items: &'p [Item],
-    places: Places,
-    ghost below: { EndsBelow places } by { Prim.hlevel props },
+    index: Index<'p>,
 }
 
 // The cells of a row from a place on stand there so many times over.
@@ -44,7 +41,7 @@ fn repeat(row: &mut Vec<Scalar>, start: usize, times: u64) -> Result<(), NoMemor
 
 // The fields of the struct that an item declares; none where it declares none.
 fn fields_of(items: &[Item], place: usize) -> Option<&[Field]>
-    ensures { (names : Names) (b : List S.Item) → item_row names b (slice_get items.now place) ≡ fields_row names b (option_map (λ fs. fs.now) result) }
+    ensures { (names : Names) (b : List S.Item) → held (declared_cells names b (slice_get items.now place)) ≡ fields_row names b (option_map (λ fs. fs.now) result) }
 {
     match items.get(place) {
         Some(Item::Struct { fields, .. }) => Some(fields),
@@ -55,25 +52,12 @@ fn fields_of(items: &[Item], place: usize) -> Option<&[Field]>
 impl<'p> Layouts<'p> {
     ghost use Rattle.cpc_run_globals.specs.Layouts.{AreLayouts};
 
-    // The place of a struct that holds what the last struct of a tag among the first items does, of which there are so many.
-    fn find(&self, tag: Name, before: usize) -> Option<usize>
-        requires { before ≤ length self.now.items.now }
-        ensures earlier { IfSome result (λ place. place < before) }
-        ensures row { (names : Names) (items : List S.Item) → AreLayouts self.now names items → row_at names self.now.items.now result ≡ type_layout (items_before names self.now.items.now before) (TyStruct (names tag)) }
-    {
-        let last = self.places.last(tag)?;
-        if last < before {
-            return Some(self.places.end(last));
-        }
-        last_struct(self.items, tag, before)
-    }
-
     // What the cells of a type hold that stands behind so many items is put behind a row; false where it is incomplete.
     #[cycle(put)]
     fn put(&self, before: usize, of: &CType, row: &mut Vec<Scalar>) -> Result<bool, NoMemory>
-        requires { before ≤ length self.now.items.now }
+        requires { before ≤ length (program_items self.now.index) }
         ensures { IfOk result (λ there. (names : Names) (items : List S.Item) → AreLayouts self.now names items
-            → joined (Some row.old.items) (type_layout (items_before names self.now.items.now before) (type_of names of.now)) ≡ (if there then Some row.new.items else None)) }
+            → joined (Some row.old.items) (type_layout (items_before names (program_items self.now.index) before) (type_of names of.now)) ≡ (if there then Some row.new.items else None)) }
     {
         let peeled = peel(of)?;
         let start = row.len();
@@ -92,9 +76,9 @@ impl<'p> Layouts<'p> {
         element: Element,
         row: &mut Vec<Scalar>,
     ) -> Result<bool, NoMemory>
-        requires { before ≤ length self.now.items.now }
+        requires { before ≤ length (program_items self.now.index) }
         ensures { IfOk result (λ there. (names : Names) (items : List S.Item) → AreLayouts self.now names items
-            → joined (Some row.old.items) (element_layout names (items_before names self.now.items.now before) element) ≡ (if there then Some row.new.items else None)) }
+            → joined (Some row.old.items) (element_layout names (items_before names (program_items self.now.index) before) element) ≡ (if there then Some row.new.items else None)) }
     {
         match element {
             Element::Incomplete => Ok(false),
@@ -102,7 +86,7 @@ impl<'p> Layouts<'p> {
                 row.push(scalar)?;
                 Ok(true)
             }
-            Element::Struct(tag) => match self.find(tag, before) {
+            Element::Struct(tag) => match self.index.struct_before(tag, before) {
                 Some(place) => self.put_fields(place, row),
                 None => Ok(false),
             },
@@ -112,11 +96,11 @@ impl<'p> Layouts<'p> {
     // The same of the struct that stands at a place.
     #[cycle(put)]
     fn put_fields(&self, place: usize, row: &mut Vec<Scalar>) -> Result<bool, NoMemory>
-        requires { place < length self.now.items.now }
+        requires { place < length (program_items self.now.index) }
         ensures { IfOk result (λ there. (names : Names) (items : List S.Item) → AreLayouts self.now names items
-            → joined (Some row.old.items) (row_at names self.now.items.now (Some place)) ≡ (if there then Some row.new.items else None)) }
+            → joined (Some row.old.items) (held (cells_at names (program_items self.now.index) (Some place))) ≡ (if there then Some row.new.items else None)) }
     {
-        let Some(fields) = fields_of(self.items, place) else {
+        let Some(fields) = fields_of(self.index.items(), place) else {
             return Ok(false);
         };
         for field in fields {
@@ -132,17 +116,16 @@ impl<'p> Layouts<'p> {
         ensures { IfOk result (λ o. (names : Names) (items : List S.Item) → AreLayouts self.now names items → option_map (λ row. row.items) o ≡ type_layout items (type_of names of.now)) }
     {
         let mut row = Vec::new(alloc);
-        if self.put(self.items.len(), of, &mut row)? {
+        if self.put(self.index.items().len(), of, &mut row)? {
             return Ok(Some(row));
         }
         Ok(None)
     }
 
-    /// Where the structs of these items stand. `NoMemory` is want of memory.
-    pub fn of(alloc: Global, items: &'p [Item]) -> Result<Layouts<'p>, NoMemory>
-        ensures { IfOk result (λ layouts. (names : Names) → AreApart names → AreLayouts layouts names (reverse (map (item_of names) items.now))) }
+    /// What the cells of types hold in the program of an index.
+    pub fn over(index: Index<'p>) -> Layouts<'p>
+        ensures { (names : Names) → AreApart names → AreLayouts result names (reverse (items_of names index.entry)) }
     {
-        let places = Places::of(alloc, items)?;
-        Ok(Layouts { items, places })
+        Layouts { index }
     }
 }

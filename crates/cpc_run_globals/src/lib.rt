@@ -5,7 +5,6 @@ mod counts;
 mod layouts;
 mod making;
 mod peeled;
-mod places;
 mod starts;
 
 pub use counts::global_cells;

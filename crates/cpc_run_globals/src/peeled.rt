@@ -1,8 +1,7 @@
 //! Types without the arrays around them.
-ghost use Rattle.std.specs.Prelude.{◌≡◌, List, IfOk, IfSome, option_map};
+ghost use Rattle.std.specs.Prelude.{◌≡◌, List, IfOk, option_map};
 ghost use Rattle.cpc_tree.specs.Erase.{Names, type_of};
 ghost use Rattle.cpc_tree.specs.Syntax as S;
-ghost use Rattle.cpc_tree.specs.Syntax.{TyStruct};
 ghost use Rattle.cpc_run_globals.specs.Rows.{type_layout, element_layout, repeated};
 
 use cpc_base::{Name, NoMemory};
@@ -65,16 +64,5 @@ pub(crate) fn peel(of: &CType) -> Result<Peeled, NoMemory>
                 None => Err(NoMemory),
             }
         }
-    }
-}
-
-/// The struct that a type is, or of which it is an array of one.
-pub(crate) fn same_struct(of: &CType) -> Option<Name>
-    ensures { IfSome result (λ tag. (names : Names) (items : List S.Item) → type_layout items (type_of names of.now) ≡ type_layout items (TyStruct (names tag))) }
-{
-    match of {
-        CType::Struct(tag) => Some(*tag),
-        CType::Array(of, count) => { if *count == 1 { same_struct(of) } else { None } }
-        _ => None,
     }
 }

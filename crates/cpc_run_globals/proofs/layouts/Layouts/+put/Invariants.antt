@@ -2,7 +2,8 @@ use Rattle.std.proofs.Common.{◌≡◌, ◌+◌, ◌*◌, List, Some, map, drop
 use Rattle.cpc_tree.specs.Erase.{Names, field_of}
 use Rattle.cpc_tree.specs.Syntax.{Item}
 use Rattle.cpc_run_globals.specs.Layouts.{AreLayouts}
-use Rattle.cpc_run_globals.specs.Places.{items_before}
+use Rattle.cpc_eval_index.specs.Ends.{items_before}
+use Rattle.cpc_eval_index.specs.Indexed.{program_items}
 use Rattle.cpc_run_globals.specs.Rows.{fields_layout, joined}
 use Rattle.cpc_run_globals.proofs.layouts.Layouts.+put.Given as goal
 
@@ -18,4 +19,4 @@ decreases-put_fields l = 3 * l.place + 3
 -- the fields that are left stand behind the row
 abbrev pub invariant-put_fields-loop-field : goal.invariant-put_fields-loop-field
 invariant-put_fields-loop-field l = (names : Names) (items : List Item) → AreLayouts l.self names items
-    → (let b = items_before names l.self.items.now l.place in joined (Some l.fn.row.items) (fields_layout b (map (field_of names) l.fields)) ≡ joined (Some l.row.items) (fields_layout b (map (field_of names) (drop l.field-index l.fields))))
+    → (let b = items_before names (program_items l.self.index) l.place in joined (Some l.fn.row.items) (fields_layout b (map (field_of names) l.fields)) ≡ joined (Some l.row.items) (fields_layout b (map (field_of names) (drop l.field-index l.fields))))
