@@ -88,7 +88,7 @@ impl<'p> Loop<'p> {
         let Some(main) = main_of(program) else {
             unreachable!();
         };
-        let layouts = Layouts::of(alloc, &program.items)?;
+        let layouts = Layouts::over(index);
         let store = globals(alloc, program, &layouts)?;
         let machine = Code::new(alloc, program, index, store);
         let jobs = Jobs::new(alloc, program, layouts, section_steps);

@@ -61,11 +61,10 @@ impl Drop for Jobs<'_> {
     fn drop(self) {
         let Jobs {
             program: _,
-            layouts,
+            layouts: _,
             bound: _,
             out,
         } = self;
-        drop(layouts);
         drop(out);
     }
 }

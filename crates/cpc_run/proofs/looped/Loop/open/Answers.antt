@@ -1,6 +1,7 @@
-use Rattle.std.proofs.Common.{map, reverse, refl, sym, ap, ◌∙◌, arith}
+use Rattle.std.proofs.Common.{List, map, reverse, refl, sym, ap, subst, ◌∙◌, arith}
 use Rattle.std.proofs.lemmas.List.{length-map}
 use Rattle.cpc_tree.specs.Erase.{item_of}
+use Rattle.cpc_tree.specs.declared.program.Item as GItem
 use Rattle.cpc_history_marks.specs.Views.{told_of}
 use Rattle.cpc_run_globals.specs.Layouts.{AreLayouts}
 use Rattle.cpc_run_code.specs.declared.items.Item.TheVariants as I
@@ -15,7 +16,8 @@ pub returns-in-Ok-clause-opened : goal.returns-in-Ok-clause-opened
 returns-in-Ok-clause-opened c = λ names given.
     let program = c.args.program.now in
     let apart = given.spelled.spells.apart in
-    let are : AreLayouts c.in_ok-layouts.layouts names (reverse (map (item_of names) program.items.items)) = rw (← c.deref.ensures.value) (c.in_ok-layouts.ensures names apart) in
+    let P : List GItem.Item → Type 0 = λ xs. AreLayouts c.over-layouts.result names (reverse (map (item_of names) xs)) in
+    let are : AreLayouts c.over-layouts.result names (reverse (map (item_of names) program.items.items)) = subst P c.requires.index (c.over-layouts.ensures names apart) in
     record {
       fits = record { runs = c.new-machine.ensures.runs names given; main = main_is names program.names c.in-Some.main given.spelled.spells c.in-Some.ensures.some; serves = c.new-jobs.ensures.serves names (runs_given names program program.names _ refl refl given) are; items = c.new-jobs.ensures.items names ∙ sym (c.new-machine.ensures.items names) };
       items = c.new-machine.ensures.items names;
