@@ -1,17 +1,12 @@
 -- What is declared as items come into scope and leave it.
-use Rattle.std.proofs.Common.{◌≡◌, ℕ, ◌+◌, ◌<◌, ◌≤◌, inl, inr, List, [], ◌∷◌, ◌++◌, length, get_or, map, take, Option, Some, None, ap, sym, ◌∙◌, arith, length-append}
-use Rattle.std.specs.Prelude.{slice_get}
-use Rattle.std.proofs.lemmas.List.{length-map, map-append, take_more, take-append-le, get_or_push, get_or_append_left}
-use Rattle.std.proofs.lemmas.Option.{slice_get_within}
-use Rattle.std.proofs.Math.Seq.{take-append_seam}
-use Rattle.cpc_tree.specs.Erase.{Names, item_of}
-use Rattle.cpc_check_rules.specs.Apart.{AreApart}
+use Rattle.std.proofs.Common.{◌≡◌, ◌≤◌, List, [], ◌∷◌, ◌++◌, length, ap, sym, ◌∙◌, arith}
+use Rattle.std.proofs.lemmas.List.{length-map, map-append}
 use Rattle.cpc_tree.specs.declared.program.Item.{Item}
-use Rattle.cpc_types.specs.Indexed.{IsIndex}
-use Rattle.cpc_types.specs.Counted.{AreDeclared, declared_size}
-use Rattle.cpc_shapes.specs.Counted.{name_of, tag_of}
+use Rattle.cpc_shapes.specs.Counted.{name_of}
+use Rattle.cpc_types.specs.Declaring.{AreDeclared}
 use Rattle.cpc_types.specs.declared.items.Items.{Items}
-use Rattle.cpc_shapes.proofs.Indexes.{pushed_at}
+use Rattle.cpc_types_structs.specs.Indexed.{IsIndex}
+use Rattle.cpc_types_structs.specs.Structs.{AreStructs}
 
 -- no more items are in scope than there are
 pub within_all : (xs : List Item) (i : Items) → AreDeclared xs i → i.names.count ≤ length xs
@@ -21,37 +16,11 @@ within_all xs i d =
     omega arith
 
 -- one more item is declared
-module _ (xs : List Item) (y : Item) (i j : Items) (s : Option ℕ) where
-  size_pushed : AreDeclared xs i → j.sizes.items ≡ i.sizes.items ++ s ∷ [] → ((names : Names) → AreApart names → s ≡ declared_size names (map (item_of names) xs) y)
-      → (k : ℕ) (x : Item) → slice_get (xs ++ y ∷ []) k ≡ Some x → (names : Names) → AreApart names → get_or j.sizes.items k None ≡ declared_size names (map (item_of names) (take k (xs ++ y ∷ []))) x
-  size_pushed d sizes size k x h names apart = elim (pushed_at xs y k x h) [
-    | inl e ↦
-        let g : k < length xs = slice_get_within xs k x e in
-        let f : length i.sizes.items ≡ length xs = d.even in
-        ap (λ l. get_or l k None) sizes
-        ∙ get_or_append_left i.sizes.items (s ∷ []) None k (omega arith)
-        ∙ d.sized k x e names apart
-        ∙ sym (ap (λ l. declared_size names (map (item_of names) l) x) (take-append-le k xs (y ∷ []) (omega arith)))
-    | inr e ↦
-        let f : length i.sizes.items ≡ k = d.even ∙ sym e.0 in
-        ap (λ l. get_or l k None) sizes
-        ∙ get_or_push i.sizes.items s None k f
-        ∙ size names apart
-        ∙ ap (declared_size names (map (item_of names) xs)) e.1
-        ∙ sym (ap (λ l. declared_size names (map (item_of names) l) x) (ap (λ m. take m (xs ++ y ∷ [])) e.0 ∙ take-append_seam xs (y ∷ [])))
-  ]
-
-  pub appended : AreDeclared xs i → IsIndex j.names → IsIndex j.tags → j.tags.count ≡ j.names.count
-      → j.names.names.items ≡ i.names.names.items ++ name_of y ∷ [] → j.tags.names.items ≡ i.tags.names.items ++ tag_of y ∷ [] → j.sizes.items ≡ i.sizes.items ++ s ∷ []
-      → ((names : Names) → AreApart names → s ≡ declared_size names (map (item_of names) xs) y) → AreDeclared (xs ++ y ∷ []) j
-  appended d named tagged together names tags sizes size = record {
-    names = names ∙ ap (λ l. l ++ name_of y ∷ []) d.names ∙ sym (map-append name_of xs (y ∷ []));
-    tags = tags ∙ ap (λ l. l ++ tag_of y ∷ []) d.tags ∙ sym (map-append tag_of xs (y ∷ []));
-    named = named;
-    tagged = tagged;
-    together = together;
-    even =
-        let f : length i.sizes.items ≡ length xs = d.even in
-        ap length sizes ∙ length-append i.sizes.items (s ∷ []) ∙ ap (λ n. n + 1) f ∙ sym (length-append xs (y ∷ []));
-    sized = size_pushed d sizes size;
-  }
+pub appended : (xs : List Item) (y : Item) (i j : Items) → AreDeclared xs i → IsIndex j.names → j.structs.tags.count ≡ j.names.count → j.names.names.items ≡ i.names.names.items ++ name_of y ∷ []
+    → AreStructs (xs ++ y ∷ []) j.structs → AreDeclared (xs ++ y ∷ []) j
+appended xs y i j d named together names structs = record {
+  names = names ∙ ap (λ l. l ++ name_of y ∷ []) d.names ∙ sym (map-append name_of xs (y ∷ []));
+  named = named;
+  together = together;
+  structs = structs;
+}

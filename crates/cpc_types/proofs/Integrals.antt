@@ -16,8 +16,9 @@ use Rattle.cpc_tree.specs.declared.program.Item.TheVariants as I
 use Rattle.cpc_check_rules.specs.Apart.{AreApart}
 use Rattle.cpc_check_rules.specs.Calls as C
 use Rattle.cpc_shapes.specs.Indexed.{is_name, last_below}
-use Rattle.cpc_types.specs.Counted.{AreDeclared}
-use Rattle.cpc_shapes.specs.Counted.{capped, capped_size, tag_of}
+use Rattle.cpc_types.specs.Declaring.{AreDeclared}
+use Rattle.cpc_shapes.specs.Counted.{tag_of}
+use Rattle.cpc_types_structs.specs.Sized.{capped, capped_size}
 use Rattle.cpc_types.specs.Integral.{have_integers, flag_at, tag_integral, AreIntegral, declared_integral, AreTold}
 use Rattle.cpc_types.specs.Scoped.{all_items, scope_of}
 use Rattle.cpc_types.specs.declared.items.Items.{Items}
@@ -118,7 +119,7 @@ module _ (names : Names) (apart : AreApart names) where
   unfolding whole_in
   flag_known xs i tag d t h =
       let n = i.names.count in
-      ap (flag_at i.integral.items) (ap (λ m. last_below m i.tags.names.items tag.0) d.together ∙ ap (λ ks. last_below n ks tag.0) d.tags)
+      ap (flag_at i.integral.items) (ap (λ m. last_below m i.structs.tags.names.items tag.0) d.together ∙ ap (λ ks. last_below n ks tag.0) d.structs.tags)
       ∙ flag_found xs i tag n (last_below n (map tag_of xs) tag.0) t h refl
       ∙ ap (λ ys. C.are_integers (T.struct_cells ys (names tag))) (map_reverse (item_of names) (take n xs))
 

@@ -4,5 +4,6 @@ pub mod Entered
 pub mod ExprParts
 pub mod FieldPlaces
 pub mod Integrals
+pub mod Limits
 pub mod Scopes
 pub mod Taking

@@ -8,7 +8,7 @@ use Rattle.cpc_tree.specs.declared.program.Item.{Item}
 use Rattle.cpc_tree.specs.declared.program.Item.TheVariants as I
 use Rattle.cpc_check_rules.specs.Apart.{AreApart}
 use Rattle.cpc_check_rules.specs.Calls as C
-use Rattle.cpc_shapes.specs.Indexed.{last_below}
+use Rattle.cpc_types_structs.specs.Sized.{tag_place}
 use Rattle.cpc_types.specs.declared.items.Items.{Items}
 
 -- whether the cells of fields are all integers
@@ -21,7 +21,7 @@ flag_at flags (Some k) = get_or flags k false
 
 -- whether the struct in scope that has a tag has cells that are all integers
 abbrev pub tag_integral : Items → Name → Bool
-tag_integral i tag = flag_at i.integral.items (last_below i.tags.count i.tags.names.items tag.0)
+tag_integral i tag = flag_at i.integral.items (tag_place i.structs tag)
 
 -- these tell it of the structs of a program
 pub record AreIntegral (i : Items) (names : Names) (p : Program) : Type 0 where

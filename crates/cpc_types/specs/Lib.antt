@@ -1,7 +1,6 @@
 pub mod Blocks
-pub mod Counted
+pub mod Declaring
 pub mod Found
-pub mod Indexed
 pub mod Meanings
 pub mod Scoped
 pub mod Integral

@@ -5,28 +5,27 @@ ghost use Rattle.cpc_tree.specs.Syntax.{Program};
 ghost use Rattle.cpc_tree.specs.Typing as T;
 ghost use Rattle.cpc_check_rules.specs.Apart.{AreApart};
 ghost use Rattle.cpc_check_rules.specs.Calls as C;
-ghost use Rattle.cpc_types.specs.Indexed.{IsIndex};
-ghost use Rattle.cpc_types.specs.Counted.{AreSizes};
+ghost use Rattle.cpc_types_structs.specs.Indexed.{IsIndex};
+ghost use Rattle.cpc_types_structs.specs.Sized.{AreSizes};
 ghost use Rattle.cpc_types.specs.Integral.{AreIntegral, have_integers};
 ghost use Rattle.cpc_types.specs.Scoped.{scope_of};
 
 use crate::items::Items;
 use crate::scope::Scope;
-use crate::sizes::measure;
 use cpc_tree::program::{CType, Field};
 
 /// Whether a type is complete and its cells are all integers.
 #[tactic(auto, using(std::proofs::lemmas::Grind::common_steps, crate::proofs::Integrals::array_integers, crate::proofs::Integrals::empty_integers))]
 pub(crate) fn are_integers(of: &CType, items: &Items) -> bool
-    requires { IsIndex items.now.tags }
-    ensures { (names : Names) (p : Program) → AreSizes items.now names p → AreIntegral items.now names p → result ≡ C.are_integers (T.cells p (type_of names of.now)) }
+    requires { IsIndex items.now.structs.tags }
+    ensures { (names : Names) (p : Program) → AreSizes items.now.structs names p → AreIntegral items.now names p → result ≡ C.are_integers (T.cells p (type_of names of.now)) }
 {
     match of {
         CType::Int(_) => true,
         CType::Struct(tag) => items.is_integral(*tag),
         CType::Array(of, length) => {
             if *length == 0 {
-                measure(of, items).is_some()
+                items.structs().measure(of).is_some()
             } else {
                 are_integers(of, items)
             }
@@ -37,8 +36,8 @@ pub(crate) fn are_integers(of: &CType, items: &Items) -> bool
 
 /// Whether fields are complete and their cells are all integers.
 pub(crate) fn fields_integers(fields: &[Field], items: &Items) -> bool
-    requires { IsIndex items.now.tags }
-    ensures { (names : Names) (p : Program) → AreSizes items.now names p → AreIntegral items.now names p → result ≡ have_integers p (map (field_of names) fields.now) }
+    requires { IsIndex items.now.structs.tags }
+    ensures { (names : Names) (p : Program) → AreSizes items.now.structs names p → AreIntegral items.now names p → result ≡ have_integers p (map (field_of names) fields.now) }
 {
     for field in fields {
         if !are_integers(&field.of, items) {

@@ -1,39 +1,40 @@
 //! What the items of a program declare.
-ghost use Rattle.std.specs.Prelude.{◌≡◌, ◌+◌, ◌<◌, ◌≤◌, IfOk, OnOk, length, take, option_map};
+ghost use Rattle.std.specs.Prelude.{◌≡◌, ◌+◌, ◌<◌, ◌≤◌, List, IfOk, OnOk, length, take, option_map};
 ghost use Rattle.cpc_tree.specs.Erase.{Names};
 ghost use Rattle.cpc_tree.specs.Syntax.{Program};
-ghost use Rattle.cpc_types.specs.Indexed.{IsIndex};
+ghost use Rattle.cpc_types_structs.specs.Indexed.{IsIndex};
+ghost use Rattle.cpc_types_structs.specs.Sized.{AreSizes, tag_place};
+ghost use Rattle.cpc_types_structs.specs.Structs.{AreStructs};
+ghost use Rattle.cpc_tree.specs.declared.program.Item.{Item};
 ghost use Rattle.cpc_shapes.specs.Indexed.{last_below};
 ghost use Rattle.cpc_shapes.specs.Declaring.{item_at};
-ghost use Rattle.cpc_types.specs.Counted.{AreDeclared, AreSizes, tag_size, declared_size};
-ghost use Rattle.cpc_shapes.specs.Counted.{name_of, tag_of};
+ghost use Rattle.cpc_types.specs.Declaring.{AreDeclared};
+ghost use Rattle.cpc_shapes.specs.Counted.{name_of};
 ghost use Rattle.cpc_types.specs.Integral.{AreIntegral, AreTold, tag_integral, declared_integral};
 
-use crate::index::Index;
 use crate::integers::fields_integers;
-use crate::sizes::fields_size;
 use cpc_base::{Name, NoMemory};
 use cpc_tree::program::Item;
+use cpc_types_structs::{Index, Structs};
 use std::alloc::Global;
 
-/// What items declare, of which a number is in scope: names, tags, the cells of each struct that is complete, capped,
-/// and whether these are all integers.
+/// What items declare, of which a number is in scope: names, structs, and for each item whether the cells of the struct
+/// that it declares are all integers.
 pub(crate) struct Items {
     names: Index,
-    tags: Index,
-    sizes: Vec<Option<u64>>,
+    structs: Structs,
     integral: Vec<bool>,
 }
 
 impl Drop for Items {
     fn drop(self) {
         let Items {
-            names: _,
-            tags: _,
-            sizes,
+            names,
+            structs,
             integral,
         } = self;
-        drop(sizes);
+        drop(names);
+        drop(structs);
         drop(integral);
     }
 }
@@ -50,31 +51,10 @@ fn name_of(item: &Item) -> Option<Name>
     }
 }
 
-// The tag of a struct that an item declares.
-fn tag_of(item: &Item) -> Option<Name>
-    ensures { result ≡ tag_of item.now }
-{
-    match item {
-        Item::Struct { tag, .. } => Some(tag.name),
-        _ => None,
-    }
-}
-
-// The cells of the struct that an item declares, capped, where these items are in scope.
-fn declared_size(item: &Item, items: &Items) -> Option<u64>
-    requires { IsIndex items.now.tags }
-    ensures { (names : Names) (p : Program) → AreSizes items.now names p → result ≡ declared_size names p item.now }
-{
-    match item {
-        Item::Struct { fields, .. } => fields_size(fields, items),
-        _ => None,
-    }
-}
-
 // Whether the struct that an item declares has cells that are all integers, where these items are in scope.
 fn declared_integral(item: &Item, items: &Items) -> bool
-    requires { IsIndex items.now.tags }
-    ensures { (names : Names) (p : Program) → AreSizes items.now names p → AreIntegral items.now names p → result ≡ declared_integral names p item.now }
+    requires { IsIndex items.now.structs.tags }
+    ensures { (names : Names) (p : Program) → AreSizes items.now.structs names p → AreIntegral items.now names p → result ≡ declared_integral names p item.now }
 {
     match item {
         Item::Struct { fields, .. } => fields_integers(fields, items),
@@ -91,8 +71,7 @@ impl Items {
     {
         let mut items = Items {
             names: Index::new(alloc),
-            tags: Index::new(alloc),
-            sizes: Vec::new(alloc),
+            structs: Structs::new(alloc),
             integral: Vec::new(alloc),
         };
         for i in 0..list.len() {
@@ -112,11 +91,9 @@ impl Items {
         ensures all { OnOk result (self.new.names.count ≡ place + 1) }
     {
         let item = &list[place];
-        let size = declared_size(item, self);
         let integral = declared_integral(item, self);
         self.names.push(name_of(item))?;
-        self.tags.push(tag_of(item))?;
-        self.sizes.push(size)?;
+        self.structs.append(item)?;
         self.integral.push(integral)?;
         Ok(())
     }
@@ -124,20 +101,39 @@ impl Items {
     /// The first `count` items are in scope.
     pub(crate) fn enter(&mut self, count: usize)
         requires names { IsIndex self.old.names }
-        requires tags { IsIndex self.old.tags }
+        requires tags { IsIndex self.old.structs.tags }
         requires named { count ≤ length self.old.names.names.items }
-        requires tagged { count ≤ length self.old.tags.names.items }
+        requires tagged { count ≤ length self.old.structs.tags.names.items }
         ensures names { IsIndex self.new.names }
-        ensures tags { IsIndex self.new.tags }
         ensures same_names { self.new.names.names.items ≡ self.old.names.names.items }
-        ensures same_tags { self.new.tags.names.items ≡ self.old.tags.names.items }
-        ensures same_sizes { self.new.sizes.items ≡ self.old.sizes.items }
+        ensures structs { (xs : List Item) → AreStructs xs self.old.structs → AreStructs xs self.new.structs }
         ensures same_flags { self.new.integral.items ≡ self.old.integral.items }
         ensures name_count { self.new.names.count ≡ count }
-        ensures tag_count { self.new.tags.count ≡ count }
+        ensures tag_count { self.new.structs.tags.count ≡ count }
     {
         self.names.enter(count);
-        self.tags.enter(count);
+        self.structs.enter(count);
+    }
+
+    /// Their structs.
+    pub(crate) fn structs(&self) -> &Structs
+        ensures { result.now ≡ self.now.structs }
+    {
+        &self.structs
+    }
+
+    /// Their structs, and nothing else of them.
+    pub(crate) fn into_structs(self) -> Structs
+        ensures { result ≡ self.structs }
+    {
+        let Items {
+            names,
+            structs,
+            integral,
+        } = self;
+        drop(names);
+        drop(integral);
+        structs
     }
 
     /// The last item in scope that declares the name of a variable or a function, in the list of the items.
@@ -153,35 +149,21 @@ impl Items {
 
     /// The last item in scope that declares a tag, in the list of the items.
     pub(crate) fn tagged<'p>(&self, list: &'p [Item], tag: Name) -> Option<&'p Item>
-        requires { IsIndex self.now.tags }
-        ensures { option_map (λ x. x.now) result ≡ item_at list.now (last_below self.now.tags.count self.now.tags.names.items tag.0) }
+        requires { IsIndex self.now.structs.tags }
+        ensures { option_map (λ x. x.now) result ≡ item_at list.now (tag_place self.now.structs tag) }
     {
-        match self.tags.place(tag) {
+        match self.structs.tagged(tag) {
             Some(place) => list.get(place),
-            None => None,
-        }
-    }
-
-    /// The cells of the struct that has a tag, capped.
-    pub(crate) fn size(&self, tag: Name) -> Option<u64>
-        requires { IsIndex self.now.tags }
-        ensures { result ≡ tag_size self.now tag }
-    {
-        match self.tags.place(tag) {
-            Some(place) => match self.sizes.get(place) {
-                Some(size) => *size,
-                None => None,
-            },
             None => None,
         }
     }
 
     /// Whether the struct that has a tag has cells that are all integers.
     pub(crate) fn is_integral(&self, tag: Name) -> bool
-        requires { IsIndex self.now.tags }
+        requires { IsIndex self.now.structs.tags }
         ensures { result ≡ tag_integral self.now tag }
     {
-        match self.tags.place(tag) {
+        match self.structs.tagged(tag) {
             Some(place) => match self.integral.get(place) {
                 Some(integral) => *integral,
                 None => false,

@@ -6,7 +6,6 @@ mod blocks;
 mod expressions;
 mod fields;
 mod forms;
-mod index;
 mod integers;
 mod items;
 mod meant;

@@ -3,7 +3,7 @@ ghost use Rattle.std.specs.Prelude.{◌≡◌};
 ghost use Rattle.std.proofs.Props.{props};
 ghost use Rattle.cpc_tree.specs.Erase.{Names, type_of, field_of, item_of};
 ghost use Rattle.cpc_check_rules.specs.Apart.{AreApart};
-ghost use Rattle.cpc_types.specs.Counted.{AreDeclared};
+ghost use Rattle.cpc_types.specs.Declaring.{AreDeclared};
 ghost use Rattle.cpc_types.specs.Integral.{AreTold};
 
 use crate::blocks::Blocks;
@@ -11,6 +11,7 @@ use crate::items::Items;
 use crate::meant::{Meant, fields_of, meaning};
 use cpc_base::{Name, NoMemory};
 use cpc_tree::program::{CType, Field, Function, Program};
+use cpc_types_structs::Structs;
 use std::alloc::Global;
 
 /// What is in scope at a place of a program: the items so far, and the blocks, the innermost last.
@@ -41,8 +42,9 @@ impl<'p> Scope<'p> {
     ghost use Rattle.cpc_tree.specs.Typing as T;
     ghost use Rattle.cpc_check_rules.specs.Scopes as R;
     ghost use Rattle.cpc_types.specs.Blocks.{without_block, with_parameters};
-    ghost use Rattle.cpc_types.specs.Indexed.{IsIndex};
-    ghost use Rattle.cpc_types.specs.Counted.{AreSizes};
+    ghost use Rattle.cpc_types_structs.specs.Indexed.{IsIndex};
+    ghost use Rattle.cpc_types_structs.specs.Sized.{AreSizes};
+    ghost use Rattle.cpc_types_structs.specs.Structs.{AreAllStructs};
     ghost use Rattle.cpc_types.specs.Integral.{AreIntegral};
     ghost use Rattle.cpc_types.specs.Meanings.{meant_of};
     ghost use Rattle.cpc_types.specs.Scoped.{all_items, first_items, items_of, scope_of};
@@ -139,11 +141,35 @@ impl<'p> Scope<'p> {
         }
     }
 
+    /// The structs of all items of the program, which are then in scope.
+    pub fn into_structs(self) -> Structs
+        ensures { AreAllStructs (all_items self.entry) result }
+    {
+        let Scope {
+            alloc: _,
+            program,
+            mut items,
+            blocks,
+        } = self;
+        drop(blocks);
+        items.enter(program.items.len());
+        items.into_structs()
+    }
+
+    /// The structs in scope.
+    #[tactic(auto, using(std::proofs::lemmas::Grind::common_steps, crate::proofs::Scopes::sizes_scope))]
+    pub(crate) fn structs(&self) -> &Structs
+        ensures index { IsIndex result.now.tags }
+        ensures sizes { (names : Names) → AreApart names → AreSizes result.now names (scope_of names self.now).items }
+    {
+        self.items.structs()
+    }
+
     /// What the items in scope declare.
     #[tactic(auto, using(std::proofs::lemmas::Grind::common_steps, crate::proofs::Scopes::sizes_scope, crate::proofs::Integrals::flags_scope))]
     pub(crate) fn items(&self) -> &Items
-        ensures index { IsIndex result.now.tags }
-        ensures sizes { (names : Names) → AreApart names → AreSizes result.now names (scope_of names self.now).items }
+        ensures index { IsIndex result.now.structs.tags }
+        ensures sizes { (names : Names) → AreApart names → AreSizes result.now.structs names (scope_of names self.now).items }
         ensures integral { (names : Names) → AreApart names → AreIntegral result.now names (scope_of names self.now).items }
     {
         &self.items

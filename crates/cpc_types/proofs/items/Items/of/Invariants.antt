@@ -1,5 +1,5 @@
 use Rattle.std.proofs.Common.{◌≡◌, take}
-use Rattle.cpc_types.specs.Counted.{AreDeclared}
+use Rattle.cpc_types.specs.Declaring.{AreDeclared}
 use Rattle.cpc_types.specs.Integral.{AreTold}
 use Rattle.cpc_types.proofs.items.Items.of.Given as goal
 

@@ -1,6 +1,6 @@
 use Rattle.std.proofs.Common.{◌≡◌, ◌+◌, ◌-◌, ◌≤◌, length, arith}
 use Rattle.cpc_shapes.proofs.Indexes.{read_at, back_read}
-use Rattle.cpc_types.proofs.index.Index.back.Goals as goal
+use Rattle.cpc_types_structs.proofs.index.Index.back.Goals as goal
 
 pub returns-in-Some-clause-index : goal.returns-in-Some-clause-index
 returns-in-Some-clause-index c =

@@ -1,6 +1,6 @@
 //! An index by name: which of the items in scope declares a name last.
 ghost use Rattle.std.specs.Prelude.{◌≡◌, ◌+◌, ◌<◌, ◌≤◌, ◌++◌, ◌∷◌, [], OnOk, length};
-ghost use Rattle.cpc_types.specs.Indexed.{IsIndex};
+ghost use Rattle.cpc_types_structs.specs.Indexed.{IsIndex};
 ghost use Rattle.cpc_shapes.specs.Indexed.{last_below};
 
 use cpc_base::{Name, NoMemory};
@@ -8,7 +8,7 @@ use std::alloc::Global;
 
 /// The names that items declare, one for each item at most, and how many of the items are in scope. `last` has for
 /// each name the last item in scope that declares it, `before` for each item what `last` had for its name before it.
-pub(crate) struct Index {
+pub struct Index {
     names: Vec<Option<Name>>,
     before: Vec<Option<usize>>,
     last: Vec<Option<usize>>,
@@ -31,7 +31,7 @@ impl Drop for Index {
 
 impl Index {
     /// No item.
-    pub(crate) fn new(alloc: Global) -> Self
+    pub fn new(alloc: Global) -> Self
         ensures index { IsIndex result }
         ensures names { result.names.items ≡ [] }
         ensures count { result.count ≡ 0 }
@@ -45,7 +45,7 @@ impl Index {
     }
 
     /// The number of the last item in scope that declares a name.
-    pub(crate) fn place(&self, name: Name) -> Option<usize>
+    pub fn place(&self, name: Name) -> Option<usize>
         requires { IsIndex self.now }
         ensures { result ≡ last_below self.now.count self.now.names.items name.0 }
     {
@@ -69,7 +69,7 @@ impl Index {
     }
 
     /// One more item, which declares this name or none, comes into scope, in which all the others are.
-    pub(crate) fn push(&mut self, name: Option<Name>) -> Result<(), NoMemory>
+    pub fn push(&mut self, name: Option<Name>) -> Result<(), NoMemory>
         requires index { IsIndex self.old }
         requires all { self.old.count ≡ length self.old.names.items }
         ensures index { OnOk result (IsIndex self.new) }
@@ -120,7 +120,7 @@ impl Index {
     }
 
     /// The first `count` items are in scope.
-    pub(crate) fn enter(&mut self, count: usize)
+    pub fn enter(&mut self, count: usize)
         requires index { IsIndex self.old }
         requires within { count ≤ length self.old.names.items }
         ensures index { IsIndex self.new }

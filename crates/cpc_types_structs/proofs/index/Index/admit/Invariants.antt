@@ -1,6 +1,6 @@
 use Rattle.std.proofs.Common.{◌≡◌, ◌+◌, ◌-◌, vec_len}
-use Rattle.cpc_types.specs.Indexed.{IsIndex}
-use Rattle.cpc_types.proofs.index.Index.admit.Given as goal
+use Rattle.cpc_types_structs.specs.Indexed.{IsIndex}
+use Rattle.cpc_types_structs.proofs.index.Index.admit.Given as goal
 
 -- only room was added
 abbrev pub invariant-loop-name : goal.invariant-loop-name

@@ -1,6 +1,6 @@
 use Rattle.std.proofs.Common.{◌≡◌, ◌≤◌, ◌-◌, length}
-use Rattle.cpc_types.specs.Indexed.{IsIndex}
-use Rattle.cpc_types.proofs.index.Index.enter.Given as goal
+use Rattle.cpc_types_structs.specs.Indexed.{IsIndex}
+use Rattle.cpc_types_structs.proofs.index.Index.enter.Given as goal
 
 abbrev pub invariant-loop-self : goal.invariant-loop-self
 invariant-loop-self l = record {

@@ -1,9 +1,9 @@
 use Rattle.std.proofs.Common.{◌+◌, subst, sym}
 use Rattle.cpc_shapes.specs.Indexed.{AreLinked}
-use Rattle.cpc_types.specs.declared.index.Index.{Index}
+use Rattle.cpc_types_structs.specs.declared.index.Index.{Index}
 use Rattle.cpc_shapes.proofs.Indexes.{read_at, forward_none, forward_some}
-use Rattle.cpc_types.proofs.index.Index.forward.Goals.{in-Some, in_default}
-use Rattle.cpc_types.proofs.index.Index.forward.Goals as goal
+use Rattle.cpc_types_structs.proofs.index.Index.forward.Goals.{in-Some, in_default}
+use Rattle.cpc_types_structs.proofs.index.Index.forward.Goals as goal
 
 pub returns-clause-index : goal.returns-clause-index
 returns-clause-index c =

@@ -1,11 +1,11 @@
 use Rattle.std.proofs.Common.{◌≡◌, ◌∙◌, ℕ, ◌<◌, List, [], ◌∷◌, ◌++◌, length, Option, Some, None, subst, sym, ap}
 use Rattle.cpc_base.specs.declared.names.Name.{Name}
-use Rattle.cpc_types.specs.Indexed.{IsIndex}
+use Rattle.cpc_types_structs.specs.Indexed.{IsIndex}
 use Rattle.cpc_shapes.specs.Indexed.{AreLinked, last_below}
-use Rattle.cpc_types.specs.declared.index.Index.{Index}
+use Rattle.cpc_types_structs.specs.declared.index.Index.{Index}
 use Rattle.cpc_shapes.proofs.Indexes.{pushed}
-use Rattle.cpc_types.proofs.index.Index.push.Goals.{in-Some+in_ok-admit-in-Some, in-None}
-use Rattle.cpc_types.proofs.index.Index.push.Goals as goal
+use Rattle.cpc_types_structs.proofs.index.Index.push.Goals.{in-Some+in_ok-admit-in-Some, in-None}
+use Rattle.cpc_types_structs.proofs.index.Index.push.Goals as goal
 
 -- an index has room for a name, and what the name stands for before it
 record IsReady (i : Index) (name : Option Name) (before : Option ℕ) : Type 0 where

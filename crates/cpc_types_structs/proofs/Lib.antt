@@ -1,0 +1,4 @@
+pub mod Crossing
+pub mod Cells
+pub mod Declared
+pub mod Known
