@@ -10,6 +10,7 @@ ghost use Rattle.cpc_check_rules.specs.Rule.{IsFirst};
 ghost use Rattle.cpc_check_rules.specs.ItemRules as R;
 ghost use Rattle.cpc_check_rules.specs.Rules.{breaks};
 ghost use Rattle.cpc_check_items.specs.Parts.{AreBodies};
+ghost use Rattle.cpc_types_structs.specs.Structs.{AreAllStructs};
 ghost use Rattle.cpc_check.specs.Accepted.{IsRead, IsWithin};
 
 use crate::checked::Checked;
@@ -22,17 +23,20 @@ use cpc_check_rules::{Breach, First};
 use cpc_eval_index::ProgramTable;
 use cpc_tree::program::Program;
 use cpc_types::Scope;
+use cpc_types_structs::Structs;
 use std::alloc::Global;
 
-// Notes what the items of a program break, of which these have bodies. `NoMemory` is want of memory.
+// Notes what the items of a program break, of which these have bodies, and gives the structs that they declare. `NoMemory` is
+// want of memory.
 fn note_items(
     alloc: Global,
     first: &mut First,
     program: &Program,
     dialect: Dialect,
     bodies: &Bodies,
-) -> Result<(), NoMemory>
-    ensures { OnOk result ((names : Spelling) → Spells program.now.names names → AreBodies names (map (item_of names) program.now.items.items) bodies.now
+) -> Result<Structs, NoMemory>
+    ensures structs { IfOk result (λ structs. AreAllStructs program.now.items.items structs) }
+    ensures noted { OnOk result ((names : Spelling) → Spells program.now.names names → AreBodies names (map (item_of names) program.now.items.items) bodies.now
         → first_of first.new ≡ noted (first_of first.old) (R.items_breaks dialect (map (item_of names) program.now.items.items) [] (map (located_item names) program.now.items.items))) }
 {
     let mut scope = Scope::of(alloc, program)?;
@@ -48,23 +52,24 @@ fn note_items(
         item_rules(alloc, first, item, count, &mut scope, &earlier, &ground)?;
         earlier.add(item)?;
     }
-    Ok(())
+    Ok(scope.into_structs())
 }
 
-/// The first of the rules that a program breaks. `NoMemory` is want of memory.
+/// The first of the rules that a program breaks, and the structs that it declares. `NoMemory` is want of memory.
 pub(crate) fn first_broken(
     alloc: Global,
     program: &Program,
     dialect: Dialect,
-) -> Result<First, NoMemory>
-    ensures { IfOk result (λ first. (names : Spelling) → Spells program.now.names names → first_of first ≡ noted None (breaks dialect (record { items = map (located_item names) program.now.items.items; end = program.now.end }))) }
+) -> Result<(First, Structs), NoMemory>
+    ensures structs { IfOk result (λ found. AreAllStructs program.now.items.items found.1) }
+    ensures noted { IfOk result (λ found. (names : Spelling) → Spells program.now.names names → first_of found.0 ≡ noted None (breaks dialect (record { items = map (located_item names) program.now.items.items; end = program.now.end }))) }
 {
     let mut first = First::new();
     let bodies = Bodies::of(alloc, &program.items)?;
-    note_items(alloc, &mut first, program, dialect, &bodies)?;
+    let structs = note_items(alloc, &mut first, program, dialect, &bodies)?;
     main_rules(&mut first, &program.names, &program.items, program.end);
     breadth_rules(alloc, &mut first, dialect, &program.items)?;
-    Ok(first)
+    Ok((first, structs))
 }
 
 // The texts of a table differ, as each look-up tells.
@@ -92,14 +97,14 @@ pub fn check(
     ensures refused { (p : _) (breach : _) → result ≡ Err (p, Fault breach) → IsFirst (breaks dialect (located program)) breach.place breach.rule }
 {
     are_distinct(&program.names);
-    let first = match first_broken(alloc, &program, dialect) {
-        Ok(first) => first,
+    let (first, structs) = match first_broken(alloc, &program, dialect) {
+        Ok(found) => found,
         Err(NoMemory) => return Err((program, Stop::Memory)),
     };
     if let Some(breach) = first.breach {
         return Err((program, Stop::Fault(breach)));
     }
-    match ProgramTable::of(alloc, &program) {
+    match ProgramTable::of(alloc, &program, structs) {
         Ok(table) => Ok(Checked {
             program,
             dialect,

@@ -12,11 +12,12 @@ use Rattle.cpc_tree.specs.declared.program.Item.{Item}
 use Rattle.cpc_check_rules.specs.Apart.{AreApart}
 use Rattle.cpc_shapes.specs.Counted.{tag_of}
 use Rattle.cpc_eval_index.specs.declared.tables.Tables.{Tables}
-use Rattle.cpc_eval_index.specs.Placed.{place_at}
+use Rattle.cpc_types_structs.specs.Sized.{tag_place}
+use Rattle.cpc_types_structs.specs.Structs.{AreAllStructs}
+use Rattle.cpc_types_structs.specs.declared.structs.Structs.{Structs}
 use Rattle.cpc_eval_index.specs.Ends.{items_before, cells_at, inner_place, end_by}
 use Rattle.cpc_eval_index.specs.Tabled.{AreTables}
-use Rattle.cpc_eval_index.proofs.Known.{last_of}
-use Rattle.cpc_eval_index.proofs.Standing.{inner_below, inner_cells, tag_cells, last_kept, none_kept}
+use Rattle.cpc_eval_index.proofs.Standing.{place_all, inner_below, inner_cells, tag_cells, last_kept, none_kept}
 
 module _ (xs : List Item) (t : Tables) (d : AreTables xs t) where
   -- what holds of each place and itself, and of a struct and what its only field comes to, holds of each place and its end
@@ -52,19 +53,19 @@ module _ (xs : List Item) (t : Tables) (d : AreTables xs t) where
   pub end_same : (names : Names) → AreApart names → (k : ℕ) → cells_at names xs (Some (get_or t.ends.items k k)) ≡ cells_at names xs (Some k)
   end_same names apart k = end_of (λ k e. cells_at names xs (Some e) ≡ cells_at names xs (Some k)) (λ k. refl) (λ k j e x at is lt h. h ∙ inner_cells names apart xs k j x at is) k
 
-  module _ (names : Names) (apart : AreApart names) (tag : Name) (n : ℕ) (le : n ≤ length xs) where
+  module _ (s : Structs) (all : AreAllStructs xs s) (names : Names) (apart : AreApart names) (tag : Name) (n : ℕ) (le : n ≤ length xs) where
     within : length xs ≤ length (map tag_of xs)
     within = let e : length (map tag_of xs) ≡ length xs = length-map xs tag_of in omega (arith, e)
 
     -- the last struct of a tag, where it is among the first items
-    pub cells_found : (k : ℕ) → Some k ≡ place_at t.tagged tag.0 → k < n → cells_at names xs (Some (get_or t.ends.items k k)) ≡ T.struct_cells (items_before names xs n) (names tag)
+    pub cells_found : (k : ℕ) → Some k ≡ tag_place s tag → k < n → cells_at names xs (Some (get_or t.ends.items k k)) ≡ T.struct_cells (items_before names xs n) (names tag)
     cells_found k e lt =
         end_same names apart k
-        ∙ ap (cells_at names xs) (sym (last_kept (map tag_of xs) tag.0 (length xs) n k within (sym (last_of names apart xs tag) ∙ sym (d.tagged tag.0) ∙ sym e) lt le))
+        ∙ ap (cells_at names xs) (sym (last_kept (map tag_of xs) tag.0 (length xs) n k within (sym (place_all xs s tag all) ∙ sym e) lt le))
         ∙ tag_cells names apart xs tag n le
 
     -- a tag of no struct
-    pub cells_missing : None ≡ place_at t.tagged tag.0 → cells_at names xs None ≡ T.struct_cells (items_before names xs n) (names tag)
+    pub cells_missing : None ≡ tag_place s tag → cells_at names xs None ≡ T.struct_cells (items_before names xs n) (names tag)
     cells_missing e =
-        ap (cells_at names xs) (sym (none_kept (map tag_of xs) tag.0 (length xs) n within (sym (last_of names apart xs tag) ∙ sym (d.tagged tag.0) ∙ sym e) le))
+        ap (cells_at names xs) (sym (none_kept (map tag_of xs) tag.0 (length xs) n within (sym (place_all xs s tag all) ∙ sym e) le))
         ∙ tag_cells names apart xs tag n le

@@ -1,6 +1,5 @@
 pub mod Crossing
 pub mod Kept
-pub mod Cells
 pub mod Ended
 pub mod First
 pub mod Known

@@ -8,8 +8,8 @@ use Rattle.cpc_tree.specs.Typing as T
 use Rattle.cpc_tree.specs.Typing.{◌>>=◌}
 use Rattle.cpc_tree.specs.declared.program.Field.{Field}
 use Rattle.cpc_check_rules.specs.Apart.{AreApart}
-use Rattle.cpc_eval_index.specs.Sized.{capped, capped_size}
-use Rattle.cpc_eval_index.proofs.Cells.{next_field}
+use Rattle.cpc_types_structs.specs.Sized.{capped, capped_size}
+use Rattle.cpc_types_structs.proofs.Cells.{next_field}
 
 -- a field that comes so many cells later
 abbrev pub behind : ℕ → Option (ℕ × Ty) → Option (ℕ × Ty)

@@ -21,6 +21,9 @@ use Rattle.cpc_shapes.specs.Counted.{tag_of}
 use Rattle.cpc_shapes.specs.Indexed.{is_name, latest, last_below}
 use Rattle.cpc_shapes.proofs.Indexes.{below_next}
 use Rattle.cpc_shapes.proofs.Latest.{map_reverse, absent, found}
+use Rattle.cpc_types_structs.specs.Sized.{tag_place}
+use Rattle.cpc_types_structs.specs.Structs.{AreAllStructs}
+use Rattle.cpc_types_structs.specs.declared.structs.Structs.{Structs}
 use Rattle.cpc_eval_index.specs.Placed.{last_place}
 use Rattle.cpc_eval_index.specs.Ends.{items_before, declared_cells, cells_at, same_struct, only_field, only_struct, place_if, inner_place}
 
@@ -92,8 +95,13 @@ module _ (ks : List (Option Name)) (x : ℕ) where
             | inr h ↦ ih f h
           ]
 
-last_before : (xs : List Item) (k x : ℕ) → last_place x (map tag_of (take k xs)) ≡ last_below k (map tag_of xs) x
+-- the last of the first items, by these alone
+pub last_before : (xs : List Item) (k x : ℕ) → last_place x (map tag_of (take k xs)) ≡ last_below k (map tag_of xs) x
 last_before xs k x = ap (λ ks. latest x (reverse ks)) (sym (take-map tag_of k xs))
+
+-- where all items are in scope, the place of a tag is the last of all
+pub place_all : (xs : List Item) (s : Structs) (tag : Name) → AreAllStructs xs s → tag_place s tag ≡ last_below (length xs) (map tag_of xs) tag.0
+place_all xs s tag d = ap (λ n. last_below n s.tags.names.items tag.0) d.all ∙ ap (λ ks. last_below (length xs) ks tag.0) d.structs.tags
 
 -- ---- cells
 

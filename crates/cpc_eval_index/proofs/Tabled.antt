@@ -2,22 +2,19 @@
 use Rattle.std.proofs.Common.{◌≡◌, ℕ, ◌+◌, ◌<◌, ◌≤◌, inl, inr, if◌then◌else◌, List, [], ◌∷◌, ◌++◌, length, get_or, map, take, Option, Some, None, refl, ap, sym, ◌∙◌, arith, length-append}
 use Rattle.std.specs.Prelude.{slice_get}
 use Rattle.std.specs.List.{sum_by}
-use Rattle.std.proofs.lemmas.List.{length-map, map-append, reverse-append, length-reverse, length-take-le, take_all, take-append-le, get_or_push, get_or_append_left}
+use Rattle.std.proofs.lemmas.List.{length-map, map-append, length-take-le, take_all, take-append-le, get_or_push, get_or_append_left}
 use Rattle.std.proofs.lemmas.List.Sums.{sum_by-cons, sum_by_push}
 use Rattle.std.proofs.lemmas.Option.{slice_get_within}
 use Rattle.std.proofs.Math.Seq.{take-append_seam}
 use Rattle.cpc_base.specs.declared.names.Name.{Name}
-use Rattle.cpc_tree.specs.Erase.{Names, item_of}
-use Rattle.cpc_check_rules.specs.Apart.{AreApart}
 use Rattle.cpc_tree.specs.declared.program.Item.{Item}
 use Rattle.cpc_tree.specs.declared.program.Item.TheVariants as I
-use Rattle.cpc_shapes.specs.Indexed.{is_name, latest}
-use Rattle.cpc_shapes.specs.Counted.{name_of, tag_of}
+use Rattle.cpc_shapes.specs.Indexed.{is_name}
+use Rattle.cpc_shapes.specs.Counted.{name_of}
 use Rattle.cpc_shapes.proofs.Indexes.{pushed_at}
 use Rattle.cpc_eval_index.specs.declared.tables.Tables.{Tables}
 use Rattle.cpc_eval_index.specs.Ends.{inner_place, end_by}
-use Rattle.cpc_eval_index.specs.Placed.{place_at, or_place, first_place, last_place, definition_of, globals_in}
-use Rattle.cpc_eval_index.specs.Sized.{declared_size}
+use Rattle.cpc_eval_index.specs.Placed.{place_at, or_place, first_place, definition_of, globals_in}
 use Rattle.cpc_eval_index.specs.Tabled.{AreTables, globals_before}
 use Rattle.cpc_eval_index.proofs.Standing.{inner_below}
 use Rattle.cpc_eval_index.proofs.First.{first_pushed}
@@ -32,16 +29,6 @@ first_more key xs y x old new is step =
     ∙ sym (first_pushed x (map key xs) (key y))
     ∙ ap (first_place x) (sym (map-append key xs (y ∷ [])))
 
--- the last place likewise
-last_more : (key : Item → Option Name) (xs : List Item) (y : Item) (x : ℕ) (old new : Option ℕ) → old ≡ last_place x (map key xs)
-    → new ≡ (if is_name x (key y) then Some (length xs) else old) → new ≡ last_place x (map key (xs ++ y ∷ []))
-last_more key xs y x old new is step =
-    step
-    ∙ ap (λ o. if is_name x (key y) then Some (length xs) else o) is
-    ∙ ap (λ n. if is_name x (key y) then Some n else last_place x (map key xs)) (sym (length-reverse (map key xs) ∙ length-map xs key))
-    ∙ ap (latest x) (sym (reverse-append (map key xs) (key y ∷ [])))
-    ∙ ap (last_place x) (sym (map-append key xs (y ∷ [])))
-
 weight_one : (y : Item) → globals_in y ≤ 1
 weight_one (I.Global w t start) = omega arith
 weight_one _ = omega arith
@@ -55,17 +42,14 @@ globals_few (x ∷ xs) =
     let e : sum_by globals_in (x ∷ xs) ≡ globals_in x + sum_by globals_in xs = sum_by-cons globals_in x xs in
     omega arith
 
-module _ (xs : List Item) (y : Item) (i j : Tables) (s : Option ℕ) (e : ℕ) where
+module _ (xs : List Item) (y : Item) (i j : Tables) (e : ℕ) where
   -- what is added to the tables
   pub record IsAdded : Type 0 where
     pub named : (x : ℕ) → place_at j.named x ≡ or_place (place_at i.named x) (if is_name x (name_of y) then Some (length xs) else None)
     pub defined : (x : ℕ) → place_at j.defined x ≡ or_place (place_at i.defined x) (if is_name x (definition_of y) then Some (length xs) else None)
-    pub tagged : (x : ℕ) → place_at j.tagged x ≡ (if is_name x (tag_of y) then Some (length xs) else place_at i.tagged x)
     pub globals : j.globals.items ≡ i.globals.items ++ i.count ∷ []
-    pub sizes : j.sizes.items ≡ i.sizes.items ++ s ∷ []
     pub ends : j.ends.items ≡ i.ends.items ++ e ∷ []
     pub count : j.count ≡ i.count + globals_in y
-    pub size : (names : Names) → AreApart names → s ≡ declared_size names (map (item_of names) xs) y
     pub end : e ≡ end_by i.ends.items (length xs) (inner_place xs y)
 
   before_pushed : AreTables xs i → IsAdded → (k : ℕ) (x : Item) → slice_get (xs ++ y ∷ []) k ≡ Some x → get_or j.globals.items k 0 ≡ globals_before (xs ++ y ∷ []) k
@@ -83,25 +67,6 @@ module _ (xs : List Item) (y : Item) (i j : Tables) (s : Option ℕ) (e : ℕ) w
         ∙ get_or_push i.globals.items i.count 0 k f
         ∙ d.counted
         ∙ sym (ap (sum_by globals_in) (ap (λ m. take m (xs ++ y ∷ [])) is.0 ∙ take-append_seam xs (y ∷ [])))
-  ]
-
-  size_pushed : AreTables xs i → IsAdded → (k : ℕ) (x : Item) → slice_get (xs ++ y ∷ []) k ≡ Some x → (names : Names) → AreApart names
-      → get_or j.sizes.items k None ≡ declared_size names (map (item_of names) (take k (xs ++ y ∷ []))) x
-  size_pushed d a k x h names apart = elim (pushed_at xs y k x h) [
-    | inl is ↦
-        let g : k < length xs = slice_get_within xs k x is in
-        let f : length i.sizes.items ≡ length xs = d.sizes in
-        ap (λ l. get_or l k None) a.sizes
-        ∙ get_or_append_left i.sizes.items (s ∷ []) None k (omega arith)
-        ∙ d.sized k x is names apart
-        ∙ sym (ap (λ l. declared_size names (map (item_of names) l) x) (take-append-le k xs (y ∷ []) (omega arith)))
-    | inr is ↦
-        let f : length i.sizes.items ≡ k = d.sizes ∙ sym is.0 in
-        ap (λ l. get_or l k None) a.sizes
-        ∙ get_or_push i.sizes.items s None k f
-        ∙ a.size names apart
-        ∙ ap (declared_size names (map (item_of names) xs)) is.1
-        ∙ sym (ap (λ l. declared_size names (map (item_of names) l) x) (ap (λ m. take m (xs ++ y ∷ [])) is.0 ∙ take-append_seam xs (y ∷ [])))
   ]
 
   -- the ends of those that were there stay
@@ -143,12 +108,9 @@ module _ (xs : List Item) (y : Item) (i j : Tables) (s : Option ℕ) (e : ℕ) w
   appended d a = record {
     named = λ x. first_more name_of xs y x _ _ (d.named x) (a.named x);
     defined = λ x. first_more definition_of xs y x _ _ (d.defined x) (a.defined x);
-    tagged = λ x. last_more tag_of xs y x _ _ (d.tagged x) (a.tagged x);
     counted = a.count ∙ ap (λ n. n + globals_in y) d.counted ∙ sym (sum_by_push globals_in xs y);
     even = let f : length i.globals.items ≡ length xs = d.even in ap length a.globals ∙ length-append i.globals.items (i.count ∷ []) ∙ ap (λ n. n + 1) f ∙ sym (length-append xs (y ∷ []));
     before = before_pushed d a;
-    sizes = let f : length i.sizes.items ≡ length xs = d.sizes in ap length a.sizes ∙ length-append i.sizes.items (s ∷ []) ∙ ap (λ n. n + 1) f ∙ sym (length-append xs (y ∷ []));
-    sized = size_pushed d a;
     ends = let f : length i.ends.items ≡ length xs = d.ends in ap length a.ends ∙ length-append i.ends.items (e ∷ []) ∙ ap (λ n. n + 1) f ∙ sym (length-append xs (y ∷ []));
     ended = end_pushed d a;
   }

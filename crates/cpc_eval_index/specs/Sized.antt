@@ -1,36 +1,8 @@
--- The numbers of cells of types, capped at the greatest number of 64 bits.
-use Rattle.std.specs.Prelude.{◌≡◌, ℕ, ◌-◌, ◌^◌, min, map, Option, None, option_map}
-use Rattle.cpc_base.specs.declared.names.Name.{Name}
-use Rattle.cpc_tree.specs.Erase.{Names, field_of}
-use Rattle.cpc_tree.specs.Syntax.{Ty, TyStruct, Program}
-use Rattle.cpc_tree.specs.Typing as T
-use Rattle.cpc_tree.specs.declared.program.Item.{Item}
-use Rattle.cpc_tree.specs.declared.program.Item.TheVariants as I
-use Rattle.cpc_shapes.specs.Counted.{fields_count, size_at}
-use Rattle.cpc_eval_index.specs.Placed.{place_at}
-use Rattle.cpc_eval_index.specs.declared.tables.Tables.{Tables}
-
--- the greatest number of 64 bits stands for every greater one
-abbrev pub capped : ℕ → ℕ
-capped n = min n (2 ^ 64 - 1)
-
--- the number of cells of a type, capped
-abbrev pub capped_size : Program → Ty → Option ℕ
-capped_size p t = option_map capped (T.size p t)
+-- The numbers of cells of types, and the offsets of fields, capped.
+use Rattle.std.specs.Prelude.{ℕ, Option, option_map}
+use Rattle.cpc_tree.specs.Syntax.{Ty}
+pub use Rattle.cpc_types_structs.specs.Sized.{capped, capped_size}
 
 -- the offset of a field, capped, and its type
 abbrev pub capped_field : Option (ℕ × Ty) → Option (ℕ × Ty)
 capped_field o = option_map (λ (f : ℕ × Ty). (capped f.0, f.1)) o
-
--- the number of cells of the struct that an item declares, capped
-abbrev pub declared_size : Names → Program → Item → Option ℕ
-declared_size names p (I.Struct tag fields) = option_map capped (fields_count p (map (field_of names) fields.items))
-declared_size names p _ = None
-
--- the cells of the struct that has a tag, capped
-abbrev pub tag_size : Tables → Name → Option ℕ
-tag_size t tag = size_at t.sizes.items (place_at t.tagged tag.0)
-
--- these are the sizes of the structs of a program
-pub record AreSizes (t : Tables) (names : Names) (p : Program) : Type 0 where
-  pub each : (tag : Name) → tag_size t tag ≡ capped_size p (TyStruct (names tag))

@@ -10,41 +10,55 @@ ghost use Rattle.cpc_eval_index.specs.Tabled.{IsProgramTable};
 ghost use Rattle.cpc_eval_index.specs.Ends.{items_before, cells_at};
 ghost use Rattle.cpc_eval_index.specs.Meanings.{definition_seen, meant_if};
 ghost use Rattle.cpc_eval_index.specs.Sized.{capped_size, capped_field};
+ghost use Rattle.cpc_types_structs.specs.Structs.{AreStructs};
 
 use crate::bodies::{function_tables, table_at};
 use crate::ends::last_struct;
+use crate::fields::field_in;
 use crate::items::{fields_of, function_of};
 use crate::meant::{Meant, meaning};
-use crate::sizes::{field_in, measure};
 use crate::tables::Tables;
 use cpc_base::{Name, NoMemory};
 use cpc_eval_locals::{FunctionTable, Locals};
 use cpc_tree::program::{CType, Field, Function, Item, Program};
+use cpc_types_structs::Structs;
 use std::alloc::Global;
 
-/// What is found out of a program once: which items its names stand for, the cells of its structs, and the tables of its functions.
+/// What is found out of a program once: which items its names stand for, its structs and their cells, and the tables of its functions.
 /// It has nothing of the program itself, so it can be kept beside it.
 pub struct ProgramTable {
     pub(crate) items: Tables,
+    pub(crate) structs: Structs,
     pub(crate) functions: Vec<Option<FunctionTable>>,
 }
 
 impl Drop for ProgramTable {
     fn drop(self) {
-        let ProgramTable { items, functions } = self;
+        let ProgramTable {
+            items,
+            structs,
+            functions,
+        } = self;
         drop(items);
+        drop(structs);
         drop(functions);
     }
 }
 
 impl ProgramTable {
-    /// The table of a program. `NoMemory` is want of memory.
-    pub fn of(alloc: Global, program: &Program) -> Result<ProgramTable, NoMemory>
+    /// The table of a program, by the structs of its items. `NoMemory` is want of memory.
+    pub fn of(alloc: Global, program: &Program, structs: Structs) -> Result<ProgramTable, NoMemory>
+        requires { AreStructs program.now.items.items structs }
         ensures { IfOk result (λ table. IsProgramTable program.now.items.items table) }
     {
-        let items = Tables::of(alloc, &program.items)?;
+        let mut structs = structs;
+        let items = Tables::of(alloc, &program.items, &mut structs)?;
         let functions = function_tables(alloc, &program.items)?;
-        Ok(ProgramTable { items, functions })
+        Ok(ProgramTable {
+            items,
+            structs,
+            functions,
+        })
     }
 }
 
@@ -144,7 +158,7 @@ impl<'p> Index<'p> {
     pub fn size(&self, of: &CType) -> Option<u64>
         ensures { (names : Names) → AreApart names → result ≡ capped_size (items_of names self.now) (type_of names of.now) }
     {
-        measure(of, &self.table.items)
+        self.table.structs.measure(of)
     }
 
     /// The offset and the type of a field of the struct that has a tag; for the offset u64::MAX stands for every
@@ -154,7 +168,7 @@ impl<'p> Index<'p> {
     {
         match self.fields(tag) {
             None => None,
-            Some(fields) => field_in(fields, name, &self.table.items),
+            Some(fields) => field_in(fields, name, &self.table.structs),
         }
     }
 
@@ -172,7 +186,7 @@ impl<'p> Index<'p> {
         ensures earlier { IfSome result (λ place. place < before) }
         ensures cells { (names : Names) → AreApart names → cells_at names (program_items self.now) result ≡ T.struct_cells (items_before names (program_items self.now) before) (names tag) }
     {
-        let last = self.table.items.tagged.at(tag)?;
+        let last = self.table.structs.tagged(tag)?;
         if last < before {
             return Some(self.table.items.end(last));
         }
@@ -183,7 +197,7 @@ impl<'p> Index<'p> {
     fn fields(&self, tag: Name) -> Option<&'p [Field]>
         ensures { (names : Names) → AreApart names → option_map (λ fs. map (field_of names) fs.now) result ≡ T.fields (items_of names self.now) (names tag) }
     {
-        match self.table.items.tagged.at(tag) {
+        match self.table.structs.tagged(tag) {
             None => None,
             Some(place) => match item_at(self.program, place) {
                 None => None,

@@ -3,11 +3,11 @@
 
 mod bodies;
 mod ends;
+mod fields;
 mod index;
 mod items;
 mod meant;
 mod places;
-mod sizes;
 mod tables;
 
 pub use index::{Index, ProgramTable};

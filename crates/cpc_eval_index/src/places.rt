@@ -64,14 +64,4 @@ impl Places {
             None => self.set(name, number),
         }
     }
-
-    /// A name gets this number, whatever it had before.
-    pub(crate) fn keep_last(&mut self, name: Option<Name>, number: usize) -> Result<(), NoMemory>
-        ensures { OnOk result ((x : ℕ) → place_at self.new x ≡ (if is_name x name then Some number else place_at self.old x)) }
-    {
-        match name {
-            Some(name) => self.set(name, number),
-            None => Ok(()),
-        }
-    }
 }

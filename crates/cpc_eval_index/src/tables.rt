@@ -2,29 +2,28 @@
 ghost use Rattle.std.specs.Prelude.{◌≡◌, ◌+◌, ◌<◌, IfOk, OnOk, length, take, get_or};
 ghost use Rattle.cpc_eval_index.specs.Ends.{only_struct, place_if, end_by};
 ghost use Rattle.cpc_eval_index.specs.Placed.{place_at};
-ghost use Rattle.cpc_eval_index.specs.Sized.{tag_size};
 ghost use Rattle.cpc_eval_index.specs.Tabled.{AreTables};
+ghost use Rattle.cpc_shapes.specs.Indexed.{last_below};
+ghost use Rattle.cpc_types_structs.specs.Indexed.{IsIndex};
+ghost use Rattle.cpc_types_structs.specs.Structs.{AreStructs, AreAllStructs};
 
 use crate::ends::only_struct;
-use crate::items::{definition_of, globals_in, name_of, tag_of};
+use crate::items::{definition_of, globals_in, name_of};
 use crate::places::Places;
-use crate::sizes::declared_size;
-use cpc_base::{Name, NoMemory};
+use cpc_base::NoMemory;
 use cpc_tree::program::Item;
+use cpc_types_structs::Structs;
 use std::alloc::Global;
 
-/// The first item that declares each name, the first that defines it, the last struct of each tag; for each item how
-/// many globals come before it, the cells of the struct that it declares, capped, and a place at or before it whose struct
-/// has the same cells.
+/// The first item that declares each name, and the first that defines it; for each item how many globals come before it,
+/// and a place at or before it whose struct has the same cells as the struct that it declares.
 ///
 /// The last skips structs whose only field is a struct, so that going from a struct to its cells takes no longer than there
 /// are cells, however long a chain of such structs is.
 pub(crate) struct Tables {
     pub named: Places,
     pub defined: Places,
-    pub tagged: Places,
     pub globals: Vec<u64>,
-    pub sizes: Vec<Option<u64>>,
     pub ends: Vec<usize>,
     pub count: u64,
 }
@@ -34,67 +33,69 @@ impl Drop for Tables {
         let Tables {
             named,
             defined,
-            tagged,
             globals,
-            sizes,
             ends,
             count: _,
         } = self;
         drop(named);
         drop(defined);
-        drop(tagged);
         drop(globals);
-        drop(sizes);
         drop(ends);
     }
 }
 
 impl Tables {
-    /// What the items of a list declare. `NoMemory` is want of memory.
-    pub(crate) fn of(alloc: Global, list: &[Item]) -> Result<Tables, NoMemory>
-        ensures { IfOk result (λ tables. AreTables list.now tables) }
+    /// What the items of a list declare, of which these are the structs. `NoMemory` is want of memory.
+    pub(crate) fn of(
+        alloc: Global,
+        list: &[Item],
+        structs: &mut Structs,
+    ) -> Result<Tables, NoMemory>
+        requires { AreStructs list.now structs.old }
+        ensures tables { IfOk result (λ tables. AreTables list.now tables) }
+        ensures structs { OnOk result (AreAllStructs list.now structs.new) }
     {
         let mut tables = Tables {
             named: Places::new(alloc),
             defined: Places::new(alloc),
-            tagged: Places::new(alloc),
             globals: Vec::new(alloc),
-            sizes: Vec::new(alloc),
             ends: Vec::new(alloc),
             count: 0,
         };
         for i in 0..list.len() {
-            tables.append(list, i)?;
+            structs.enter(i);
+            tables.append(list, i, structs)?;
         }
+        structs.enter(list.len());
         Ok(tables)
     }
 
-    // One more item of a list, where all those before it are there.
-    fn append(&mut self, list: &[Item], place: usize) -> Result<(), NoMemory>
+    // One more item of a list, where all those before it are there, and their structs in scope.
+    fn append(&mut self, list: &[Item], place: usize, structs: &Structs) -> Result<(), NoMemory>
         requires within { place < length list.now }
         requires tables { AreTables (take place list.now) self.old }
+        requires structs { AreStructs list.now structs.now }
+        requires before { structs.now.tags.count ≡ place }
         ensures { OnOk result (AreTables (take (place + 1) list.now) self.new) }
     {
         let item = &list[place];
-        let size = declared_size(item, self);
-        let end = self.end_of(item, place);
+        let end = self.end_of(item, place, structs);
         self.named.keep_first(name_of(item), place)?;
         self.defined.keep_first(definition_of(item), place)?;
-        self.tagged.keep_last(tag_of(item), place)?;
         self.globals.push(self.count)?;
-        self.sizes.push(size)?;
         self.ends.push(end)?;
         self.count += globals_in(item);
         Ok(())
     }
 
     // A place at or before that of an item whose struct has the cells of the struct that the item declares, where all items
-    // before it are there.
-    fn end_of(&self, item: &Item, place: usize) -> usize
-        ensures { result ≡ end_by self.now.ends.items place (place_if (place_at self.now.tagged) (only_struct item.now)) }
+    // before it are there, and their structs in scope.
+    fn end_of(&self, item: &Item, place: usize, structs: &Structs) -> usize
+        requires { IsIndex structs.now.tags }
+        ensures { result ≡ end_by self.now.ends.items place (place_if (last_below structs.now.tags.count structs.now.tags.names.items) (only_struct item.now)) }
     {
         match only_struct(item) {
-            Some(tag) => match self.tagged.at(tag) {
+            Some(tag) => match structs.tagged(tag) {
                 Some(inner) => self.end(inner),
                 None => place,
             },
@@ -119,19 +120,6 @@ impl Tables {
         match self.globals.get(place) {
             Some(count) => *count,
             None => 0,
-        }
-    }
-
-    /// The cells of the struct that has a tag, capped.
-    pub(crate) fn size(&self, tag: Name) -> Option<u64>
-        ensures { result ≡ tag_size self.now tag }
-    {
-        match self.tagged.at(tag) {
-            Some(place) => match self.sizes.get(place) {
-                Some(size) => *size,
-                None => None,
-            },
-            None => None,
         }
     }
 }

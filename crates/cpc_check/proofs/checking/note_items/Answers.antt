@@ -7,6 +7,7 @@ use Rattle.cpc_check_rules.specs.Noted.{noted, first_of}
 use Rattle.cpc_check_rules.specs.ItemRules as R
 use Rattle.cpc_types.specs.Scoped.{all_items, first_items}
 use Rattle.cpc_check_items.specs.Pasts.{AreEarlier}
+use Rattle.cpc_types_structs.specs.Structs.{AreAllStructs}
 use Rattle.cpc_check.proofs.Parts.{next_items, noted_left, none_left}
 use Rattle.cpc_check.proofs.checking.note_items.Goals as goal
 
@@ -43,9 +44,12 @@ loop-i-preserved c =
       earlier = λ names apart. subst (λ b. AreEarlier names b c.add.new.self) (sym (next_items names xs i x there)) (c.in_ok-add.ensures names apart (first_items names i xs) (c.loop-i.invariant.earlier names apart));
     }
 
-pub returns : goal.returns
-returns c = λ names spells bodies.
+pub returns-clause-noted : goal.returns-clause-noted
+returns-clause-noted c = λ names spells bodies.
     let xs = c.args.program.now.items.items in
     let program = map (item_of names) xs in
     let past : length xs ≤ c.loop-i.i = omega (arith, c.loop-i-test.false, ap length c.loop-i.invariant.items) in
     sym (none_left c.args.dialect names program xs c.loop-i.i (first_of c.loop-i.first) past) ∙ c.loop-i.invariant.noted names spells bodies
+
+pub returns-clause-structs : goal.returns-clause-structs
+returns-clause-structs c = subst (λ xs. AreAllStructs xs c.into_structs.result) c.loop-i.invariant.all c.into_structs.ensures

@@ -2,7 +2,7 @@ use Rattle.std.proofs.Common.{◌∙◌, ◌+◌, ℕ, map, drop, sym, ap, arith
 use Rattle.cpc_tree.specs.Erase.{field_of}
 use Rattle.cpc_tree.specs.Typing as T
 use Rattle.cpc_eval_index.proofs.Offsets.{behind, field_here, field_passed, field_lost}
-use Rattle.cpc_eval_index.proofs.sizes.field_in.Goals as goal
+use Rattle.cpc_eval_index.proofs.fields.field_in.Goals as goal
 
 pub loop-field-preserved : goal.loop-field-preserved
 loop-field-preserved c = record {
