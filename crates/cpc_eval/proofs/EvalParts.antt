@@ -20,7 +20,7 @@ use Rattle.cpc_eval_values.proofs.Meeting.{meets_then, meets_fault}
 use Rattle.cpc_eval.specs.Around.{operate_in, type_in, meant_in}
 use Rattle.cpc_eval.specs.Numbers.{HasNumbers, FitsSize, size_value}
 use Rattle.cpc_eval.specs.Shapes.{Agrees}
-use Rattle.cpc_eval.specs.Values.{unary_value, operator_value, branch_value, place_value, test_value, assigned_at}
+use Rattle.cpc_eval.specs.Values.{unary_value, operator_value, branch_value, place_value, test_value, assigned_if, assigned_at}
 use Rattle.cpc_eval.proofs.Evaluating.{chain_one, name_value, name_place, name_address, index_there, member_there, arrow_there, star_there}
 
 module _ (c : E.Context) (e : S.Expr) where
@@ -136,19 +136,13 @@ module _ (c : E.Context) (e : S.Expr) where
 
   -- ---- two operands
 
-  pub operate_same : (op : Op) (a b x y : S.Expr) (v w : Value) (r : Result Value Fault) → x ≡ a → y ≡ b → Meets r (operate_in c op x y v w) → Meets r (operate_in c op a b v w)
-  operate_same op a b x y v w r ex ey g =
-      let P : S.Expr → Type 0 = λ z. Meets r (operate_in c op z y v w) in
-      let Q : S.Expr → Type 0 = λ z. Meets r (operate_in c op a z v w) in
-      subst Q ey (subst P ex g)
-
-  pub binary_valued : (op : Op) (a b x y : S.Expr) (v w : Value) (r : Result Value Fault) → e ≡ S.EBinary op a b → x ≡ a → y ≡ b → HasNumbers c.program e
-      → Valued a (Ok v) → Valued b (Ok w) → Meets r (operate_in c op x y v w) → Meets r (operator_value c e)
-  binary_valued op a b x y v w r is ex ey n m k g =
+  pub binary_valued : (op : Op) (a b : S.Expr) (v w : Value) (r : Result Value Fault) → e ≡ S.EBinary op a b → HasNumbers c.program e
+      → Valued a (Ok v) → Valued b (Ok w) → Meets r (operate_in c op a b v w) → Meets r (operator_value c e)
+  binary_valued op a b v w r is n m k g =
       let i = numbers (S.EBinary op a b) is n in
       met (operator_value c) (S.EBinary op a b) r is
       (meets_then v (E.value c a) (λ f. E.value c b >>= (λ h. operate_in c op a b f h)) r (m i.0)
-      (meets_then w (E.value c b) (λ h. operate_in c op a b v h) r (k i.1) (operate_same op a b x y v w r ex ey g)))
+      (meets_then w (E.value c b) (λ h. operate_in c op a b v h) r (k i.1) g))
 
   pub binary_fails_first : (op : Op) (a b : S.Expr) (fault : Fault) → e ≡ S.EBinary op a b → HasNumbers c.program e → Valued a (Err fault) → Meets {A = Value} (Err fault) (operator_value c e)
   binary_fails_first op a b fault is n m =
@@ -236,6 +230,11 @@ module _ (c : E.Context) (e : S.Expr) where
       go None k = tt
       go (Some t) k = g t k
 
+  -- whatever the type
+  unshaped : (o : Option Ty) (f : Ty → Answer Value) (r : Result Value Fault) → ((t : Ty) → Meets r (f t)) → Meets r (needed o >>= f)
+  unshaped None f r g = tt
+  unshaped (Some t) f r g = g t
+
   module _ (t a b : S.Expr) where
     abbrev picked : Bool → Answer Value
     picked x = needed (E.used_type c (S.EChoose t a b)) >>= (λ u. E.chosen x (E.value c a) (E.value c b) >>= E.at_type u)
@@ -243,47 +242,37 @@ module _ (c : E.Context) (e : S.Expr) where
     pub choose_fails : (fault : Fault) → e ≡ S.EChoose t a b → HasNumbers c.program e → (HasNumbers c.program t → Meets {A = Bool} (Err fault) (test_value c t)) → Meets {A = Value} (Err fault) (branch_value c e)
     choose_fails fault is n m = met (branch_value c) (S.EChoose t a b) (Err fault) is (tested_fails t fault picked (m (numbers (S.EChoose t a b) is n).0))
 
-    agreed : (d : Option T.Typed) → e ≡ S.EChoose t a b → Agrees d (type_in c e) → Agrees d (type_in c (S.EChoose t a b))
-    agreed d is h = let P : S.Expr → Type 0 = λ y. Agrees d (type_in c y) in subst P is h
-
     pub choose_yes : (d : Option T.Typed) (s : Option Ty) (w : Value) (r : Result Value Fault) → e ≡ S.EChoose t a b → HasNumbers c.program e → (HasNumbers c.program t → Meets (Ok true) (test_value c t)) → Valued a (Ok w)
-        → Agrees d (type_in c e) → s ≡ used_of d → ((u : Ty) → s ≡ Some u → Meets r (E.at_type u w)) → Meets r (branch_value c e)
+        → Agrees d (type_in c (S.EChoose t a b)) → s ≡ used_of d → ((u : Ty) → s ≡ Some u → Meets r (E.at_type u w)) → Meets r (branch_value c e)
     choose_yes d s w r is n m k h i g =
         let j = numbers (S.EChoose t a b) is n in
         met (branch_value c) (S.EChoose t a b) r is (tested_then t true picked r (m j.0)
-        (shaped d (type_in c (S.EChoose t a b)) s (λ u. E.value c a >>= E.at_type u) r (agreed d is h) i (λ u q. meets_then w (E.value c a) (E.at_type u) r (k j.1) (g u q))))
+        (shaped d (type_in c (S.EChoose t a b)) s (λ u. E.value c a >>= E.at_type u) r h i (λ u q. meets_then w (E.value c a) (E.at_type u) r (k j.1) (g u q))))
 
-    pub choose_yes_fails : (d : Option T.Typed) (s : Option Ty) (fault : Fault) → e ≡ S.EChoose t a b → HasNumbers c.program e → (HasNumbers c.program t → Meets (Ok true) (test_value c t)) → Valued a (Err fault)
-        → Agrees d (type_in c e) → s ≡ used_of d → Meets {A = Value} (Err fault) (branch_value c e)
-    choose_yes_fails d s fault is n m k h i =
+    pub choose_yes_fails : (fault : Fault) → e ≡ S.EChoose t a b → HasNumbers c.program e → (HasNumbers c.program t → Meets (Ok true) (test_value c t)) → Valued a (Err fault) → Meets {A = Value} (Err fault) (branch_value c e)
+    choose_yes_fails fault is n m k =
         let j = numbers (S.EChoose t a b) is n in
         met (branch_value c) (S.EChoose t a b) (Err fault) is (tested_then t true picked (Err fault) (m j.0)
-        (shaped d (type_in c (S.EChoose t a b)) s (λ u. E.value c a >>= E.at_type u) (Err fault) (agreed d is h) i (λ u q. meets_fault fault (E.value c a) (E.at_type u) (k j.1))))
+        (unshaped (E.used_type c (S.EChoose t a b)) (λ u. E.value c a >>= E.at_type u) (Err fault) (λ u. meets_fault fault (E.value c a) (E.at_type u) (k j.1))))
 
     pub choose_no : (d : Option T.Typed) (s : Option Ty) (w : Value) (r : Result Value Fault) → e ≡ S.EChoose t a b → HasNumbers c.program e → (HasNumbers c.program t → Meets (Ok false) (test_value c t)) → Valued b (Ok w)
-        → Agrees d (type_in c e) → s ≡ used_of d → ((u : Ty) → s ≡ Some u → Meets r (E.at_type u w)) → Meets r (branch_value c e)
+        → Agrees d (type_in c (S.EChoose t a b)) → s ≡ used_of d → ((u : Ty) → s ≡ Some u → Meets r (E.at_type u w)) → Meets r (branch_value c e)
     choose_no d s w r is n m k h i g =
         let j = numbers (S.EChoose t a b) is n in
         met (branch_value c) (S.EChoose t a b) r is (tested_then t false picked r (m j.0)
-        (shaped d (type_in c (S.EChoose t a b)) s (λ u. E.value c b >>= E.at_type u) r (agreed d is h) i (λ u q. meets_then w (E.value c b) (E.at_type u) r (k j.2) (g u q))))
+        (shaped d (type_in c (S.EChoose t a b)) s (λ u. E.value c b >>= E.at_type u) r h i (λ u q. meets_then w (E.value c b) (E.at_type u) r (k j.2) (g u q))))
 
-    pub choose_no_fails : (d : Option T.Typed) (s : Option Ty) (fault : Fault) → e ≡ S.EChoose t a b → HasNumbers c.program e → (HasNumbers c.program t → Meets (Ok false) (test_value c t)) → Valued b (Err fault)
-        → Agrees d (type_in c e) → s ≡ used_of d → Meets {A = Value} (Err fault) (branch_value c e)
-    choose_no_fails d s fault is n m k h i =
+    pub choose_no_fails : (fault : Fault) → e ≡ S.EChoose t a b → HasNumbers c.program e → (HasNumbers c.program t → Meets (Ok false) (test_value c t)) → Valued b (Err fault) → Meets {A = Value} (Err fault) (branch_value c e)
+    choose_no_fails fault is n m k =
         let j = numbers (S.EChoose t a b) is n in
         met (branch_value c) (S.EChoose t a b) (Err fault) is (tested_then t false picked (Err fault) (m j.0)
-        (shaped d (type_in c (S.EChoose t a b)) s (λ u. E.value c b >>= E.at_type u) (Err fault) (agreed d is h) i (λ u q. meets_fault fault (E.value c b) (E.at_type u) (k j.2))))
+        (unshaped (E.used_type c (S.EChoose t a b)) (λ u. E.value c b >>= E.at_type u) (Err fault) (λ u. meets_fault fault (E.value c b) (E.at_type u) (k j.2))))
 
   -- ---- assignments
 
-  pub assigned_as : (d : Option T.Typed) (s : Option Ty) (v : Value) (r : Result Value Fault) → Agrees d (type_in c e) → s ≡ E.and_then d T.typed_place
-      → ((t : Ty) → s ≡ Some t → Meets r (E.assigned t v)) → Meets r (assigned_at c e v)
-  assigned_as d s v r h i g = go (type_in c e) h
+  pub assigned_as : (d : Option T.Typed) (of : Option Ty) (v : Value) (r : Result Value Fault) → Agrees d (type_in c e) → of ≡ E.and_then d T.typed_place → Meets r (assigned_if of v) → Meets r (assigned_at c e v)
+  assigned_as d of v r h i g = go (type_in c e) h
     where
-      at : (o : Option Ty) → s ≡ o → Meets r (needed o >>= (λ t. E.assigned t v))
-      at None k = tt
-      at (Some t) k = g t k
-
-      go : (o : Option T.Typed) → Agrees d o → Meets r (needed (E.and_then o T.typed_place) >>= (λ t. E.assigned t v))
+      go : (o : Option T.Typed) → Agrees d o → Meets r (assigned_if (E.and_then o T.typed_place) v)
       go None k = tt
-      go (Some y) k = at (T.typed_place y) (i ∙ ap (λ z. E.and_then z T.typed_place) k)
+      go (Some y) k = let P : Option Ty → Type 0 = λ q. Meets r (assigned_if q v) in subst P (i ∙ ap (λ z. E.and_then z T.typed_place) k) g

@@ -31,9 +31,6 @@ pub few_slots : (names : Names) (a : Around) → length a.slots.now < 2 ^ 64 →
 few_slots names a h = let P : ℕ → Type 0 = λ n. n < 2 ^ 64 in subst P (sym (length-map a.slots.now (slot_of names))) h
 
 module _ (names : Names) where
-  pub same_seen : (x y : Expr) (b : Box Expr Global) → x ≡ b.value → y ≡ b.value → expr_of names x ≡ expr_of names y
-  same_seen x y b h g = ap (expr_of names) (h ∙ sym g)
-
   module _ (e : Expr) where
     pub name_seen : (w : Word) → e ≡ G.Name w → expr_of names e ≡ S.ENamed (names w.name)
     name_seen w is = ap (expr_of names) is

@@ -9,3 +9,4 @@ pub mod PlaceParts
 pub mod Forms
 pub mod OtherForms
 pub mod Literals
+pub mod Giving

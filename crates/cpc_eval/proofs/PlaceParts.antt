@@ -18,7 +18,7 @@ use Rattle.cpc_eval.specs.Numbers.{HasNumbers}
 use Rattle.cpc_eval.specs.Shapes.{Agrees}
 use Rattle.cpc_eval.specs.Values.{place_value}
 use Rattle.cpc_eval.proofs.Evaluating.{read_by, field_by}
-use Rattle.cpc_eval.proofs.EvalParts.{numbers, met, operate_same}
+use Rattle.cpc_eval.proofs.EvalParts.{numbers, met}
 
 module _ (c : E.Context) (e : S.Expr) where
   -- ---- what is there
@@ -48,23 +48,19 @@ module _ (c : E.Context) (e : S.Expr) where
     abbrev second_of : Value → Answer E.Spot
     second_of v = E.value c b >>= sum_of v
 
-    pub index_placed : (x y : S.Expr) (v w u : Value) (r : Result E.Spot Fault) → e ≡ S.EIndex a b → x ≡ a → y ≡ b → HasNumbers c.program e
-        → (HasNumbers c.program a → Meets (Ok v) (E.value c a)) → (HasNumbers c.program b → Meets (Ok w) (E.value c b)) → Meets (Ok u) (operate_in c Add x y v w) → Meets r (E.pointed u) → Meets r (E.place c e)
-    index_placed x y v w u r is ex ey n m k h g =
+    pub index_placed : (v w u : Value) (r : Result E.Spot Fault) → e ≡ S.EIndex a b → HasNumbers c.program e
+        → (HasNumbers c.program a → Meets (Ok v) (E.value c a)) → (HasNumbers c.program b → Meets (Ok w) (E.value c b)) → Meets (Ok u) (operate_in c Add a b v w) → Meets r (E.pointed u) → Meets r (E.place c e)
+    index_placed v w u r is n m k h g =
         let i = numbers c e (S.EIndex a b) is n in
         met c e (E.place c) (S.EIndex a b) r is
-        (meets_then v (E.value c a) second_of r (m i.0)
-        (meets_then w (E.value c b) (sum_of v) r (k i.1)
-        (meets_then u (operate_in c Add a b v w) E.pointed r (operate_same c e Add a b x y v w (Ok u) ex ey h) g)))
+        (meets_then v (E.value c a) second_of r (m i.0) (meets_then w (E.value c b) (sum_of v) r (k i.1) (meets_then u (operate_in c Add a b v w) E.pointed r h g)))
 
-    pub index_fails_sum : (x y : S.Expr) (v w : Value) (fault : Fault) → e ≡ S.EIndex a b → x ≡ a → y ≡ b → HasNumbers c.program e
-        → (HasNumbers c.program a → Meets (Ok v) (E.value c a)) → (HasNumbers c.program b → Meets (Ok w) (E.value c b)) → Meets {A = Value} (Err fault) (operate_in c Add x y v w) → Meets {A = E.Spot} (Err fault) (E.place c e)
-    index_fails_sum x y v w fault is ex ey n m k h =
+    pub index_fails_sum : (v w : Value) (fault : Fault) → e ≡ S.EIndex a b → HasNumbers c.program e
+        → (HasNumbers c.program a → Meets (Ok v) (E.value c a)) → (HasNumbers c.program b → Meets (Ok w) (E.value c b)) → Meets {A = Value} (Err fault) (operate_in c Add a b v w) → Meets {A = E.Spot} (Err fault) (E.place c e)
+    index_fails_sum v w fault is n m k h =
         let i = numbers c e (S.EIndex a b) is n in
         met c e (E.place c) (S.EIndex a b) (Err fault) is
-        (meets_then v (E.value c a) second_of (Err fault) (m i.0)
-        (meets_then w (E.value c b) (sum_of v) (Err fault) (k i.1)
-        (meets_fault fault (operate_in c Add a b v w) E.pointed (operate_same c e Add a b x y v w (Err fault) ex ey h))))
+        (meets_then v (E.value c a) second_of (Err fault) (m i.0) (meets_then w (E.value c b) (sum_of v) (Err fault) (k i.1) (meets_fault fault (operate_in c Add a b v w) E.pointed h)))
 
     pub index_fails_second : (v : Value) (fault : Fault) → e ≡ S.EIndex a b → HasNumbers c.program e
         → (HasNumbers c.program a → Meets (Ok v) (E.value c a)) → (HasNumbers c.program b → Meets {A = Value} (Err fault) (E.value c b)) → Meets {A = E.Spot} (Err fault) (E.place c e)
@@ -79,9 +75,6 @@ module _ (c : E.Context) (e : S.Expr) where
 
   -- ---- a field
 
-  typed_same : (a b : S.Expr) (d : Option T.Typed) → b ≡ a → Agrees d (type_in c b) → Agrees d (type_in c a)
-  typed_same a b d is h = let P : S.Expr → Type 0 = λ y. Agrees d (type_in c y) in subst P is h
-
   module _ (a : S.Expr) (x : Text) where
     abbrev field_at : Value → Answer E.Spot
     field_at v = E.field_spot c.program c.store (E.place_type c a) x v
@@ -89,13 +82,13 @@ module _ (c : E.Context) (e : S.Expr) where
     abbrev member_then : E.Spot → Answer E.Spot
     member_then s = E.pointer_to s >>= field_at
 
-    pub member_placed : (b : S.Expr) (spot : E.Spot) (v : Value) (d : Option T.Typed) (of : Option Ty) (r : Result E.Spot Fault) → e ≡ S.EMember a x → b ≡ a → HasNumbers c.program e
-        → (HasNumbers c.program a → Meets (Ok spot) (E.place c a)) → Meets (Ok v) (E.pointer_to spot) → Agrees d (type_in c b) → of ≡ E.and_then d T.typed_place
+    pub member_placed : (spot : E.Spot) (v : Value) (d : Option T.Typed) (of : Option Ty) (r : Result E.Spot Fault) → e ≡ S.EMember a x → HasNumbers c.program e
+        → (HasNumbers c.program a → Meets (Ok spot) (E.place c a)) → Meets (Ok v) (E.pointer_to spot) → Agrees d (type_in c a) → of ≡ E.and_then d T.typed_place
         → Meets r (E.field_spot c.program c.store of x v) → Meets r (E.place c e)
-    member_placed b spot v d of r is same n m k h i g =
+    member_placed spot v d of r is n m k h i g =
         met c e (E.place c) (S.EMember a x) r is
         (meets_then spot (E.place c a) member_then r (m (numbers c e (S.EMember a x) is n))
-        (meets_then v (E.pointer_to spot) field_at r k (field_by c T.typed_place d (type_in c a) of x v r (typed_same a b d same h) i g)))
+        (meets_then v (E.pointer_to spot) field_at r k (field_by c T.typed_place d (type_in c a) of x v r h i g)))
 
     pub member_fails_pointer : (spot : E.Spot) (fault : Fault) → e ≡ S.EMember a x → HasNumbers c.program e
         → (HasNumbers c.program a → Meets (Ok spot) (E.place c a)) → Meets {A = Value} (Err fault) (E.pointer_to spot) → Meets {A = E.Spot} (Err fault) (E.place c e)
@@ -117,12 +110,11 @@ module _ (c : E.Context) (e : S.Expr) where
         let P : Option Ty → Type 0 = λ z. Meets r (E.field_spot c.program c.store z x v) in
         subst P (j ∙ ap (λ z. E.and_then z T.target) (i ∙ ap used_of h)) g
 
-    pub arrow_placed : (b : S.Expr) (v : Value) (d : Option T.Typed) (s of : Option Ty) (r : Result E.Spot Fault) → e ≡ S.EArrow a x → b ≡ a → HasNumbers c.program e
-        → (HasNumbers c.program a → Meets (Ok v) (E.value c a)) → Agrees d (type_in c b) → s ≡ used_of d → of ≡ E.and_then s T.target
+    pub arrow_placed : (v : Value) (d : Option T.Typed) (s of : Option Ty) (r : Result E.Spot Fault) → e ≡ S.EArrow a x → HasNumbers c.program e
+        → (HasNumbers c.program a → Meets (Ok v) (E.value c a)) → Agrees d (type_in c a) → s ≡ used_of d → of ≡ E.and_then s T.target
         → Meets r (E.field_spot c.program c.store of x v) → Meets r (E.place c e)
-    arrow_placed b v d s of r is same n m h i j g =
-        met c e (E.place c) (S.EArrow a x) r is
-        (meets_then v (E.value c a) arrow_then r (m (numbers c e (S.EArrow a x) is n)) (arrow_by d (type_in c a) s of v r (typed_same a b d same h) i j g))
+    arrow_placed v d s of r is n m h i j g =
+        met c e (E.place c) (S.EArrow a x) r is (meets_then v (E.value c a) arrow_then r (m (numbers c e (S.EArrow a x) is n)) (arrow_by d (type_in c a) s of v r h i j g))
 
     pub arrow_fails : (fault : Fault) → e ≡ S.EArrow a x → HasNumbers c.program e → (HasNumbers c.program a → Meets {A = Value} (Err fault) (E.value c a)) → Meets {A = E.Spot} (Err fault) (E.place c e)
     arrow_fails fault is n m =

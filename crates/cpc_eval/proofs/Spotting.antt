@@ -30,7 +30,7 @@ use Rattle.cpc_eval_index.specs.declared.meant.Meant.TheVariants as G
 use Rattle.cpc_eval_values.specs.Meets.{Meets}
 use Rattle.cpc_eval_values.specs.Shown.{shown, store_of}
 use Rattle.cpc_eval_values.proofs.Meeting.{meets_then, meets_fault}
-use Rattle.cpc_eval.specs.Shapes.{field_among}
+use Rattle.cpc_eval.specs.Shapes.{field_among, Agrees}
 use Rattle.cpc_eval.specs.Spots.{cell_read, code_named}
 
 -- ---- loads
@@ -87,6 +87,19 @@ field_bound p s (Some t) x v = go (T.struct_tag t)
         ≡ (needed (tag >>> (λ y. T.field p y x)) >>= (λ f. E.moved s v (pos f.0) >>= E.pointed))
     go None = refl
     go (Some tag) = refl
+
+-- the type of a field that was found
+pub field_typed : (p : Program) (o : Option Ty) (x : Text) (n : ℕ) (t : Ty) → Some (n, t) ≡ capped_field (field_among p o x) → Agrees (Some (T.APlace t)) (T.field_type p o x)
+field_typed p None x n t e = tt
+field_typed p (Some u) x n t e = go (T.struct_tag u) e
+  where
+    last : (q : Option (ℕ × Ty)) → Some (n, t) ≡ capped_field q → Agrees (Some (T.APlace t)) (q >>> (λ f. Some (T.APlace f.1)))
+    last None e = tt
+    last (Some f) e = let d : (n, t) ≡ (capped f.0, f.1) = cc in ap (λ (y : ℕ × Ty). Some (T.APlace y.1)) d
+
+    go : (tag : Option Text) → Some (n, t) ≡ capped_field (tag >>> (λ y. T.field p y x)) → Agrees (Some (T.APlace t)) (tag >>> (λ y. T.field p y x >>> (λ f. Some (T.APlace f.1))))
+    go None e = tt
+    go (Some y) e = last (T.field p y x) e
 
 pub field_met : (p : Program) (s : S.Store) (o : Option Ty) (x : Text) (v there : Value) (n : ℕ) (t : Ty) (r : Result E.Spot Fault) → Some (n, t) ≡ capped_field (field_among p o x)
     → ((m : ℕ) → n ≡ capped m → Meets (Ok there) (E.moved s v (pos m))) → Meets r (E.pointed there) → Meets r (E.field_spot p s o x v)

@@ -17,7 +17,8 @@ use Rattle.cpc_tree.specs.Syntax.{Ty, TyInt, Program}
 use Rattle.cpc_tree.specs.Typing as T
 use Rattle.cpc_tree.specs.Typing.{◌>>=◌, AValue, Scope}
 use Rattle.cpc_meaning.specs.Eval as E
-use Rattle.cpc_shapes.specs.Forms.{is_named, unary_of, binary_of, choice_of, index_of}
+use Rattle.cpc_shapes.specs.Found.{used_of}
+use Rattle.cpc_shapes.specs.Forms.{is_named, unary_of, binary_of, choice_of, index_of, member_of, arrow_of}
 use Rattle.cpc_eval_locals.specs.Held.{Held, local_in, capped_held}
 use Rattle.cpc_eval.specs.Around.{meant_or, meant_in, type_in, type_within}
 use Rattle.cpc_eval.specs.Shapes.{Agrees}
@@ -119,46 +120,74 @@ null_int : (c : E.Context) (a : S.Expr) → T.is_null a ≡ true → type_in c a
 null_int c (S.EInteger K.Int z) e = refl
 null_int c _ e = cc
 
+-- ---- types that agree with those of the parts
+
+module _ (c : E.Context) where
+  -- the same expression
+  pub typed_as : (e x : S.Expr) (r : Option T.Typed) → e ≡ x → Agrees r (type_in c x) → Agrees r (type_in c e)
+  typed_as e x r is h = let P : S.Expr → Type 0 = λ y. Agrees r (type_in c y) in subst P (sym is) h
+
+  pub unary_by : (op : UnaryOp) (a : S.Expr) (named : Bool) (d r : Option T.Typed) → named ≡ is_named a → Agrees d (type_in c a) → Agrees r (unary_of op named d) → Agrees r (type_in c (S.EUnary op a))
+  unary_by op a named d r n h g = agrees_by r _ _ (unary_typed c op a) (agrees_through (unary_of op (is_named a)) r d (type_in c a) (unary_strict op (is_named a)) h (rw n at g))
+
+  pub binary_by : (op : Op) (a b : S.Expr) (d f r : Option T.Typed) → Agrees d (type_in c a) → Agrees f (type_in c b) → ((m n : Bool) → Agrees r (binary_of c.program op m n d f)) → Agrees r (type_in c (S.EBinary op a b))
+  binary_by op a b d f r h k g =
+      let form = binary_of c.program op (T.is_null a) (T.is_null b) in
+      agrees_through (λ q. form q (type_in c b)) r d (type_in c a) refl h (agrees_through (form d) r f (type_in c b) (ends d) k (g (T.is_null a) (T.is_null b)))
+
+  pub index_by : (a b : S.Expr) (d f r : Option T.Typed) → Agrees d (type_in c a) → Agrees f (type_in c b) → Agrees r (index_of c.program d f) → Agrees r (type_in c (S.EIndex a b))
+  index_by a b d f r h k g =
+      agrees_through (λ q. index_of c.program q (type_in c b)) r d (type_in c a) refl h (agrees_through (index_of c.program d) r f (type_in c b) (ends d) k g)
+
+  pub choose_by : (t a b : S.Expr) (d f r : Option T.Typed) → Agrees d (type_in c a) → Agrees f (type_in c b)
+      → ((m n : Bool) (o : Option T.Typed) → (m ≡ true → d ≡ Some (AValue (TyInt K.Int))) → Agrees r (choice_of m n o d f)) → Agrees r (type_in c (S.EChoose t a b))
+  choose_by t a b d f r h i g =
+      let o = type_in c t in
+      let P : Option T.Typed → Type 0 = λ q. Agrees d q in
+      let zero : T.is_null a ≡ true → d ≡ Some (AValue (TyInt K.Int)) = λ n. subst P (null_int c a n) h in
+      agrees_through (λ q. choice_of (T.is_null a) (T.is_null b) o q (type_in c b)) r d (type_in c a) (choice_begins (T.tested_type o)) h
+      (agrees_through (choice_of (T.is_null a) (T.is_null b) o d) r f (type_in c b) (choice_ends (T.tested_type o) d) i (g (T.is_null a) (T.is_null b) o zero))
+
+  -- a field whose type was found by that of its struct
+  pub member_by : (a : S.Expr) (x : Text) (d r : Option T.Typed) (of : Option Ty) → Agrees d (type_in c a) → of ≡ E.and_then d T.typed_place → Agrees r (T.field_type c.program of x) → Agrees r (type_in c (S.EMember a x))
+  member_by a x d r of h i g = agrees_through (λ q. member_of c.program q x) r d (type_in c a) refl h (go d i)
+    where
+      go : (o : Option T.Typed) → of ≡ E.and_then o T.typed_place → Agrees r (member_of c.program o x)
+      go None j = tt
+      go (Some y) j = let P : Option Ty → Type 0 = λ q. Agrees r (T.field_type c.program q x) in subst P j g
+
+  pub arrow_by : (a : S.Expr) (x : Text) (d r : Option T.Typed) (s of : Option Ty) → Agrees d (type_in c a) → s ≡ used_of d → of ≡ E.and_then s T.target → Agrees r (T.field_type c.program of x)
+      → Agrees r (type_in c (S.EArrow a x))
+  arrow_by a x d r s of h i j g = agrees_through (λ q. arrow_of c.program q x) r d (type_in c a) refl h (go d i)
+    where
+      at : (o : Option Ty) → s ≡ o → Agrees r (o >>= (λ (t : Ty). T.field_type c.program (T.target t) x))
+      at None k = tt
+      at (Some t) k = let P : Option Ty → Type 0 = λ q. Agrees r (T.field_type c.program q x) in subst P (j ∙ ap (λ q. E.and_then q T.target) k) g
+
+      go : (o : Option T.Typed) → s ≡ used_of o → Agrees r (arrow_of c.program o x)
+      go None k = tt
+      go (Some y) k = at (T.used y) k
+
 module _ (names : Names) (c : E.Context) (e : Expr) where
   at : (x y : Expr) (d : Option T.Typed) → x ≡ y → Agrees d (type_in c (expr_of names x)) → Agrees d (type_in c (expr_of names y))
   at x y d h g = let P : Expr → Type 0 = λ z. Agrees d (type_in c (expr_of names z)) in subst P h g
 
   pub unary_at : (p : Place) (op : UnaryOp) (b : Box Expr Global) (x y : Expr) (named : Bool) (d r : Option T.Typed) → e ≡ G.Unary p op b → x ≡ b.value → y ≡ b.value
       → named ≡ is_named (expr_of names x) → Agrees d (type_in c (expr_of names y)) → Agrees r (unary_of op named d) → Agrees r (type_within c (expr_of names e))
-  unary_at p op b x y named d r is ex ey n h g =
-      let a = expr_of names b.value in
-      let m : named ≡ is_named a = n ∙ ap (λ z. is_named (expr_of names z)) ex in
-      rw is (agrees_by r _ _ (unary_typed c op a) (agrees_through (unary_of op (is_named a)) r d (type_in c a) (unary_strict op (is_named a)) (at y b.value d ey h) (rw m at g)))
+  unary_at p op b x y named d r is ex ey n h g = rw is (unary_by c op (expr_of names b.value) named d r (n ∙ ap (λ z. is_named (expr_of names z)) ex) (at y b.value d ey h) g)
 
   pub binary_at : (p : Place) (op : Op) (a b : Box Expr Global) (x y : Expr) (d f r : Option T.Typed) → e ≡ G.Binary p op a b → x ≡ a.value → y ≡ b.value
       → Agrees d (type_in c (expr_of names x)) → Agrees f (type_in c (expr_of names y)) → ((m n : Bool) → Agrees r (binary_of c.program op m n d f)) → Agrees r (type_within c (expr_of names e))
-  binary_at p op a b x y d f r is ex ey h k g =
-      let v = expr_of names a.value in
-      let w = expr_of names b.value in
-      let form = binary_of c.program op (T.is_null v) (T.is_null w) in
-      rw is (agrees_through (λ q. form q (type_in c w)) r d (type_in c v) refl (at x a.value d ex h)
-      (agrees_through (form d) r f (type_in c w) (ends d) (at y b.value f ey k) (g (T.is_null v) (T.is_null w))))
+  binary_at p op a b x y d f r is ex ey h k g = rw is (binary_by c op (expr_of names a.value) (expr_of names b.value) d f r (at x a.value d ex h) (at y b.value f ey k) g)
 
   pub index_at : (p : Place) (a b : Box Expr Global) (x y : Expr) (d f r : Option T.Typed) → e ≡ G.Index p a b → x ≡ a.value → y ≡ b.value
       → Agrees d (type_in c (expr_of names x)) → Agrees f (type_in c (expr_of names y)) → Agrees r (index_of c.program d f) → Agrees r (type_within c (expr_of names e))
-  index_at p a b x y d f r is ex ey h k g =
-      let v = expr_of names a.value in
-      let w = expr_of names b.value in
-      rw is (agrees_through (λ q. index_of c.program q (type_in c w)) r d (type_in c v) refl (at x a.value d ex h)
-      (agrees_through (index_of c.program d) r f (type_in c w) (ends d) (at y b.value f ey k) g))
+  index_at p a b x y d f r is ex ey h k g = rw is (index_by c (expr_of names a.value) (expr_of names b.value) d f r (at x a.value d ex h) (at y b.value f ey k) g)
 
   pub choose_at : (p : Place) (k a b : Box Expr Global) (x y : Expr) (d f r : Option T.Typed) → e ≡ G.Choose p k a b → x ≡ a.value → y ≡ b.value
       → Agrees d (type_in c (expr_of names x)) → Agrees f (type_in c (expr_of names y)) → ((m n : Bool) (o : Option T.Typed) → (m ≡ true → d ≡ Some (AValue (TyInt K.Int))) → Agrees r (choice_of m n o d f))
       → Agrees r (type_within c (expr_of names e))
-  choose_at p k a b x y d f r is ex ey h i g =
-      let v = expr_of names a.value in
-      let w = expr_of names b.value in
-      let o = type_in c (expr_of names k.value) in
-      let l = at x a.value d ex h in
-      let P : Option T.Typed → Type 0 = λ q. Agrees d q in
-      let zero : T.is_null v ≡ true → d ≡ Some (AValue (TyInt K.Int)) = λ n. subst P (null_int c v n) l in
-      rw is (agrees_through (λ q. choice_of (T.is_null v) (T.is_null w) o q (type_in c w)) r d (type_in c v) (choice_begins (T.tested_type o)) l
-      (agrees_through (choice_of (T.is_null v) (T.is_null w) o d) r f (type_in c w) (choice_ends (T.tested_type o) d) (at y b.value f ey i) (g (T.is_null v) (T.is_null w) o zero)))
+  choose_at p k a b x y d f r is ex ey h i g = rw is (choose_by c (expr_of names k.value) (expr_of names a.value) (expr_of names b.value) d f r (at x a.value d ex h) (at y b.value f ey i) g)
 
   -- ---- what stands alone
 

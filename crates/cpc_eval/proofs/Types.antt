@@ -22,6 +22,9 @@ pub agrees_same : {A : Type 0} (r o : Option A) → r ≡ o → Agrees r o
 agrees_same r None e = tt
 agrees_same r (Some x) e = e
 
+pub agrees_of : {A : Type 0} (r q o : Option A) → r ≡ q → Agrees q o → Agrees r o
+agrees_of r q o e h = rw e h
+
 pub agrees_by : {A : Type 0} (r o q : Option A) → q ≡ o → Agrees r o → Agrees r q
 agrees_by r o q e h = rw e h
 

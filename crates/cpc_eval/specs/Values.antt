@@ -1,6 +1,6 @@
 -- The values of expressions by their forms: that of another form is not said.
-use Rattle.std.specs.Prelude.{Bool}
-use Rattle.cpc_tree.specs.Syntax.{Expr, EUnary, EBinary, EAnd, EOr, EChoose, ECast}
+use Rattle.std.specs.Prelude.{Bool, Option}
+use Rattle.cpc_tree.specs.Syntax.{Ty, Expr, EUnary, EBinary, EAnd, EOr, EChoose, ECast}
 use Rattle.cpc_store.specs.Store.{Value}
 use Rattle.cpc_meaning.specs.Answer.{Answer, NoAnswer, ◌>>=◌, needed}
 use Rattle.cpc_meaning.specs.Eval as E
@@ -35,8 +35,12 @@ test_value c e = do
   v ← E.value c e
   E.holds v
 
+-- a value converted to a type, if there is one
+abbrev pub assigned_if : Option Ty → Value → Answer Value
+assigned_if o v = do
+  t ← needed o
+  E.assigned t v
+
 -- a value converted to the type of a place
 abbrev pub assigned_at : E.Context → Expr → Value → Answer Value
-assigned_at c e v = do
-  t ← needed (E.place_type c e)
-  E.assigned t v
+assigned_at c e v = assigned_if (E.place_type c e) v

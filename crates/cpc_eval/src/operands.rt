@@ -1,8 +1,9 @@
 //! Operators on the values of operands, by the types of the operands where these count.
-ghost use Rattle.std.specs.Prelude.{◌≡◌, IfOk, Some};
+ghost use Rattle.std.specs.Prelude.{◌≡◌, IfOk, Option, Some};
 ghost use Rattle.cpc_num.specs.Number as N;
-ghost use Rattle.cpc_tree.specs.Erase.{Names, type_of, expr_of};
-ghost use Rattle.cpc_tree.specs.Syntax.{Ty};
+ghost use Rattle.cpc_num.specs.declared.kinds.Kind.TheVariants as K;
+ghost use Rattle.cpc_tree.specs.Erase.{Names, type_of};
+ghost use Rattle.cpc_tree.specs.Syntax.{Ty, TyInt};
 ghost use Rattle.cpc_tree.specs.Typing as T;
 ghost use Rattle.cpc_check_rules.specs.Apart.{AreApart};
 ghost use Rattle.cpc_store.specs.Seen.{seen, IsLawful};
@@ -13,19 +14,20 @@ ghost use Rattle.cpc_meaning.specs.Eval as E;
 ghost use Rattle.cpc_eval_values.specs.Meets.{Meets};
 ghost use Rattle.cpc_meaning.specs.Answer.{Gives};
 ghost use Rattle.cpc_eval_values.specs.Counted.{IsSize, counted, cells_counted};
-ghost use Rattle.cpc_eval_values.specs.Shown.{value_of, shown};
-ghost use Rattle.cpc_eval.specs.Around.{context_of, IsToldIn, operate_in};
-ghost use Rattle.cpc_eval.specs.Shapes.{shapes_of, types_of};
+ghost use Rattle.cpc_eval_values.specs.Shown.{value_of, store_of, shown};
+ghost use Rattle.cpc_eval.specs.Results.{given_shown};
+ghost use Rattle.cpc_eval.specs.Shapes.{shapes_of, types_of, Agrees};
 ghost use Rattle.cpc_eval.specs.Numbers.{FitsSize, size_value};
 
 use crate::around::Around;
+use crate::results::Given;
 use crate::shapes::{Shape, Typed, pointee, scalar};
-use crate::typing::{typed, used_if};
+use crate::typing::{int_value, used_if};
 use cpc_eval_index::Index;
 use cpc_eval_values::{Side, at_scalar, counted, holds, operate, truth_value};
 use cpc_num::{Fault, Kind, Op, convert};
 use cpc_store::Value;
-use cpc_tree::program::{CType, Expr};
+use cpc_tree::program::CType;
 
 /// A literal of a kind.
 pub(crate) fn integer(kind: Kind, number: i128) -> Value
@@ -60,24 +62,18 @@ fn element_size(typed: Option<Typed>, index: &Index) -> Option<u64>
 }
 
 // The cells of the elements of the operand of which an operator counts them.
-fn counted_size(
-    op: Op,
-    left: &Expr,
-    right: &Expr,
-    values: (Value, Value),
-    around: &Around,
-) -> Option<u64>
-    ensures { (names : Names) → IsToldIn names around.now → IsSize result
-        (cells_counted (items_of names around.now.index.now) (counted op (seen values.0) (seen values.1)) (E.used_type (context_of names around.now) (expr_of names left.now)) (E.used_type (context_of names around.now) (expr_of names right.now))) }
+fn counted_size(op: Op, left: Given, right: Given, index: &Index) -> Option<u64>
+    ensures { (names : Names) (t u : Option T.Typed) → AreApart names → Agrees (types_of names left.entry.typed) t → Agrees (types_of names right.entry.typed) u → IsSize result
+        (cells_counted (items_of names index.now) (counted op (seen left.entry.value) (seen right.entry.value)) (E.and_then t T.used) (E.and_then u T.used)) }
 {
-    match counted(op, values.0, values.1) {
+    match counted(op, left.value, right.value) {
         Side::Neither => None,
-        Side::Left => element_size(typed(left, around), around.index),
-        Side::Right => element_size(typed(right, around), around.index),
+        Side::Left => element_size(left.typed, index),
+        Side::Right => element_size(right.typed, index),
     }
 }
 
-/// An operator on the values of two operands, whose types count where one of them is a pointer. It takes no memory.
+/// An operator on two operands, whose types count where one of them is a pointer. It takes no memory.
 ///
 /// - `Unset`: a value is unset, the left one first.
 /// - `Overflow`, `Divide`, `Shift`: as of the operator on two integers.
@@ -85,32 +81,39 @@ fn counted_size(
 /// - `Compare`: two pointers into different blocks are compared by order or subtracted.
 ///
 /// Operands that the operator does not take may give any fault.
-pub fn operate_on(
-    op: Op,
-    left: &Expr,
-    right: &Expr,
-    values: (Value, Value),
-    around: &Around,
-) -> Result<Value, Fault>
-    requires left { IsLawful (seen values.0) }
-    requires right { IsLawful (seen values.1) }
-    ensures value { (names : Names) → IsToldIn names around.now → Meets (shown names result)
-        (operate_in (context_of names around.now) op (expr_of names left.now) (expr_of names right.now) (value_of names values.0) (value_of names values.1)) }
+pub fn operate_on(op: Op, left: Given, right: Given, around: &Around) -> Result<Value, Fault>
+    requires left { IsLawful (seen left.value) }
+    requires right { IsLawful (seen right.value) }
+    ensures value { (names : Names) (t u : Option T.Typed) → AreApart names → Agrees (types_of names left.entry.typed) t → Agrees (types_of names right.entry.typed) u → Meets (shown names result)
+        (E.operate (items_of names around.now.index.now) (store_of names around.now.store.now) op (E.and_then t T.used) (E.and_then u T.used) (value_of names left.entry.value) (value_of names right.entry.value)) }
     ensures lawful { IfOk result (λ v. IsLawful (seen v)) }
 {
-    let size = counted_size(op, left, right, values, around);
-    operate(around.store, op, size, values.0, values.1)
+    let size = counted_size(op, left, right, around.index);
+    operate(around.store, op, size, left.value, right.value)
+}
+
+/// What `&&`, `||` and the like give: a truth value, an `int`.
+pub(crate) fn truth<'a>(holds: bool) -> Given<'a>
+    ensures value { (names : Names) → value_of names result.value ≡ E.truth_value holds }
+    ensures typed { (names : Names) → types_of names result.typed ≡ Some (T.AValue (TyInt K.Int)) }
+    ensures lawful { IsLawful (seen result.value) }
+{
+    Given {
+        value: truth_value(holds),
+        typed: int_value(Kind::Int),
+    }
 }
 
 /// The truth value of an operand of `&&` or `||`.
 ///
 /// `Unset`: the value is unset.
-pub(crate) fn tested(value: Value) -> Result<Value, Fault>
-    ensures value { (names : Names) → Meets (shown names result) (E.tested (Gives (value_of names value))) }
-    ensures lawful { IfOk result (λ v. IsLawful (seen v)) }
+pub(crate) fn tested<'a>(value: Value) -> Result<Given<'a>, Fault>
+    ensures value { (names : Names) → Meets (given_shown names result) (E.tested (Gives (value_of names value))) }
+    ensures typed { (names : Names) (o : Option T.Typed) → Agrees (Some (T.AValue (TyInt K.Int))) o → IfOk result (λ g. Agrees (types_of names g.typed) o) }
+    ensures lawful { IfOk result (λ g. IsLawful (seen g.value)) }
 {
     let test = holds(value)?;
-    Ok(truth_value(test))
+    Ok(truth(test))
 }
 
 /// A set value at a type, as by a cast.

@@ -1,6 +1,7 @@
 //! Where places are, and what they hold.
 ghost use Rattle.std.specs.Prelude.{◌≡◌, IfOk, map, option_map, slice_get};
 ghost use Rattle.cpc_tree.specs.Erase.{Names, type_of};
+ghost use Rattle.cpc_tree.specs.Typing as T;
 ghost use Rattle.cpc_check_rules.specs.Apart.{AreApart};
 ghost use Rattle.cpc_store.specs.Seen.{seen, IsLawful};
 ghost use Rattle.cpc_eval_index.specs.Indexed.{items_of};
@@ -9,9 +10,13 @@ ghost use Rattle.cpc_meaning.specs.Eval as E;
 ghost use Rattle.cpc_eval_values.specs.Meets.{Meets};
 ghost use Rattle.cpc_eval_values.specs.Shown.{value_of, store_of, shown};
 ghost use Rattle.cpc_eval.specs.Around.{slot_of};
+ghost use Rattle.cpc_eval.specs.Results.{located_shown};
+ghost use Rattle.cpc_eval.specs.Shapes.{types_of, Agrees};
 ghost use Rattle.cpc_eval.specs.Spots.{spot_of, spot_shown, cell_read, code_named, AreLawful, IsLawfulSpot};
 
 use crate::around::Slot;
+use crate::results::{Located, placed};
+use crate::shapes::Typed;
 use crate::typing::field_of;
 use cpc_base::Name;
 use cpc_eval_index::{Index, Meant};
@@ -74,7 +79,7 @@ fn first_cell(class: Class, number: u64) -> Spot
 /// Where the variable is that a name stands for: a register in its slot, another one at the first cell of its block.
 ///
 /// What is no variable, or has no slot, may give any fault; there is none else.
-pub fn spot_named(slots: &[Slot], meant: Option<Meant>) -> Result<Spot, Fault>
+pub(crate) fn spot_named(slots: &[Slot], meant: Option<Meant>) -> Result<Spot, Fault>
     ensures value { (names : Names) → Meets (spot_shown result) (E.spot_named (map (slot_of names) slots.now) (meant_if names meant.entry)) }
     ensures lawful { IfOk result (λ spot. IsLawfulSpot spot) }
 {
@@ -139,26 +144,27 @@ pub(crate) fn read(
     }
 }
 
-/// A field of the struct at a pointer.
+/// A field of the struct at a pointer, and its type.
 ///
 /// - `Unset`, `Null`, `Freed`, `Bounds`: as of a move of the pointer.
-pub(crate) fn field_spot(
+pub(crate) fn field_spot<'a>(
     store: &Store,
-    index: &Index,
-    of: Option<&CType>,
+    index: &Index<'a>,
+    of: Option<&'a CType>,
     name: Name,
     value: Value,
-) -> Result<Spot, Fault>
+) -> Result<Located<'a>, Fault>
     requires { IsLawful (seen value) }
-    ensures value { (names : Names) → AreApart names → Meets (spot_shown result)
+    ensures value { (names : Names) → AreApart names → Meets (located_shown result)
         (E.field_spot (items_of names index.now) (store_of names store.now) (option_map (λ t. type_of names t.now) of.entry) (names name) (value_of names value)) }
-    ensures lawful { IfOk result (λ spot. IsLawfulSpot spot) }
+    ensures typed { (names : Names) → AreApart names → IfOk result (λ l. Agrees (types_of names l.typed) (T.field_type (items_of names index.now) (option_map (λ t. type_of names t.now) of.entry) (names name))) }
+    ensures lawful { IfOk result (λ l. IsLawfulSpot l.spot) }
 {
     match field_of(of, name, index) {
         None => Err(Fault::Kind),
-        Some((offset, _)) => {
+        Some((offset, of)) => {
             let there = moved_up(store, value, offset)?;
-            pointed(there)
+            placed(pointed(there), Some(Typed::Place(of)))
         }
     }
 }

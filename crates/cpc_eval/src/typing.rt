@@ -1,4 +1,4 @@
-//! The types of expressions.
+//! The types of the forms of expressions by those of their parts, and of expressions that are not evaluated.
 ghost use Rattle.std.specs.Prelude.{◌≡◌, Bool, true, Option, Some, option_map};
 ghost use Rattle.cpc_num.specs.declared.kinds.Kind.TheVariants as K;
 ghost use Rattle.cpc_tree.specs.Erase.{Names, expr_of, type_of};
@@ -25,7 +25,7 @@ use cpc_tree::program::{CType, Expr, Mode, UnaryOp};
 
 /// The type of an expression, where it has one; where it has none there may be any. It takes no memory.
 #[cycle(typing)]
-pub fn typed<'a>(e: &'a Expr, around: &Around<'a>) -> Option<Typed<'a>>
+pub(crate) fn typed<'a>(e: &'a Expr, around: &Around<'a>) -> Option<Typed<'a>>
     ensures { (names : Names) → IsToldIn names around.now → Agrees (types_of names result) (type_in (context_of names around.now) (expr_of names e.now)) }
 {
     match e {
@@ -76,8 +76,8 @@ fn typed_within<'a>(e: &'a Expr, around: &Around<'a>) -> Option<Typed<'a>>
     }
 }
 
-// A value of an integer type.
-fn int_value<'a>(kind: Kind) -> Option<Typed<'a>>
+/// A value of an integer type.
+pub(crate) fn int_value<'a>(kind: Kind) -> Option<Typed<'a>>
     ensures { (names : Names) → types_of names result ≡ Some (T.AValue (TyInt kind)) }
 {
     Some(Typed::Value(Shape::Int(kind)))
@@ -85,7 +85,7 @@ fn int_value<'a>(kind: Kind) -> Option<Typed<'a>>
 
 /// The type of what a name stands for: a variable is a place, a native or detached function a value. A cps or extern function
 /// has none.
-pub fn name_type(meant: Option<Meant>) -> Option<Typed>
+pub(crate) fn name_type(meant: Option<Meant>) -> Option<Typed>
     ensures { (names : Names) → types_of names result ≡ T.type_named (meant_if names meant.entry) }
 {
     match meant {
@@ -128,8 +128,8 @@ pub fn place_of(typed: Option<Typed>) -> Option<&CType>
     }
 }
 
-// An operator on one operand, of which it is told whether it is a name.
-fn unary_form(op: UnaryOp, named: bool, operand: Option<Typed>) -> Option<Typed>
+/// An operator on one operand, of which it is told whether it is a name.
+pub(crate) fn unary_form(op: UnaryOp, named: bool, operand: Option<Typed>) -> Option<Typed>
     ensures { (names : Names) → Agrees (types_of names result) (unary_of op named (types_of names operand.entry)) }
 {
     match op {
@@ -234,8 +234,12 @@ fn operator_form<'a>(op: Op, left: Shape<'a>, right: Shape<'a>) -> Option<Typed<
     }
 }
 
-// An operator on two operands.
-fn binary_form<'a>(op: Op, left: Option<Typed<'a>>, right: Option<Typed<'a>>) -> Option<Typed<'a>>
+/// An operator on two operands.
+pub(crate) fn binary_form<'a>(
+    op: Op,
+    left: Option<Typed<'a>>,
+    right: Option<Typed<'a>>,
+) -> Option<Typed<'a>>
     ensures { (names : Names) (p : Program) (m n : Bool) → Agrees (types_of names result) (binary_of p op m n (types_of names left.entry) (types_of names right.entry)) }
 {
     match used_if(left) {
@@ -247,8 +251,8 @@ fn binary_form<'a>(op: Op, left: Option<Typed<'a>>, right: Option<Typed<'a>>) ->
     }
 }
 
-// `?:`: the common type of two integers, or else the reference of the two.
-fn choice_form<'a>(yes: Option<Typed<'a>>, no: Option<Typed<'a>>) -> Option<Typed<'a>>
+/// `?:`: the common type of two integers, or else the reference of the two.
+pub(crate) fn choice_form<'a>(yes: Option<Typed<'a>>, no: Option<Typed<'a>>) -> Option<Typed<'a>>
     ensures { (names : Names) (m n : Bool) (c : Option T.Typed) → (m ≡ true → types_of names yes.entry ≡ Some (T.AValue (TyInt K.Int)))
         → Agrees (types_of names result) (choice_of m n c (types_of names yes.entry) (types_of names no.entry)) }
 {
@@ -267,8 +271,8 @@ fn choice_form<'a>(yes: Option<Typed<'a>>, no: Option<Typed<'a>>) -> Option<Type
     }
 }
 
-// An element.
-fn index_form<'a>(left: Option<Typed<'a>>, right: Option<Typed<'a>>) -> Option<Typed<'a>>
+/// An element.
+pub(crate) fn index_form<'a>(left: Option<Typed<'a>>, right: Option<Typed<'a>>) -> Option<Typed<'a>>
     ensures { (names : Names) (p : Program) → Agrees (types_of names result) (index_of p (types_of names left.entry) (types_of names right.entry)) }
 {
     match used_if(left) {
