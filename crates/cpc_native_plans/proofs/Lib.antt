@@ -1,4 +1,3 @@
-pub mod Aiming
 pub mod Alike
 pub mod Calling
 pub mod Doing

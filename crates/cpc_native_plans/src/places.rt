@@ -1,6 +1,7 @@
 //! Assignments: what is written, and where.
-ghost use Rattle.std.specs.Prelude.{Option, IfOk, option_map};
+ghost use Rattle.std.specs.Prelude.{Option, Ok, IfOk, option_map};
 ghost use Rattle.cpc_tree.specs.Erase.{Names, type_of, expr_of};
+ghost use Rattle.cpc_tree.specs.Syntax as Y;
 ghost use Rattle.cpc_tree.specs.Syntax.{ENamed};
 ghost use Rattle.cpc_store.specs.Seen.{seen, IsLawful};
 ghost use Rattle.cpc_meaning.specs.Act as M;
@@ -8,14 +9,15 @@ ghost use Rattle.cpc_meaning.specs.Eval as E;
 ghost use Rattle.cpc_eval_values.specs.Meets.{Meets};
 ghost use Rattle.cpc_eval_values.specs.Shown.{value_of, shown};
 ghost use Rattle.cpc_eval_index.specs.Indexed.{items_of};
-ghost use Rattle.cpc_eval.specs.Around.{context_of, IsToldIn};
+ghost use Rattle.cpc_eval.specs.Around.{context_of, IsToldIn, type_in};
 ghost use Rattle.cpc_eval.specs.Numbers.{HasNumbers, MaybeNumbers};
-ghost use Rattle.cpc_eval.specs.Spots.{AreLawful};
+ghost use Rattle.cpc_eval.specs.Shapes.{types_of, Agrees};
+ghost use Rattle.cpc_eval.specs.Spots.{spot_of, AreLawful};
 ghost use Rattle.cpc_native_plans.specs.Parts.{aimed, aim_seen, returned, test_held};
 
 use cpc_base::Name;
 use cpc_eval::{
-    Around, Spot, assigned_at, name_type, operate_on, place, place_of, spot_named, value,
+    Around, Located, Spot, assigned_at, given, located, located_name, operate_on, place_of, value,
 };
 use cpc_eval_values::{assigned, holds};
 use cpc_num::{Fault, Op};
@@ -39,11 +41,22 @@ pub(crate) fn right_value<'a>(
     match op {
         None => value(right, around),
         Some(op) => {
-            let first = value(target, around)?;
-            let second = value(right, around)?;
-            operate_on(op, target, right, (first, second), around)
+            let first = given(target, around)?;
+            let second = given(right, around)?;
+            operate_on(op, first, second, around)
         }
     }
+}
+
+// A place, and a value converted to its type.
+fn at_place(there: Located, given: Value) -> Result<(Spot, Value), Fault>
+    requires { IsLawful (seen given) }
+    ensures value { (names : Names) (c : E.Context) (e : Y.Expr) → Meets (Ok (spot_of there.entry.spot)) (E.place c e) → Agrees (types_of names there.entry.typed) (type_in c e)
+        → Meets (aim_seen names result) (aimed c e (value_of names given)) }
+    ensures lawful { IfOk result (λ q. IsLawful (seen q.1)) }
+{
+    let written = assigned_at(place_of(there.typed), given)?;
+    Ok((there.spot, written))
 }
 
 /// A place, and a value converted to its type.
@@ -60,9 +73,8 @@ pub(crate) fn aimed<'a>(
         → Meets (aim_seen names result) (aimed (context_of names around.now) (expr_of names target.now) (value_of names given)) }
     ensures lawful { IfOk result (λ q. IsLawful (seen q.1)) }
 {
-    let spot = place(target, around)?;
-    let written = assigned_at(target, around, given)?;
-    Ok((spot, written))
+    let there = located(target, around)?;
+    at_place(there, given)
 }
 
 /// The place of a name, and a value converted to its type.
@@ -77,15 +89,8 @@ pub(crate) fn aimed_at(
         → Meets (aim_seen names result) (aimed (context_of names around.now) (ENamed (names name)) (value_of names given)) }
     ensures lawful { IfOk result (λ q. IsLawful (seen q.1)) }
 {
-    let meant = around.meant(name);
-    let spot = spot_named(around.slots, meant)?;
-    match place_of(name_type(meant)) {
-        Some(of) => {
-            let written = assigned(of, given)?;
-            Ok((spot, written))
-        }
-        None => Err(Fault::Kind),
-    }
+    let there = located_name(name, around)?;
+    at_place(there, given)
 }
 
 /// The value of a return, converted to the type of the result; without an expression it is unset.

@@ -21,7 +21,7 @@ ghost use Rattle.cpc_native_plans.specs.Plans.{Lays, IsLawfulPlan, IsServedPlan,
 use crate::calls::builtin_at;
 use crate::places::{aimed, aimed_at, returned, right_value, test_held};
 use cpc_base::{Name, Names};
-use cpc_eval::{Around, Shape, Spot, typed, used_if, value};
+use cpc_eval::{Around, Shape, Spot, given, used_if, value};
 use cpc_eval_index::Meant;
 use cpc_native_builtins::Call;
 use cpc_native_points::Found;
@@ -97,9 +97,9 @@ fn calls_value<'a>(
     ensures lawful { IfOk result (λ p. IsLawfulPlan p) }
     ensures served { IfOk result (λ p. IsServedPlan p) }
 {
-    let called = value(function, around)?;
-    match used_if(typed(function, around)) {
-        Some(shape) => Ok(Plan::Calls(called, shape, arguments)),
+    let called = given(function, around)?;
+    match used_if(called.typed) {
+        Some(shape) => Ok(Plan::Calls(called.value, shape, arguments)),
         None => Err(Fault::Kind),
     }
 }

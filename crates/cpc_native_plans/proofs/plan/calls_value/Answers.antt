@@ -19,11 +19,11 @@ returns-in-Some-clause-value c = λ names told hf hes.
     let f = expr_of names c.args.function.now in
     let es = exprs_of names c.args.arguments.now in
     let t = shape_of names c.in-Some.shape in
-    let v = value_of names c.in_ok-called.called in
-    let plan = L.Calls c.in_ok-called.called c.in-Some.shape c.args.arguments in
+    let v = value_of names c.in_ok-called.called.value in
+    let plan = L.Calls c.in_ok-called.called.value c.in-Some.shape c.args.arguments in
     lays_by names k (Ok plan) _ (M.calls_value k f es) (sym (value_calls k f es))
     (lays_after names k v (E.value k f) (λ w. needed (E.used_type k f) >>= (λ u. called_with k u w es >>= entering k)) (Ok plan) (c.in_ok-called.ensures.value names told hf)
-    (lays_used names k (types_of names c.typed.result) (type_in k f) (Some t) (λ u. called_with k u v es >>= entering k) (Ok plan) hes (c.typed.ensures names told) (c.in-Some.ensures names)
+    (lays_used names k (types_of names c.in_ok-called.called.typed) (type_in k f) (Some t) (λ u. called_with k u v es >>= entering k) (Ok plan) hes (c.in_ok-called.ensures.typed names told) (c.in-Some.ensures names)
     (lays_same names k plan _ hes refl)))
 
 pub returns-in-None-clause-value : goal.returns-in-None-clause-value
@@ -31,7 +31,7 @@ returns-in-None-clause-value c = λ names told hf hes.
     let k = context_of names c.args.around.now in
     let f = expr_of names c.args.function.now in
     let es = exprs_of names c.args.arguments.now in
-    let v = value_of names c.in_ok-called.called in
+    let v = value_of names c.in_ok-called.called.value in
     lays_by names k (Err Kind) _ (M.calls_value k f es) (sym (value_calls k f es))
     (lays_after names k v (E.value k f) (λ w. needed (E.used_type k f) >>= (λ u. called_with k u w es >>= entering k)) (Err Kind) (c.in_ok-called.ensures.value names told hf)
-    (lays_used names k (types_of names c.typed.result) (type_in k f) None (λ u. called_with k u v es >>= entering k) (Err Kind) tt (c.typed.ensures names told) (c.in-None.ensures names) tt))
+    (lays_used names k (types_of names c.in_ok-called.called.typed) (type_in k f) None (λ u. called_with k u v es >>= entering k) (Err Kind) tt (c.in_ok-called.ensures.typed names told) (c.in-None.ensures names) tt))
