@@ -1,11 +1,11 @@
 //! The structs that items declare, and how many cells types have.
-ghost use Rattle.std.specs.Prelude.{◌≡◌, ◌+◌, ◌≤◌, List, ◌++◌, ◌∷◌, [], IfOk, OnOk, length, map, option_map};
+ghost use Rattle.std.specs.Prelude.{◌≡◌, ◌+◌, ◌≤◌, List, ◌++◌, ◌∷◌, [], OnOk, length, map, option_map};
 ghost use Rattle.cpc_tree.specs.Erase.{Names, type_of, field_of};
 ghost use Rattle.cpc_tree.specs.Syntax.{Program};
 ghost use Rattle.cpc_tree.specs.declared.program.Item.{Item};
 ghost use Rattle.cpc_shapes.specs.Counted.{tag_of, fields_count};
 ghost use Rattle.cpc_types_structs.specs.Indexed.{IsIndex};
-ghost use Rattle.cpc_types_structs.specs.Structs.{AreStructs, AreAllStructs};
+ghost use Rattle.cpc_types_structs.specs.Structs.{AreStructs};
 ghost use Rattle.cpc_types_structs.specs.Sized.{capped, capped_size, AreSizes, declared_size, tag_place, tag_size};
 
 use crate::index::Index;
@@ -59,17 +59,6 @@ impl Structs {
             tags: Index::new(alloc),
             sizes: Vec::new(alloc),
         }
-    }
-
-    /// Those of a list of items, which are all in scope. `NoMemory` is want of memory.
-    pub fn of(alloc: Global, list: &[Item]) -> Result<Structs, NoMemory>
-        ensures { IfOk result (λ structs. AreAllStructs list.now structs) }
-    {
-        let mut structs = Structs::new(alloc);
-        for item in list {
-            structs.append(item)?;
-        }
-        Ok(structs)
     }
 
     /// One more item comes into scope, in which all those before it are. `NoMemory` is want of memory.
