@@ -1,8 +1,14 @@
-use Rattle.std.proofs.Common.{ap, subst, Err}
+use Rattle.std.proofs.Common.{ap, subst, sym, Err}
 use Rattle.cpc_tree.specs.Locate.{located}
+use Rattle.cpc_check.specs.Accepted.{Accepts}
 use Rattle.cpc_translate.specs.Refusals.{IsTextFault, unruly}
 use Rattle.cpc_translate.proofs.Within.{fault_is}
 use Rattle.cpc_translate.proofs.reading.read.Goals as goal
+
+pub returns-in-Ok-clause-accepted : goal.returns-in-Ok-clause-accepted
+returns-in-Ok-clause-accepted c =
+    let h = c.in-Ok.ensures.accepted in
+    subst (λ p. Accepts c.args.dialect c.args.text.now (located p)) (sym h.0) (record { parses = c.in_ok-program.ensures.program; unbroken = h.2 })
 
 pub returns-clause-refused : goal.returns-clause-refused
 returns-clause-refused c = λ fault e.
