@@ -9,7 +9,6 @@ pub mod Expressions
 pub mod Control
 pub mod Paths
 pub mod Requests
-pub mod Types
 pub mod Copies
 pub mod Acts
 pub mod Frames

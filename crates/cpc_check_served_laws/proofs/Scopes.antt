@@ -14,9 +14,9 @@ use Rattle.cpc_check_rules.specs.Calls.{is_event}
 use Rattle.cpc_check_rules.specs.FunctionRules.{is_kept, locals, locals_in, parameter_names, reserved_breaks}
 use Rattle.cpc_check_rules.specs.ItemRules.{item_breaks, parameter_block}
 use Rattle.cpc_check_rules.specs.StmtRules.{all_behind, behind, inner, variable}
+use Rattle.cpc_check_rules.proofs.Scopes.{meant_before}
 use Rattle.cpc_check_laws.proofs.Sound.Items.{last_first}
 use Rattle.cpc_check_laws.proofs.Sound.Unbroken.{split}
-use Rattle.cpc_check_laws.proofs.Sound.Bodies.{meant_later}
 use Rattle.cpc_check_laws.proofs.Native.NativeValues.{unbroken}
 use Rattle.cpc_check_laws.proofs.Run.Names.{other_name}
 
@@ -102,7 +102,7 @@ pub inside_inner : (w : Where) → Inside w → Inside (inner w)
 inside_inner w i = record { free = i.free; event = i.event }
 
 pub inside_behind : (w : Where) (s : LStmt) → AreFree (locals s) → Inside w → Inside (behind w s)
-inside_behind w (Declare q y t start) own i = record { free = λ x kept. meant_later w.scope.items w.scope.blocks (variable y t) x (other_name y.text x own.0 kept) ∙ i.free x kept; event = i.event }
+inside_behind w (Declare q y t start) own i = record { free = λ x kept. meant_before w.scope.items w.scope.blocks (variable y t) x (other_name y.text x own.0 kept) ∙ i.free x kept; event = i.event }
 inside_behind w (Block q ss) own i = i
 inside_behind w (Empty q) own i = i
 inside_behind w (Assign q o v op e) own i = i

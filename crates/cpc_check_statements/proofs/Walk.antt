@@ -1,12 +1,11 @@
 -- What statements break that hold others, by what was noted of these.
-use Rattle.std.proofs.Common.{◌≡◌, ℕ, ◌+◌, ◌<◌, ◌≤◌, List, [], ◌∷◌, length, get_or, drop, refl, sym, ap, ◌∙◌, Vec, Box, Global, Option, option_map}
+use Rattle.std.proofs.Common.{◌≡◌, ℕ, ◌+◌, ◌<◌, ◌≤◌, List, length, get_or, drop, refl, sym, ap, ◌∙◌, Vec, Box, Global, Option, option_map}
 use Rattle.cpc_base.specs.declared.stop.Place.{Place}
 use Rattle.cpc_tree.specs.declared.program.CType as GType
 use Rattle.cpc_tree.specs.declared.program.Expr as GExpr
 use Rattle.cpc_tree.specs.declared.program.Word.{Word}
 use Rattle.cpc_tree.specs.declared.program.Statement.{Statement}
 use Rattle.cpc_tree.specs.declared.program.Statement.TheVariants as T
-use Rattle.cpc_tree.specs.Syntax.{Variable}
 use Rattle.cpc_tree.specs.Located as L
 use Rattle.cpc_tree.specs.Located.{LStmt, LStmts, NoLStmt, AndLStmt, Declare}
 use Rattle.cpc_tree.specs.Erase.{Names}
@@ -14,11 +13,12 @@ use Rattle.cpc_tree.specs.Locate.{located_expr, located_stmt, located_list, loca
 use Rattle.cpc_tree.proofs.LocatedNodes.{block_seen, if_seen, for_seen, row_end, row_more}
 use Rattle.cpc_check_rules.specs.declared.rule.Rule.{Rule}
 use Rattle.cpc_check_rules.specs.Noted.{noted}
-use Rattle.cpc_check_rules.specs.Scopes.{Scope, with_name, with_block}
+use Rattle.cpc_check_rules.specs.Scopes.{Scope, with_block}
 use Rattle.cpc_check_rules.specs.Operators.{Where}
 use Rattle.cpc_check_rules.specs.StmtRules.{in_scope, inner, behind, all_behind, test_breaks, maybe_test, stmt_breaks, stmts_breaks, maybe_breaks}
 use Rattle.cpc_check_rules.specs.ItemRules.{body_breaks}
 use Rattle.cpc_types.specs.Blocks.{without_block}
+use Rattle.cpc_types.proofs.Entered.{without_name}
 use Rattle.cpc_check_statements.specs.Plain.{for_breaks}
 use Rattle.cpc_check_statements.specs.Standing.{behind_body}
 use Rattle.cpc_check_statements.proofs.Parts.{after_one, after_two, after_three}
@@ -45,16 +45,10 @@ all_behind_is w NoLStmt = refl
 all_behind_is w (AndLStmt (Declare q x t start) ss) = all_behind_is (behind w (Declare q x t start)) ss
 all_behind_is w (AndLStmt s ss) = all_behind_is w ss
 
-name_left : (s : Scope) (v : Variable) → without_block (with_name s v) ≡ without_block s
-name_left s v = go s.blocks refl where
-  go : (bs : List _) → s.blocks ≡ bs → without_block (with_name s v) ≡ without_block s
-  go [] e = rw e refl
-  go (b ∷ bs) e = rw e refl
-
 -- rows leave the blocks round them
 pub all_left : (w : Where) (ss : LStmts) → without_block (all_behind w ss).scope ≡ without_block w.scope
 all_left w NoLStmt = refl
-all_left w (AndLStmt (Declare q x t start) ss) = all_left (behind w (Declare q x t start)) ss ∙ name_left w.scope (record { called = x.text; type = t })
+all_left w (AndLStmt (Declare q x t start) ss) = all_left (behind w (Declare q x t start)) ss ∙ without_name w.scope (record { called = x.text; type = t })
 all_left w (AndLStmt s ss) = all_left w ss
 
 -- after a block that was entered, and in which a row was walked

@@ -8,12 +8,13 @@ use Rattle.cpc_tree.specs.Located.{Ident, LExpr, LUnary, LCast, LMember, LArrow,
 use Rattle.cpc_check_rules.specs.declared.rule.Rule.{Rule}
 use Rattle.cpc_check_rules.specs.Rule.{Broken}
 use Rattle.cpc_check_rules.specs.Noted.{noted}
+use Rattle.cpc_check_rules.specs.Scopes as S
 use Rattle.cpc_check_rules.specs.Operators as O
 use Rattle.cpc_check_rules.specs.Operators.{Where, typed_at, first}
 use Rattle.cpc_check_rules.specs.ExprRules.{expr_breaks}
 use Rattle.cpc_check_rules.proofs.Firsts.{noted_both}
 use Rattle.cpc_shapes.specs.Forms as F
-use Rattle.cpc_types.proofs.ExprParts.{unary_typed}
+use Rattle.cpc_shapes.proofs.FormParts.{unary_typed}
 use Rattle.cpc_check_values.specs.Parts.{unary_breaks}
 
 abbrev Firsts : Type 0
@@ -22,7 +23,7 @@ Firsts = Option (Place × Rule)
 -- ---- one operand
 
 pub unary_whole : (w : Where) (q : Place) (op : UnaryOp) (v : LExpr) → F.unary_of op (F.is_named (bare_expr v)) (typed_at w v) ≡ typed_at w (LUnary q op v)
-unary_whole w q op v = sym (unary_typed w.scope op (bare_expr v))
+unary_whole w q op v = sym (unary_typed (S.meant w.scope) w.scope.items op (bare_expr v))
 
 unary_row : (w : Where) (q : Place) (op : UnaryOp) (v : LExpr) → expr_breaks w (LUnary q op v) ≡ expr_breaks w v ++ unary_breaks op (typed_at w v) (typed_at w (LUnary q op v)) q (first v)
 unary_row w q U.AddressOf v = refl

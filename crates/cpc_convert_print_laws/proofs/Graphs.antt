@@ -1,6 +1,6 @@
 -- What stands at the nodes of an accepted cps function that can be printed, and the numbers of its nodes and variables.
 use Rattle.std.proofs.Common.{◌≡◌, ℕ, zero, suc, ◌+◌, ◌≤◌, ◌<◌, ◌^◌, Bool, true, false, List, [], ◌∷◌, ◌++◌, map, length, slice_get, option_map, Option, Some, None, refl, sym, subst, ap, ◌∙◌, arith}
-use Rattle.std.proofs.lemmas.List.{length-map, length-append}
+use Rattle.std.proofs.lemmas.List.{length-append}
 use Rattle.std.proofs.lemmas.Option.{slice_get-map}
 use Rattle.cpc_base.specs.declared.stop.Dialect.TheVariants as D
 use Rattle.cpc_check_laws.specs.Sound.Typed.{Gets, AllGet, EachGets, GetsTaken, AllGetTaken, TakesArguments, Calls, CallsHost, CallsFunction, CallsPrimitive, CallsPointer, is_for, IsTyped}
@@ -18,6 +18,7 @@ use Rattle.cpc_lift_laws.proofs.Scopes.{scopes_are_below}
 use Rattle.cpc_forms.specs.Flow.{Start}
 use Rattle.cpc_forms.specs.Graph.{Node, graph_of, graph_if, graph_where, node_of, at_node}
 use Rattle.cpc_forms.specs.Order.{points_of, points_in, points_arm, points, within, one_later, number, number_in, number_arm, number_of, of_one}
+use Rattle.cpc_forms.proofs.Counts.{row_count}
 use Rattle.cpc_convert_event.specs.NameLaws.{IsCps}
 use Rattle.cpc_convert_event.specs.Routines.{routine_of}
 use Rattle.cpc_convert_event.specs.Lines.{behind_arrival}
@@ -34,9 +35,6 @@ use Rattle.cpc_forms.specs.Split.{split_of, split_form, InGraph, position_stood}
 at_most : (b : Bool) → of_one b ≤ 1
 at_most true = omega arith
 at_most false = omega arith
-
-later_same : (xs : List Point) → length (map one_later xs) ≡ length xs
-later_same xs = length-map xs one_later
 
 -- a statement has a point
 some_point : (s : Stmt) → 1 ≤ length (points_of s)
@@ -72,9 +70,6 @@ for_points first t step s =
 
 do_points : (s : Stmt) (t : Expr) → length (points_of (DoWhile s t)) ≡ length (points_of s) + 1
 do_points s t = let a = length-append (within TheBody (points_of s)) (Here (TheTest ∷ []) ∷ []) in let b = same_many TheBody (points_of s) in omega (arith, a, b)
-
-more_points : (s : Stmt) (ss : Stmts) → length (points_in (AndStmt s ss)) ≡ length (points_of s) + length (points_in ss)
-more_points s ss = let a = length-append (within (Nth 0) (points_of s)) (map one_later (points_in ss)) in let b = same_many (Nth 0) (points_of s) in let c = later_same (points_in ss) in omega (arith, a, b, c)
 
 one_of : (s : Stmt) (b : Bool) → of_one b ≤ length (points_of s)
 one_of s b = let a = at_most b in let c = some_point s in omega (arith, a, c)
@@ -137,8 +132,8 @@ mutual
 
   number_in_most : (ss : Stmts) (k : ℕ) (path : Path) (b : Bool) → number_in ss k path b ≤ length (points_in ss)
   number_in_most NoStmt k path b = omega arith
-  number_in_most (AndStmt s ss) zero path b = let x = number_most s path b in let y = more_points s ss in omega (arith, x, y)
-  number_in_most (AndStmt s ss) (suc k) path b = let x = number_in_most ss k path b in let y = more_points s ss in omega (arith, x, y)
+  number_in_most (AndStmt s ss) zero path b = let x = number_most s path b in let y = row_count s ss in omega (arith, x, y)
+  number_in_most (AndStmt s ss) (suc k) path b = let x = number_in_most ss k path b in let y = row_count s ss in omega (arith, x, y)
 
   number_arm_most : (r : MaybeStmt) (path : Path) (b : Bool) → number_arm r path b ≤ length (points_arm r)
   number_arm_most Absent path b = omega arith

@@ -1,5 +1,5 @@
 -- The types of expressions by those of their parts.
-use Rattle.std.proofs.Common.{◌≡◌, Bool, true, ◌&&◌, false, [], ◌∷◌, Option, Some, None, option_map, refl, ap, sym, subst, ◌∙◌, Box, Global, bytes_eq, if◌then◌else◌, ℕ, ℤ}
+use Rattle.std.proofs.Common.{◌≡◌, Bool, true, ◌&&◌, false, [], ◌∷◌, Option, Some, None, refl, ap, sym, subst, ◌∙◌, Box, Global, bytes_eq, if◌then◌else◌, ℕ, ℤ}
 use Rattle.cpc_base.specs.Bytes.{Text}
 use Rattle.cpc_base.specs.declared.stop.Place.{Place}
 use Rattle.cpc_num.specs.declared.kinds.Kind.{Kind}
@@ -19,6 +19,7 @@ use Rattle.cpc_tree.specs.Typing.{◌>>=◌, AValue, Scope}
 use Rattle.cpc_meaning.specs.Eval as E
 use Rattle.cpc_shapes.specs.Found.{used_of}
 use Rattle.cpc_shapes.specs.Forms.{is_named, unary_of, binary_of, choice_of, index_of, member_of, arrow_of}
+use Rattle.cpc_shapes.proofs.FormParts.{unary_typed}
 use Rattle.cpc_eval_locals.specs.Held.{Held, local_in, capped_held}
 use Rattle.cpc_eval.specs.Around.{meant_or, meant_in, type_in, type_within}
 use Rattle.cpc_eval.specs.Shapes.{Agrees}
@@ -107,15 +108,6 @@ choice_begins : (k : Option Ty) → (k >>= (λ (v : Ty). nothing)) ≡ None
 choice_begins None = refl
 choice_begins (Some v) = refl
 
-addressed : (o : Option T.Typed) → (o >>= (λ d. Some (T.address_type d))) ≡ option_map T.address_type o
-addressed None = refl
-addressed (Some d) = refl
-
-unary_typed : (c : E.Context) (op : UnaryOp) (a : S.Expr) → type_in c (S.EUnary op a) ≡ unary_of op (is_named a) (type_in c a)
-unary_typed c U.AddressOf (S.ENamed x) = addressed (T.type_named (T.named c.program c.scope x))
-unary_typed c U.AddressOf a = refl
-unary_typed c op a = refl
-
 null_int : (c : E.Context) (a : S.Expr) → T.is_null a ≡ true → type_in c a ≡ Some (AValue (TyInt K.Int))
 null_int c (S.EInteger K.Int z) e = refl
 null_int c _ e = cc
@@ -128,7 +120,7 @@ module _ (c : E.Context) where
   typed_as e x r is h = let P : S.Expr → Type 0 = λ y. Agrees r (type_in c y) in subst P (sym is) h
 
   pub unary_by : (op : UnaryOp) (a : S.Expr) (named : Bool) (d r : Option T.Typed) → named ≡ is_named a → Agrees d (type_in c a) → Agrees r (unary_of op named d) → Agrees r (type_in c (S.EUnary op a))
-  unary_by op a named d r n h g = agrees_by r _ _ (unary_typed c op a) (agrees_through (unary_of op (is_named a)) r d (type_in c a) (unary_strict op (is_named a)) h (rw n at g))
+  unary_by op a named d r n h g = agrees_by r _ _ (unary_typed (T.named c.program c.scope) c.program op a) (agrees_through (unary_of op (is_named a)) r d (type_in c a) (unary_strict op (is_named a)) h (rw n at g))
 
   pub binary_by : (op : Op) (a b : S.Expr) (d f r : Option T.Typed) → Agrees d (type_in c a) → Agrees f (type_in c b) → ((m n : Bool) → Agrees r (binary_of c.program op m n d f)) → Agrees r (type_in c (S.EBinary op a b))
   binary_by op a b d f r h k g =

@@ -7,13 +7,14 @@ use Rattle.cpc_tree.specs.declared.program.Statement.{Statement}
 use Rattle.cpc_tree.specs.declared.program.Statement.TheVariants as T
 use Rattle.cpc_tree.specs.declared.program.Statement.TheViews.{the_lemmas}
 use Rattle.cpc_tree.specs.Lists.{is_empty}
-use Rattle.cpc_tree.specs.Syntax.{Stmt, Stmts, MaybeStmt, NoStmt, AndStmt, Block, If, While, DoWhile, For, Expr}
-use Rattle.cpc_tree.specs.Points.{Here, Nth, TheTest, TheStep, TheBody}
+use Rattle.cpc_tree.specs.Syntax.{Stmt, Stmts, MaybeStmt, NoStmt, Block, If, While, DoWhile, For, Expr}
+use Rattle.cpc_tree.specs.Points.{Here, TheTest, TheStep, TheBody}
 use Rattle.cpc_tree.specs.Erase.{Names, expr_of, stmt_of, list_of, maybe_at}
 use Rattle.cpc_tree.proofs.Nodes.{if_seen, for_seen, row_more}
-use Rattle.cpc_forms.specs.Order.{points_of, points_in, points_arm, within, below, one_later}
+use Rattle.cpc_forms.specs.Order.{points_of, points_in, points_arm, within, below}
 use Rattle.cpc_forms.specs.Table as F
 use Rattle.cpc_forms.specs.Table.{labels_of, labels_in, test_of, body_of}
+use Rattle.cpc_forms.proofs.Counts.{row_count}
 use Rattle.cpc_graph.specs.declared.marks.Mark.{Mark}
 use Rattle.cpc_graph.specs.Ends.{ends_of, ends_in}
 use Rattle.cpc_graph.specs.Labels.{labels_seen, label_seen}
@@ -81,13 +82,7 @@ some_points names (s ∷ row) h = refl
 
 -- ---- rows
 
--- how many points a row has
-pub row_count : (t : Stmt) (ss : Stmts) → length (points_in (AndStmt t ss)) ≡ length (points_of t) + length (points_in ss)
-row_count t ss =
-    length-append (within (Nth 0) (points_of t)) (map one_later (points_in ss))
-    ∙ (ap (λ k. k + length (map one_later (points_in ss))) (length-map (points_of t) (below (Nth 0))) ∙ ap (λ k. length (points_of t) + k) (length-map (points_in ss) one_later))
-
--- and a `for`
+-- how many points a `for` has
 pub for_count : (n : ℕ) (first : Stmts) (t : Option Expr) (step : MaybeStmt) (s : Stmt) → n + length (points_of (For first t step s)) ≡ body_of step (test_of first n) + length (points_of s)
 for_count n first t step s =
     let i = length-append (points_in first) (Here (TheTest ∷ []) ∷ (within TheStep (points_arm step) ++ within TheBody (points_of s))) in

@@ -89,10 +89,14 @@ framed p g m = Gives (record { function = g.called; point = (trees p).code.first
 abbrev upon : Frame Point → List (Frame Point) → Point → Frame Point × Store → Done Point
 upon frame below back m = Went m.1 (record { frames = m.0 ∷ moved_to frame back ∷ below; arriving = None })
 
-pub no_frame_fault : (p : Program) (g : Function) (a : Answer (List Slot × Store)) (fault : Fault) → ((other : Fault) → a ≡ Faults other → ⊥) → (a >>= framed p g) ≡ Faults fault → ⊥
+no_frame_fault : (p : Program) (g : Function) (a : Answer (List Slot × Store)) (fault : Fault) → ((other : Fault) → a ≡ Faults other → ⊥) → (a >>= framed p g) ≡ Faults fault → ⊥
 no_frame_fault p g (Gives m) fault h e = cc
 no_frame_fault p g (Faults other) fault h e = h other refl
 no_frame_fault p g NoAnswer fault h e = cc
+
+-- no frame fails
+pub frame_never_fails : (p : Program) (g : Function) (vs : List Value) (s : Store) (fault : Fault) → make_frame (trees p) g vs s ≡ Faults fault → ⊥
+frame_never_fails p g vs s fault e = no_frame_fault p g (call_slots p g vs s) fault (λ other k. slots_no_fault p g 0 (variables g) vs s other k) e
 
 -- a function is entered
 pub enters_meets : (p : Program) (s t : Store) (frame : Frame Point) (frames below : List (Frame Point)) (g : Function) (vs : List Value) (path : Path)
@@ -100,7 +104,7 @@ pub enters_meets : (p : Program) (s t : Store) (frame : Frame Point) (frames bel
     → ((a : Frame Point × Store) → make_frame (trees p) g vs s ≡ Gives a → (frames ≡ a.0 ∷ moved_to frame (Arrival path) ∷ below) × (t ≡ a.1))
     → Meets (Ok (Went t (record { frames = frames; arriving = None }))) (perform (trees p) s frame below (Enters g vs))
 enters_meets p s t frame frames below g vs path at made =
-    go (make_frame (trees p) g vs s) made (λ fault e. no_frame_fault p g (call_slots p g vs s) fault (λ other k. slots_no_fault p g 0 (variables g) vs s other k) e) frame.point at
+    go (make_frame (trees p) g vs s) made (frame_never_fails p g vs s) frame.point at
   where
     go : (a : Answer (Frame Point × Store)) → ((b : Frame Point × Store) → a ≡ Gives b → (frames ≡ b.0 ∷ moved_to frame (Arrival path) ∷ below) × (t ≡ b.1)) → ((fault : Fault) → a ≡ Faults fault → ⊥)
         → (point : Point) → ((q : Path) → point ≡ Here q → path ≡ q)

@@ -5,9 +5,9 @@ use Rattle.std.proofs.lemmas.List.Elements.{All-nil, All-cons}
 use Rattle.cpc_base.specs.Bytes.{Text}
 use Rattle.cpc_base.proofs.Truth.{and_holds, and_second}
 use Rattle.cpc_num.specs.declared.kinds.Fault.{Fault}
-use Rattle.cpc_num.specs.declared.kinds.Kind.{Kind}
 use Rattle.cpc_num.specs.declared.kinds.Kind.TheVariants as K
-use Rattle.cpc_num.specs.Number.{same_kind, convert}
+use Rattle.cpc_num.specs.Number.{convert}
+use Rattle.cpc_num.proofs.KindLemmas.{same_kind-refl}
 use Rattle.cpc_tree.specs.Erase.{Names}
 use Rattle.cpc_tree.specs.Primitives as P
 use Rattle.cpc_tree.specs.Syntax.{Ty, TyInt, TyCondvar, TyPointer, TyCode}
@@ -28,14 +28,6 @@ use Rattle.cpc_eval_values.specs.declared.assignment.Taken.TheVariants as T
 use Rattle.cpc_eval_values.specs.Takes.{taken_of}
 use Rattle.cpc_native_acts.specs.Taken.{is_set, is_integer, is_taken_as, are_taken, IsByte, IsLong, IsAskedWith}
 
-kind_itself : (k : Kind) → same_kind k k ≡ true
-kind_itself K.Char = refl
-kind_itself K.UChar = refl
-kind_itself K.Int = refl
-kind_itself K.UInt = refl
-kind_itself K.Long = refl
-kind_itself K.ULong = refl
-
 -- ---- one value
 
 -- what a value is of is so of the same value by its other name
@@ -49,7 +41,7 @@ set_fits (TyInt kind) s (Whole j z) x h e g =
     let is : Whole kind (convert kind z) ≡ x = cc in
     let i : S.Int kind ≡ s = cc in
     let Q : Scalar → Type 0 = λ q. suits {C = Text} q (Whole kind (convert kind z)) ≡ true in
-    fits_by s (Whole kind (convert kind z)) x is (subst Q i (kind_itself kind))
+    fits_by s (Whole kind (convert kind z)) x is (subst Q i (same_kind-refl kind))
 set_fits (TyPointer t) s (Whole j z) x h e g = let is : Null ≡ x = cc in let i : S.Pointer ≡ s = cc in let Q : Scalar → Type 0 = λ q. suits {C = Text} q Null ≡ true in fits_by s Null x is (subst Q i refl)
 set_fits (TyPointer t) s Null x h e g = let is : Null ≡ x = cc in let i : S.Pointer ≡ s = cc in let Q : Scalar → Type 0 = λ q. suits {C = Text} q Null ≡ true in fits_by s Null x is (subst Q i refl)
 set_fits (TyPointer t) s (At c n k) x h e g = let is : At c n k ≡ x = cc in let i : S.Pointer ≡ s = cc in let Q : Scalar → Type 0 = λ q. suits {C = Text} q (At c n k) ≡ true in fits_by s (At c n k) x is (subst Q i refl)

@@ -14,6 +14,7 @@ use Rattle.cpc_meaning.specs.Answer.{Answer, Gives, Faults, NoAnswer, ◌>>=◌,
 use Rattle.cpc_meaning.specs.Eval as E
 use Rattle.cpc_meaning.specs.Act as M
 use Rattle.cpc_meaning.specs.Slots.{free_slots}
+use Rattle.cpc_meaning.proofs.Functions.{found_again}
 use Rattle.cpc_eval_index.specs.declared.index.Index.{Index}
 use Rattle.cpc_eval_index.specs.Indexed.{items_of, IsOwn}
 use Rattle.cpc_native_frames.specs.Living.{CanLeave}
@@ -21,13 +22,12 @@ use Rattle.cpc_native_plans.specs.Calls.{IsNamed, entering}
 use Rattle.cpc_native_changes.specs.Foreseen.{Foresees}
 use Rattle.cpc_native_changes.specs.declared.changes.Change.{Change}
 use Rattle.cpc_native_changes.specs.declared.changes.Change.TheVariants as C
-use Rattle.cpc_native_plans.proofs.Owning.{found_own}
 
 -- a function that is found by a name is its own
 pub own_found : (index : Index) (name : Name) (o : Option (Bor G.Function)) → ((names : Names) → AreApart names → option_map (λ (f : Bor G.Function). function_of names f.now) o ≡ function_named (items_of names index) (names name))
     → IfSome o (λ f. IsOwn index f.now)
 own_found index name None h = tt
-own_found index name (Some f) h = λ names apart. found_own (items_of names index) (names name) (function_of names f.now) (sym (h names apart))
+own_found index name (Some f) h = λ names apart. found_again (items_of names index) (names name) (function_of names f.now) (sym (h names apart))
 
 module _ (names : Names) (c : E.Context) (stood : M.Stood) where
   pub by_same : (change : Change) (a b : Answer M.Act) → a ≡ b → Foresees names c stood change a → Foresees names c stood change b

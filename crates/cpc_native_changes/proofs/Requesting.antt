@@ -17,12 +17,12 @@ use Rattle.cpc_meaning.specs.Requests as R
 use Rattle.cpc_meaning.specs.Section.{allocated, freed}
 use Rattle.cpc_eval_values.specs.Meets.{Meets}
 use Rattle.cpc_eval.specs.Numbers.{HasNumbers, AllNumbers}
+use Rattle.cpc_eval.proofs.Evaluating.{chain_one}
 use Rattle.cpc_native_plans.specs.Rows.{taken, longs}
 use Rattle.cpc_native_plans.specs.Calls.{calls_host}
 use Rattle.cpc_native_changes.specs.Foreseen.{Foresees, MakesSo, FreesSo, AsksSo, IsAlone, maker, freer}
 use Rattle.cpc_native_changes.specs.declared.changes.Change.{Change}
 use Rattle.cpc_native_changes.specs.declared.changes.Change.TheVariants as C
-use Rattle.cpc_native_plans.proofs.Calling.{chain}
 use Rattle.cpc_native_changes.proofs.Foreseeing.{after_any}
 
 -- ---- one argument
@@ -109,15 +109,15 @@ free_asked c stood change _ class v e h = absurd cc
 
 -- what they take
 maker_takes : (c : E.Context) (prim : R.Primitive) (class : Class) (es : Exprs) → Some class ≡ maker prim → (taken c (P.long ∷ []) es >>= M.asks (R.Builtin prim)) ≡ M.asks_with c prim es None
-maker_takes c R.Malloc class es e = sym (chain (E.values c es) (R.all_taken (P.long ∷ [])) (M.asks (R.Builtin R.Malloc)))
-maker_takes c R.RtFrame class es e = sym (chain (E.values c es) (R.all_taken (P.long ∷ [])) (M.asks (R.Builtin R.RtFrame)))
-maker_takes c R.RtBox class es e = sym (chain (E.values c es) (R.all_taken (P.long ∷ [])) (M.asks (R.Builtin R.RtBox)))
+maker_takes c R.Malloc class es e = sym (chain_one (E.values c es) (R.all_taken (P.long ∷ [])) (M.asks (R.Builtin R.Malloc)))
+maker_takes c R.RtFrame class es e = sym (chain_one (E.values c es) (R.all_taken (P.long ∷ [])) (M.asks (R.Builtin R.RtFrame)))
+maker_takes c R.RtBox class es e = sym (chain_one (E.values c es) (R.all_taken (P.long ∷ [])) (M.asks (R.Builtin R.RtBox)))
 maker_takes c _ class es e = absurd cc
 
 freer_takes : (c : E.Context) (prim : R.Primitive) (class : Class) (es : Exprs) → Some class ≡ freer prim → (taken c (P.SetOf P.any_pointer ∷ []) es >>= M.asks (R.Builtin prim)) ≡ M.asks_with c prim es None
-freer_takes c R.Free class es e = sym (chain (E.values c es) (R.all_taken (P.SetOf P.any_pointer ∷ [])) (M.asks (R.Builtin R.Free)))
-freer_takes c R.RtFrameFree class es e = sym (chain (E.values c es) (R.all_taken (P.SetOf P.any_pointer ∷ [])) (M.asks (R.Builtin R.RtFrameFree)))
-freer_takes c R.RtUnbox class es e = sym (chain (E.values c es) (R.all_taken (P.SetOf P.any_pointer ∷ [])) (M.asks (R.Builtin R.RtUnbox)))
+freer_takes c R.Free class es e = sym (chain_one (E.values c es) (R.all_taken (P.SetOf P.any_pointer ∷ [])) (M.asks (R.Builtin R.Free)))
+freer_takes c R.RtFrameFree class es e = sym (chain_one (E.values c es) (R.all_taken (P.SetOf P.any_pointer ∷ [])) (M.asks (R.Builtin R.RtFrameFree)))
+freer_takes c R.RtUnbox class es e = sym (chain_one (E.values c es) (R.all_taken (P.SetOf P.any_pointer ∷ [])) (M.asks (R.Builtin R.RtUnbox)))
 freer_takes c _ class es e = absurd cc
 
 module _ (names : Names) (c : E.Context) (stood : M.Stood) (prim : R.Primitive) (class : Class) (es : Exprs) (change : Change) (o : Option Value) where

@@ -16,15 +16,11 @@ use Rattle.cpc_meaning.specs.Act as M
 use Rattle.cpc_eval_locals.specs.Held.{Held, local_in, capped_held}
 use Rattle.cpc_eval.specs.Around.{meant_or, meant_in}
 use Rattle.cpc_eval.proofs.TypedParts.{named_or}
+use Rattle.cpc_eval.proofs.Evaluating.{chain_one}
 use Rattle.cpc_native_plans.specs.Rows.{passed}
 use Rattle.cpc_native_plans.specs.Calls.{is_of_type, code_called, called_with, entering, calls_if, calls_known, calls_moded}
 
 -- ---- one part after another
-
-pub chain : {A B D : Type 0} (a : Answer A) (f : A → Answer B) (g : B → Answer D) → (a >>= (λ x. f x >>= g)) ≡ ((a >>= f) >>= g)
-chain (Gives x) f g = refl
-chain (Faults e) f g = refl
-chain NoAnswer f g = refl
 
 -- the same after each value
 pub then_same : {A B : Type 0} (a : Answer A) (f g : A → Answer B) → ((x : A) → f x ≡ g x) → (a >>= f) ≡ (a >>= g)
@@ -60,19 +56,19 @@ value_calls c f es = then_same (E.value c f) _ _ (λ v. then_same (needed (E.use
     ending : (v : Value) (t : Ty) (ws : List Value) → (M.callee c.program t v >>= (λ g. Gives (M.Enters g ws))) ≡ (naming c v t ws >>= entering c)
     ending v t ws =
         ap (λ a. a >>= (λ g. Gives (M.Enters g ws))) (callee_named c.program t v)
-        ∙ (sym (chain (code_called c.program t v) (λ x. needed (function_named c.program x)) (λ g. Gives (M.Enters g ws)))
-        ∙ chain (code_called c.program t v) (λ x. Gives (x, ws)) (entering c))
+        ∙ (sym (chain_one (code_called c.program t v) (λ x. needed (function_named c.program x)) (λ g. Gives (M.Enters g ws)))
+        ∙ chain_one (code_called c.program t v) (λ x. Gives (x, ws)) (entering c))
 
     tail : (v : Value) (t : Ty) → (E.values c es >>= (λ vs. arguments (code_parameters t) vs >>= (λ ws. M.callee c.program t v >>= (λ g. Gives (M.Enters g ws)))))
         ≡ ((passed c (code_parameters t) es >>= naming c v t) >>= entering c)
     tail v t =
-        chain (E.values c es) (arguments (code_parameters t)) _
+        chain_one (E.values c es) (arguments (code_parameters t)) _
         ∙ (then_same (passed c (code_parameters t) es) _ _ (ending v t)
-        ∙ chain (passed c (code_parameters t) es) (naming c v t) (entering c))
+        ∙ chain_one (passed c (code_parameters t) es) (naming c v t) (entering c))
 
 -- a call of a function
 pub function_calls : (c : E.Context) (f : Function) (es : Exprs) → M.calls c f es ≡ (passed c (parameter_types f) es >>= (λ ws. Gives (M.Enters f ws)))
-function_calls c f es = chain (E.values c es) (arguments (parameter_types f)) _
+function_calls c f es = chain_one (E.values c es) (arguments (parameter_types f)) _
 
 -- ---- what a name calls
 
@@ -99,7 +95,7 @@ module _ (c : E.Context) (x : Text) (es : Exprs) where
 
   -- a call of a function in a mode
   moded_calls : (mode : Mode) (r : Ty) (ps : List Ty) (prim : Option Primitive) (o : Option Function) → function_named c.program x ≡ o → M.calls_named c x es (AFunction mode r ps) prim o ≡ calls_moded c x es mode
-  moded_calls G.Extern r ps prim o e = chain (E.values c es) all_long (M.asks (Host x))
+  moded_calls G.Extern r ps prim o e = chain_one (E.values c es) all_long (M.asks (Host x))
   moded_calls G.Native r ps prim None e = sym (ap (calls_if c x es) e)
   moded_calls G.Native r ps prim (Some f) e = sym (ap (calls_if c x es) e)
   moded_calls G.Cps r ps prim None e = sym (ap (calls_if c x es) e)

@@ -3,7 +3,6 @@ pub mod Calling
 pub mod Doing
 pub mod Evaluated
 pub mod Laying
-pub mod Owning
 pub mod Planning
 pub mod Rowing
 pub mod Signing

@@ -1,5 +1,5 @@
 -- The types of codes by their parts, and types that the code finds.
-use Rattle.std.proofs.Common.{◌≡◌, ◌&&◌, List, [], ◌∷◌, map, Option, Some, None, Result, Vec, Box, Global, refl, sym, ap, subst, ◌∙◌}
+use Rattle.std.proofs.Common.{◌≡◌, ◌&&◌, List, map, Option, Some, None, Result, Vec, Box, Global, refl, sym, ap, subst, ◌∙◌}
 use Rattle.cpc_base.specs.declared.stop.Stop.{Stop}
 use Rattle.cpc_num.specs.declared.kinds.Fault.{Fault}
 use Rattle.cpc_tree.specs.Erase.{Names, type_of}
@@ -8,6 +8,7 @@ use Rattle.cpc_tree.specs.declared.program.CType.{CType}
 use Rattle.cpc_tree.specs.declared.program.CType.TheVariants as C
 use Rattle.cpc_tree.specs.Typing as T
 use Rattle.cpc_tree.specs.Typing.{same_type, same_types, tys_of, list_of_tys, code_parameters}
+use Rattle.cpc_tree.proofs.TypeRows.{list_back}
 use Rattle.cpc_shapes.specs.Found.{used_of}
 use Rattle.cpc_shapes.proofs.CodeParts.{code_at}
 use Rattle.cpc_meaning.specs.Answer.{Answer, ◌>>=◌, needed}
@@ -16,10 +17,6 @@ use Rattle.cpc_eval.specs.Shapes.{Agrees}
 use Rattle.cpc_native_plans.specs.Stops.{MeetsOr}
 use Rattle.cpc_native_plans.specs.Rows.{signature_in}
 use Rattle.cpc_native_plans.proofs.Stopping.{or_none}
-
-list_tys : (ts : List Ty) → list_of_tys (tys_of ts) ≡ ts
-list_tys [] = refl
-list_tys (t ∷ ts) = ap (λ l. t ∷ l) (list_tys ts)
 
 tys_list : (ts : Tys) → tys_of (list_of_tys ts) ≡ ts
 tys_list NoTy = refl
@@ -31,12 +28,12 @@ pub signature_found : (names : Names) (t r : CType) (us : List CType) (b : Box C
 signature_found names t r us b ts e f g =
     ap (λ x. Some (type_of names x, map (type_of names) us)) f
     ∙ (ap (λ l. Some (type_of names b.value, map (type_of names) l)) g
-    ∙ (ap (λ l. Some (type_of names b.value, l)) (sym (list_tys (map (type_of names) ts.items)))
+    ∙ (ap (λ l. Some (type_of names b.value, l)) (sym (list_back (map (type_of names) ts.items)))
     ∙ sym (ap signature_in (code_at names t b ts e))))
 
 -- the parts of the type of a function
 pub signature_made : (r : Ty) (ts : List Ty) → Some (r, ts) ≡ signature_in (T.function_type r ts)
-signature_made r ts = ap (λ l. Some (r, l)) (sym (list_tys ts))
+signature_made r ts = ap (λ l. Some (r, l)) (sym (list_back ts))
 
 parts_are : (r q : Ty) (ts us : List Ty) → ◌≡◌ {A = Option (Ty × List Ty)} (Some (r, ts)) (Some (q, us)) → (r ≡ q) × (ts ≡ us)
 parts_are r q ts us e = let p : ◌≡◌ {A = Ty × List Ty} (r, ts) (q, us) = cc in (ap (λ x. x.0) p, ap (λ x. x.1) p)

@@ -7,7 +7,6 @@ use Rattle.cpc_base.specs.declared.names.Name.{Name}
 use Rattle.cpc_tree.specs.Erase.{Names}
 use Rattle.cpc_tree.specs.Lists.{is_empty}
 use Rattle.cpc_tree.specs.Points.{Point}
-use Rattle.cpc_tree.specs.Registers.{variables}
 use Rattle.cpc_tree.specs.Syntax.{Function, Program}
 use Rattle.cpc_tree.specs.Typing.{function_named}
 use Rattle.cpc_num.specs.declared.kinds.Fault.{Fault}
@@ -16,7 +15,6 @@ use Rattle.cpc_store.specs.Store.{Value, Store, alloc, empty_store}
 use Rattle.cpc_store.specs.declared.values.Class.TheVariants.{Static}
 use Rattle.cpc_store.specs.declared.values.Value as V
 use Rattle.cpc_meaning.specs.Answer.{Answer, Gives, Faults, NoAnswer}
-use Rattle.cpc_meaning.specs.Slots.{call_slots}
 use Rattle.cpc_meaning.specs.Plain.{Frame, Stack, stack_of, make_frame}
 use Rattle.cpc_meaning.specs.Section.{Job, section_run, section_from, section_frame, section_end, copy_store, copy_pointer}
 use Rattle.cpc_meaning.specs.Trees.{trees}
@@ -24,7 +22,7 @@ use Rattle.cpc_eval_values.specs.Shown.{values_of, store_of}
 use Rattle.cpc_eval_index.specs.Indexed.{items_of}
 use Rattle.cpc_native.specs.declared.machine.Machine.{Machine}
 use Rattle.cpc_native.specs.Stacks.{stack_of as machine_stack}
-use Rattle.cpc_native.proofs.Stepping.{slots_no_fault, no_frame_fault}
+use Rattle.cpc_native.proofs.Stepping.{frame_never_fails}
 use Rattle.cpc_native.proofs.Same.{runs_same}
 use Rattle.cpc_sections.specs.Jobs.{EndsAs}
 use Rattle.cpc_sections.specs.declared.job.SectionEnd as E
@@ -32,10 +30,6 @@ use Rattle.cpc_sections.specs.declared.job.SectionEnd.TheVariants as D
 use Rattle.cpc_native_sections.specs.Led.{Rest, LeadsTo, IsRunning, step_of, run_of}
 
 -- ---- the first frame
-
--- no frame fails
-frame_never_fails : (p : Program) (g : Function) (vs : List Value) (s : Store) (fault : Fault) → make_frame (trees p) g vs s ≡ Faults fault → ⊥
-frame_never_fails p g vs s fault e = no_frame_fault p g (call_slots p g vs s) fault (λ other k. slots_no_fault p g 0 (variables g) vs s other k) e
 
 -- where the stack and the store are those of the first frame, what they come to is what the section comes to
 module _ (names : Names) (p : Program) (job : Job) (bound : ℕ) (end : E.SectionEnd) (k : Stack Point) (s : Store) where
@@ -56,7 +50,7 @@ module _ (names : Names) (p : Program) (job : Job) (bound : ℕ) (end : E.Sectio
   called : (o : Option Function) → function_named p job.function ≡ o → First → Runs_so s k → EndsAs names end (section_from (trees p) job bound (section_frame (trees p) job o))
   called None e first h = tt
   called (Some g) e first h =
-      made (make_frame (trees p) g (copy_pointer job.cells ∷ job.arguments) (copy_store job.cells)) (λ fault. frame_never_fails p g (copy_pointer job.cells ∷ job.arguments) (copy_store job.cells) fault)
+      made (make_frame (trees p) g (copy_pointer job.cells ∷ job.arguments) (copy_store job.cells)) (frame_never_fails p g (copy_pointer job.cells ∷ job.arguments) (copy_store job.cells))
       (λ b. first g b e) h
 
   pub begun : First → Runs_so s k → EndsAs names end (section_end (trees p) job bound)

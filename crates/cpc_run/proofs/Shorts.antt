@@ -31,7 +31,7 @@ use Rattle.cpc_run.specs.Shorts.{Counts, IsBeyond}
 use Rattle.cpc_run_code.specs.Shorts.{IsAbove}
 use Rattle.cpc_run.specs.States.{States, Within, settles, program_in}
 use Rattle.cpc_meaning_laws.specs.Pointer.Made.{IsMadeStore}
-use Rattle.cpc_run.proofs.Turns.{frame_never_fails}
+use Rattle.cpc_run_code.proofs.Stepping.{frame_never_fails}
 use Rattle.cpc_run_code.proofs.Written.{Collects, collects}
 
 -- ---- numbers
@@ -64,7 +64,7 @@ module _ (names : Names) (l : Loop) (s : States) (f : Text) (vs : List S.Value) 
   runs_is o e = ap (λ o. needed o >>= begun) e
 
   no_fault : (g : Function) (fault : Fault) → begun g ≡ Faults fault → ⊥
-  no_fault g fault e = go (make_frame (trees program) g vs s.store) (λ other i. frame_never_fails program g vs s.store other i) e
+  no_fault g fault e = go (make_frame (trees program) g vs s.store) (frame_never_fails program g vs s.store) e
     where
       go : (a : Answer (Frame Point × S.Store)) → ((other : Fault) → a ≡ Faults other → ⊥) → (a >>= λ m. Gives (record s { store = m.1; running = Some (stack_of m.0) })) ≡ Faults fault → ⊥
       go (Gives m) h e = cc e

@@ -1,23 +1,19 @@
 -- Where nothing runs: a turn of the round, and what is taken.
-use Rattle.std.proofs.Common.{◌≡◌, ℕ, suc, ◌<◌, ◌≤◌, length, Result, Err, IfOk, true, false, List, [], ◌∷◌, map, Option, Some, None, Ok, refl, sym, ap, subst, ◌∙◌}
+use Rattle.std.proofs.Common.{◌≡◌, ℕ, ◌<◌, ◌≤◌, length, Result, Err, IfOk, true, false, List, [], map, Option, Some, None, Ok, refl, sym, ap, subst, ◌∙◌}
 use Rattle.cpc_base.specs.Bytes.{Text}
 use Rattle.cpc_base.specs.declared.stop.NoMemory.{NoMemory}
 use Rattle.cpc_num.specs.declared.kinds.Fault.{Fault}
 use Rattle.cpc_tree.specs.Erase.{Names}
 use Rattle.cpc_tree.specs.Points.{Point}
-use Rattle.cpc_tree.specs.Syntax.{Variable, Function, Program}
-use Rattle.cpc_tree.specs.Typing.{function_named, size}
-use Rattle.cpc_tree.specs.Registers.{variables, is_register}
-use Rattle.cpc_tree.specs.Lists.{first_or, rest_of}
+use Rattle.cpc_tree.specs.Syntax.{Function, Program}
+use Rattle.cpc_tree.specs.Typing.{function_named}
 use Rattle.cpc_tree.specs.Trace as T
-use Rattle.cpc_store.specs.Store.{Store, Value, Unset}
+use Rattle.cpc_store.specs.Store.{Store, Value}
 use Rattle.cpc_meaning.specs.Agenda as A
 use Rattle.cpc_meaning.specs.Answer.{Answer, Gives, Faults, NoAnswer, ◌>>=◌, needed}
-use Rattle.cpc_meaning.specs.Eval.{Slot}
 use Rattle.cpc_meaning.specs.Events.{Callback, callbacks}
 use Rattle.cpc_meaning.specs.Machine.{Machine, runs, schedules, settled, step_running, try_step, turns}
 use Rattle.cpc_meaning.specs.Plain.{Frame, stack_of, make_frame}
-use Rattle.cpc_meaning.specs.Slots.{make_slot, make_slots}
 use Rattle.cpc_meaning.specs.Trees.{trees}
 use Rattle.cpc_meaning.proofs.Agendas.{SameAgenda, SameDue}
 use Rattle.cpc_meaning.proofs.Both.{Both, Ends, Goes}
@@ -27,6 +23,7 @@ use Rattle.cpc_agenda_turns.specs.declared.turns.Turns.{Turns}
 use Rattle.cpc_agenda_turns.specs.Laws.{turned}
 use Rattle.cpc_agenda_turns.specs.Turns as N
 use Rattle.cpc_agenda_turns.proofs.Follow.{turns_follow}
+use Rattle.cpc_run_code.proofs.Stepping.{frame_never_fails}
 use Rattle.cpc_run_code.specs.declared.items.Item.{Item}
 use Rattle.cpc_run.specs.declared.looped.Loop.{Loop}
 use Rattle.cpc_run_shown.specs.declared.outcome.Outcome.TheVariants as O
@@ -40,51 +37,6 @@ use Rattle.cpc_run.proofs.Alike.{turn_same}
 use Rattle.cpc_run.proofs.Asks.{same_lists, same_agenda}
 
 -- ---- a call of a function
-
--- the slots of the variables behind this one's
-abbrev behind : Slot → Answer (List Slot × Store) → Answer (List Slot × Store)
-behind slot a = do
-  (slots, s2) ← a
-  Gives (slot ∷ slots, s2)
-
-behind_never_fails : (slot : Slot) (fault : Fault) (a : Answer (List Slot × Store)) → ((other : Fault) → a ≡ Faults other → ⊥) → behind slot a ≡ Faults fault → ⊥
-behind_never_fails slot fault (Gives b) none e = cc
-behind_never_fails slot fault (Faults other) none e = none other refl
-behind_never_fails slot fault NoAnswer none e = cc
-
-abbrev sized_slot : Program → Function → ℕ → Variable → List Variable → List Value → Store → Option ℕ → Answer (List Slot × Store)
-sized_slot p f n x xs vs s o = do
-  cells ← needed o
-  (slot, s1) ← Gives (make_slot (is_register f n x) cells (first_or Unset vs) s)
-  (slots, s2) ← make_slots p f (suc n) xs (rest_of vs) s1
-  Gives (slot ∷ slots, s2)
-
-sized_never_fails : (p : Program) (f : Function) (n : ℕ) (x : Variable) (xs : List Variable) (vs : List Value) (s : Store) (fault : Fault) (o : Option ℕ)
-    → ((s1 : Store) (other : Fault) → make_slots p f (suc n) xs (rest_of vs) s1 ≡ Faults other → ⊥) → sized_slot p f n x xs vs s o ≡ Faults fault → ⊥
-sized_never_fails p f n x xs vs s fault None rest e = cc
-sized_never_fails p f n x xs vs s fault (Some cells) rest e =
-    let made = make_slot (is_register f n x) cells (first_or Unset vs) s in
-    behind_never_fails made.0 fault (make_slots p f (suc n) xs (rest_of vs) made.1) (rest made.1) e
-
--- no slot fails
-slots_never_fail : (p : Program) (f : Function) (n : ℕ) (xs : List Variable) (vs : List Value) (s : Store) (fault : Fault) → make_slots p f n xs vs s ≡ Faults fault → ⊥
-slots_never_fail p f n [] vs s fault e = cc
-slots_never_fail p f n (x ∷ xs) vs s fault e = sized_never_fails p f n x xs vs s fault (size p x.type) (λ s1 other. slots_never_fail p f (suc n) xs (rest_of vs) s1 other) e
-
-abbrev framed : Program → Function → Answer (List Slot × Store) → Answer (Frame Point × Store)
-framed p f a = do
-  (slots, t) ← a
-  Gives (record { function = f.called; point = (trees p).code.first f.called; slots = slots }, t)
-
-framed_never_fails : (p : Program) (f : Function) (fault : Fault) (a : Answer (List Slot × Store)) → ((other : Fault) → a ≡ Faults other → ⊥) → framed p f a ≡ Faults fault → ⊥
-framed_never_fails p f fault (Gives b) none e = cc
-framed_never_fails p f fault (Faults other) none e = none other refl
-framed_never_fails p f fault NoAnswer none e = cc
-
--- no frame fails
-pub frame_never_fails : (p : Program) (f : Function) (vs : List Value) (s : Store) (fault : Fault) → make_frame (trees p) f vs s ≡ Faults fault → ⊥
-frame_never_fails p f vs s fault e =
-    framed_never_fails p f fault (make_slots p f 0 (variables f) vs s) (λ other. slots_never_fail p f 0 (variables f) vs s other) e
 
 abbrev runs_in : States → Answer (Frame Point × Store) → Answer States
 runs_in s a = do
@@ -124,7 +76,7 @@ module _ (names : Names) (l new : Loop) (printed : Text) (s : States) (h : Stand
       → DidTurn {E = Short} names (Ok X.On) new printed s (settles names l s (runs_named (program_in names l) vs s o))
   named f vs None e entered = tt
   named f vs (Some g) e entered =
-      made g vs (make_frame (trees (program_in names l)) g vs s.store) (λ fault. frame_never_fails (program_in names l) g vs s.store fault)
+      made g vs (make_frame (trees (program_in names l)) g vs s.store) (frame_never_fails (program_in names l) g vs s.store)
       (λ frame t m. entered g frame t e (ap (make_frame (trees (program_in names l)) g vs) (sym h.store) ∙ m))
 
   pub called : (f : Text) (vs : List Value) → Entered f vs → DidTurn {E = Short} names (Ok X.On) new printed s (settles names l s (runs (trees (program_in names l)) f vs s))

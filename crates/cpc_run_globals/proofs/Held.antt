@@ -2,8 +2,9 @@
 use Rattle.std.proofs.Common.{◌≡◌, ℕ, zero, suc, ◌+◌, ◌-◌, ◌*◌, ◌<◌, ◌≤◌, Bool, true, false, cond, List, [], ◌∷◌, ◌++◌, length, take, drop, get_or, map, reverse, Option, Some, None, option_map, refl, sym, ap, ◌∙◌, add-one, append_assoc, arith}
 use Rattle.std.specs.Prelude.{bytes_eq}
 use Rattle.std.proofs.lemmas.List.{append-nil, length-append}
-use Rattle.std.proofs.Math.Seq.{drop-cons, take-length}
+use Rattle.std.proofs.Math.Seq.{take-length}
 use Rattle.cpc_base.specs.Bytes.{Text}
+use Rattle.cpc_base.proofs.Lists.{drop_to_item}
 use Rattle.cpc_store.specs.declared.values.Scalar.{Scalar}
 use Rattle.cpc_store.specs.declared.values.Scalar.TheVariants as S
 use Rattle.cpc_tree.specs.Erase.{Names, type_of, field_of, item_of}
@@ -181,15 +182,12 @@ joined_assoc xs None p = refl
 joined_assoc xs (Some ys) None = refl
 joined_assoc xs (Some ys) (Some zs) = ap Some (sym (append_assoc xs ys zs))
 
-next_field : (fs : List Field) (i : ℕ) (x : Field) → i < length fs → x ≡ get_or fs i x → drop i fs ≡ x ∷ drop (i + 1) fs
-next_field fs i x h is = drop-cons fs i x h ∙ ap (λ y. y ∷ drop (suc i) fs) (sym is) ∙ ap (λ j. x ∷ drop j fs) (sym (add-one i))
-
 module _ (names : Names) (items : List Item) (fs : List Field) (i : ℕ) (x : Field) (all : List Scalar) where
   abbrev rest : Option (List Scalar)
   rest = fields_layout items (map (field_of names) (drop (i + 1) fs))
 
   opened : i < length fs → x ≡ get_or fs i x → joined (Some all) (fields_layout items (map (field_of names) (drop i fs))) ≡ joined (Some all) (joined (type_layout items (type_of names x.of)) rest)
-  opened h is = ap (λ gs. joined (Some all) (fields_layout items (map (field_of names) gs))) (next_field fs i x h is) ∙ ap (joined (Some all)) (fields_next items (field_of names x) (map (field_of names) (drop (i + 1) fs)))
+  opened h is = ap (λ gs. joined (Some all) (fields_layout items (map (field_of names) gs))) (drop_to_item fs i x h is) ∙ ap (joined (Some all)) (fields_next items (field_of names x) (map (field_of names) (drop (i + 1) fs)))
 
   -- one that is incomplete
   pub field_absent : i < length fs → x ≡ get_or fs i x → joined (Some all) (type_layout items (type_of names x.of)) ≡ None → joined (Some all) (fields_layout items (map (field_of names) (drop i fs))) ≡ None

@@ -3,11 +3,13 @@ use Rattle.std.proofs.Common.{◌≡◌, ℕ, Bool, true, false, if◌then◌els
 use Rattle.cpc_base.specs.Bytes.{Text}
 use Rattle.cpc_num.specs.declared.kinds.Op.{Op}
 use Rattle.cpc_num.specs.declared.kinds.Kind.TheVariants.{Int, ULong}
-use Rattle.cpc_tree.specs.Syntax.{Ty, TyInt, ESizeOf, Program}
+use Rattle.cpc_tree.specs.declared.program.UnaryOp.{UnaryOp}
+use Rattle.cpc_tree.specs.declared.program.UnaryOp.TheVariants.{AddressOf}
+use Rattle.cpc_tree.specs.Syntax.{Ty, TyInt, Expr, ENamed, EUnary, ESizeOf, Program}
 use Rattle.cpc_tree.specs.Typing as T
 use Rattle.cpc_tree.specs.Typing.{◌>>=◌}
 use Rattle.cpc_shapes.specs.Found.{used_of}
-use Rattle.cpc_shapes.specs.Forms.{binary_of, choice_of, cast_of, index_of, arrow_of, of_both, element_of}
+use Rattle.cpc_shapes.specs.Forms.{is_named, unary_of, binary_of, choice_of, cast_of, index_of, arrow_of, of_both, element_of}
 
 value_of : (o : Option Ty) → (o >>= (λ (r : Ty). Some (T.AValue r))) ≡ option_map T.AValue o
 value_of None = refl
@@ -16,6 +18,17 @@ value_of (Some r) = refl
 place_of : (o : Option Ty) → (o >>= (λ (r : Ty). Some (T.APlace r))) ≡ option_map T.APlace o
 place_of None = refl
 place_of (Some r) = refl
+
+address_of : (o : Option T.Typed) → (o >>= (λ d. Some (T.address_type d))) ≡ option_map T.address_type o
+address_of None = refl
+address_of (Some d) = refl
+
+-- ---- one operand
+
+pub unary_typed : (meant : Text → T.Meant) (p : Program) (op : UnaryOp) (a : Expr) → T.typing_of meant p (EUnary op a) ≡ unary_of op (is_named a) (T.typing_of meant p a)
+unary_typed meant p AddressOf (ENamed x) = address_of (T.type_named (meant x))
+unary_typed meant p AddressOf a = refl
+unary_typed meant p op a = refl
 
 -- ---- one operand that is used as a value
 

@@ -10,6 +10,7 @@ use Rattle.cpc_base.specs.declared.names.Name.{Name}
 use Rattle.cpc_tree.specs.Syntax.{Variable, Program}
 use Rattle.cpc_tree.specs.Typing.{ALocal}
 use Rattle.cpc_check_rules.specs.Scopes.{Scope, Block, meant, is_here, with_name, with_block}
+use Rattle.cpc_check_rules.proofs.Scopes.{meant_last, meant_before}
 use Rattle.cpc_types.specs.declared.blocks.Local.{Local}
 use Rattle.cpc_types.specs.declared.blocks.Entry.{Entry}
 use Rattle.cpc_types.specs.declared.blocks.Entry.TheVariants as E
@@ -24,14 +25,6 @@ rest_without items (b ∷ bs) v = refl
 -- a name goes with its block
 pub without_name : (s : Scope) (v : Variable) → without_block (with_name s v) ≡ without_block s
 without_name s v = rest_without s.items s.blocks v
-
-meant_last : (items : Program) (bs : List Block) (v : Variable) (x : Text) → bytes_eq v.called x ≡ true → meant (with_name (record { items = items; blocks = bs }) v) x ≡ ALocal 0 v.type
-meant_last items [] v x e = rw e refl
-meant_last items (b ∷ bs) v x e = rw e refl
-
-meant_before : (items : Program) (bs : List Block) (v : Variable) (x : Text) → bytes_eq v.called x ≡ false → meant (with_name (record { items = items; blocks = bs }) v) x ≡ meant (record { items = items; blocks = bs }) x
-meant_before items [] v x e = rw e refl
-meant_before items (b ∷ bs) v x e = rw e refl
 
 here_last : (items : Program) (bs : List Block) (v : Variable) (x : Text) → bytes_eq v.called x ≡ true → is_here (with_name (record { items = items; blocks = bs }) v).blocks x ≡ true
 here_last items [] v x e = rw e refl

@@ -1,28 +1,18 @@
 -- The types of expressions by their forms.
-use Rattle.std.proofs.Common.{◌≡◌, Bool, Option, Some, None, option_map, refl, ap, sym, ◌∙◌, Box, Global}
+use Rattle.std.proofs.Common.{◌≡◌, Bool, Option, ap, sym, ◌∙◌, Box, Global}
 use Rattle.cpc_tree.specs.Erase.{Names, type_of, expr_of}
 use Rattle.cpc_base.specs.declared.stop.Place.{Place}
 use Rattle.cpc_num.specs.declared.kinds.Op.{Op}
 use Rattle.cpc_tree.specs.declared.program.UnaryOp.{UnaryOp}
-use Rattle.cpc_tree.specs.declared.program.UnaryOp.TheVariants as U
 use Rattle.cpc_tree.specs.declared.program.CType.{CType}
 use Rattle.cpc_tree.specs.declared.program.Word.{Word}
 use Rattle.cpc_tree.specs.declared.program.Expr.{Expr}
 use Rattle.cpc_tree.specs.declared.program.Expr.TheVariants as E
 use Rattle.cpc_tree.specs.Syntax as S
 use Rattle.cpc_tree.specs.Typing as T
-use Rattle.cpc_tree.specs.Typing.{◌>>=◌}
 use Rattle.cpc_check_rules.specs.Scopes as R
 use Rattle.cpc_shapes.specs.Forms.{is_named, unary_of, binary_of, choice_of, cast_of, index_of, member_of, arrow_of, narrow_typed, wide_typed, logical_typed}
-
-addressed : (o : Option T.Typed) → (o >>= (λ d. Some (T.address_type d))) ≡ option_map T.address_type o
-addressed None = refl
-addressed (Some d) = refl
-
-pub unary_typed : (s : R.Scope) (op : UnaryOp) (a : S.Expr) → R.typed s (S.EUnary op a) ≡ unary_of op (is_named a) (R.typed s a)
-unary_typed s U.AddressOf (S.ENamed x) = addressed (T.type_named (R.meant s x))
-unary_typed s U.AddressOf a = refl
-unary_typed s op a = refl
+use Rattle.cpc_shapes.proofs.FormParts.{unary_typed}
 
 -- ---- the forms, by what was found of their parts
 
@@ -102,4 +92,4 @@ module _ (names : Names) (e : Expr) (s : R.Scope) where
 
   -- an operator on one operand, as the rules have it
   pub narrow_unary : (p : Place) (op : UnaryOp) (b : Box Expr Global) → e ≡ E.Unary p op b → narrow_typed s (expr_of names e) ≡ R.typed s (expr_of names e)
-  narrow_unary p op b is = ap (λ x. narrow_typed s (expr_of names x)) is ∙ sym (unary_typed s op (expr_of names b.value)) ∙ sym (ap (λ x. R.typed s (expr_of names x)) is)
+  narrow_unary p op b is = ap (λ x. narrow_typed s (expr_of names x)) is ∙ sym (unary_typed (R.meant s) s.items op (expr_of names b.value)) ∙ sym (ap (λ x. R.typed s (expr_of names x)) is)

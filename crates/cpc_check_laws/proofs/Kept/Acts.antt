@@ -19,9 +19,9 @@ use Rattle.cpc_meaning.specs.Act.{Stood, AtStatement, AtArrival, AtEnd, Act, Goe
 use Rattle.cpc_meaning.proofs.SameValues.{at}
 use Rattle.cpc_meaning.proofs.Functions.{found_again}
 use Rattle.cpc_meaning_laws.proofs.Pointer.Blocks.{Only, only_then, any_then}
+use Rattle.cpc_check_rules.proofs.Sameness.{type_is}
 use Rattle.cpc_check_laws.specs.Sound.Suits.{ScopeOf}
 use Rattle.cpc_check_laws.proofs.Sound.Lookups.{local_is}
-use Rattle.cpc_check_laws.proofs.Sound.Types.{type_is}
 use Rattle.cpc_check_laws.specs.Kept.Fits.{Fits, FitAll, types_of, FitsCall, GivesInt}
 use Rattle.cpc_check_laws.proofs.Kept.Values.{assigned_fits, arguments_fit}
 use Rattle.cpc_check_laws.proofs.Kept.Stores.{Stays, save_stays, freed_slots_stay}

@@ -24,6 +24,7 @@ use Rattle.cpc_meaning.specs.Requests.{Builtin, takes, section_takes, all_taken,
 use Rattle.cpc_meaning.specs.Act.{Act, GoesOn, Enters, Leaves, AsksFor, write, assign, right_side, assigns, calls, function_of_type, callee, calls_value, asks_with, puts_text, calls_named, calls_expr, detaches, spawns, leaves, simple_act, found_act, target_of, deliver, arrives}
 use Rattle.cpc_check_rules.specs.Operators.{is_detached}
 use Rattle.cpc_check_rules.specs.Calls.{gives, is_closed}
+use Rattle.cpc_check_rules.proofs.Sameness.{type_is}
 use Rattle.cpc_check_laws.specs.Sound.Suits.{Comes, Suits, SuitsSlot, SuitSlots, ScopeOf, IsBoxed, AllBoxed, SuitsSpot}
 use Rattle.cpc_check_laws.specs.Sound.Control.{Stands, GoesOnward}
 use Rattle.cpc_check_laws.specs.Sound.Typed.{Gets, Assigns, Delivers, AllGet, EachGets, AllGetTaken, GetsTaken, IsSection, Detaches, TakesArguments, is_for, is_own, is_variable, is_pointer_call, Calls, CallsHost, CallsFunction, CallsPrimitive, CallsPointer, IsOpen, IsTyped, FoundTyped}
@@ -34,7 +35,6 @@ use Rattle.cpc_check_laws.proofs.Sound.Scalars.{testable_scalar}
 use Rattle.cpc_check_laws.proofs.Sound.Expressions.{expressions_answer}
 use Rattle.cpc_check_laws.proofs.Sound.Lookups.{boxed_left, boxed_right}
 use Rattle.cpc_check_laws.proofs.Sound.Copies.{CopyStays, save_stays, free_stays}
-use Rattle.cpc_check_laws.proofs.Sound.Types.{type_is}
 use Rattle.cpc_check_laws.proofs.Sound.Paths.{found_addresses, simple_addresses}
 use Rattle.cpc_check_laws.proofs.Sound.Requests.{Becomes, AllSuit, AllBecome, EachBecomes, AllWhole, AllReady, AllTaken, callback_type, PrimitiveGiven, IsRequest, AsksPrimitive, AsksHost, AsksSpawn, AsksSection, IsCallback, becomes_comes, arguments_come, longs_come, all_taken_come, value_suits, got_comes, all_get_come, each_gets_come, code_comes, all_ready_come}
 

@@ -17,6 +17,7 @@ use Rattle.cpc_check_rules.specs.Scopes.{meant, typed, takes_value, takes_typed}
 use Rattle.cpc_check_rules.specs.Operators.{Where, typed_at, first, is_detached}
 use Rattle.cpc_check_rules.specs.Calls.{Wanted, Integer, Of, Callback, wanted_of, Takes, NoCallee, is_callee, section_callee, takes_section, all_integers, are_integers, is_integer_used, is_function, is_function_name, count, suits, suit_breaks}
 use Rattle.cpc_check_rules.specs.ExprRules.{expr_breaks, arg_breaks, args_breaks}
+use Rattle.cpc_check_rules.proofs.Sameness.{type_is}
 use Rattle.cpc_store.specs.declared.values.Scalar.{Scalar}
 use Rattle.cpc_meaning.specs.Layout.{layout, scalars}
 use Rattle.cpc_meaning.specs.Requests.{section_takes}
@@ -25,7 +26,6 @@ use Rattle.cpc_check_laws.specs.Sound.Typed.{Gets, AllGet, EachGets, NamesFuncti
 use Rattle.cpc_check_laws.proofs.Sound.Answers.{no_some}
 use Rattle.cpc_check_laws.proofs.Sound.Options.{then_of}
 use Rattle.cpc_check_laws.proofs.Sound.Scalars.{null_int}
-use Rattle.cpc_check_laws.proofs.Sound.Types.{type_is}
 use Rattle.cpc_check_laws.proofs.Sound.More.{typing_more}
 use Rattle.cpc_check_laws.proofs.Sound.Unbroken.{split, holds_then, typed_of}
 

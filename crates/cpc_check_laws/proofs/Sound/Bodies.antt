@@ -25,6 +25,7 @@ use Rattle.cpc_check_rules.specs.Operators.{Where, typed_at, first, is_detached,
 use Rattle.cpc_check_rules.specs.Calls.{Of, Callee, Takes, NoCallee, is_callee, callee, section_callee, spawn_callee, is_event, wanted, result, number_breaks}
 use Rattle.cpc_check_rules.specs.ExprRules.{expr_breaks, args_breaks}
 use Rattle.cpc_check_rules.specs.StmtRules.{in_scope, inner, variable, behind, all_behind, is_writable, place_breaks, target_breaks, fits_breaks, result_breaks, assign_breaks, given_breaks, to_breaks, is_tested, tested_breaks, test_breaks, maybe_test, local_breaks, wrong_name, started_breaks, spawn_breaks, section_breaks, is_void, unfit_return, return_breaks, stmt_breaks, stmts_breaks, maybe_breaks}
+use Rattle.cpc_check_rules.proofs.Scopes.{meant_last, meant_before}
 use Rattle.cpc_meaning.specs.Act.{right_side}
 use Rattle.cpc_meaning.proofs.Functions.{text_same}
 use Rattle.cpc_check_laws.specs.Sound.Typed.{Gets, IsTest, IsTestIf, Assigns, Delivers, AllGet, Detaches, IsOpen, IsTyped, StepTyped, BodyTyped, AllTyped, ArmTyped, AllSized}
@@ -35,15 +36,6 @@ use Rattle.cpc_check_laws.proofs.Sound.Shapes.{StepWritten, Written, AllWritten,
 use Rattle.cpc_check_laws.proofs.Native.NativeValues.{unbroken}
 
 -- ---- names
-
-meant_first : (items : Program) (bs : List R.Block) (v : Variable) (x : Text) → bytes_eq v.called x ≡ true → meant (with_name (record { items = items; blocks = bs }) v) x ≡ ALocal 0 v.type
-meant_first items [] v x e = simp (e) refl
-meant_first items (b ∷ bs) v x e = simp (e) refl
-
--- any other name means what it meant
-pub meant_later : (items : Program) (bs : List R.Block) (v : Variable) (x : Text) → bytes_eq v.called x ≡ false → meant (with_name (record { items = items; blocks = bs }) v) x ≡ meant (record { items = items; blocks = bs }) x
-meant_later items [] v x e = simp (e) refl
-meant_later items (b ∷ bs) v x e = simp (e) refl
 
 pub size_of : (s : R.Scope) (t : Ty) → is_sized s t ≡ true → (n : ℕ) × (size s.items t ≡ Some n)
 size_of s t e = go (size s.items t) refl e
@@ -71,8 +63,8 @@ module _ (d : Dialect) (p : Program) (facts : Facts p) (f : Function) where
   at_name w scope n v at = record { names = names; grows = at.grows; mode = at.mode; result = at.result; dialect = at.dialect }
     where
       go : (x : Text) (b : Bool) → bytes_eq v.called x ≡ b → Matches x (meant (with_name w.scope v) x) (cond b (ALocal n v.type) (named p scope x))
-      go x true e = subst (λ m. Matches x m (ALocal n v.type)) (sym (meant_first w.scope.items w.scope.blocks v x e)) (n, refl)
-      go x false e = subst (λ m. Matches x m (named p scope x)) (sym (meant_later w.scope.items w.scope.blocks v x e)) (at.names x)
+      go x true e = subst (λ m. Matches x m (ALocal n v.type)) (sym (meant_last w.scope.items w.scope.blocks v x e)) (n, refl)
+      go x false e = subst (λ m. Matches x m (named p scope x)) (sym (meant_before w.scope.items w.scope.blocks v x e)) (at.names x)
 
       names : (x : Text) → Matches x (meant (with_name w.scope v) x) (named p (record { called = v.called; type = v.type; slot = n } ∷ scope) x)
       names x = go x (bytes_eq v.called x) refl

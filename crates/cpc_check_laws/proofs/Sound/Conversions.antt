@@ -2,9 +2,8 @@
 use Rattle.std.proofs.Common.{◌≡◌, ℕ, Bool, true, false, cond, Option, Some, None, Ok, Err, refl, sym, ◌∙◌}
 use Rattle.cpc_base.proofs.Truth.{by_false_true}
 use Rattle.cpc_num.specs.declared.kinds.Kind.{Kind}
-use Rattle.cpc_num.specs.declared.kinds.Kind.TheVariants.{Char, UChar, Int, UInt, Long, ULong}
+use Rattle.cpc_num.specs.declared.kinds.Kind.TheVariants.{Int}
 use Rattle.cpc_num.specs.declared.kinds.Fault.TheVariants as F
-use Rattle.cpc_num.specs.Number.{same_kind}
 use Rattle.cpc_tree.specs.Syntax.{Ty, TyInt, TyCondvar, TyPointer, TyCode}
 use Rattle.cpc_tree.specs.Typing.{is_testable}
 use Rattle.cpc_store.specs.declared.values.Class.{Class}
@@ -14,16 +13,8 @@ use Rattle.cpc_store.specs.Store.{Value, Unset, Whole, Null, At, Code, Cond, Sto
 use Rattle.cpc_meaning.specs.Layout.{scalar_of}
 use Rattle.cpc_meaning.specs.Answer.{of_result}
 use Rattle.cpc_meaning.specs.Eval.{holds, assigned, at_type}
+use Rattle.cpc_check_rules.proofs.Sameness.{kind_is}
 use Rattle.cpc_check_laws.specs.Sound.Suits.{Comes, Suits, converts}
-
-pub kind_is : (j k : Kind) → same_kind j k ≡ true → j ≡ k
-kind_is Char Char e = refl
-kind_is UChar UChar e = refl
-kind_is Int Int e = refl
-kind_is UInt UInt e = refl
-kind_is Long Long e = refl
-kind_is ULong ULong e = refl
-kind_is _ _ e = by_false_true e
 
 pub holds_comes : (t : Ty) (v : Value) → is_testable t ≡ true → Suits t v → Comes (λ b. Unit {0}) (holds v)
 holds_comes t Unset e h = tt

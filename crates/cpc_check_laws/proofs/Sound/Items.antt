@@ -4,12 +4,11 @@ use Rattle.std.proofs.lemmas.List.{reverse-append}
 use Rattle.cpc_base.specs.Bytes.{Text}
 use Rattle.cpc_base.proofs.Truth.{by_false_true, and_both, or_neither, and_fails_second}
 use Rattle.cpc_tree.specs.declared.program.Mode.{Mode}
-use Rattle.cpc_tree.specs.declared.program.Mode.TheVariants.{Extern, Native, Cps, Detached}
 use Rattle.cpc_tree.specs.Syntax.{Ty, Function, Item, StructItem, GlobalItem, PrototypeItem, FunctionItem, Program}
 use Rattle.cpc_tree.specs.Typing.{Meant, ALocal, AGlobal, AFunction, NotMeant, item_named, function_named, parameter_type, same_type}
 use Rattle.cpc_check_rules.specs.ItemRules.{same_mode, same_list, Signature, agrees, clashes, is_clash, disagrees, is_disagreeing, is_item, is_function}
+use Rattle.cpc_check_rules.proofs.Sameness.{type_is, list_is, mode_is}
 use Rattle.cpc_check_laws.proofs.Sound.Answers.{no_some}
-use Rattle.cpc_check_laws.proofs.Sound.Types.{type_is}
 
 -- ---- one more item
 
@@ -59,18 +58,6 @@ named_other before i x none = go (item_named 0 before x) refl
     go (AFunction mode r ps) e = named_more 0 before (i ∷ []) x (AFunction mode r ps) tt e
 
 -- ---- declarations of one name
-
-mode_is : (m n : Mode) → same_mode m n ≡ true → m ≡ n
-mode_is Extern Extern e = refl
-mode_is Native Native e = refl
-mode_is Cps Cps e = refl
-mode_is Detached Detached e = refl
-mode_is _ _ e = by_false_true e
-
-list_is : (ts us : List Ty) → same_list ts us ≡ true → ts ≡ us
-list_is [] [] e = refl
-list_is (t ∷ ts) (u ∷ us) e = let h = and_both (same_type t u) (same_list ts us) e in ap (λ t. t ∷ ts) (type_is t u h.0) ∙ ap (λ ts. u ∷ ts) (list_is ts us h.1)
-list_is _ _ e = by_false_true e
 
 abbrev pub signed : Signature → Meant
 signed s = AFunction s.mode s.result s.parameters
