@@ -9,34 +9,31 @@ ghost use Rattle.cpc_check_rules.specs.Noted.{noted, first_of};
 ghost use Rattle.cpc_check_rules.specs.Rule.{IsFirst};
 ghost use Rattle.cpc_check_rules.specs.ItemRules as R;
 ghost use Rattle.cpc_check_rules.specs.Rules.{breaks};
-ghost use Rattle.cpc_check_items.specs.Parts.{AreBodies};
-ghost use Rattle.cpc_types_structs.specs.Structs.{AreAllStructs};
+ghost use Rattle.cpc_types_structs.specs.Declares.{AreAllDeclared};
 ghost use Rattle.cpc_check.specs.Accepted.{IsRead, IsWithin};
 
 use crate::checked::Checked;
 use crate::ground::Ground;
 use crate::items::item_rules;
 use cpc_base::{Dialect, Name, Names, NoMemory, Stop};
-use cpc_check_items::{Bodies, Earlier};
+use cpc_check_items::Earlier;
 use cpc_check_names::{breadth_rules, main_rules};
 use cpc_check_rules::{Breach, First};
 use cpc_eval_index::ProgramTable;
 use cpc_tree::program::Program;
 use cpc_types::Scope;
-use cpc_types_structs::Structs;
+use cpc_types_structs::Declared;
 use std::alloc::Global;
 
-// Notes what the items of a program break, of which these have bodies, and gives the structs that they declare. `NoMemory` is
-// want of memory.
+// Notes what the items of a program break, and gives what they declare. `NoMemory` is want of memory.
 fn note_items(
     alloc: Global,
     first: &mut First,
     program: &Program,
     dialect: Dialect,
-    bodies: &Bodies,
-) -> Result<Structs, NoMemory>
-    ensures structs { IfOk result (λ structs. AreAllStructs program.now.items.items structs) }
-    ensures noted { OnOk result ((names : Spelling) → Spells program.now.names names → AreBodies names (map (item_of names) program.now.items.items) bodies.now
+) -> Result<Declared, NoMemory>
+    ensures declared { IfOk result (λ declared. AreAllDeclared program.now.items.items declared) }
+    ensures noted { OnOk result ((names : Spelling) → Spells program.now.names names
         → first_of first.new ≡ noted (first_of first.old) (R.items_breaks dialect (map (item_of names) program.now.items.items) [] (map (located_item names) program.now.items.items))) }
 {
     let mut scope = Scope::of(alloc, program)?;
@@ -45,31 +42,29 @@ fn note_items(
         let ground = Ground {
             dialect,
             names: &program.names,
-            bodies,
         };
         let count = i as u64;
         scope.enter_items(count);
         item_rules(alloc, first, item, count, &mut scope, &earlier, &ground)?;
         earlier.add(item)?;
     }
-    Ok(scope.into_structs())
+    Ok(scope.into_declared())
 }
 
-/// The first of the rules that a program breaks, and the structs that it declares. `NoMemory` is want of memory.
+/// The first of the rules that a program breaks, and what its items declare. `NoMemory` is want of memory.
 pub(crate) fn first_broken(
     alloc: Global,
     program: &Program,
     dialect: Dialect,
-) -> Result<(First, Structs), NoMemory>
-    ensures structs { IfOk result (λ found. AreAllStructs program.now.items.items found.1) }
+) -> Result<(First, Declared), NoMemory>
+    ensures declared { IfOk result (λ found. AreAllDeclared program.now.items.items found.1) }
     ensures noted { IfOk result (λ found. (names : Spelling) → Spells program.now.names names → first_of found.0 ≡ noted None (breaks dialect (record { items = map (located_item names) program.now.items.items; end = program.now.end }))) }
 {
     let mut first = First::new();
-    let bodies = Bodies::of(alloc, &program.items)?;
-    let structs = note_items(alloc, &mut first, program, dialect, &bodies)?;
+    let declared = note_items(alloc, &mut first, program, dialect)?;
     main_rules(&mut first, &program.names, &program.items, program.end);
     breadth_rules(alloc, &mut first, dialect, &program.items)?;
-    Ok((first, structs))
+    Ok((first, declared))
 }
 
 // The texts of a table differ, as each look-up tells.
@@ -97,14 +92,14 @@ pub fn check(
     ensures refused { (p : _) (breach : _) → result ≡ Err (p, Fault breach) → IsFirst (breaks dialect (located program)) breach.place breach.rule }
 {
     are_distinct(&program.names);
-    let (first, structs) = match first_broken(alloc, &program, dialect) {
+    let (first, declared) = match first_broken(alloc, &program, dialect) {
         Ok(found) => found,
         Err(NoMemory) => return Err((program, Stop::Memory)),
     };
     if let Some(breach) = first.breach {
         return Err((program, Stop::Fault(breach)));
     }
-    match ProgramTable::of(alloc, &program, structs) {
+    match ProgramTable::of(alloc, &program, declared) {
         Ok(table) => Ok(Checked {
             program,
             dialect,

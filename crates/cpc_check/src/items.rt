@@ -1,7 +1,6 @@
 //! What the items of a program break.
-ghost use Rattle.std.specs.Prelude.{◌≡◌, ◌<◌, [], OnOk, Some, length, slice_get};
-ghost use Rattle.cpc_tree.specs.Erase.{Names as Spelling};
-ghost use Rattle.cpc_tree.specs.Syntax.{Program};
+ghost use Rattle.std.specs.Prelude.{◌≡◌, ◌<◌, [], OnOk, Some, length, map, slice_get};
+ghost use Rattle.cpc_tree.specs.Erase.{Names as Spelling, item_of};
 ghost use Rattle.cpc_tree.specs.Locate.{located_function, located_item};
 ghost use Rattle.cpc_tree.specs.declared.program.Item.TheVariants as I;
 ghost use Rattle.cpc_check_rules.specs.Apart.{Spells};
@@ -9,7 +8,6 @@ ghost use Rattle.cpc_check_rules.specs.ItemRules as R;
 ghost use Rattle.cpc_check_rules.specs.Noted.{noted, first_of};
 ghost use Rattle.cpc_types.specs.Scoped.{all_items, first_items, scope_of};
 ghost use Rattle.cpc_check_items.specs.Pasts.{AreEarlier};
-ghost use Rattle.cpc_check_items.specs.Parts.{AreBodies};
 
 use crate::ground::Ground;
 use crate::starts::global_start;
@@ -73,8 +71,8 @@ pub(crate) fn item_rules(
 ) -> Result<(), NoMemory>
     requires stands { slice_get (all_items scope.old) count ≡ Some item.now }
     requires entered { (names : Spelling) → scope_of names scope.old ≡ record { items = first_items names count (all_items scope.old); blocks = [] } }
-    ensures noted { OnOk result ((names : Spelling) (program : Program) → Spells ground.now.names.now names → AreEarlier names (first_items names count (all_items scope.old)) earlier.now → AreBodies names program ground.now.bodies.now
-        → first_of first.new ≡ noted (first_of first.old) (R.item_breaks ground.now.dialect program (first_items names count (all_items scope.old)) (located_item names item.now))) }
+    ensures noted { OnOk result ((names : Spelling) → Spells ground.now.names.now names → AreEarlier names (first_items names count (all_items scope.old)) earlier.now
+        → first_of first.new ≡ noted (first_of first.old) (R.item_breaks ground.now.dialect (map (item_of names) (all_items scope.old)) (first_items names count (all_items scope.old)) (located_item names item.now))) }
     ensures all { all_items scope.new ≡ all_items scope.old }
 {
     let dialect = ground.dialect;
@@ -102,7 +100,7 @@ pub(crate) fn item_rules(
                 parameters,
                 is_defined: false,
             };
-            let known = (earlier, ground.bodies);
+            let known = (&*scope, earlier);
             prototype_rules(
                 alloc, first, dialect, names, known, *place, *word, &declared,
             )?;

@@ -1,7 +1,7 @@
 -- Rows of breaches, noted one after the other.
-use Rattle.std.proofs.Common.{◌≡◌, ℕ, suc, ◌+◌, ◌<◌, ◌≤◌, Bool, true, false, ◌||◌, not, List, [], ◌∷◌, ◌++◌, length, get_or, take, drop, map, Option, Some, None, is_some, option_map, refl, sym, ap, ◌∙◌, append_assoc}
+use Rattle.std.proofs.Common.{◌≡◌, ℕ, suc, ◌+◌, ◌<◌, ◌≤◌, Bool, true, false, ◌||◌, not, List, [], ◌∷◌, ◌++◌, length, get_or, drop, map, Option, Some, None, is_some, option_map, refl, sym, ap, ◌∙◌, append_assoc}
 use Rattle.std.specs.Prelude.{bytes_eq}
-use Rattle.std.proofs.lemmas.List.{append-nil, drop_all, map_push, take_more, reverse-append, map-append}
+use Rattle.std.proofs.lemmas.List.{append-nil, drop_all, map_push, reverse-append}
 use Rattle.std.specs.Prelude.{reverse, if◌then◌else◌}
 use Rattle.cpc_base.specs.Bytes.{Text}
 use Rattle.cpc_base.specs.declared.stop.Place.{Place}
@@ -10,13 +10,12 @@ use Rattle.cpc_base.proofs.Truth.{or_regrouped, or_exchanged}
 use Rattle.cpc_base.proofs.Lists.{drop_to_item, some_seen}
 use Rattle.cpc_tree.specs.declared.program.Word.{Word}
 use Rattle.cpc_tree.specs.declared.program.Field as GField
-use Rattle.cpc_tree.specs.declared.program.Item as GItem
 use Rattle.cpc_tree.specs.declared.program.Parameter as GParameter
 use Rattle.cpc_tree.specs.Syntax.{Ty, TyStruct, Variable, Item, StructItem, GlobalItem, PrototypeItem, FunctionItem, Program}
 use Rattle.cpc_tree.specs.Located.{Ident, LVariable, LParameter, bare_variable}
 use Rattle.cpc_tree.specs.Typing as T
 use Rattle.cpc_tree.specs.Typing.{◌>>=◌}
-use Rattle.cpc_tree.specs.Erase.{Names, item_of, field_of}
+use Rattle.cpc_tree.specs.Erase.{Names, field_of}
 use Rattle.cpc_tree.specs.Locate.{ident, located_field}
 use Rattle.cpc_tree.proofs.Places.{bare_fields}
 use Rattle.cpc_check_rules.specs.declared.rule.Rule.{Rule}
@@ -135,22 +134,3 @@ tag_known f o p tag e = sym (some_seen f o) ∙ ap is_some e ∙ fields_known ta
 pub types_length : (names : Names) (ps : List GParameter.Parameter) → length (types_of names ps) ≡ length ps
 types_length names [] = refl
 types_length names (p ∷ ps) = ap suc (types_length names ps)
-
--- ---- functions with bodies
-
-function_both : (x : Text) (xs ys : Program) → R.is_function x (xs ++ ys) ≡ (R.is_function x xs || R.is_function x ys)
-function_both x [] ys = refl
-function_both x (StructItem t fs ∷ xs) ys = function_both x xs ys
-function_both x (GlobalItem g t start ∷ xs) ys = function_both x xs ys
-function_both x (PrototypeItem mode f r ps ∷ xs) ys = function_both x xs ys
-function_both x (FunctionItem f ∷ xs) ys = ap (λ b. bytes_eq f.called x || b) (function_both x xs ys) ∙ or_regrouped (bytes_eq f.called x) (R.is_function x xs) (R.is_function x ys)
-
--- the items so far and one more
-pub function_more : (names : Names) (x : Text) (xs : List GItem.Item) (i : ℕ) (y : GItem.Item) (b c : Bool) → i < length xs → y ≡ get_or xs i y
-    → c ≡ (R.is_function x (item_of names y ∷ []) || b) → b ≡ R.is_function x (map (item_of names) (take i xs)) → c ≡ R.is_function x (map (item_of names) (take (i + 1) xs))
-function_more names x xs i y b c h is e f =
-    let so_far = map (item_of names) (take i xs) in
-    let last = item_of names y ∷ [] in
-    e ∙ ap (λ t. R.is_function x last || t) f ∙ or_exchanged (R.is_function x last) (R.is_function x so_far) ∙ sym (function_both x so_far last)
-    ∙ ap (R.is_function x) (sym (map-append (item_of names) (take i xs) (y ∷ [])))
-    ∙ ap (λ l. R.is_function x (map (item_of names) l)) (ap (λ z. take i xs ++ z ∷ []) is ∙ sym (take_more xs i y h))

@@ -1,18 +1,14 @@
 -- The rules of items, apart from those of bodies and of what globals start with.
-use Rattle.std.specs.Prelude.{◌≡◌, ℕ, true, not, [], ◌∷◌, ◌++◌, nat_eq, Option, Some, None}
-use Rattle.std.specs.HashSet as set
-use Rattle.cpc_base.specs.declared.names.Name.{Name}
+use Rattle.std.specs.Prelude.{ℕ, true, not, [], ◌∷◌, ◌++◌, Option, Some, None}
 use Rattle.cpc_base.specs.declared.stop.Dialect.{Dialect}
 use Rattle.cpc_num.specs.declared.kinds.Kind.TheVariants.{Char}
 use Rattle.cpc_tree.specs.Syntax.{Ty, TyInt, TyArray, Program}
 use Rattle.cpc_tree.specs.Located.{Ident, LFunction}
-use Rattle.cpc_tree.specs.Erase.{Names}
 use Rattle.cpc_check_rules.specs.declared.rule.Rule.TheVariants.{Twice, Incomplete}
 use Rattle.cpc_check_rules.specs.Rule.{Broken, at_if}
 use Rattle.cpc_check_rules.specs.Scopes.{is_sized}
 use Rattle.cpc_check_rules.specs.FunctionRules.{label_breaks, stray_breaks, reserved_breaks, locals, labels, many_breaks}
 use Rattle.cpc_check_rules.specs.ItemRules as R
-use Rattle.cpc_check_items.specs.declared.bodies.Bodies.{Bodies}
 
 -- a global, apart from what it starts with
 abbrev pub global_parts : Dialect → Program → Ident → Ty → Broken
@@ -33,7 +29,3 @@ head_parts dialect before f = reserved_breaks dialect (f.called ∷ []) ++ (R.cp
 -- a function behind its body: its names, labels and loops
 abbrev pub tail_parts : Dialect → LFunction → Broken
 tail_parts dialect f = reserved_breaks dialect (locals f.body ++ labels f.body) ++ (label_breaks f.body ++ (stray_breaks f.body ++ many_breaks dialect f.parameters f.body))
-
--- These are the names of the functions of a program that have bodies.
-abbrev pub AreBodies : Names → Program → Bodies → Type 0
-AreBodies names program bodies = (n : Name) → set.contains nat_eq bodies.names n.0 ≡ R.is_function (names n) program

@@ -1,7 +1,6 @@
 //! The rules that structs, globals, prototypes and functions break, apart from the statements of bodies.
 #![tactic(auto)]
 
-mod bodies;
 mod declared;
 mod earlier;
 mod functions;
@@ -13,7 +12,6 @@ mod signatures;
 mod structs;
 mod wholes;
 
-pub use bodies::Bodies;
 pub use earlier::Earlier;
 pub use functions::{head_rules, tail_rules};
 pub use globals::{global_rules, string_rules};

@@ -1,30 +1,11 @@
 -- The first item that declares a name.
-use Rattle.std.proofs.Common.{◌≡◌, ℕ, suc, ◌+◌, Bool, true, false, if◌then◌else◌, List, [], ◌∷◌, ◌++◌, length, map, take, Option, Some, None, option_map, refl, ap, ◌∙◌, arith}
+use Rattle.std.proofs.Common.{◌≡◌, ℕ, suc, ◌+◌, Bool, true, false, if◌then◌else◌, List, [], ◌∷◌, map, take, Option, Some, None, option_map, refl, ap, ◌∙◌, arith}
 use Rattle.std.specs.Prelude.{slice_get}
 use Rattle.std.specs.List.{sum_by}
 use Rattle.std.proofs.lemmas.List.Sums.{sum_by-cons}
 use Rattle.cpc_base.specs.declared.names.Name.{Name}
 use Rattle.cpc_shapes.specs.Indexed.{is_name}
-use Rattle.cpc_eval_index.specs.Placed.{or_place, first_place}
-
--- one more name at the end
-or_next : (o : Option ℕ) (b : Bool) (n : ℕ) → option_map suc (or_place o (if b then Some n else None)) ≡ or_place (option_map suc o) (if b then Some (suc n) else None)
-or_next None true n = refl
-or_next None false n = refl
-or_next (Some m) b n = refl
-
-first_step : (x : ℕ) (ks : List (Option Name)) (y : Option Name) (b : Bool) (o p : Option ℕ) → o ≡ or_place p (if is_name x y then Some (length ks) else None)
-    → (if b then Some 0 else option_map suc o) ≡ or_place (if b then Some 0 else option_map suc p) (if is_name x y then Some (suc (length ks)) else None)
-first_step x ks y true o p e = refl
-first_step x ks y false o p e = ap (option_map suc) e ∙ or_next p (is_name x y) (length ks)
-
-first_alone : (b : Bool) → (if b then Some 0 else option_map suc None) ≡ or_place None (if b then Some 0 else None)
-first_alone true = refl
-first_alone false = refl
-
-pub first_pushed : (x : ℕ) (ks : List (Option Name)) (y : Option Name) → first_place x (ks ++ y ∷ []) ≡ or_place (first_place x ks) (if is_name x y then Some (length ks) else None)
-first_pushed x [] y = first_alone (is_name x y)
-first_pushed x (k ∷ ks) y = first_step x ks y (is_name x k) _ _ (first_pushed x ks y)
+use Rattle.cpc_types_structs.specs.Placed.{first_place}
 
 -- What is said of items by the first of them that declares a name, where each counts so much: another one says nothing.
 module _ (A X : Type 0) (key : A → Option Name) (weight : A → ℕ) (f : ℕ → List A → X) (e : X) (g : ℕ → A → X) (x : ℕ)

@@ -11,18 +11,22 @@ use Rattle.cpc_eval_locals.specs.declared.locals.FunctionTable.{FunctionTable}
 use Rattle.cpc_eval_index.specs.Bodies.{IsItemTable, AreFunctionTables}
 use Rattle.cpc_eval_index.specs.Indexed.{program_items}
 use Rattle.cpc_eval_index.specs.Tabled.{AreTables, IsProgramTable}
+use Rattle.cpc_types_structs.specs.Declares.{AreAllDeclared}
 use Rattle.cpc_types_structs.specs.Structs.{AreAllStructs}
 use Rattle.cpc_eval_index.specs.declared.index.Index.{Index}
 
 -- ---- what an index knows of its table
 
--- of the names of the items a table says one thing at most, so all of it is known
+-- of the places of the items a table says one thing at most, so all of it is known
 pub known : (i : Index) → AreTables (program_items i) i.table.now.items
 known i = ∥∥₁_elim i.tabled (hlevel props) (λ (d : IsProgramTable (program_items i) i.table.now). d.items)
 
--- of its structs likewise
-pub structs_known : (i : Index) → AreAllStructs (program_items i) i.table.now.structs
-structs_known i = ∥∥₁_elim i.tabled (hlevel props) (λ (d : IsProgramTable (program_items i) i.table.now). d.structs)
+-- of what they declare likewise
+pub declared_known : (i : Index) → AreAllDeclared (program_items i) i.table.now.declared
+declared_known i = ∥∥₁_elim i.tabled (hlevel props) (λ (d : IsProgramTable (program_items i) i.table.now). d.declared)
+
+pub structs_known : (i : Index) → AreAllStructs (program_items i) i.table.now.declared.structs
+structs_known i = let d = declared_known i in record { structs = d.declares.structs; all = d.all }
 
 -- the table of the function that an item defines
 pub one_known : (i : Index) (k : ℕ) (x : Item) (o : Option FunctionTable) → Some x ≡ slice_get (program_items i) k → o ≡ get_or i.table.now.functions.items k None → ∥ IsItemTable x o ∥₁

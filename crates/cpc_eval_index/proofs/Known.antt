@@ -14,11 +14,14 @@ use Rattle.cpc_check_rules.specs.Apart.{AreApart}
 use Rattle.cpc_shapes.specs.Indexed.{is_name}
 use Rattle.cpc_shapes.specs.Counted.{name_of}
 use Rattle.cpc_shapes.specs.Declaring.{item_at, fields_of}
+use Rattle.cpc_types_structs.specs.Declares.{Declares}
+use Rattle.cpc_types_structs.specs.Placed.{place_at, definition_of}
 use Rattle.cpc_types_structs.specs.Sized.{tag_place}
 use Rattle.cpc_types_structs.specs.Structs.{AreAllStructs}
+use Rattle.cpc_types_structs.specs.declared.declared.Declared.{Declared}
 use Rattle.cpc_types_structs.specs.declared.structs.Structs.{Structs}
 use Rattle.cpc_types_structs.proofs.Known as K
-use Rattle.cpc_eval_index.specs.Placed.{place_at, definition_of, globals_in}
+use Rattle.cpc_eval_index.specs.Placed.{globals_in}
 use Rattle.cpc_eval_index.specs.Meanings.{meaning, definition_seen}
 use Rattle.cpc_eval_index.specs.Sized.{capped_field}
 use Rattle.cpc_eval_index.specs.Tabled.{AreTables, globals_before}
@@ -49,22 +52,22 @@ module _ (names : Names) (apart : AreApart names) where
   named_skip x n (I.Prototype p mode w r ps) ys e = rw (apart.told w.name x ∙ e) (ap (λ m. T.item_named m (map (item_of names) ys) (names x)) (sym (add-zero n)))
   named_skip x n (I.Function f) ys e = rw (apart.told f.word.name x ∙ e) (ap (λ m. T.item_named m (map (item_of names) ys) (names x)) (sym (add-zero n)))
 
-  module _ (xs : List Item) (t : Tables) (x : Name) (tables : AreTables xs t) where
+  module _ (xs : List Item) (d : Declared) (x : Name) (declares : Declares xs d) where
     -- a name that no item declares
-    pub named_absent : None ≡ place_at t.named x.0 → T.NotMeant ≡ T.item_named 0 (map (item_of names) xs) (names x)
+    pub named_absent : None ≡ place_at d.named x.0 → T.NotMeant ≡ T.item_named 0 (map (item_of names) xs) (names x)
     unfolding named_in
-    named_absent e = sym (first_absent Item T.Meant name_of globals_in (named_in x) T.NotMeant (meaning names) x.0 (named_none x) (named_here x) (named_skip x) 0 xs (sym (tables.named x.0) ∙ sym e))
+    named_absent e = sym (first_absent Item T.Meant name_of globals_in (named_in x) T.NotMeant (meaning names) x.0 (named_none x) (named_here x) (named_skip x) 0 xs (sym (declares.named x.0) ∙ sym e))
 
-    pub named_missing : (j : ℕ) → Some j ≡ place_at t.named x.0 → None ≡ slice_get xs j → T.NotMeant ≡ T.item_named 0 (map (item_of names) xs) (names x)
+    pub named_missing : (j : ℕ) → Some j ≡ place_at d.named x.0 → None ≡ slice_get xs j → T.NotMeant ≡ T.item_named 0 (map (item_of names) xs) (names x)
     unfolding named_in
-    named_missing j e at = sym (first_missing Item T.Meant name_of globals_in (named_in x) T.NotMeant (meaning names) x.0 (named_none x) (named_here x) (named_skip x) 0 xs j (sym (tables.named x.0) ∙ sym e) (sym at))
+    named_missing j e at = sym (first_missing Item T.Meant name_of globals_in (named_in x) T.NotMeant (meaning names) x.0 (named_none x) (named_here x) (named_skip x) 0 xs j (sym (declares.named x.0) ∙ sym e) (sym at))
 
     -- a name that one declares
-    pub named_found : (j : ℕ) (y : Item) → Some j ≡ place_at t.named x.0 → Some y ≡ slice_get xs j → meaning names (get_or t.globals.items j 0) y ≡ T.item_named 0 (map (item_of names) xs) (names x)
+    pub named_found : (t : Tables) (j : ℕ) (y : Item) → AreTables xs t → Some j ≡ place_at d.named x.0 → Some y ≡ slice_get xs j → meaning names (get_or t.globals.items j 0) y ≡ T.item_named 0 (map (item_of names) xs) (names x)
     unfolding named_in
-    named_found j y e at =
+    named_found t j y tables e at =
         ap (λ n. meaning names n y) (tables.before j y (sym at) ∙ sym (zero-add (globals_before xs j)))
-        ∙ sym (first_found Item T.Meant name_of globals_in (named_in x) T.NotMeant (meaning names) x.0 (named_none x) (named_here x) (named_skip x) 0 xs j y (sym (tables.named x.0) ∙ sym e) (sym at))
+        ∙ sym (first_found Item T.Meant name_of globals_in (named_in x) T.NotMeant (meaning names) x.0 (named_none x) (named_here x) (named_skip x) 0 xs j y (sym (declares.named x.0) ∙ sym e) (sym at))
 
   -- ---- functions
 
@@ -85,20 +88,20 @@ module _ (names : Names) (apart : AreApart names) where
   defined_skip x n (I.Function f) ys e = rw (apart.told f.word.name x ∙ e) refl
   defined_skip x n _ ys e = refl
 
-  module _ (xs : List Item) (t : Tables) (x : Name) (tables : AreTables xs t) where
+  module _ (xs : List Item) (d : Declared) (x : Name) (declares : Declares xs d) where
     -- a name of which no function is defined
-    pub defined_absent : None ≡ place_at t.defined x.0 → None ≡ T.function_named (map (item_of names) xs) (names x)
+    pub defined_absent : None ≡ place_at d.defined x.0 → None ≡ T.function_named (map (item_of names) xs) (names x)
     unfolding defined_in
-    defined_absent e = sym (first_absent Item (Option Function) definition_of globals_in (defined_in x) None (λ n. definition_seen names) x.0 (defined_none x) (defined_here x) (defined_skip x) 0 xs (sym (tables.defined x.0) ∙ sym e))
+    defined_absent e = sym (first_absent Item (Option Function) definition_of globals_in (defined_in x) None (λ n. definition_seen names) x.0 (defined_none x) (defined_here x) (defined_skip x) 0 xs (sym (declares.defined x.0) ∙ sym e))
 
-    pub defined_missing : (j : ℕ) → Some j ≡ place_at t.defined x.0 → None ≡ slice_get xs j → None ≡ T.function_named (map (item_of names) xs) (names x)
+    pub defined_missing : (j : ℕ) → Some j ≡ place_at d.defined x.0 → None ≡ slice_get xs j → None ≡ T.function_named (map (item_of names) xs) (names x)
     unfolding defined_in
-    defined_missing j e at = sym (first_missing Item (Option Function) definition_of globals_in (defined_in x) None (λ n. definition_seen names) x.0 (defined_none x) (defined_here x) (defined_skip x) 0 xs j (sym (tables.defined x.0) ∙ sym e) (sym at))
+    defined_missing j e at = sym (first_missing Item (Option Function) definition_of globals_in (defined_in x) None (λ n. definition_seen names) x.0 (defined_none x) (defined_here x) (defined_skip x) 0 xs j (sym (declares.defined x.0) ∙ sym e) (sym at))
 
     -- a name of which one is
-    pub defined_found : (j : ℕ) (y : Item) → Some j ≡ place_at t.defined x.0 → Some y ≡ slice_get xs j → definition_seen names y ≡ T.function_named (map (item_of names) xs) (names x)
+    pub defined_found : (j : ℕ) (y : Item) → Some j ≡ place_at d.defined x.0 → Some y ≡ slice_get xs j → definition_seen names y ≡ T.function_named (map (item_of names) xs) (names x)
     unfolding defined_in
-    defined_found j y e at = sym (first_found Item (Option Function) definition_of globals_in (defined_in x) None (λ n. definition_seen names) x.0 (defined_none x) (defined_here x) (defined_skip x) 0 xs j y (sym (tables.defined x.0) ∙ sym e) (sym at))
+    defined_found j y e at = sym (first_found Item (Option Function) definition_of globals_in (defined_in x) None (λ n. definition_seen names) x.0 (defined_none x) (defined_here x) (defined_skip x) 0 xs j y (sym (declares.defined x.0) ∙ sym e) (sym at))
 
   -- ---- fields
 

@@ -3,7 +3,6 @@ pub mod Kept
 pub mod Ended
 pub mod First
 pub mod Known
-pub mod Numbers
 pub mod Offsets
 pub mod Standing
 pub mod Tabled

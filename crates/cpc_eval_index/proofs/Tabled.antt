@@ -1,33 +1,19 @@
 -- Tables with one more item.
-use Rattle.std.proofs.Common.{◌≡◌, ℕ, ◌+◌, ◌<◌, ◌≤◌, inl, inr, if◌then◌else◌, List, [], ◌∷◌, ◌++◌, length, get_or, map, take, Option, Some, None, refl, ap, sym, ◌∙◌, arith, length-append}
+use Rattle.std.proofs.Common.{◌≡◌, ℕ, ◌+◌, ◌<◌, ◌≤◌, inl, inr, List, [], ◌∷◌, ◌++◌, length, get_or, take, Option, Some, None, refl, ap, sym, ◌∙◌, arith, length-append}
 use Rattle.std.specs.Prelude.{slice_get}
 use Rattle.std.specs.List.{sum_by}
-use Rattle.std.proofs.lemmas.List.{length-map, map-append, length-take-le, take_all, take-append-le, get_or_push, get_or_append_left}
+use Rattle.std.proofs.lemmas.List.{length-take-le, take_all, take-append-le, get_or_push, get_or_append_left}
 use Rattle.std.proofs.lemmas.List.Sums.{sum_by-cons, sum_by_push}
 use Rattle.std.proofs.lemmas.Option.{slice_get_within}
 use Rattle.std.proofs.Math.Seq.{take-append_seam}
-use Rattle.cpc_base.specs.declared.names.Name.{Name}
 use Rattle.cpc_tree.specs.declared.program.Item.{Item}
 use Rattle.cpc_tree.specs.declared.program.Item.TheVariants as I
-use Rattle.cpc_shapes.specs.Indexed.{is_name}
-use Rattle.cpc_shapes.specs.Counted.{name_of}
 use Rattle.cpc_shapes.proofs.Indexes.{pushed_at}
 use Rattle.cpc_eval_index.specs.declared.tables.Tables.{Tables}
 use Rattle.cpc_eval_index.specs.Ends.{inner_place, end_by}
-use Rattle.cpc_eval_index.specs.Placed.{place_at, or_place, first_place, definition_of, globals_in}
+use Rattle.cpc_eval_index.specs.Placed.{globals_in}
 use Rattle.cpc_eval_index.specs.Tabled.{AreTables, globals_before}
 use Rattle.cpc_eval_index.proofs.Standing.{inner_below}
-use Rattle.cpc_eval_index.proofs.First.{first_pushed}
-
--- the first place, where one more item comes
-first_more : (key : Item → Option Name) (xs : List Item) (y : Item) (x : ℕ) (old new : Option ℕ) → old ≡ first_place x (map key xs)
-    → new ≡ or_place old (if is_name x (key y) then Some (length xs) else None) → new ≡ first_place x (map key (xs ++ y ∷ []))
-first_more key xs y x old new is step =
-    step
-    ∙ ap (λ o. or_place o (if is_name x (key y) then Some (length xs) else None)) is
-    ∙ ap (λ n. or_place (first_place x (map key xs)) (if is_name x (key y) then Some n else None)) (sym (length-map xs key))
-    ∙ sym (first_pushed x (map key xs) (key y))
-    ∙ ap (first_place x) (sym (map-append key xs (y ∷ [])))
 
 weight_one : (y : Item) → globals_in y ≤ 1
 weight_one (I.Global w t start) = omega arith
@@ -45,8 +31,6 @@ globals_few (x ∷ xs) =
 module _ (xs : List Item) (y : Item) (i j : Tables) (e : ℕ) where
   -- what is added to the tables
   pub record IsAdded : Type 0 where
-    pub named : (x : ℕ) → place_at j.named x ≡ or_place (place_at i.named x) (if is_name x (name_of y) then Some (length xs) else None)
-    pub defined : (x : ℕ) → place_at j.defined x ≡ or_place (place_at i.defined x) (if is_name x (definition_of y) then Some (length xs) else None)
     pub globals : j.globals.items ≡ i.globals.items ++ i.count ∷ []
     pub ends : j.ends.items ≡ i.ends.items ++ e ∷ []
     pub count : j.count ≡ i.count + globals_in y
@@ -106,8 +90,6 @@ module _ (xs : List Item) (y : Item) (i j : Tables) (e : ℕ) where
   -- the tables of one more item
   pub appended : AreTables xs i → IsAdded → AreTables (xs ++ y ∷ []) j
   appended d a = record {
-    named = λ x. first_more name_of xs y x _ _ (d.named x) (a.named x);
-    defined = λ x. first_more definition_of xs y x _ _ (d.defined x) (a.defined x);
     counted = a.count ∙ ap (λ n. n + globals_in y) d.counted ∙ sym (sum_by_push globals_in xs y);
     even = let f : length i.globals.items ≡ length xs = d.even in ap length a.globals ∙ length-append i.globals.items (i.count ∷ []) ∙ ap (λ n. n + 1) f ∙ sym (length-append xs (y ∷ []));
     before = before_pushed d a;

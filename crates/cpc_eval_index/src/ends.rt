@@ -4,9 +4,9 @@ ghost use Rattle.cpc_shapes.specs.Counted.{tag_of};
 ghost use Rattle.cpc_shapes.specs.Indexed.{last_below, is_name};
 ghost use Rattle.cpc_eval_index.specs.Ends.{same_struct, only_struct};
 
-use crate::items::tag_of;
 use cpc_base::Name;
 use cpc_tree::program::{CType, Item};
+use cpc_types_structs::tag_of;
 
 // The struct that a type is, or of which it is an array of one.
 fn same_struct(of: &CType) -> Option<Name>

@@ -10,7 +10,7 @@ ghost use Rattle.cpc_eval_index.specs.Tabled.{IsProgramTable};
 ghost use Rattle.cpc_eval_index.specs.Ends.{items_before, cells_at};
 ghost use Rattle.cpc_eval_index.specs.Meanings.{definition_seen, meant_if};
 ghost use Rattle.cpc_eval_index.specs.Sized.{capped_size, capped_field};
-ghost use Rattle.cpc_types_structs.specs.Structs.{AreStructs};
+ghost use Rattle.cpc_types_structs.specs.Declares.{Declares};
 
 use crate::bodies::{function_tables, table_at};
 use crate::ends::last_struct;
@@ -21,14 +21,14 @@ use crate::tables::Tables;
 use cpc_base::{Name, NoMemory};
 use cpc_eval_locals::{FunctionTable, Locals};
 use cpc_tree::program::{CType, Field, Function, Item, Program};
-use cpc_types_structs::Structs;
+use cpc_types_structs::Declared;
 use std::alloc::Global;
 
-/// What is found out of a program once: which items its names stand for, its structs and their cells, and the tables of its functions.
+/// What is found out of a program once: what its items declare, what is told of their places, and the tables of its functions.
 /// It has nothing of the program itself, so it can be kept beside it.
 pub struct ProgramTable {
     pub(crate) items: Tables,
-    pub(crate) structs: Structs,
+    pub(crate) declared: Declared,
     pub(crate) functions: Vec<Option<FunctionTable>>,
 }
 
@@ -36,27 +36,31 @@ impl Drop for ProgramTable {
     fn drop(self) {
         let ProgramTable {
             items,
-            structs,
+            declared,
             functions,
         } = self;
         drop(items);
-        drop(structs);
+        drop(declared);
         drop(functions);
     }
 }
 
 impl ProgramTable {
-    /// The table of a program, by the structs of its items. `NoMemory` is want of memory.
-    pub fn of(alloc: Global, program: &Program, structs: Structs) -> Result<ProgramTable, NoMemory>
-        requires { AreStructs program.now.items.items structs }
+    /// The table of a program, by what its items declare. `NoMemory` is want of memory.
+    pub fn of(
+        alloc: Global,
+        program: &Program,
+        declared: Declared,
+    ) -> Result<ProgramTable, NoMemory>
+        requires { Declares program.now.items.items declared }
         ensures { IfOk result (λ table. IsProgramTable program.now.items.items table) }
     {
-        let mut structs = structs;
-        let items = Tables::of(alloc, &program.items, &mut structs)?;
+        let mut declared = declared;
+        let items = Tables::of(alloc, &program.items, &mut declared)?;
         let functions = function_tables(alloc, &program.items)?;
         Ok(ProgramTable {
             items,
-            structs,
+            declared,
             functions,
         })
     }
@@ -109,7 +113,7 @@ impl<'p> Index<'p> {
     pub fn meant(&self, name: Name) -> Option<Meant<'p>>
         ensures { (names : Names) → AreApart names → meant_if names result ≡ T.item_named 0 (items_of names self.now) (names name) }
     {
-        match self.table.items.named.at(name) {
+        match self.table.declared.named.at(name) {
             None => None,
             Some(place) => match item_at(self.program, place) {
                 None => None,
@@ -122,7 +126,7 @@ impl<'p> Index<'p> {
     pub fn function(&self, name: Name) -> Option<&'p Function>
         ensures { (names : Names) → AreApart names → option_map (λ f. function_of names f.now) result ≡ T.function_named (items_of names self.now) (names name) }
     {
-        match self.table.items.defined.at(name) {
+        match self.table.declared.defined.at(name) {
             None => None,
             Some(place) => match item_at(self.program, place) {
                 None => None,
@@ -135,7 +139,7 @@ impl<'p> Index<'p> {
     pub fn locals(&self, name: Name) -> Option<Locals<'p>>
         ensures { ∥ ((names : Names) → AreApart names → option_map (λ locals. function_of names (owner_of locals)) result ≡ T.function_named (items_of names self.now) (names name)) ∥₁ }
     {
-        match self.table.items.defined.at(name) {
+        match self.table.declared.defined.at(name) {
             None => None,
             Some(place) => match item_at(self.program, place) {
                 None => None,
@@ -158,7 +162,7 @@ impl<'p> Index<'p> {
     pub fn size(&self, of: &CType) -> Option<u64>
         ensures { (names : Names) → AreApart names → result ≡ capped_size (items_of names self.now) (type_of names of.now) }
     {
-        self.table.structs.measure(of)
+        self.table.declared.structs.measure(of)
     }
 
     /// The offset and the type of a field of the struct that has a tag; for the offset u64::MAX stands for every
@@ -168,7 +172,7 @@ impl<'p> Index<'p> {
     {
         match self.fields(tag) {
             None => None,
-            Some(fields) => field_in(fields, name, &self.table.structs),
+            Some(fields) => field_in(fields, name, &self.table.declared.structs),
         }
     }
 
@@ -186,7 +190,7 @@ impl<'p> Index<'p> {
         ensures earlier { IfSome result (λ place. place < before) }
         ensures cells { (names : Names) → AreApart names → cells_at names (program_items self.now) result ≡ T.struct_cells (items_before names (program_items self.now) before) (names tag) }
     {
-        let last = self.table.structs.tagged(tag)?;
+        let last = self.table.declared.structs.tagged(tag)?;
         if last < before {
             return Some(self.table.items.end(last));
         }
@@ -197,7 +201,7 @@ impl<'p> Index<'p> {
     fn fields(&self, tag: Name) -> Option<&'p [Field]>
         ensures { (names : Names) → AreApart names → option_map (λ fs. map (field_of names) fs.now) result ≡ T.fields (items_of names self.now) (names tag) }
     {
-        match self.table.structs.tagged(tag) {
+        match self.table.declared.structs.tagged(tag) {
             None => None,
             Some(place) => match item_at(self.program, place) {
                 None => None,

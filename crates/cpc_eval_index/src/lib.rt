@@ -7,7 +7,6 @@ mod fields;
 mod index;
 mod items;
 mod meant;
-mod places;
 mod tables;
 
 pub use index::{Index, ProgramTable};

@@ -1,28 +1,25 @@
-//! What the items of a list declare, by name.
+//! What is told of the items of a list by their places.
 ghost use Rattle.std.specs.Prelude.{◌≡◌, ◌+◌, ◌<◌, IfOk, OnOk, length, take, get_or};
 ghost use Rattle.cpc_eval_index.specs.Ends.{only_struct, place_if, end_by};
-ghost use Rattle.cpc_eval_index.specs.Placed.{place_at};
 ghost use Rattle.cpc_eval_index.specs.Tabled.{AreTables};
 ghost use Rattle.cpc_shapes.specs.Indexed.{last_below};
 ghost use Rattle.cpc_types_structs.specs.Indexed.{IsIndex};
-ghost use Rattle.cpc_types_structs.specs.Structs.{AreStructs, AreAllStructs};
+ghost use Rattle.cpc_types_structs.specs.Declares.{Declares, AreAllDeclared};
+ghost use Rattle.cpc_types_structs.specs.Structs.{AreStructs};
 
 use crate::ends::only_struct;
-use crate::items::{definition_of, globals_in, name_of};
-use crate::places::Places;
+use crate::items::globals_in;
 use cpc_base::NoMemory;
 use cpc_tree::program::Item;
-use cpc_types_structs::Structs;
+use cpc_types_structs::{Declared, Structs};
 use std::alloc::Global;
 
-/// The first item that declares each name, and the first that defines it; for each item how many globals come before it,
-/// and a place at or before it whose struct has the same cells as the struct that it declares.
+/// For each item how many globals come before it, and a place at or before it whose struct has the same cells as the struct
+/// that it declares.
 ///
 /// The last skips structs whose only field is a struct, so that going from a struct to its cells takes no longer than there
 /// are cells, however long a chain of such structs is.
 pub(crate) struct Tables {
-    pub named: Places,
-    pub defined: Places,
     pub globals: Vec<u64>,
     pub ends: Vec<usize>,
     pub count: u64,
@@ -31,42 +28,36 @@ pub(crate) struct Tables {
 impl Drop for Tables {
     fn drop(self) {
         let Tables {
-            named,
-            defined,
             globals,
             ends,
             count: _,
         } = self;
-        drop(named);
-        drop(defined);
         drop(globals);
         drop(ends);
     }
 }
 
 impl Tables {
-    /// What the items of a list declare, of which these are the structs. `NoMemory` is want of memory.
+    /// What is told of the items of a list, which declare this; all of them are in scope afterwards. `NoMemory` is want of memory.
     pub(crate) fn of(
         alloc: Global,
         list: &[Item],
-        structs: &mut Structs,
+        declared: &mut Declared,
     ) -> Result<Tables, NoMemory>
-        requires { AreStructs list.now structs.old }
+        requires { Declares list.now declared.old }
         ensures tables { IfOk result (λ tables. AreTables list.now tables) }
-        ensures structs { OnOk result (AreAllStructs list.now structs.new) }
+        ensures declared { OnOk result (AreAllDeclared list.now declared.new) }
     {
         let mut tables = Tables {
-            named: Places::new(alloc),
-            defined: Places::new(alloc),
             globals: Vec::new(alloc),
             ends: Vec::new(alloc),
             count: 0,
         };
         for i in 0..list.len() {
-            structs.enter(i);
-            tables.append(list, i, structs)?;
+            declared.enter(i);
+            tables.append(list, i, &declared.structs)?;
         }
-        structs.enter(list.len());
+        declared.enter(list.len());
         Ok(tables)
     }
 
@@ -80,8 +71,6 @@ impl Tables {
     {
         let item = &list[place];
         let end = self.end_of(item, place, structs);
-        self.named.keep_first(name_of(item), place)?;
-        self.defined.keep_first(definition_of(item), place)?;
         self.globals.push(self.count)?;
         self.ends.push(end)?;
         self.count += globals_in(item);

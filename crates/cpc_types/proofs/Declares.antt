@@ -18,8 +18,8 @@ use Rattle.cpc_types_structs.proofs.Known as K
 
 module _ (names : Names) (apart : AreApart names) where
   -- the sizes of the structs in scope
-  pub sizes_known : (xs : List Item) (i : Items) → AreDeclared xs i → AreSizes i.structs names (map (item_of names) (take i.names.count xs))
-  sizes_known xs i d = subst (λ n. AreSizes i.structs names (map (item_of names) (take n xs))) d.together (K.sizes_known names apart xs i.structs d.structs)
+  pub sizes_known : (xs : List Item) (i : Items) → AreDeclared xs i → AreSizes i.declared.structs names (map (item_of names) (take i.names.count xs))
+  sizes_known xs i d = subst (λ n. AreSizes i.declared.structs names (map (item_of names) (take n xs))) d.together (K.sizes_known names apart xs i.declared.structs d.declares.structs)
 
   -- ---- names
 
@@ -60,5 +60,5 @@ module _ (names : Names) (apart : AreApart names) where
   -- ---- fields
 
   -- the fields of a struct in scope
-  pub fields_known : (xs : List Item) (i : Items) (tag : Name) → AreDeclared xs i → fields_of names (item_at xs (tag_place i.structs tag)) ≡ T.fields (map (item_of names) (take i.names.count xs)) (names tag)
-  fields_known xs i tag d = K.fields_known names apart xs i.structs tag d.structs ∙ ap (λ n. T.fields (map (item_of names) (take n xs)) (names tag)) d.together
+  pub fields_known : (xs : List Item) (i : Items) (tag : Name) → AreDeclared xs i → fields_of names (item_at xs (tag_place i.declared.structs tag)) ≡ T.fields (map (item_of names) (take i.names.count xs)) (names tag)
+  fields_known xs i tag d = K.fields_known names apart xs i.declared.structs tag d.declares.structs ∙ ap (λ n. T.fields (map (item_of names) (take n xs)) (names tag)) d.together

@@ -119,7 +119,7 @@ module _ (names : Names) (apart : AreApart names) where
   unfolding whole_in
   flag_known xs i tag d t h =
       let n = i.names.count in
-      ap (flag_at i.integral.items) (ap (λ m. last_below m i.structs.tags.names.items tag.0) d.together ∙ ap (λ ks. last_below n ks tag.0) d.structs.tags)
+      ap (flag_at i.integral.items) (ap (λ m. last_below m i.declared.structs.tags.names.items tag.0) d.together ∙ ap (λ ks. last_below n ks tag.0) d.declares.structs.tags)
       ∙ flag_found xs i tag n (last_below n (map tag_of xs) tag.0) t h refl
       ∙ ap (λ ys. C.are_integers (T.struct_cells ys (names tag))) (map_reverse (item_of names) (take n xs))
 

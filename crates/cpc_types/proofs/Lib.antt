@@ -1,5 +1,6 @@
 pub mod Declared
 pub mod Declares
+pub mod Defined
 pub mod Entered
 pub mod ExprParts
 pub mod FieldPlaces

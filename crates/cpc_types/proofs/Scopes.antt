@@ -22,9 +22,9 @@ items_are names s = items_inside names (items_of names s) (reverse s.blocks.entr
 
 -- the fields of a struct, by the item that declares it
 pub fields_scope : (names : Names) → AreApart names → (s : Scope) (tag : Name) (xs : List Item) (o : Option Item) → xs ≡ all_items s
-    → o ≡ item_at xs (tag_place s.items.structs tag) → fields_of names o ≡ T.fields (scope_of names s).items (names tag)
+    → o ≡ item_at xs (tag_place s.items.declared.structs tag) → fields_of names o ≡ T.fields (scope_of names s).items (names tag)
 fields_scope names apart s tag xs o all is =
-    ap (fields_of names) (is ∙ ap (λ l. item_at l (tag_place s.items.structs tag)) all)
+    ap (fields_of names) (is ∙ ap (λ l. item_at l (tag_place s.items.declared.structs tag)) all)
     ∙ fields_known names apart (all_items s) s.items tag s.declared
     ∙ ap (λ p. T.fields p (names tag)) (sym (items_are names s))
 
@@ -36,7 +36,7 @@ meant_scope names apart s x xs o all is =
     ∙ meant_known names apart (all_items s) s.items x s.declared (within_all (all_items s) s.items s.declared)
 
 -- the sizes of the structs in scope
-pub sizes_scope : (names : Names) → AreApart names → (s : Scope) → AreSizes s.items.structs names (scope_of names s).items
+pub sizes_scope : (names : Names) → AreApart names → (s : Scope) → AreSizes s.items.declared.structs names (scope_of names s).items
 sizes_scope names apart s =
-    let P : Program → Type 0 = AreSizes s.items.structs names in
+    let P : Program → Type 0 = AreSizes s.items.declared.structs names in
     subst P (sym (items_are names s)) (sizes_known names apart (all_items s) s.items s.declared)

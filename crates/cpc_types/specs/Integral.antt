@@ -21,7 +21,7 @@ flag_at flags (Some k) = get_or flags k false
 
 -- whether the struct in scope that has a tag has cells that are all integers
 abbrev pub tag_integral : Items → Name → Bool
-tag_integral i tag = flag_at i.integral.items (tag_place i.structs tag)
+tag_integral i tag = flag_at i.integral.items (tag_place i.declared.structs tag)
 
 -- these tell it of the structs of a program
 pub record AreIntegral (i : Items) (names : Names) (p : Program) : Type 0 where

@@ -17,8 +17,8 @@ use cpc_tree::program::{CType, Field};
 /// Whether a type is complete and its cells are all integers.
 #[tactic(auto, using(std::proofs::lemmas::Grind::common_steps, crate::proofs::Integrals::array_integers, crate::proofs::Integrals::empty_integers))]
 pub(crate) fn are_integers(of: &CType, items: &Items) -> bool
-    requires { IsIndex items.now.structs.tags }
-    ensures { (names : Names) (p : Program) → AreSizes items.now.structs names p → AreIntegral items.now names p → result ≡ C.are_integers (T.cells p (type_of names of.now)) }
+    requires { IsIndex items.now.declared.structs.tags }
+    ensures { (names : Names) (p : Program) → AreSizes items.now.declared.structs names p → AreIntegral items.now names p → result ≡ C.are_integers (T.cells p (type_of names of.now)) }
 {
     match of {
         CType::Int(_) => true,
@@ -36,8 +36,8 @@ pub(crate) fn are_integers(of: &CType, items: &Items) -> bool
 
 /// Whether fields are complete and their cells are all integers.
 pub(crate) fn fields_integers(fields: &[Field], items: &Items) -> bool
-    requires { IsIndex items.now.structs.tags }
-    ensures { (names : Names) (p : Program) → AreSizes items.now.structs names p → AreIntegral items.now names p → result ≡ have_integers p (map (field_of names) fields.now) }
+    requires { IsIndex items.now.declared.structs.tags }
+    ensures { (names : Names) (p : Program) → AreSizes items.now.declared.structs names p → AreIntegral items.now names p → result ≡ have_integers p (map (field_of names) fields.now) }
 {
     for field in fields {
         if !are_integers(&field.of, items) {

@@ -1,28 +1,28 @@
 //! What the items of a program declare.
-ghost use Rattle.std.specs.Prelude.{◌≡◌, ◌+◌, ◌<◌, ◌≤◌, List, IfOk, OnOk, length, take, option_map};
+ghost use Rattle.std.specs.Prelude.{◌≡◌, ◌+◌, ◌<◌, ◌≤◌, List, IfOk, OnOk, length, take, option_map, is_some};
 ghost use Rattle.cpc_tree.specs.Erase.{Names};
 ghost use Rattle.cpc_tree.specs.Syntax.{Program};
 ghost use Rattle.cpc_types_structs.specs.Indexed.{IsIndex};
 ghost use Rattle.cpc_types_structs.specs.Sized.{AreSizes, tag_place};
-ghost use Rattle.cpc_types_structs.specs.Structs.{AreStructs};
+ghost use Rattle.cpc_types_structs.specs.Declares.{Declares};
+ghost use Rattle.cpc_types_structs.specs.Placed.{place_at};
 ghost use Rattle.cpc_tree.specs.declared.program.Item.{Item};
 ghost use Rattle.cpc_shapes.specs.Indexed.{last_below};
 ghost use Rattle.cpc_shapes.specs.Declaring.{item_at};
 ghost use Rattle.cpc_types.specs.Declaring.{AreDeclared};
-ghost use Rattle.cpc_shapes.specs.Counted.{name_of};
 ghost use Rattle.cpc_types.specs.Integral.{AreIntegral, AreTold, tag_integral, declared_integral};
 
 use crate::integers::fields_integers;
 use cpc_base::{Name, NoMemory};
 use cpc_tree::program::Item;
-use cpc_types_structs::{Index, Structs};
+use cpc_types_structs::{Declared, Index, Structs, name_of};
 use std::alloc::Global;
 
-/// What items declare, of which a number is in scope: names, structs, and for each item whether the cells of the struct
-/// that it declares are all integers.
+/// What items declare, of which a number is in scope: the last of them that declares each name; structs, and the first that
+/// declares and that defines each name; and for each item whether the cells of the struct that it declares are all integers.
 pub(crate) struct Items {
     names: Index,
-    structs: Structs,
+    declared: Declared,
     integral: Vec<bool>,
 }
 
@@ -30,31 +30,19 @@ impl Drop for Items {
     fn drop(self) {
         let Items {
             names,
-            structs,
+            declared,
             integral,
         } = self;
         drop(names);
-        drop(structs);
+        drop(declared);
         drop(integral);
-    }
-}
-
-// The name of a variable or a function that an item declares.
-fn name_of(item: &Item) -> Option<Name>
-    ensures { result ≡ name_of item.now }
-{
-    match item {
-        Item::Struct { .. } => None,
-        Item::Global { word, .. } => Some(word.name),
-        Item::Prototype { word, .. } => Some(word.name),
-        Item::Function(function) => Some(function.word.name),
     }
 }
 
 // Whether the struct that an item declares has cells that are all integers, where these items are in scope.
 fn declared_integral(item: &Item, items: &Items) -> bool
-    requires { IsIndex items.now.structs.tags }
-    ensures { (names : Names) (p : Program) → AreSizes items.now.structs names p → AreIntegral items.now names p → result ≡ declared_integral names p item.now }
+    requires { IsIndex items.now.declared.structs.tags }
+    ensures { (names : Names) (p : Program) → AreSizes items.now.declared.structs names p → AreIntegral items.now names p → result ≡ declared_integral names p item.now }
 {
     match item {
         Item::Struct { fields, .. } => fields_integers(fields, items),
@@ -71,7 +59,7 @@ impl Items {
     {
         let mut items = Items {
             names: Index::new(alloc),
-            structs: Structs::new(alloc),
+            declared: Declared::new(alloc),
             integral: Vec::new(alloc),
         };
         for i in 0..list.len() {
@@ -93,7 +81,7 @@ impl Items {
         let item = &list[place];
         let integral = declared_integral(item, self);
         self.names.push(name_of(item))?;
-        self.structs.append(item)?;
+        self.declared.append(item, place)?;
         self.integral.push(integral)?;
         Ok(())
     }
@@ -101,39 +89,46 @@ impl Items {
     /// The first `count` items are in scope.
     pub(crate) fn enter(&mut self, count: usize)
         requires names { IsIndex self.old.names }
-        requires tags { IsIndex self.old.structs.tags }
+        requires tags { IsIndex self.old.declared.structs.tags }
         requires named { count ≤ length self.old.names.names.items }
-        requires tagged { count ≤ length self.old.structs.tags.names.items }
+        requires tagged { count ≤ length self.old.declared.structs.tags.names.items }
         ensures names { IsIndex self.new.names }
         ensures same_names { self.new.names.names.items ≡ self.old.names.names.items }
-        ensures structs { (xs : List Item) → AreStructs xs self.old.structs → AreStructs xs self.new.structs }
+        ensures declares { (xs : List Item) → Declares xs self.old.declared → Declares xs self.new.declared }
         ensures same_flags { self.new.integral.items ≡ self.old.integral.items }
         ensures name_count { self.new.names.count ≡ count }
-        ensures tag_count { self.new.structs.tags.count ≡ count }
+        ensures tag_count { self.new.declared.structs.tags.count ≡ count }
     {
         self.names.enter(count);
-        self.structs.enter(count);
+        self.declared.enter(count);
     }
 
     /// Their structs.
     pub(crate) fn structs(&self) -> &Structs
-        ensures { result.now ≡ self.now.structs }
+        ensures { result.now ≡ self.now.declared.structs }
     {
-        &self.structs
+        &self.declared.structs
     }
 
-    /// Their structs, and nothing else of them.
-    pub(crate) fn into_structs(self) -> Structs
-        ensures { result ≡ self.structs }
+    /// Their structs, and the first that declares and that defines each name, and nothing else of them.
+    pub(crate) fn into_declared(self) -> Declared
+        ensures { result ≡ self.declared }
     {
         let Items {
             names,
-            structs,
+            declared,
             integral,
         } = self;
         drop(names);
         drop(integral);
-        structs
+        declared
+    }
+
+    /// Whether one of them, in scope or not, defines a function of a name.
+    pub(crate) fn is_defined(&self, name: Name) -> bool
+        ensures { result ≡ is_some (place_at self.now.declared.defined name.0) }
+    {
+        self.declared.defined.at(name).is_some()
     }
 
     /// The last item in scope that declares the name of a variable or a function, in the list of the items.
@@ -149,10 +144,10 @@ impl Items {
 
     /// The last item in scope that declares a tag, in the list of the items.
     pub(crate) fn tagged<'p>(&self, list: &'p [Item], tag: Name) -> Option<&'p Item>
-        requires { IsIndex self.now.structs.tags }
-        ensures { option_map (λ x. x.now) result ≡ item_at list.now (tag_place self.now.structs tag) }
+        requires { IsIndex self.now.declared.structs.tags }
+        ensures { option_map (λ x. x.now) result ≡ item_at list.now (tag_place self.now.declared.structs tag) }
     {
-        match self.structs.tagged(tag) {
+        match self.declared.structs.tagged(tag) {
             Some(place) => list.get(place),
             None => None,
         }
@@ -160,10 +155,10 @@ impl Items {
 
     /// Whether the struct that has a tag has cells that are all integers.
     pub(crate) fn is_integral(&self, tag: Name) -> bool
-        requires { IsIndex self.now.structs.tags }
+        requires { IsIndex self.now.declared.structs.tags }
         ensures { result ≡ tag_integral self.now tag }
     {
-        match self.structs.tagged(tag) {
+        match self.declared.structs.tagged(tag) {
             Some(place) => match self.integral.get(place) {
                 Some(integral) => *integral,
                 None => false,

@@ -11,7 +11,7 @@ use crate::items::Items;
 use crate::meant::{Meant, fields_of, meaning};
 use cpc_base::{Name, NoMemory};
 use cpc_tree::program::{CType, Field, Function, Program};
-use cpc_types_structs::Structs;
+use cpc_types_structs::{Declared, Structs};
 use std::alloc::Global;
 
 /// What is in scope at a place of a program: the items so far, and the blocks, the innermost last.
@@ -40,11 +40,12 @@ impl Drop for Scope<'_> {
 impl<'p> Scope<'p> {
     ghost use Rattle.std.specs.Prelude.{◌≡◌, ◌≤◌, IfOk, OnOk, OnErr, [], length, map, option_map};
     ghost use Rattle.cpc_tree.specs.Typing as T;
+    ghost use Rattle.cpc_check_rules.specs.ItemRules as I;
     ghost use Rattle.cpc_check_rules.specs.Scopes as R;
     ghost use Rattle.cpc_types.specs.Blocks.{without_block, with_parameters};
     ghost use Rattle.cpc_types_structs.specs.Indexed.{IsIndex};
     ghost use Rattle.cpc_types_structs.specs.Sized.{AreSizes};
-    ghost use Rattle.cpc_types_structs.specs.Structs.{AreAllStructs};
+    ghost use Rattle.cpc_types_structs.specs.Declares.{AreAllDeclared};
     ghost use Rattle.cpc_types.specs.Integral.{AreIntegral};
     ghost use Rattle.cpc_types.specs.Meanings.{meant_of};
     ghost use Rattle.cpc_types.specs.Scoped.{all_items, first_items, items_of, scope_of};
@@ -131,6 +132,13 @@ impl<'p> Scope<'p> {
         }
     }
 
+    /// Whether some item of the whole program, in scope or not, is a function of the name with a body.
+    pub fn is_defined(&self, name: Name) -> bool
+        ensures { (names : Names) → AreApart names → result ≡ I.is_function (names name) (map (item_of names) (all_items self.now)) }
+    {
+        self.items.is_defined(name)
+    }
+
     /// The fields of the struct in scope that has a tag.
     pub fn fields(&self, tag: Name) -> Option<&[Field]>
         ensures { (names : Names) → AreApart names → option_map (λ fs. map (field_of names) fs.now) result ≡ T.fields (scope_of names self.now).items (names tag) }
@@ -141,9 +149,10 @@ impl<'p> Scope<'p> {
         }
     }
 
-    /// The structs of all items of the program, which are then in scope.
-    pub fn into_structs(self) -> Structs
-        ensures { AreAllStructs (all_items self.entry) result }
+    /// What all items of the program declare, which are then in scope: their structs, and the first of them that declares and
+    /// that defines each name.
+    pub fn into_declared(self) -> Declared
+        ensures { AreAllDeclared (all_items self.entry) result }
     {
         let Scope {
             alloc: _,
@@ -153,7 +162,7 @@ impl<'p> Scope<'p> {
         } = self;
         drop(blocks);
         items.enter(program.items.len());
-        items.into_structs()
+        items.into_declared()
     }
 
     /// The structs in scope.
@@ -168,8 +177,8 @@ impl<'p> Scope<'p> {
     /// What the items in scope declare.
     #[tactic(auto, using(std::proofs::lemmas::Grind::common_steps, crate::proofs::Scopes::sizes_scope, crate::proofs::Integrals::flags_scope))]
     pub(crate) fn items(&self) -> &Items
-        ensures index { IsIndex result.now.structs.tags }
-        ensures sizes { (names : Names) → AreApart names → AreSizes result.now.structs names (scope_of names self.now).items }
+        ensures index { IsIndex result.now.declared.structs.tags }
+        ensures sizes { (names : Names) → AreApart names → AreSizes result.now.declared.structs names (scope_of names self.now).items }
         ensures integral { (names : Names) → AreApart names → AreIntegral result.now names (scope_of names self.now).items }
     {
         &self.items

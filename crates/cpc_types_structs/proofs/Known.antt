@@ -15,7 +15,7 @@ use Rattle.cpc_shapes.proofs.Latest.{map_reverse, absent, found}
 use Rattle.cpc_types_structs.specs.Structs.{AreStructs, AreAllStructs}
 use Rattle.cpc_types_structs.specs.Sized.{capped, capped_size, declared_size, tag_place, tag_size, AreSizes}
 use Rattle.cpc_types_structs.specs.declared.structs.Structs.{Structs}
-use Rattle.cpc_types_structs.proofs.Declared.{within_all}
+use Rattle.cpc_types_structs.proofs.Entering.{within_all}
 
 module _ (names : Names) (apart : AreApart names) where
   -- ---- sizes

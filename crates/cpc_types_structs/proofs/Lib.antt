@@ -1,4 +1,6 @@
 pub mod Crossing
 pub mod Cells
-pub mod Declared
+pub mod Entering
+pub mod First
 pub mod Known
+pub mod Numbers

@@ -1,5 +1,6 @@
 -- The numbers of cells of types, capped at the greatest number of 64 bits.
-use Rattle.std.specs.Prelude.{◌≡◌, ℕ, ◌-◌, ◌^◌, min, map, Option, None, option_map}
+use Rattle.std.specs.Prelude.{◌≡◌, ℕ, map, Option, None, option_map}
+pub use Rattle.cpc_base.specs.Counts.{capped}
 use Rattle.cpc_base.specs.declared.names.Name.{Name}
 use Rattle.cpc_tree.specs.Erase.{Names, field_of}
 use Rattle.cpc_tree.specs.Syntax.{Ty, TyStruct, Program}
@@ -9,10 +10,6 @@ use Rattle.cpc_tree.specs.declared.program.Item.TheVariants as I
 use Rattle.cpc_shapes.specs.Counted.{fields_count, size_at}
 use Rattle.cpc_shapes.specs.Indexed.{last_below}
 use Rattle.cpc_types_structs.specs.declared.structs.Structs.{Structs}
-
--- the greatest number of 64 bits stands for every greater one
-abbrev pub capped : ℕ → ℕ
-capped n = min n (2 ^ 64 - 1)
 
 -- the number of cells of a type, capped
 abbrev pub capped_size : Program → Ty → Option ℕ

@@ -3,12 +3,13 @@ ghost use Rattle.std.specs.Prelude.{◌≡◌, ◌+◌, ◌≤◌, List, ◌++�
 ghost use Rattle.cpc_tree.specs.Erase.{Names, type_of, field_of};
 ghost use Rattle.cpc_tree.specs.Syntax.{Program};
 ghost use Rattle.cpc_tree.specs.declared.program.Item.{Item};
-ghost use Rattle.cpc_shapes.specs.Counted.{tag_of, fields_count};
+ghost use Rattle.cpc_shapes.specs.Counted.{fields_count};
 ghost use Rattle.cpc_types_structs.specs.Indexed.{IsIndex};
 ghost use Rattle.cpc_types_structs.specs.Structs.{AreStructs};
 ghost use Rattle.cpc_types_structs.specs.Sized.{capped, capped_size, AreSizes, declared_size, tag_place, tag_size};
 
 use crate::index::Index;
+use crate::items::tag_of;
 use cpc_base::{Name, NoMemory};
 use cpc_tree::program::{CType, Field, Item};
 use std::alloc::Global;
@@ -25,16 +26,6 @@ impl Drop for Structs {
         let Structs { tags, sizes } = self;
         drop(tags);
         drop(sizes);
-    }
-}
-
-// The tag of a struct that an item declares.
-fn tag_of(item: &Item) -> Option<Name>
-    ensures { result ≡ tag_of item.now }
-{
-    match item {
-        Item::Struct { tag, .. } => Some(tag.name),
-        _ => None,
     }
 }
 

@@ -24,4 +24,4 @@ returns-in-Some-clause-refused c = λ p breach e.
     subst (λ b. IsFirst (breaks c.args.dialect (located c.args.program)) b.place b.rule) is first
 
 pub of-requires : goal.of-requires
-of-requires c = c.in-Ok.ensures.structs.structs
+of-requires c = c.in-Ok.ensures.declared.declares

@@ -7,12 +7,12 @@ use Rattle.cpc_check_rules.specs.Noted.{noted, first_of}
 use Rattle.cpc_check_rules.specs.ItemRules as R
 use Rattle.cpc_types.specs.Scoped.{all_items, first_items}
 use Rattle.cpc_check_items.specs.Pasts.{AreEarlier}
-use Rattle.cpc_types_structs.specs.Structs.{AreAllStructs}
+use Rattle.cpc_types_structs.specs.Declares.{AreAllDeclared}
 use Rattle.cpc_check.proofs.Parts.{next_items, noted_left, none_left}
 use Rattle.cpc_check.proofs.checking.note_items.Goals as goal
 
 pub loop-i-init : goal.loop-i-init
-loop-i-init c = record { all = c.in_ok-scope.ensures.all; items = c.deref-item-items.ensures.value; noted = λ names spells bodies. refl; earlier = λ names apart. c.new-earlier.ensures names }
+loop-i-init c = record { all = c.in_ok-scope.ensures.all; items = c.deref-item-items.ensures.value; noted = λ names spells. refl; earlier = λ names apart. c.new-earlier.ensures names }
 
 pub enter_items-requires : goal.enter_items-requires
 enter_items-requires c = omega (arith, c.loop-i-test.true, ap length c.loop-i.invariant.all, ap length c.loop-i.invariant.items)
@@ -36,20 +36,20 @@ loop-i-preserved c =
     record {
       all = c.item_rules.ensures.all ∙ all;
       items = c.loop-i.invariant.items;
-      noted = λ names spells bodies.
+      noted = λ names spells.
           let program = map (item_of names) xs in
           let earlier : AreEarlier names (first_items names i (all_items c.enter_items.new.self)) c.loop-i.earlier = subst (λ ys. AreEarlier names (first_items names i ys) c.loop-i.earlier) (sym all) (c.loop-i.invariant.earlier names spells.apart) in
-          let here = subst (λ ys. first_of c.item_rules.new.first ≡ noted (first_of c.loop-i.first) (R.item_breaks c.args.dialect program (first_items names i ys) (located_item names x))) all (c.in_ok-item_rules.ensures.noted names program spells earlier bodies) in
-          noted_left c.args.dialect names program xs i x _ (first_of c.loop-i.first) (first_of c.item_rules.new.first) there here (c.loop-i.invariant.noted names spells bodies);
+          let here = subst (λ ys. first_of c.item_rules.new.first ≡ noted (first_of c.loop-i.first) (R.item_breaks c.args.dialect (map (item_of names) ys) (first_items names i ys) (located_item names x))) all (c.in_ok-item_rules.ensures.noted names spells earlier) in
+          noted_left c.args.dialect names program xs i x _ (first_of c.loop-i.first) (first_of c.item_rules.new.first) there here (c.loop-i.invariant.noted names spells);
       earlier = λ names apart. subst (λ b. AreEarlier names b c.add.new.self) (sym (next_items names xs i x there)) (c.in_ok-add.ensures names apart (first_items names i xs) (c.loop-i.invariant.earlier names apart));
     }
 
 pub returns-clause-noted : goal.returns-clause-noted
-returns-clause-noted c = λ names spells bodies.
+returns-clause-noted c = λ names spells.
     let xs = c.args.program.now.items.items in
     let program = map (item_of names) xs in
     let past : length xs ≤ c.loop-i.i = omega (arith, c.loop-i-test.false, ap length c.loop-i.invariant.items) in
-    sym (none_left c.args.dialect names program xs c.loop-i.i (first_of c.loop-i.first) past) ∙ c.loop-i.invariant.noted names spells bodies
+    sym (none_left c.args.dialect names program xs c.loop-i.i (first_of c.loop-i.first) past) ∙ c.loop-i.invariant.noted names spells
 
-pub returns-clause-structs : goal.returns-clause-structs
-returns-clause-structs c = subst (λ xs. AreAllStructs xs c.into_structs.result) c.loop-i.invariant.all c.into_structs.ensures
+pub returns-clause-declared : goal.returns-clause-declared
+returns-clause-declared c = subst (λ xs. AreAllDeclared xs c.into_declared.result) c.loop-i.invariant.all c.into_declared.ensures

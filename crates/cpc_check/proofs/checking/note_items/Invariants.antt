@@ -4,7 +4,6 @@ use Rattle.cpc_check_rules.specs.Apart.{AreApart, Spells}
 use Rattle.cpc_check_rules.specs.Noted.{noted, first_of}
 use Rattle.cpc_types.specs.Scoped.{all_items, first_items}
 use Rattle.cpc_check_items.specs.Pasts.{AreEarlier}
-use Rattle.cpc_check_items.specs.Parts.{AreBodies}
 use Rattle.cpc_check.proofs.Parts.{left}
 use Rattle.cpc_check.proofs.checking.note_items.Given as goal
 
@@ -12,7 +11,7 @@ abbrev pub invariant-loop-i : goal.invariant-loop-i
 invariant-loop-i l = record {
   all : all_items l.scope ≡ l.program.items.items;
   items : l.item-items ≡ l.program.items.items;
-  noted : (names : Names) → Spells l.program.names names → AreBodies names (map (item_of names) l.program.items.items) l.bodies
+  noted : (names : Names) → Spells l.program.names names
       → noted (first_of l.first) (left l.dialect names (map (item_of names) l.program.items.items) l.program.items.items l.i) ≡ noted (first_of l.fn.first) (left l.dialect names (map (item_of names) l.program.items.items) l.program.items.items 0);
   earlier : (names : Names) → AreApart names → AreEarlier names (first_items names l.i l.program.items.items) l.earlier;
 }

@@ -12,14 +12,14 @@ use Rattle.cpc_check.proofs.Parts.{noted_two}
 use Rattle.cpc_check.proofs.items.item_rules.Goals as goal
 
 pub returns-in_ok-struct_rules-in-Struct-clause-noted : goal.returns-in_ok-struct_rules-in-Struct-clause-noted
-returns-in_ok-struct_rules-in-Struct-clause-noted c = λ names program spells earlier bodies.
+returns-in_ok-struct_rules-in-Struct-clause-noted c = λ names spells earlier.
     let dialect = c.args.ground.now.dialect in
     let items : (scope_of names c.args.scope.now).items ≡ first_items names c.args.count (all_items c.args.scope.now) = ap (λ s. s.items) (c.requires.entered names) in
     let here = subst (λ b. first_of c.struct_rules.new.first ≡ noted (first_of c.args.first.now) (R.struct_breaks dialect b (ident names c.in-Struct.tag) (map (located_field names) c.deref.result.now))) items (c.in_ok-struct_rules-in-Struct.ensures names spells) in
     rw c.in-Struct.is (subst (λ fs. first_of c.struct_rules.new.first ≡ noted (first_of c.args.first.now) (R.struct_breaks dialect (first_items names c.args.count (all_items c.args.scope.now)) (ident names c.in-Struct.tag) (map (located_field names) fs))) c.deref.ensures.value here)
 
 pub returns-in_ok-global_start-in-Global-clause-noted : goal.returns-in_ok-global_start-in-Global-clause-noted
-returns-in_ok-global_start-in-Global-clause-noted c = λ names program spells earlier bodies.
+returns-in_ok-global_start-in-Global-clause-noted c = λ names spells earlier.
     let dialect = c.args.ground.now.dialect in
     let before = first_items names c.args.count (all_items c.args.scope.now) in
     let x = ident names c.in-Global.word in

@@ -12,7 +12,7 @@ returns-in-None c = λ names apart. field_absent (items_of names c.args.self.now
 pub returns-in-Some : goal.returns-in-Some
 returns-in-Some c = λ names apart.
     let i = c.args.self.now in
-    c.field_in.ensures names apart (items_of names i) (all_known names apart i.program.now.items.items i.table.now.structs (structs_known i))
+    c.field_in.ensures names apart (items_of names i) (all_known names apart i.program.now.items.items i.table.now.declared.structs (structs_known i))
     ∙ field_known (items_of names i) (names c.args.tag) (names c.args.name) (map (field_of names) c.in-Some.fields.now) (c.in-Some.ensures names apart)
 
 pub field_in-requires : goal.field_in-requires

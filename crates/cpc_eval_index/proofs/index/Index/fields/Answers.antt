@@ -7,14 +7,14 @@ use Rattle.cpc_eval_index.proofs.index.Index.fields.Goals as goal
 pub returns-in-None : goal.returns-in-None
 returns-in-None c = λ names apart.
     let i = c.args.self.now in
-    ap (λ o. fields_of names (item_at i.program.now.items.items o)) c.in-None.ensures ∙ fields_known names apart i.program.now.items.items i.table.now.structs c.args.tag (structs_known i)
+    ap (λ o. fields_of names (item_at i.program.now.items.items o)) c.in-None.ensures ∙ fields_known names apart i.program.now.items.items i.table.now.declared.structs c.args.tag (structs_known i)
 
 pub returns-in-None-item_at : goal.returns-in-None-item_at
 returns-in-None-item_at c = λ names apart.
     let i = c.args.self.now in
     ap (fields_of names) c.in-None-item_at.ensures
     ∙ ap (λ o. fields_of names (item_at i.program.now.items.items o)) c.in-Some.ensures
-    ∙ fields_known names apart i.program.now.items.items i.table.now.structs c.args.tag (structs_known i)
+    ∙ fields_known names apart i.program.now.items.items i.table.now.declared.structs c.args.tag (structs_known i)
 
 pub returns-in-Some-item_at : goal.returns-in-Some-item_at
 returns-in-Some-item_at c = λ names apart.
@@ -22,7 +22,7 @@ returns-in-Some-item_at c = λ names apart.
     c.fields_of.ensures names
     ∙ ap (fields_of names) c.in-Some-item_at.ensures
     ∙ ap (λ o. fields_of names (item_at i.program.now.items.items o)) c.in-Some.ensures
-    ∙ fields_known names apart i.program.now.items.items i.table.now.structs c.args.tag (structs_known i)
+    ∙ fields_known names apart i.program.now.items.items i.table.now.declared.structs c.args.tag (structs_known i)
 
 pub tagged-requires : goal.tagged-requires
 tagged-requires c = (structs_known c.args.self.now).structs.tagged

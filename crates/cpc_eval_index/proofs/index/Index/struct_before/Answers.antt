@@ -12,7 +12,7 @@ pub returns-in_err-last-clause-cells : goal.returns-in_err-last-clause-cells
 returns-in_err-last-clause-cells c = λ names apart.
     let i = c.args.self.now in
     ap (cells_at names (program_items i)) c.from_residual.ensures
-    ∙ cells_missing (program_items i) i.table.now.items (known i) i.table.now.structs (structs_known i) names apart c.args.tag c.args.before c.requires c.in_err-last.ensures
+    ∙ cells_missing (program_items i) i.table.now.items (known i) i.table.now.declared.structs (structs_known i) names apart c.args.tag c.args.before c.requires c.in_err-last.ensures
 
 pub returns-then-last-before-clause-earlier : goal.returns-then-last-before-clause-earlier
 returns-then-last-before-clause-earlier c =
@@ -24,7 +24,7 @@ pub returns-then-last-before-clause-cells : goal.returns-then-last-before-clause
 returns-then-last-before-clause-cells c = λ names apart.
     let i = c.args.self.now in
     ap (λ k. cells_at names (program_items i) (Some k)) c.end.ensures
-    ∙ cells_found (program_items i) i.table.now.items (known i) i.table.now.structs (structs_known i) names apart c.args.tag c.args.before c.requires c.in_ok-last.last c.in_ok-last.ensures c.if-last-before.true
+    ∙ cells_found (program_items i) i.table.now.items (known i) i.table.now.declared.structs (structs_known i) names apart c.args.tag c.args.before c.requires c.in_ok-last.last c.in_ok-last.ensures c.if-last-before.true
 
 pub returns-clause-cells : goal.returns-clause-cells
 returns-clause-cells c = λ names apart.

@@ -1,7 +1,7 @@
 use Rattle.std.proofs.Common.{◌∙◌, ◌++◌, ◌∷◌, [], ap, map}
 use Rattle.cpc_tree.specs.Erase.{item_of}
 use Rattle.cpc_types_structs.specs.declared.structs.Structs.{Structs}
-use Rattle.cpc_types_structs.proofs.Declared.{appended, tags_even}
+use Rattle.cpc_types_structs.proofs.Entering.{appended, tags_even}
 use Rattle.cpc_types_structs.proofs.Known.{all_known}
 use Rattle.cpc_types_structs.proofs.structs.Structs.append.Goals as goal
 

@@ -1,6 +1,6 @@
 use Rattle.std.proofs.Common.{◌≡◌, ℕ, ◌+◌, ◌-◌, vec_len}
-use Rattle.cpc_eval_index.specs.Placed.{place_at}
-use Rattle.cpc_eval_index.proofs.places.Places.admit.Given as goal
+use Rattle.cpc_types_structs.specs.Placed.{place_at}
+use Rattle.cpc_types_structs.proofs.places.Places.admit.Given as goal
 
 -- only room was added
 abbrev pub invariant-loop-name : goal.invariant-loop-name

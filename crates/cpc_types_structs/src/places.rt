@@ -1,20 +1,20 @@
 //! For each name the number of an item that declares it.
 ghost use Rattle.std.specs.Prelude.{◌≡◌, ℕ, ◌<◌, OnOk, None, Some, length, if◌then◌else◌};
 ghost use Rattle.cpc_shapes.specs.Indexed.{is_name};
-ghost use Rattle.cpc_eval_index.specs.Placed.{place_at, or_place};
+ghost use Rattle.cpc_types_structs.specs.Placed.{place_at, or_place};
 
 use cpc_base::{Name, NoMemory};
 use std::alloc::Global;
 
 /// A number for each name, or none.
 #[derive(Drop)]
-pub(crate) struct Places {
+pub struct Places {
     numbers: Vec<Option<usize>>,
 }
 
 impl Places {
     /// No name has a number.
-    pub(crate) fn new(alloc: Global) -> Self
+    pub fn new(alloc: Global) -> Self
         ensures { (x : ℕ) → place_at result x ≡ None }
     {
         Places {
@@ -23,7 +23,7 @@ impl Places {
     }
 
     /// The number of a name.
-    pub(crate) fn at(&self, name: Name) -> Option<usize>
+    pub fn at(&self, name: Name) -> Option<usize>
         ensures { result ≡ place_at self.now name.0 }
     {
         let found = self.numbers.get(name.0 as usize)?;
@@ -53,7 +53,7 @@ impl Places {
     }
 
     /// A name gets this number, where it has none yet.
-    pub(crate) fn keep_first(&mut self, name: Option<Name>, number: usize) -> Result<(), NoMemory>
+    pub fn keep_first(&mut self, name: Option<Name>, number: usize) -> Result<(), NoMemory>
         ensures { OnOk result ((x : ℕ) → place_at self.new x ≡ or_place (place_at self.old x) (if is_name x name then Some number else None)) }
     {
         let Some(name) = name else {
