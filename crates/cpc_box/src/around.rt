@@ -15,7 +15,7 @@ ghost use Rattle.cpc_box.specs.Manners.{called_manner};
 use cpc_base::{Name, Names};
 use cpc_eval_index::{Index, Meant};
 use cpc_forms_code::{Manner, Variable, slot};
-use cpc_native_builtins::{Builtin, builtin_named};
+use cpc_native_builtins::{Builtin, builtin_at};
 use cpc_tree::program::{Expr, Mode, Statement};
 
 /// What the names of a program stand for, and their texts.
@@ -44,16 +44,6 @@ fn primitive_manner(builtin: Option<Builtin>) -> Manner
         Some(Builtin::Yield | Builtin::Sleep | Builtin::IoWait | Builtin::Wait) => Manner::AsCps,
         Some(_) => Manner::InPlace,
         None => Manner::ByFrame,
-    }
-}
-
-// The primitive of a name, by its text in the program's table.
-fn builtin_at(texts: &Names, name: Name) -> Option<Builtin>
-    ensures { (names : Texts) → Spells texts.now names → option_map primitive_of result ≡ Q.primitive_named (names name) }
-{
-    match texts.text(name) {
-        Some(text) => builtin_named(text),
-        None => None,
     }
 }
 

@@ -67,8 +67,8 @@ pub(crate) fn first_broken(
     Ok((first, declared))
 }
 
-// The texts of a table differ, as each look-up tells.
-fn are_distinct(names: &Names)
+/// The texts of a table differ, as each look-up tells.
+pub fn are_distinct(names: &Names)
     ensures { AreDistinct names.now }
 {
     let _ = names.text(Name(0));

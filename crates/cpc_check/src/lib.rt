@@ -8,4 +8,4 @@ mod items;
 mod starts;
 
 pub use checked::Checked;
-pub use checking::check;
+pub use checking::{are_distinct, check};

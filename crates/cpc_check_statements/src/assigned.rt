@@ -16,11 +16,10 @@ ghost use Rattle.cpc_types.specs.Scoped.{scope_of};
 ghost use Rattle.cpc_check_values.specs.Stands.{where_of};
 ghost use Rattle.cpc_check_statements.specs.Plain.{is_unfit, value_type};
 
-use crate::operated::binary_rules;
 use crate::places::target_rules;
 use cpc_base::{NoMemory, Place};
 use cpc_check_rules::{First, Rule};
-use cpc_check_values::{Where, value_rules};
+use cpc_check_values::{Where, binary_rules, value_rules};
 use cpc_num::Op;
 use cpc_shapes::copy_of;
 use cpc_tree::program::{CType, Expr};

@@ -8,7 +8,6 @@ ghost use Rattle.cpc_tree.specs.Syntax.{TyInt};
 ghost use Rattle.cpc_check_rules.specs.Apart.{Spells};
 ghost use Rattle.cpc_check_rules.specs.StmtRules as S;
 ghost use Rattle.cpc_check_rules.specs.Calls as C;
-ghost use Rattle.cpc_check_rules.specs.Operators as O;
 ghost use Rattle.cpc_check_rules.specs.Noted.{noted, first_of};
 ghost use Rattle.cpc_check_values.specs.Stands.{where_of};
 
@@ -16,9 +15,9 @@ use crate::assigned::note_given;
 use crate::places::target_rules;
 use cpc_base::{Dialect, NoMemory, Place};
 use cpc_check_rules::{First, Rule};
-use cpc_check_values::{Start, Where, call_rules, started_rules};
+use cpc_check_values::{Start, Where, call_rules, is_cps, is_detached, started_rules};
 use cpc_num::Kind;
-use cpc_tree::program::{CType, Expr, Mode, Word};
+use cpc_tree::program::{CType, Expr, Word};
 use std::alloc::Global;
 
 // Whether a text is in the dialect of the event loop.
@@ -28,26 +27,6 @@ fn is_event(dialect: Dialect) -> bool
     match dialect {
         Dialect::Event => true,
         Dialect::Cpc => false,
-    }
-}
-
-// Whether a function runs so that it may give up the processor.
-fn is_cps(mode: Mode) -> bool
-    ensures { result ≡ O.is_cps mode }
-{
-    match mode {
-        Mode::Cps => true,
-        _ => false,
-    }
-}
-
-// Whether a function may run in a worker.
-fn is_detached(mode: Mode) -> bool
-    ensures { result ≡ O.is_detached mode }
-{
-    match mode {
-        Mode::Detached => true,
-        _ => false,
     }
 }
 

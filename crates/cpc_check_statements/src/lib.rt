@@ -5,7 +5,6 @@ mod around;
 mod assigned;
 mod called;
 mod locals;
-mod operated;
 mod places;
 mod plain;
 mod returned;

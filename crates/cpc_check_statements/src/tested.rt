@@ -1,8 +1,7 @@
 //! What tests break.
 ghost use Rattle.std.specs.Prelude.{◌≡◌, OnOk, option_map};
-ghost use Rattle.cpc_tree.specs.Erase.{Names, type_of};
+ghost use Rattle.cpc_tree.specs.Erase.{Names};
 ghost use Rattle.cpc_tree.specs.Locate.{located_expr};
-ghost use Rattle.cpc_tree.specs.Typing as T;
 ghost use Rattle.cpc_check_rules.specs.Apart.{Spells};
 ghost use Rattle.cpc_check_rules.specs.StmtRules as S;
 ghost use Rattle.cpc_check_rules.specs.Noted.{noted, first_of};
@@ -12,21 +11,10 @@ ghost use Rattle.cpc_check_values.specs.Stands.{where_of};
 use cpc_base::{NoMemory, Place};
 use cpc_check_rules::{First, Rule};
 use cpc_check_values::{Where, first_place, value_rules};
-use cpc_tree::program::{CType, Expr};
+use cpc_shapes::is_testable;
+use cpc_tree::program::Expr;
 use cpc_types::{TypeFound, used};
 use std::alloc::Global;
-
-// Whether values of the type can be tested.
-fn is_testable(of: &CType) -> bool
-    ensures { (names : Names) → result ≡ T.is_testable (type_of names of.now) }
-{
-    match of {
-        CType::Int(_) => true,
-        CType::Pointer(_) => true,
-        CType::Code { .. } => true,
-        _ => false,
-    }
-}
 
 // Notes what has a type and cannot be tested.
 fn note_tested(first: &mut First, found: TypeFound, place: Place)

@@ -14,6 +14,8 @@ mod values;
 mod wants;
 mod wheres;
 
+pub use names::{is_cps, is_detached};
+pub use operators::binary_rules;
 pub use places::first_place;
 pub use primitives::{Primitive, primitive_named};
 pub use started::{Start, started_rules};

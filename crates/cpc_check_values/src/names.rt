@@ -15,7 +15,7 @@ use cpc_tree::program::{Mode, Word};
 use cpc_types::Meant;
 
 /// Whether a function is detached.
-pub(crate) fn is_detached(mode: Mode) -> bool
+pub fn is_detached(mode: Mode) -> bool
     ensures { result ≡ O.is_detached mode }
 {
     match mode {
@@ -25,7 +25,7 @@ pub(crate) fn is_detached(mode: Mode) -> bool
 }
 
 /// Whether a function may give up the processor.
-pub(crate) fn is_cps(mode: Mode) -> bool
+pub fn is_cps(mode: Mode) -> bool
     ensures { result ≡ O.is_cps mode }
 {
     match mode {

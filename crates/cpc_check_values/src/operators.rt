@@ -70,7 +70,7 @@ fn note_binary(first: &mut First, incomplete: bool, typed: bool, whole: &TypeFou
 
 /// An operator on two values: its type, and what it breaks. `nulls` tells which of them are the literal 0. `NoMemory` is
 /// want of memory.
-pub(crate) fn binary_rules(
+pub fn binary_rules(
     alloc: Global,
     first: &mut First,
     op: Op,

@@ -13,7 +13,7 @@ ghost use Rattle.cpc_cli.specs.declared.answer.Outcome.TheVariants as O;
 
 use crate::reading::HISTORY_LIMIT;
 use cpc_base::{Failed, Sink, write_all};
-use cpc_history::HistoryFault;
+use cpc_history::{HistoryFault, fault_name};
 use cpc_num::Fault;
 use cpc_translate::TextFault;
 use std::alloc::{AllocError, Global};
@@ -124,28 +124,6 @@ fn status(end: &End) -> u8
         End::Memory => 11,
         End::NoHost(_) => 12,
         End::TooLong(_) => 13,
-    }
-}
-
-fn fault_name(fault: Fault) -> &'static [u8]
-    ensures { result.now ≡ T.fault_text fault }
-{
-    match fault {
-        Fault::Overflow => b"overflow",
-        Fault::Divide => b"divide",
-        Fault::Shift => b"shift",
-        Fault::Unset => b"unset",
-        Fault::Kind => b"kind",
-        Fault::Null => b"null",
-        Fault::Bounds => b"bounds",
-        Fault::Freed => b"freed",
-        Fault::Compare => b"compare",
-        Fault::Code => b"code",
-        Fault::SectionSteps => b"section steps",
-        Fault::Sections => b"sections",
-        Fault::BadFree => b"badfree",
-        Fault::CondVar => b"condvar",
-        Fault::Length => b"length",
     }
 }
 

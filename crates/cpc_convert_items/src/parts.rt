@@ -3,7 +3,6 @@ ghost use Rattle.std.specs.Prelude.{◌≡◌, ◌∷◌, [], Some, map, IfOk};
 ghost use Rattle.cpc_tree.specs.Erase as E;
 ghost use Rattle.cpc_tree.specs.Erase.{Table, type_of, field_of, parameter_of};
 ghost use Rattle.cpc_tree.specs.Syntax as S;
-ghost use Rattle.cpc_tree.specs.Typing as T;
 ghost use Rattle.cpc_convert_chain_laws.specs.Driver as D;
 ghost use Rattle.cpc_convert_event.specs.Names.{pointer_name};
 ghost use Rattle.cpc_convert_event.specs.Pieces as P;
@@ -16,16 +15,6 @@ use cpc_convert_names::Book;
 use cpc_shapes::copy_of;
 use cpc_tree::program::{CType, Field, Parameter, Word};
 use std::alloc::Global;
-
-/// Whether a type is scalar.
-pub(crate) fn is_scalar(of: &CType) -> bool
-    ensures { (names : E.Names) → result ≡ T.is_scalar (type_of names of.now) }
-{
-    match of {
-        CType::Int(_) | CType::Condvar | CType::Pointer(_) | CType::Code { .. } => true,
-        CType::Void | CType::Struct(_) | CType::Array(_, _) => false,
-    }
-}
 
 /// A field.
 pub(crate) fn field(place: Place, name: Name, of: CType) -> Field

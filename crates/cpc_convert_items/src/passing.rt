@@ -10,9 +10,9 @@ ghost use Rattle.cpc_convert_names.specs.Called.{variables_in};
 ghost use Rattle.cpc_convert_lines.specs.Around.{Stands};
 ghost use Rattle.cpc_convert_items.specs.Passed.{passed_one, passed_always};
 
-use crate::parts::{field, is_scalar};
+use crate::parts::field;
 use cpc_base::NoMemory;
-use cpc_convert_lines::{Around, local};
+use cpc_convert_lines::{Around, is_scalar, local};
 use cpc_forms_code::Variable;
 use cpc_shapes::copy_of;
 use cpc_tree::program::Field;

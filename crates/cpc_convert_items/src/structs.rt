@@ -15,10 +15,10 @@ ghost use Rattle.cpc_convert_lines.specs.Known.{number_unless};
 ghost use Rattle.cpc_convert_items.specs.Listed.{listed};
 
 use crate::items::Items;
-use crate::parts::{field, head_fields, is_scalar};
+use crate::parts::{field, head_fields};
 use crate::passing::passed;
 use cpc_base::{NoMemory, Place};
-use cpc_convert_lines::{Around, arriving_at, closure, local, local_type, piece, tag};
+use cpc_convert_lines::{Around, arriving_at, closure, is_scalar, local, local_type, piece, tag};
 use cpc_convert_names::Book;
 use cpc_forms_code::Variable;
 use cpc_num::Kind;

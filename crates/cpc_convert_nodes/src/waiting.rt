@@ -5,7 +5,6 @@ ghost use Rattle.cpc_tree.specs.Erase.{Table, expr_of, exprs_of, function_of};
 ghost use Rattle.cpc_tree.specs.Primitives as Q;
 ghost use Rattle.cpc_tree.specs.Syntax as S;
 ghost use Rattle.cpc_tree.specs.Typing.{function_named};
-ghost use Rattle.cpc_check_rules.specs.Apart.{Spells};
 ghost use Rattle.cpc_native_builtins.specs.Builtins.{primitive_of};
 ghost use Rattle.cpc_convert_names.specs.Book.{IsBook, find};
 ghost use Rattle.cpc_convert_names.specs.Words.{AreOfLoop};
@@ -21,26 +20,16 @@ ghost use Rattle.cpc_convert_lines.specs.Puts.{gives};
 ghost use Rattle.cpc_convert_lines.specs.Known.{MeansFound, IsAlike, plain_seen};
 ghost use Rattle.cpc_convert_lines.specs.Around.{Stands, reads, Leads};
 
-use cpc_base::{Name, Names, NoMemory};
+use cpc_base::{Name, NoMemory};
 use cpc_convert_images::{Readings, image, images};
 use cpc_convert_lines::{
     Around, Out, ask_block, begin_frame, field, frame_through, hand_nothing, hand_over, make_frame,
     named, readings,
 };
 use cpc_convert_names::{Called, LoopWords};
-use cpc_native_builtins::{Builtin, builtin_named};
+use cpc_native_builtins::{Builtin, builtin_at};
 use cpc_tree::program::{Expr, Word};
 use std::alloc::Global;
-
-// The primitive of a name, by its text in the table of the source.
-fn builtin_at(texts: &Names, name: Name) -> Option<Builtin>
-    ensures { (from : E.Names) → Spells texts.now from → option_map primitive_of result ≡ Q.primitive_named (from name) }
-{
-    match texts.text(name) {
-        Some(text) => builtin_named(text),
-        None => None,
-    }
-}
 
 // The wait for a callback that stands for a wait.
 fn runtime_word(of_loop: &LoopWords, builtin: Option<Builtin>) -> Name

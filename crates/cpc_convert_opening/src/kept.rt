@@ -8,7 +8,6 @@ ghost use Rattle.cpc_convert_event.specs.Names as N;
 ghost use Rattle.cpc_convert_event.specs.Pieces as P;
 ghost use Rattle.cpc_convert_event.specs.Routines as R;
 ghost use Rattle.cpc_convert_event.specs.Routines.{Routine};
-ghost use Rattle.cpc_convert_event.specs.Rows.{number_where};
 ghost use Rattle.cpc_convert_lines.specs.Around.{Stands, IsVariable};
 ghost use Rattle.cpc_convert_lines.specs.Known.{number_unless, boxes_among};
 ghost use Rattle.cpc_convert_opening.specs.Whole.{IsWhole, rows_in};
@@ -16,7 +15,7 @@ ghost use Rattle.cpc_convert_rows.specs.Steps.{IsStepped, IsOwner};
 
 use cpc_base::{Name, NoMemory};
 use cpc_convert_lines::Around;
-use cpc_convert_rows::Stepped;
+use cpc_convert_rows::{Stepped, add_if};
 use cpc_forms_code::{Owner, Variable};
 use std::alloc::Global;
 
@@ -72,17 +71,6 @@ pub(crate) fn kept<'b>(around: Around<'b>, stepped: &Stepped<'_>, owner: Owner) 
     closure(around, keeper(stepped, owner))
 }
 
-// A number is added, where it is so. `NoMemory` is want of memory.
-fn keep_if(is_so: bool, number: usize, all: &mut Vec<usize>) -> Result<(), NoMemory>
-    ensures { OnOk result (all.new.items ≡ all.old.items ++ number_where is_so number) }
-{
-    if is_so {
-        all.push(number)?;
-        return Ok(());
-    }
-    Ok(())
-}
-
 // Whether a variable is a parameter.
 fn is_parameter(around: Around<'_>, number: usize) -> bool
     ensures { (source : Table) (from to : E.Names) (p : S.Program) (r : Routine) → Stands source from to p r around.entry → result ≡ R.is_parameter r.function number }
@@ -121,7 +109,7 @@ fn passed(alloc: Global, around: Around<'_>, kept: &[usize]) -> Result<Vec<usize
 {
     let mut all = Vec::new(alloc);
     for number in kept {
-        keep_if(is_passed(around, *number), *number, &mut all)?;
+        add_if(is_passed(around, *number), *number, &mut all)?;
     }
     Ok(all)
 }
@@ -152,7 +140,7 @@ fn begun_here(alloc: Global, around: Around<'_>, kept: &[usize]) -> Result<Vec<u
 {
     let mut all = Vec::new(alloc);
     for number in kept {
-        keep_if(is_begun(around, *number), *number, &mut all)?;
+        add_if(is_begun(around, *number), *number, &mut all)?;
     }
     add_boxes(around.called.variables(), &mut all)?;
     Ok(all)

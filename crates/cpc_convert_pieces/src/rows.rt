@@ -18,7 +18,7 @@ ghost use Rattle.cpc_convert_rows.specs.Steps.{IsStepped};
 use cpc_base::NoMemory;
 use cpc_convert_lines::{Around, Out};
 use cpc_convert_nodes::{node, stub};
-use cpc_convert_rows::{Stepped, is_marked};
+use cpc_convert_rows::{Stepped, behind, is_marked};
 use cpc_forms_code::Owner;
 use cpc_tree::program::Word;
 use std::alloc::Global;
@@ -74,14 +74,6 @@ fn row(
     lines(alloc, out, around, stepped, owner, number, following)?;
     out.label_next(None);
     Ok(())
-}
-
-// The number behind one of these.
-fn behind(numbers: &[usize], place: usize) -> Option<usize>
-    requires { place < length numbers.now }
-    ensures { result ≡ slice_get numbers.now (suc place) }
-{
-    numbers.get(place + 1).copied()
 }
 
 /// The rows of a piece of these numbers, which want labels where they are marked. `NoMemory` is want of memory.

@@ -14,9 +14,9 @@ mod wanted;
 
 pub use flags::{any_returns, any_waits};
 pub use leaders::other_leaders;
-pub use marks::is_marked;
+pub use marks::{add_if, is_marked};
 pub use numbers::row_numbers;
 pub use rows::row_nodes;
 pub use stepped::Stepped;
 pub use steps::Step;
-pub use wanted::wanted_rows;
+pub use wanted::{behind, wanted_rows};

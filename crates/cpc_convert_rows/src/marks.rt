@@ -53,7 +53,7 @@ pub fn is_marked(marks: &[u8], number: usize) -> bool
 }
 
 /// A number is added, where it is so. `NoMemory` is want of memory.
-pub(crate) fn add_if(is_so: bool, number: usize, all: &mut Vec<usize>) -> Result<(), NoMemory>
+pub fn add_if(is_so: bool, number: usize, all: &mut Vec<usize>) -> Result<(), NoMemory>
     ensures { OnOk result (all.new.items ≡ all.old.items ++ number_where is_so number) }
 {
     if is_so {

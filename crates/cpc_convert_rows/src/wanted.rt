@@ -56,8 +56,8 @@ fn mark_row(
     }
 }
 
-// The number behind one of these.
-fn behind(numbers: &[usize], place: usize) -> Option<usize>
+/// The number behind the one at a place of these, if there is one.
+pub fn behind(numbers: &[usize], place: usize) -> Option<usize>
     requires { place < length numbers.now }
     ensures { result ≡ slice_get numbers.now (suc place) }
 {

@@ -1,7 +1,11 @@
 //! The primitives of the language, by their names.
 ghost use Rattle.std.specs.Prelude.{◌≡◌, option_map};
+ghost use Rattle.cpc_tree.specs.Erase.{Names as Texts};
 ghost use Rattle.cpc_tree.specs.Primitives.{primitive_named, primitive_in};
+ghost use Rattle.cpc_check_rules.specs.Apart.{Spells};
 ghost use Rattle.cpc_native_builtins.specs.Builtins.{primitive_of, printing, signalling, waiting, framing, scheduling, or_primitive};
+
+use cpc_base::{Name, Names};
 
 /// A primitive of the language: those of both dialects, of the dialect of threads, and of the dialect of events.
 #[derive(Clone, Copy)]
@@ -167,4 +171,14 @@ pub fn builtin_named(text: &[u8]) -> Option<Builtin>
     let later = or_builtin(waiting(text), last);
     let rest = or_builtin(signalling(text), later);
     or_builtin(printing(text), rest)
+}
+
+/// The primitive of a name, by its text in the program's table.
+pub fn builtin_at(texts: &Names, name: Name) -> Option<Builtin>
+    ensures { (names : Texts) → Spells texts.now names → option_map primitive_of result ≡ primitive_named (names name) }
+{
+    match texts.text(name) {
+        Some(text) => builtin_named(text),
+        None => None,
+    }
 }

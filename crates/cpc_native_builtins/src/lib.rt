@@ -5,6 +5,6 @@ mod builtins;
 mod call;
 mod taking;
 
-pub use builtins::{Builtin, builtin_named};
+pub use builtins::{Builtin, builtin_at, builtin_named};
 pub use call::Call;
 pub use taking::takes;

@@ -5,8 +5,7 @@ ghost use Rattle.std.specs.Result.{result_map_both};
 ghost use Rattle.cpc_tree.specs.Erase.{Names as Texts, type_of, exprs_of, function_of, parameter_of};
 ghost use Rattle.cpc_tree.specs.Syntax.{Ty};
 ghost use Rattle.cpc_tree.specs.Typing as T;
-ghost use Rattle.cpc_tree.specs.Primitives.{primitive_named};
-ghost use Rattle.cpc_check_rules.specs.Apart.{AreApart, Spells};
+ghost use Rattle.cpc_check_rules.specs.Apart.{AreApart};
 ghost use Rattle.cpc_store.specs.Store as S;
 ghost use Rattle.cpc_store.specs.Seen.{seen, IsLawful};
 ghost use Rattle.cpc_eval_values.specs.Meets.{Meets};
@@ -16,17 +15,15 @@ ghost use Rattle.cpc_eval.specs.Around.{context_of, IsToldIn};
 ghost use Rattle.cpc_eval.specs.Numbers.{AllNumbers};
 ghost use Rattle.cpc_eval.specs.Shapes.{shape_of};
 ghost use Rattle.cpc_eval.specs.Spots.{AreLawful};
-ghost use Rattle.cpc_native_builtins.specs.Builtins.{primitive_of};
 ghost use Rattle.cpc_native_plans.specs.Stops.{MeetsOr};
 ghost use Rattle.cpc_native_plans.specs.Rows.{row_types, parameter_list, signature_in};
 ghost use Rattle.cpc_native_plans.specs.Calls.{is_same, is_of_type, code_called, called_with, call_shown};
 
 use crate::below::stopped;
 use crate::rows::{Row, passed, type_at};
-use cpc_base::{Name, Names, Stop};
+use cpc_base::{Name, Stop};
 use cpc_eval::{Around, Shape};
 use cpc_eval_index::Index;
-use cpc_native_builtins::{Builtin, builtin_named};
 use cpc_num::Fault;
 use cpc_shapes::same_type;
 use cpc_store::Value;
@@ -167,14 +164,4 @@ pub fn value_called<'a>(
     let row = passed(alloc, parameters_of(shape), arguments, around)?;
     let name = stopped(callee(called, shape, around.index))?;
     Ok((name, row))
-}
-
-/// The primitive of a name, by its text in the program's table.
-pub(crate) fn builtin_at(texts: &Names, name: Name) -> Option<Builtin>
-    ensures { (names : Texts) → Spells texts.now names → option_map primitive_of result ≡ primitive_named (names name) }
-{
-    match texts.text(name) {
-        Some(text) => builtin_named(text),
-        None => None,
-    }
 }

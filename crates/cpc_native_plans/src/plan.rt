@@ -18,12 +18,11 @@ ghost use Rattle.cpc_native_plans.specs.Parts.{is_call, is_call_found};
 ghost use Rattle.cpc_native_plans.specs.Parts.{goes_on};
 ghost use Rattle.cpc_native_plans.specs.Plans.{Lays, IsLawfulPlan, IsServedPlan, is_plain, is_call_plan};
 
-use crate::calls::builtin_at;
 use crate::places::{aimed, aimed_at, returned, right_value, test_held};
 use cpc_base::{Name, Names};
 use cpc_eval::{Around, Shape, Spot, given, used_if, value};
 use cpc_eval_index::Meant;
-use cpc_native_builtins::Call;
+use cpc_native_builtins::{Call, builtin_at};
 use cpc_native_points::Found;
 use cpc_num::{Fault, Op};
 use cpc_store::Value;

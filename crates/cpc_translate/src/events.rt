@@ -1,6 +1,5 @@
 //! The text of a program's event program.
 ghost use Rattle.std.specs.Prelude.{◌≡◌, [], IfOk};
-ghost use Rattle.cpc_base.specs.Texts.{AreDistinct};
 ghost use Rattle.cpc_base.specs.declared.stop.Dialect.TheVariants as D;
 ghost use Rattle.cpc_tree.specs.Erase.{program_of};
 ghost use Rattle.cpc_tree.specs.Locate.{located};
@@ -12,18 +11,12 @@ ghost use Rattle.cpc_eval_index.specs.Indexed.{program_items};
 ghost use Rattle.cpc_forms_code.specs.Programs.{IsSpeakable};
 
 use crate::passes::boxed_text;
-use cpc_base::{Name, Names, NoMemory};
+use cpc_base::NoMemory;
 use cpc_box::boxed;
+use cpc_check::are_distinct;
 use cpc_eval_index::Index;
 use cpc_tree::program::Program;
 use std::alloc::Global;
-
-// The texts of a table differ, as each look-up tells.
-fn are_distinct(names: &Names)
-    ensures { AreDistinct names.now }
-{
-    let _ = names.text(Name(0));
-}
 
 // There are texts that tell the names of a program that is accepted.
 fn is_speakable(source: &Program)
