@@ -1,6 +1,6 @@
 #!/usr/bin/env bash
 # Steps per second of the built program: loops of 10^5, 10^6 and 10^7 steps, loops over bodies of 10 and 2,000 statements, calls
-# nested 10^4 deep, and loops beside 10 and 10^5 live blocks. Each row is the quickest of three runs, less the time of an empty
+# nested 100 and 10^4 deep, and loops beside 10 and 10^5 live blocks. Each row is the quickest of three runs, less the time of an empty
 # program; the last column is its rate over that of the first row of its group, which says what a step pays for the length of a
 # run, of its function, or for the store.
 set -eu

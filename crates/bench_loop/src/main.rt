@@ -9,6 +9,9 @@
 use cpc_agenda::Agenda;
 use cpc_base::{Direction, Event};
 use cpc_history_marks::Told;
+use rand_core::SeedableRng;
+use rand_core::utils::NextWord;
+use rand_xoshiro::SplitMix64;
 use std::alloc::Global;
 use std::{env, io};
 
@@ -23,26 +26,18 @@ enum Kind {
     Descriptor,
 }
 
-/// The loop's lists, and the state of the generator that picks.
+/// The loop's lists, and the generator that picks.
 #[derive(Drop)]
 struct Bench {
     agenda: Agenda<u64>,
     waiters: u64,
-    state: u64,
-}
-
-// The next number of a linear congruential generator.
-fn next(state: u64) -> u64 {
-    state
-        .wrapping_mul(6_364_136_223_846_793_005)
-        .wrapping_add(1_442_695_040_888_963_407)
+    picks: SplitMix64,
 }
 
 impl Bench {
     // The next number that is picked.
     fn pick(&mut self) -> u64 {
-        self.state = next(self.state);
-        self.state >> 44
+        self.picks.next_word() >> 44
     }
 
     // An item waits, and says whether it does.
@@ -120,7 +115,7 @@ fn fill(alloc: Global, kind: Kind, waiters: u64) -> Option<Bench> {
     let mut bench = Bench {
         agenda: Agenda::new(alloc),
         waiters,
-        state: 12_345,
+        picks: SplitMix64::seed_from_u64(12_345),
     };
     if !bench.agenda.has_numbers() {
         return None;
@@ -134,23 +129,22 @@ fn fill(alloc: Global, kind: Kind, waiters: u64) -> Option<Bench> {
     Some(bench)
 }
 
-fn number(word: Option<String>, otherwise: u64) -> u64 {
-    match word {
-        Some(word) => word.as_str().parse::<u64>().unwrap_or(otherwise),
-        None => otherwise,
-    }
-}
-
 fn main(rt: HostRuntime) -> io::Result<()> {
     let alloc = rt.alloc();
     let mut words = env::args(&rt)?.skip(1);
-    let waiters = number(words.next(), 10);
+    let waiters = words
+        .next()
+        .and_then(|word| word.parse::<u64>().ok())
+        .unwrap_or(10);
     let kind = match words.next() {
         Some(word) if word.as_str() == "timer" => Kind::Timer,
         Some(word) if word.as_str() == "descriptor" => Kind::Descriptor,
         _ => Kind::Condition,
     };
-    let count = number(words.next(), 1000);
+    let count = words
+        .next()
+        .and_then(|word| word.parse::<u64>().ok())
+        .unwrap_or(1000);
     let Some(mut bench) = fill(alloc, kind, waiters) else {
         return println!(rt; "no memory");
     };

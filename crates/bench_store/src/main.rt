@@ -6,6 +6,9 @@
 
 use cpc_base::NoMemory;
 use cpc_store::{Block, Class, Scalar, Store, Value};
+use rand_core::SeedableRng;
+use rand_core::utils::NextWord;
+use rand_xoshiro::SplitMix64;
 use std::alloc::{AllocError, Global};
 use std::{env, io};
 
@@ -20,12 +23,12 @@ enum Act {
     Load,
 }
 
-/// The blocks that are live, and the state of the generator that picks among them.
+/// The blocks that are live, and the generator that picks among them.
 #[derive(Drop)]
 struct Bench {
     store: Store,
     live: Vec<Block>,
-    state: u64,
+    picks: SplitMix64,
 }
 
 fn make(alloc: Global, store: &mut Store) -> Result<Block, NoMemory> {
@@ -45,31 +48,21 @@ fn fill(alloc: Global, count: u64) -> Result<Bench, NoMemory> {
     Ok(Bench {
         store,
         live,
-        state: 12_345,
+        picks: SplitMix64::seed_from_u64(12_345),
     })
 }
 
-// The next number of a linear congruential generator.
-fn next(state: u64) -> u64 {
-    state
-        .wrapping_mul(6_364_136_223_846_793_005)
-        .wrapping_add(1_442_695_040_888_963_407)
-}
-
 impl Bench {
-    // Does an act to the block of a place, and says whether it was done.
-    fn act(&mut self, alloc: Global, act: Act, place: usize) -> bool {
+    // Does an act to the block of a place, in a cell that the picked number says, and says whether it was done.
+    fn act(&mut self, alloc: Global, act: Act, place: usize, picked: u64) -> bool {
         let Some(block) = self.live.get(place) else {
             return false;
         };
         let block = *block;
-        let offset = self.state >> 60;
+        let offset = picked >> 60;
         match act {
             Act::Churn => self.replace(alloc, block, place),
-            Act::Save => self
-                .store
-                .save(block, offset, Value::Cond(self.state))
-                .is_ok(),
+            Act::Save => self.store.save(block, offset, Value::Cond(picked)).is_ok(),
             Act::Load => self.store.load(block, offset, Scalar::Cond).is_ok(),
         }
     }
@@ -92,9 +85,9 @@ impl Bench {
     fn repeat(&mut self, alloc: Global, act: Act, count: u64) -> u64 {
         let mut done = 0u64;
         for _ in 0..count {
-            self.state = next(self.state);
+            let picked = self.picks.next_word();
             let size = self.live.len() as u64;
-            if size > 0 && self.act(alloc, act, ((self.state >> 20) % size) as usize) {
+            if size > 0 && self.act(alloc, act, ((picked >> 20) % size) as usize, picked) {
                 done = done.saturating_add(1);
             }
         }
@@ -102,23 +95,22 @@ impl Bench {
     }
 }
 
-fn number(word: Option<String>, otherwise: u64) -> u64 {
-    match word {
-        Some(word) => word.as_str().parse::<u64>().unwrap_or(otherwise),
-        None => otherwise,
-    }
-}
-
 fn main(rt: HostRuntime) -> io::Result<()> {
     let alloc = rt.alloc();
     let mut words = env::args(&rt)?.skip(1);
-    let live = number(words.next(), 10);
+    let live = words
+        .next()
+        .and_then(|word| word.parse::<u64>().ok())
+        .unwrap_or(10);
     let act = match words.next() {
         Some(word) if word.as_str() == "save" => Act::Save,
         Some(word) if word.as_str() == "load" => Act::Load,
         _ => Act::Churn,
     };
-    let count = number(words.next(), 1000);
+    let count = words
+        .next()
+        .and_then(|word| word.parse::<u64>().ok())
+        .unwrap_or(1000);
     let Ok(mut bench) = fill(alloc, live) else {
         return println!(rt; "no memory");
     };

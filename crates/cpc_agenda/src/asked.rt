@@ -24,7 +24,7 @@ pub struct Asked {
 }
 
 impl<T: Drop> Agenda<T> {
-    /// What the next poll is asked.
+    /// What the next poll is asked. `NoMemory` is want of memory.
     pub fn asked(&self, alloc: Global) -> Result<Asked, NoMemory>
         ensures now { IfOk result (λ asked. (names : Names) → asked.now ≡ (lists_of names self.now).now) }
         ensures deadline { IfOk result (λ asked. (names : Names) → asked.deadline ≡ option_map deadline_of (first_of (lists_of names self.now).timers)) }

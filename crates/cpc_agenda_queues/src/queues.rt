@@ -66,7 +66,7 @@ impl<K: Ord + Copy, T: Drop> Queues<K, T> {
         self.by_arrival.len() as u64
     }
 
-    /// The keys of those who wait, in order of arrival.
+    /// The keys of those who wait, in order of arrival. `NoMemory` is want of memory.
     pub fn waited(&self, alloc: Global) -> Result<Vec<K>, NoMemory>
         ensures { IfOk result (λ keys. keys.items ≡ map Q.key_of self.now.waiting) }
     {
@@ -91,7 +91,7 @@ impl<K: Ord + Copy, T: Drop> Queues<K, T> {
         self.numbers.is_idle(key)
     }
 
-    /// Makes a queue for a key that has none.
+    /// Makes a queue for a key that has none. `NoMemory` is want of memory.
     pub fn open(&mut self, alloc: Global, key: K) -> Result<(), NoMemory>
         requires { list_any (is_at (K.cmp key)) self.old.keys ≡ false }
         ensures ok { OnOk result (self.new ≡ Q.open_key K.cmp key self.old) }

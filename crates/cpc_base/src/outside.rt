@@ -1,6 +1,6 @@
 //! The traits by which a program meets the outside. Each object tells what it holds, or nothing, and counts its faults.
 //! A count never falls, and stands still at `u64::MAX`. A call answers `Failed` only where the count rose in this call, or stands there.
-ghost use Rattle.std.specs.Prelude.{◌≡◌, ◌<◌, ◌≤◌, ◌+◌, ℕ, List, Option, length, take, IfOk, OnErr};
+ghost use Rattle.std.specs.Prelude.{◌≡◌, ◌<◌, ◌≤◌, ◌+◌, ℕ, List, Option, length, max, take, IfOk, OnErr};
 ghost use Rattle.std.specs.Io.KnownBytes.{append_known};
 ghost use Rattle.cpc_base.specs.Bytes.{Text};
 ghost use Rattle.cpc_base.specs.Outside.{AskedTo, Files, Rose, IsRead};
@@ -15,7 +15,8 @@ pub trait Shelf {
     ghost files: { Self → Option Files };
     /// How often the shelf failed at a name. One count may serve all names.
     ghost faults: { Self → Text → ℕ };
-    /// Where the farthest piece ends that was asked for under a name. A shelf that keeps no count says 0.
+    /// Where the farthest piece ends that was asked for under a name, and at least 1 once it was asked for any. A shelf that keeps no count
+    /// says 0.
     ghost asked: { Self → Text → ℕ };
 
     /// Fills a prefix of `into` with the bytes of the named file from `offset` on, and answers how many. 0 bytes into a nonempty buffer is the end of the file.
@@ -25,7 +26,7 @@ pub trait Shelf {
         ensures bytes { IfOk result (λ n. IsRead (files self.old) name.now offset into.new n) }
         ensures stays { files self.new ≡ files self.old }
         ensures later { (other : Text) → faults self.old other ≤ faults self.new other }
-        ensures asked { AskedTo (asked self.old) (asked self.new) name.now (offset + length into.old) }
+        ensures asked { AskedTo (asked self.old) (asked self.new) name.now (max 1 (offset + length into.old)) }
         ensures cause { OnErr result (Rose (faults self.old name.now) (faults self.new name.now)) };
 }
 

@@ -8,14 +8,15 @@ ghost use Rattle.cpc_tree.specs.Typing as T;
 ghost use Rattle.cpc_check_rules.specs.Apart.{Spells};
 ghost use Rattle.cpc_eval_index.specs.Indexed.{items_of};
 ghost use Rattle.cpc_meaning.specs.Ways as W;
-ghost use Rattle.cpc_native_builtins.specs.Builtins.{primitive_of};
+ghost use Rattle.cpc_tree.specs.PrimitiveNames.{primitive_of};
 ghost use Rattle.cpc_forms_code.specs.Seen.{manner_seen, scope_seen, AreNamed};
 ghost use Rattle.cpc_box.specs.Manners.{called_manner};
 
 use cpc_base::{Name, Names};
+use cpc_check_rules::primitive_at;
 use cpc_eval_index::{Index, Meant};
 use cpc_forms_code::{Manner, Variable, slot};
-use cpc_native_builtins::{Builtin, builtin_at};
+use cpc_tree::primitive::Primitive;
 use cpc_tree::program::{Expr, Mode, Statement};
 
 /// What the names of a program stand for, and their texts.
@@ -37,11 +38,12 @@ fn mode_manner(mode: Mode) -> Manner
 }
 
 // How the call of a primitive is left; without one it is the call of a value.
-fn primitive_manner(builtin: Option<Builtin>) -> Manner
-    ensures { manner_seen result ≡ W.primitive_manner (option_map primitive_of builtin) }
+fn primitive_manner(primitive: Option<Primitive>) -> Manner
+    ensures { manner_seen result ≡ W.primitive_manner (option_map primitive_of primitive) }
 {
-    match builtin {
-        Some(Builtin::Yield | Builtin::Sleep | Builtin::IoWait | Builtin::Wait) => Manner::AsCps,
+    match primitive {
+        Some(Primitive::Yield | Primitive::Sleep | Primitive::IoWait | Primitive::Wait) =>
+            Manner::AsCps,
         Some(_) => Manner::InPlace,
         None => Manner::ByFrame,
     }
@@ -52,7 +54,7 @@ fn outside_manner(around: Around<'_>, name: Name) -> Manner
     ensures { (names : Texts) → Spells around.entry.texts.now names → manner_seen result ≡ W.meant_manner (T.item_named 0 (items_of names around.entry.index.now) (names name)) (Q.primitive_named (names name)) }
 {
     match around.index.meant(name) {
-        None => primitive_manner(builtin_at(around.texts, name)),
+        None => primitive_manner(primitive_at(around.texts, name)),
         Some(Meant::Function { mode, .. }) => mode_manner(mode),
         Some(_) => Manner::ByFrame,
     }

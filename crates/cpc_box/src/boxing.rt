@@ -6,7 +6,6 @@ ghost use Rattle.cpc_check_rules.specs.Apart.{Spells};
 ghost use Rattle.cpc_eval_index.specs.Indexed.{program_items, items_of};
 ghost use Rattle.cpc_eval_locals.specs.Owners.{owner_of};
 ghost use Rattle.cpc_eval_variables.specs.Told.{IsTold};
-ghost use Rattle.cpc_meaning.specs.Threads.{is_cps_mode};
 ghost use Rattle.cpc_forms_code.specs.Points.{variable_seen};
 ghost use Rattle.cpc_forms_code.specs.Seen.{AreNamed};
 ghost use Rattle.cpc_forms_code.specs.Programs.{cps_functions, IsSpelled, IsSpeakable};
@@ -19,7 +18,7 @@ use cpc_base::NoMemory;
 use cpc_eval_index::Index;
 use cpc_eval_locals::Locals;
 use cpc_forms_code::{Boxed, BoxedFunction};
-use cpc_tree::program::{Function, Item, Mode, Program};
+use cpc_tree::program::{Function, Item, Program};
 use std::alloc::Global;
 
 // The walk through a function.
@@ -68,16 +67,6 @@ fn boxed_function<'a>(
     })
 }
 
-// Whether the functions of a mode may give up the processor.
-fn is_cps(mode: Mode) -> bool
-    ensures { result ≡ is_cps_mode mode }
-{
-    match mode {
-        Mode::Cps => true,
-        Mode::Extern | Mode::Native | Mode::Detached => false,
-    }
-}
-
 // Adds what the item of a number defines, where that is a cps function.
 fn add<'a>(
     alloc: Global,
@@ -95,7 +84,7 @@ fn add<'a>(
 {
     match item {
         Item::Function(function) => {
-            if is_cps(function.mode) {
+            if function.mode.is_cps() {
                 let Some(locals) = index.locals_of(place) else {
                     unreachable!()
                 };

@@ -5,7 +5,6 @@ ghost use Rattle.cpc_tree.specs.Erase.{Names, expr_of, stmt_of, list_of, maybe_a
 ghost use Rattle.cpc_tree.specs.Points as P;
 ghost use Rattle.cpc_tree.specs.Syntax as S;
 ghost use Rattle.cpc_tree.specs.Typing as T;
-ghost use Rattle.cpc_tree.specs.Lists.{is_empty};
 ghost use Rattle.cpc_tree.specs.Registers.{or_empty};
 ghost use Rattle.cpc_tree.specs.Registers as R;
 ghost use Rattle.cpc_eval_variables.specs.Told.{IsTold};
@@ -18,7 +17,7 @@ ghost use Rattle.cpc_box.specs.Outline.{variable_if, local_if};
 ghost use Rattle.cpc_box.specs.Walked.{mark_of, IsSeen};
 
 use crate::around::{Around, manner};
-use cpc_base::{Name, NoMemory};
+use cpc_base::{Name, NoMemory, is_none};
 use cpc_eval_locals::Variable as Kept;
 use cpc_forms_code::{BoxedPoint, Manner, Stood, Variable};
 use cpc_tree::program::{CType, Expr, Parameter, Statement, Word};
@@ -36,16 +35,6 @@ pub(crate) struct Walk<'a> {
 pub(crate) struct Known<'a> {
     pub(crate) around: Around<'a>,
     pub(crate) kept: &'a [Kept],
-}
-
-/// Whether a row has no statement.
-fn is_none(row: &[Statement]) -> bool
-    ensures { result ≡ is_empty row.now }
-{
-    match row.split_first() {
-        Some(_) => false,
-        None => true,
-    }
 }
 
 // Whether the variable of a number is a register.

@@ -1,4 +1,4 @@
-//! Checks programs: the first of the rules that one breaks, or that it breaks none; then what its names stand for is found once.
+//! Checks programs: the first of the rules that one breaks, or that it breaks none; what its names stand for is found on the way, once.
 #![tactic(auto)]
 
 mod checked;

@@ -1,14 +1,13 @@
 -- What texts begin with and hold, and the names that are kept.
 use Rattle.std.proofs.Common.{◌≡◌, ℕ, ◌+◌, ◌-◌, ◌<◌, Bool, true, false, ◌&&◌, ◌||◌, eqb, List, [], ◌∷◌, length, get_or, take, drop, refl, sym, ap, ◌∙◌, None}
 use Rattle.std.specs.Prelude.{codes, slice_get}
-use Rattle.std.specs.Option.{unwrap_or}
 use Rattle.std.specs.List.{starts_with}
 use Rattle.std.proofs.lemmas.List.{drop_more}
-use Rattle.std.proofs.lemmas.Option.{unwrap_or-slice_get}
 use Rattle.cpc_base.specs.Bytes.{Text}
 use Rattle.cpc_base.specs.declared.stop.Dialect.{Dialect}
 use Rattle.cpc_base.specs.declared.stop.Dialect.TheVariants as D
 use Rattle.cpc_base.proofs.Lists.{rest_whole}
+use Rattle.cpc_tree.proofs.Texts.{text_absent}
 use Rattle.cpc_check_rules.specs.FunctionRules.{begins_with, holds_underscores, is_reserved}
 
 and_true : (a b : Bool) → (a && b) ≡ ((a && true) && b)
@@ -37,9 +36,5 @@ pub empty_kept : (dialect : Dialect) → false ≡ is_reserved dialect []
 empty_kept D.Event = refl
 empty_kept D.Cpc = refl
 
--- a name that the table does not have has no bytes
-pub absent_empty : (table : List Text) (n : ℕ) → None ≡ slice_get table n → [] ≡ get_or table n []
-absent_empty table n e = ap (λ o. unwrap_or o []) e ∙ unwrap_or-slice_get table n []
-
 pub absent_kept : (dialect : Dialect) (table : List Text) (n : ℕ) → None ≡ slice_get table n → false ≡ is_reserved dialect (get_or table n [])
-absent_kept dialect table n e = empty_kept dialect ∙ ap (is_reserved dialect) (absent_empty table n e)
+absent_kept dialect table n e = empty_kept dialect ∙ ap (is_reserved dialect) (text_absent table n e)

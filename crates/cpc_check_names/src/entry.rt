@@ -1,5 +1,5 @@
 //! The function `main`, with which a program begins.
-ghost use Rattle.std.specs.Prelude.{◌≡◌, [], ◌∷◌, map, not, bytes_eq, codes};
+ghost use Rattle.std.specs.Prelude.{◌≡◌, [], ◌∷◌, map, not};
 ghost use Rattle.cpc_tree.specs.Erase.{Names as Spelling, in_table};
 ghost use Rattle.cpc_tree.specs.Locate.{located_function, located_item};
 ghost use Rattle.cpc_check_rules.specs.declared.rule.Rule.TheVariants.{NoMain};
@@ -8,20 +8,11 @@ ghost use Rattle.cpc_check_rules.specs.Rule.{at_if};
 ghost use Rattle.cpc_check_rules.specs.Rules.{is_main, has_main};
 ghost use Rattle.cpc_check_rules.specs.Noted.{noted, first_of};
 
-use cpc_base::{Name, Names, Place};
+use cpc_base::{Names, Place};
 use cpc_check_rules::{First, Rule};
 use cpc_num::Kind;
+use cpc_tree::names::is_main as is_named_main;
 use cpc_tree::program::{CType, Function, Item, Mode};
-
-/// Whether a name of a table is `main`. A name that the table does not have is not.
-fn is_named_main(names: &Names, name: Name) -> bool
-    ensures { result ≡ bytes_eq (in_table names.now name) (codes "main") }
-{
-    match names.text(name) {
-        Some(text) => text == b"main".as_slice(),
-        None => false,
-    }
-}
 
 /// Whether a program may begin with a function.
 fn may_begin(names: &Names, function: &Function) -> bool

@@ -1,3 +1,4 @@
 pub mod Firsts
 pub mod Sameness
 pub mod Scopes
+pub mod Tabled

@@ -1,7 +1,7 @@
--- Kinds, types, lists of types and modes that are told to be one are one.
+-- Kinds, types, lists of types and modes that are told to be one are one, and each type is told to be itself.
 use Rattle.std.proofs.Common.{◌≡◌, ◌==◌, true, List, [], ◌∷◌, refl, ap, ◌∙◌}
 use Rattle.std.proofs.lemmas.Slice.Eq.{bytes_eq-Decides}
-use Rattle.cpc_base.proofs.Truth.{by_false_true, and_both, eq_means}
+use Rattle.cpc_base.proofs.Truth.{by_false_true, and_holds, and_both, eq_means, eq_reflexive}
 use Rattle.cpc_tree.specs.KindVariants.{Char, UChar, Int, UInt, Long, ULong}
 use Rattle.cpc_tree.specs.declared.program.Mode.{Mode}
 use Rattle.cpc_tree.specs.declared.program.Mode.TheVariants.{Extern, Native, Cps, Detached}
@@ -51,3 +51,31 @@ mode_is Native Native e = refl
 mode_is Cps Cps e = refl
 mode_is Detached Detached e = refl
 mode_is _ _ e = by_false_true e
+
+-- ---- each is itself
+
+kind_itself : (k : _) → same_type (TyInt k) (TyInt k) ≡ true
+kind_itself Char = refl
+kind_itself UChar = refl
+kind_itself Int = refl
+kind_itself UInt = refl
+kind_itself Long = refl
+kind_itself ULong = refl
+
+mutual
+  pub type_itself : (t : Ty) → same_type t t ≡ true
+  type_itself TyVoid = refl
+  type_itself (TyInt k) = kind_itself k
+  type_itself TyCondvar = refl
+  type_itself (TyPointer t) = type_itself t
+  type_itself (TyCode r ps) = and_holds (same_type r r) (same_types ps ps) (type_itself r) (types_itself ps)
+  type_itself (TyStruct tag) = (bytes_eq-Decides tag tag).1 refl
+  type_itself (TyArray t n) = and_holds (same_type t t) (n == n) (type_itself t) (eq_reflexive n)
+
+  types_itself : (ts : Tys) → same_types ts ts ≡ true
+  types_itself NoTy = refl
+  types_itself (AndTy t ts) = and_holds (same_type t t) (same_types ts ts) (type_itself t) (types_itself ts)
+
+pub list_itself : (ts : List Ty) → same_list ts ts ≡ true
+list_itself [] = refl
+list_itself (t ∷ ts) = and_holds (same_type t t) (same_list ts ts) (type_itself t) (list_itself ts)

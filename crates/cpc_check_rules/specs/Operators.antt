@@ -9,6 +9,7 @@ use Rattle.cpc_tree.specs.OpVariants.{Add, Sub}
 use Rattle.cpc_tree.specs.declared.program.Mode.{Mode}
 use Rattle.cpc_tree.specs.declared.program.Mode.TheVariants.{Extern, Native, Cps, Detached}
 use Rattle.cpc_tree.specs.Syntax.{Ty, TyVoid, TyInt, TyPointer, TyStruct}
+pub use Rattle.cpc_tree.specs.Syntax.{is_cps_mode as is_cps}
 use Rattle.cpc_tree.specs.Located.{Ident, LExpr, LNamed, LInteger, LCharacter, LText, LUnary, LBinary, LAnd, LOr, LChoose, LCast, LSizeOf, LIndex, LMember, LArrow, LCall, bare_expr}
 use Rattle.cpc_tree.specs.Typing.{Meant, ALocal, AGlobal, AFunction, NotMeant, Typed, used, typed_place, same_type, fields}
 use Rattle.cpc_check_rules.specs.declared.rule.Rule.TheVariants.{Undeclared, Disagree, NoPlace, NoField, Incomplete, NotClosed, CpsAsValue}
@@ -48,10 +49,6 @@ first (LCall q v vs) = first v
 abbrev pub is_detached : Mode → Bool
 is_detached Detached = true
 is_detached mode = false
-
-abbrev pub is_cps : Mode → Bool
-is_cps Cps = true
-is_cps mode = false
 
 -- A function of this mode is named in a function of that mode: a detached function names detached ones alone.
 abbrev pub open_name : Mode → Place → Mode → Broken

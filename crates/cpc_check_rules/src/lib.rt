@@ -2,7 +2,9 @@
 #![tactic(auto)]
 
 mod first;
+mod primitives;
 mod rule;
 
 pub use first::{Breach, First, noted_is_first};
+pub use primitives::primitive_at;
 pub use rule::Rule;

@@ -5,7 +5,8 @@ ghost use Rattle.cpc_check_rules.specs.Rule.{number, rule_text};
 /// A rule of the language.
 #[derive(Clone, Copy)]
 pub enum Rule {
-    /// A name, a label of a section or a function's body that is not declared (C11 6.5.1).
+    /// A name of which no declaration is in scope (C11 6.5.1), a prototype that is not `extern` and has no definition, or the name of a
+    /// primitive that is not called.
     Undeclared,
     /// A name that is declared twice in one block, or as two things (C11 6.7).
     Twice,
@@ -25,21 +26,22 @@ pub enum Rule {
     Stray,
     /// A field that the struct does not have (C11 6.5.2.3).
     NoField,
-    /// A type of unknown or of too great a size (C11 6.2.5).
+    /// A type that is not complete (C11 6.2.5), or of more than 65,536 cells; an array of length 0.
     Incomplete,
     /// A name that the language keeps for itself.
     Reserved,
     /// A `return` that does not fit its function's result (C11 6.8.6.4).
     BadReturn,
-    /// A detached function that names what another processor must not see.
+    /// A detached function that uses a global, a function that is not detached, a call through a pointer, a spawn, or a primitive but
+    /// `malloc` and `free`.
     NotClosed,
     /// A cps function that is used as a value.
     CpsAsValue,
     /// No function `main` to begin with.
     NoMain,
-    /// More variables in a function than there may be.
+    /// More than 255 variables in a function, its parameters among them; more than 1,023 in a program of the event loop.
     TooMany,
-    /// More statements and variables in all cps functions than there may be.
+    /// The sum over the cps functions of their statements, times one more than their variables, is above 500,000.
     TooBroad,
     /// A call inside an expression.
     CallInside,
@@ -50,7 +52,7 @@ pub enum Rule {
 }
 
 impl Rule {
-    /// The number by which the rule is told, from 1 on.
+    /// The number by which the rule is told, 1 to 21.
     pub fn number(self) -> u8
         ensures { result ≡ number self }
     {

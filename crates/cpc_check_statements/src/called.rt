@@ -15,7 +15,7 @@ use crate::assigned::note_given;
 use crate::places::target_rules;
 use cpc_base::{Dialect, NoMemory, Place};
 use cpc_check_rules::{First, Rule};
-use cpc_check_values::{Start, Where, call_rules, is_cps, is_detached, started_rules};
+use cpc_check_values::{Start, Where, call_rules, is_detached, started_rules};
 use cpc_num::Kind;
 use cpc_tree::program::{CType, Expr, Word};
 use std::alloc::Global;
@@ -90,7 +90,7 @@ pub(crate) fn section_rules(
     ensures { OnOk result ((names : Names) → Spells w.now.names.now names → (q : P.Place) → first_of first.new ≡ noted (first_of first.old) (S.stmt_breaks (where_of names w.now) (L.Detach q places.0 places.1 (option_map (located_expr names) target.now) (ident names function) (located_exprs names arguments.now)))) }
 {
     int_rules(alloc, first, target, places.0, w)?;
-    first.note_if(!is_cps(w.mode), places.1, Rule::CpsInNative);
+    first.note_if(!w.mode.is_cps(), places.1, Rule::CpsInNative);
     first.note_if(is_event(w.dialect), places.1, Rule::CpsForm);
     started_rules(alloc, first, Start::Section, function, arguments, w)
 }

@@ -1,6 +1,6 @@
 //! What returns break.
 ghost use Rattle.std.specs.Prelude.{◌≡◌, OnOk, option_map};
-ghost use Rattle.cpc_tree.specs.Erase.{Names, type_of};
+ghost use Rattle.cpc_tree.specs.Erase.{Names};
 ghost use Rattle.cpc_tree.specs.Locate.{located_expr};
 ghost use Rattle.cpc_check_rules.specs.Apart.{AreApart, Spells};
 ghost use Rattle.cpc_check_rules.specs.StmtRules as S;
@@ -12,19 +12,10 @@ use crate::assigned::is_unfit;
 use cpc_base::{NoMemory, Place};
 use cpc_check_rules::{First, Rule};
 use cpc_check_values::{Where, value_rules};
-use cpc_tree::program::{CType, Expr};
+use cpc_shapes::is_void;
+use cpc_tree::program::Expr;
 use cpc_types::TypeFound;
 use std::alloc::Global;
-
-// Whether a function gives nothing.
-fn is_void(of: &CType) -> bool
-    ensures { (names : Names) → result ≡ S.is_void (type_of names of.now) }
-{
-    match of {
-        CType::Void => true,
-        _ => false,
-    }
-}
 
 // Whether what is returned does not fit the function.
 fn is_unfit_return(e: &Expr, found: TypeFound, w: &Where) -> bool

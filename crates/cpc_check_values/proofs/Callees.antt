@@ -8,16 +8,17 @@ use Rattle.cpc_tree.specs.declared.program.Parameter.{Parameter}
 use Rattle.cpc_tree.specs.Erase.{Names, type_of, parameter_of}
 use Rattle.cpc_tree.specs.Locate.{located_expr, located_exprs}
 use Rattle.cpc_tree.specs.Primitives as P
+use Rattle.cpc_tree.specs.PrimitiveNames.{primitive_of}
 use Rattle.cpc_tree.specs.Syntax.{Ty, TyCode}
 use Rattle.cpc_tree.specs.Typing as T
 use Rattle.cpc_tree.proofs.TypeRows.{list_back}
 use Rattle.cpc_check_rules.specs.Scopes.{Scope}
 use Rattle.cpc_check_rules.specs.Calls as C
 use Rattle.cpc_shapes.specs.Listed.{optional_of}
-use Rattle.cpc_check_values.specs.declared.primitives.Primitive.{Primitive}
-use Rattle.cpc_check_values.specs.declared.primitives.Primitive.TheVariants as R
+use Rattle.cpc_tree.specs.declared.primitive.Primitive.{Primitive}
+use Rattle.cpc_tree.specs.declared.primitive.Primitive.TheVariants as R
 use Rattle.cpc_check_values.proofs.Arguments.{counted}
-use Rattle.cpc_check_values.specs.Wants.{primitive_of, primitive_wants, section_wants, section_callee_of}
+use Rattle.cpc_check_values.specs.Wants.{primitive_wants, section_wants, section_callee_of}
 
 -- the function of a pointer, by what its type is taken apart to
 pub code_taken : (t : Ty) (r : Ty) (ps : List Ty) → Some (T.function_type r ps) ≡ T.code_type t → C.Takes (map (λ p. C.Of p) ps) r ≡ C.code_callee (Some t)

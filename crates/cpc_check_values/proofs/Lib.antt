@@ -1,11 +1,9 @@
-pub mod Spelled
 pub mod Wanting
 pub mod Noting
 pub mod Taken
 pub mod Callees
 pub mod Suiting
 pub mod Walks
-pub mod Tabled
 pub mod Arguments
 pub mod Steps
 pub mod Pairs

@@ -8,11 +8,12 @@ use Rattle.cpc_tree.specs.declared.program.Parameter.{Parameter}
 use Rattle.cpc_tree.specs.Erase.{Names, type_of, parameter_of}
 use Rattle.cpc_tree.specs.Typing.{parameter_type}
 use Rattle.cpc_tree.specs.Primitives as P
+use Rattle.cpc_tree.specs.PrimitiveNames.{primitive_of}
 use Rattle.cpc_check_rules.specs.Calls as C
 use Rattle.cpc_check_values.specs.declared.wants.Wanted.{Wanted}
-use Rattle.cpc_check_values.specs.declared.primitives.Primitive.{Primitive}
-use Rattle.cpc_check_values.specs.declared.primitives.Primitive.TheVariants as R
-use Rattle.cpc_check_values.specs.Wants.{want_of, wants_of, primitive_of, front_wants, primitive_wants, section_wants}
+use Rattle.cpc_tree.specs.declared.primitive.Primitive.{Primitive}
+use Rattle.cpc_tree.specs.declared.primitive.Primitive.TheVariants as R
+use Rattle.cpc_check_values.specs.Wants.{want_of, wants_of, front_wants, primitive_wants, section_wants}
 
 pub row_wanted : (names : Names) (o : Option Wanted) (row : List Wanted) (place : ℕ) → o ≡ slice_get row place → option_map (want_of names) o ≡ slice_get (map (want_of names) row) place
 row_wanted names o row place e = ap (option_map (want_of names)) e ∙ sym (slice_get-map (want_of names) row place)

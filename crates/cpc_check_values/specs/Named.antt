@@ -2,13 +2,14 @@
 use Rattle.std.specs.Prelude.{[], ◌∷◌, Option, Some, None}
 use Rattle.cpc_base.specs.declared.stop.Place.{Place}
 use Rattle.cpc_tree.specs.Erase.{Names}
+use Rattle.cpc_tree.specs.PrimitiveNames.{primitive_of}
 use Rattle.cpc_check_rules.specs.Rule.{Broken}
 use Rattle.cpc_check_rules.specs.Operators.{Where}
 use Rattle.cpc_check_rules.specs.Calls as C
 use Rattle.cpc_check_rules.specs.declared.rule.Rule.TheVariants.{Undeclared}
 use Rattle.cpc_check_values.specs.declared.wants.Callee.{Callee}
 use Rattle.cpc_check_values.specs.declared.wants.Callee.TheVariants as V
-use Rattle.cpc_check_values.specs.Wants.{primitive_of, callee_of}
+use Rattle.cpc_check_values.specs.Wants.{callee_of}
 
 -- what calling it by its name breaks
 abbrev pub callee_breaks : Where → Place → Callee → Broken

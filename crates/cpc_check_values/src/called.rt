@@ -4,7 +4,7 @@ ghost use Rattle.cpc_tree.specs.Syntax.{TyInt};
 ghost use Rattle.cpc_shapes.specs.Listed.{optional_of};
 ghost use Rattle.cpc_tree.specs.Erase.{Names as Spelling, type_of, parameter_of};
 ghost use Rattle.cpc_tree.specs.Locate.{located_expr, located_exprs};
-ghost use Rattle.cpc_tree.specs.Primitives as P;
+ghost use Rattle.cpc_tree.specs.PrimitiveNames.{primitive_of};
 ghost use Rattle.cpc_tree.specs.Typing as T;
 ghost use Rattle.cpc_check_rules.specs.declared.rule.Rule.TheVariants.{NotClosed};
 ghost use Rattle.cpc_check_rules.specs.Apart.{AreApart, Spells};
@@ -16,32 +16,22 @@ ghost use Rattle.cpc_check_rules.specs.Calls as C;
 ghost use Rattle.cpc_check_rules.specs.Noted.{noted, first_of};
 ghost use Rattle.cpc_types.specs.Found.{found_of};
 ghost use Rattle.cpc_types.specs.Scoped.{scope_of};
-ghost use Rattle.cpc_check_values.specs.Wants.{primitive_of, wants_of, callee_of, section_callee_of};
+ghost use Rattle.cpc_check_values.specs.Wants.{wants_of, callee_of, section_callee_of};
 ghost use Rattle.cpc_check_values.specs.Stands.{where_of};
 ghost use Rattle.cpc_check_values.specs.Walked.{count_breaks};
 ghost use Rattle.cpc_check_values.specs.Named.{callee_or, callee_breaks, breaks_or};
 
-use crate::names::{is_cps, is_detached};
+use crate::names::is_detached;
 use crate::parts::is_typed;
-use crate::primitives::{Primitive, primitive_named};
+use crate::primitives::{gives_up, is_closed, is_rt};
 use crate::wants::Callee;
 use crate::wheres::Where;
-use cpc_base::{Dialect, Name, Names, Place};
-use cpc_check_rules::{First, Rule};
+use cpc_base::{Dialect, Name, Place};
+use cpc_check_rules::{First, Rule, primitive_at};
 use cpc_num::Kind;
+use cpc_tree::primitive::Primitive;
 use cpc_tree::program::{CType, Expr, Mode, Parameter};
 use cpc_types::{Meant, Scope, TypeFound, has_integers, used};
-
-// The primitive of a name of a table.
-#[tactic(auto, using(std::proofs::lemmas::Grind::common_steps, crate::proofs::Tabled::primitive_some, crate::proofs::Tabled::primitive_none))]
-fn primitive_of(names: &Names, name: Name) -> Option<Primitive>
-    ensures { (spelled : Spelling) → Spells names.now spelled → option_map primitive_of result ≡ P.primitive_named (spelled name) }
-{
-    match names.text(name) {
-        Some(text) => primitive_named(text),
-        None => None,
-    }
-}
 
 // Whether a type is that of a pointer to cells that are all integers.
 fn points_to_integers(of: &CType, scope: &Scope) -> bool
@@ -178,7 +168,7 @@ pub(crate) fn named_callee<'w>(
             result: given,
             parameters,
         }),
-        Meant::Nothing => match primitive_of(w.names, word.name) {
+        Meant::Nothing => match primitive_at(w.names, word.name) {
             Some(primitive) => Some(primitive_callee(primitive, arguments, w.scope)),
             None => Some(Callee::Unknown),
         },
@@ -189,15 +179,15 @@ pub(crate) fn named_callee<'w>(
 fn note_primitive(first: &mut First, place: Place, primitive: Primitive, w: &Where)
     ensures { (names : Spelling) → first_of first.new ≡ noted (first_of first.old) (C.primitive_breaks (where_of names w.now) place (primitive_of primitive)) }
 {
-    let gives_up = primitive.gives_up();
+    let gives_up = gives_up(primitive);
     let in_events = w.dialect == Dialect::Event;
-    first.note_if(gives_up && !is_cps(w.mode), place, Rule::CpsInNative);
+    first.note_if(gives_up && !w.mode.is_cps(), place, Rule::CpsInNative);
     first.note_if(
-        is_detached(w.mode) && !primitive.is_closed(),
+        is_detached(w.mode) && !is_closed(primitive),
         place,
         Rule::NotClosed,
     );
-    first.note_if(primitive.is_rt() && !in_events, place, Rule::RtCall);
+    first.note_if(is_rt(primitive) && !in_events, place, Rule::RtCall);
     first.note_if(gives_up && in_events, place, Rule::CpsForm);
 }
 
@@ -205,7 +195,7 @@ fn note_primitive(first: &mut First, place: Place, primitive: Primitive, w: &Whe
 fn note_function(first: &mut First, place: Place, mode: Mode, w: &Where)
     ensures { (names : Spelling) → first_of first.new ≡ noted (first_of first.old) (C.function_breaks (where_of names w.now) place mode) }
 {
-    first.note_if(is_cps(mode) && !is_cps(w.mode), place, Rule::CpsInNative);
+    first.note_if(mode.is_cps() && !w.mode.is_cps(), place, Rule::CpsInNative);
     first.note_if(
         is_detached(w.mode) && !is_detached(mode),
         place,

@@ -14,10 +14,9 @@ mod values;
 mod wants;
 mod wheres;
 
-pub use names::{is_cps, is_detached};
+pub use names::is_detached;
 pub use operators::binary_rules;
 pub use places::first_place;
-pub use primitives::{Primitive, primitive_named};
 pub use started::{Start, started_rules};
 pub use values::{call_rules, value_rules};
 pub use wheres::Where;

@@ -24,16 +24,6 @@ pub fn is_detached(mode: Mode) -> bool
     }
 }
 
-/// Whether a function may give up the processor.
-pub fn is_cps(mode: Mode) -> bool
-    ensures { result ≡ O.is_cps mode }
-{
-    match mode {
-        Mode::Cps => true,
-        _ => false,
-    }
-}
-
 // Notes what the name of a function of a mode breaks in a function of the mode `around`.
 fn note_open(first: &mut First, around: Mode, place: Place, mode: Mode)
     ensures { first_of first.new ≡ noted (first_of first.old) (O.open_name around place mode) }

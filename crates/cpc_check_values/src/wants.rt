@@ -1,14 +1,15 @@
 //! What calls want of their arguments.
 ghost use Rattle.std.specs.Prelude.{◌≡◌, IfOk, length, map, option_map, slice_get};
 ghost use Rattle.cpc_tree.specs.Erase.{Names, type_of};
+ghost use Rattle.cpc_tree.specs.PrimitiveNames.{primitive_of};
 ghost use Rattle.cpc_check_rules.specs.Calls as C;
 ghost use Rattle.cpc_shapes.specs.Listed.{optional_of};
-ghost use Rattle.cpc_check_values.specs.Wants.{want_of, primitive_of, front_wants, primitive_wants, section_wants, wants_of, callee_of, wants_count};
+ghost use Rattle.cpc_check_values.specs.Wants.{want_of, front_wants, primitive_wants, section_wants, wants_of, callee_of, wants_count};
 
-use crate::primitives::Primitive;
 use cpc_base::NoMemory;
 use cpc_num::Kind;
 use cpc_shapes::copy_of;
+use cpc_tree::primitive::Primitive;
 use cpc_tree::program::{CType, Mode, Parameter};
 use std::alloc::Global;
 

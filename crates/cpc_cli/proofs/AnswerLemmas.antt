@@ -4,7 +4,6 @@ use Rattle.std.specs.Prelude.{if◌then◌else◌}
 use Rattle.std.proofs.lemmas.List.{append-nil}
 use Rattle.cpc_base.specs.Bytes.{Text}
 use Rattle.cpc_base.specs.Outside.{Files}
-use Rattle.cpc_base.specs.declared.stop.Dialect.TheVariants.{Event}
 use Rattle.cpc_tree.specs.Syntax.{Program}
 use Rattle.cpc_tree.specs.Located.{LProgram, bare}
 use Rattle.cpc_tree.specs.Texts.{Stop}
@@ -12,10 +11,9 @@ use Rattle.cpc_meaning.specs.Events.{event}
 use Rattle.cpc_meaning.specs.History.{History}
 use Rattle.cpc_meaning.specs.Runs.{live_cells}
 use Rattle.cpc_cli_command.specs.Commands.{Command, Check, Exec, Options, Sample, Translate, Run, command_of}
-use Rattle.cpc_check.specs.Accepted.{Accepts}
 use Rattle.cpc_cli.specs.Command.{Asks, Host, bytes_line, history_named, named, sample_options, source_of}
 use Rattle.cpc_cli.specs.Ran.{FirstFits, HasCells, IsAnswered, IsPartOf, IsUnbegun, LacksHost, MayHaveCells, NoSteps, NotTold, RanInPart, RanWhole, StandsSo, StaysWithin, IsFull, IsLeftBy, StartsFull, heading, shown, stop_in}
-use Rattle.cpc_cli.specs.Answer.{Answer, Rises, status_of, Does, DoesInPart, NotAccepted, EndedIn, did, not_begun, lacks_host, not_told, unwritten_in, starved_in, IsEnd, misused, starved, performed, NoRun, Nothing, Printed, Runs, RunsInPart, Takes}
+use Rattle.cpc_cli.specs.Answer.{IsPrinted, Answer, Rises, status_of, Does, DoesInPart, NotAccepted, EndedIn, did, not_begun, lacks_host, not_told, unwritten_in, starved_in, IsEnd, misused, starved, performed, NoRun, Nothing, Printed, Runs, RunsInPart, Takes}
 use Rattle.cpc_run_workers.specs.Reports.{IsPrefix}
 use Rattle.cpc_cli.specs.declared.answer.Role.{Role}
 use Rattle.cpc_cli.specs.declared.answer.Role.TheVariants as R
@@ -110,8 +108,8 @@ module _ (host : Host) (told : Option Files) (unread : Text → Type 0) (unwritt
   may_have_cells q h a b moves (inl c) = inl (has_cells q h c)
   may_have_cells q h a b moves (inr (none, unbegun)) = inr (no_steps none, moves unbegun)
 
-  accepts : (q : LProgram) → Accepts Event old.printed.items q → Accepts Event new.printed.items q
-  accepts q h = subst (λ t. Accepts Event t q) (sym same.printed) h
+  accepts : (q : LProgram) → IsPrinted old.printed.items q → IsPrinted new.printed.items q
+  accepts q h = subst (λ t. IsPrinted t q) (sym same.printed) h
 
   printed : (q : LProgram) → Printed q old → Printed q new
   printed q h = record { printed = accepts q h.printed; steps = same.steps ∙ h.steps; cells = same.cells ∙ h.cells }

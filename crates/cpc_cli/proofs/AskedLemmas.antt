@@ -137,18 +137,29 @@ early_said end last line err failed status (inl e) (inl said) tells = early_end 
 early_said end last line err failed status (inr e) (inl said) tells = absurd (let was : false ≡ true = subst (λ n. tells_early n ≡ true) (said.0 ∙ ap status_of e) tells in cc)
 early_said end last line err failed status which (inr said) tells = absurd (let was : false ≡ true = subst (λ n. tells_early n ≡ true) said.0 tells in cc)
 
+-- what is asked for by an early end is within what is by any
+any_end : (before now : Text → ℕ) (words : List Text) (early : Bool) → AsksUpTo before now (words_end words early) → AsksUpTo before now (words_end words false)
+any_end before now words false asks = asks
+any_end before now words true asks = asks_less before now _ (words_end words false) (λ name. less (command_of words) name) asks
+  where
+    less : (o : Option Command) (name : Text) → option_map_or (λ command. command_end command true name) o 0 ≤ option_map_or (λ command. command_end command false name) o 0
+    less None name = omega arith
+    less (Some command) name = omega arith
+
+-- what was asked for by an end is within what is due by the one that is told, which may be want of memory
+pub asks_last : (before now : Text → ℕ) (words : List Text) (end last : End) → last ≡ end ⊎ last ≡ Memory → AsksUpTo before now (words_end words (is_early end))
+    → AsksUpTo before now (words_end words (is_early last))
+asks_last before now words end last (inl same) asks = subst (λ x. AsksUpTo before now (words_end words (is_early x))) (sym same) asks
+asks_last before now words end last (inr memory) asks = subst (λ x. AsksUpTo before now (words_end words (is_early x))) (sym memory) (any_end before now words (is_early end) asks)
+
 -- what was asked by an end is within what is due by the status
 pub asks_said : (before now : Text → ℕ) (words : List Text) (end last : End) (line err : Text) (failed : Type 0) (status : ℕ) → last ≡ end ⊎ last ≡ Memory
     → Said line (status_of last) failed status err → AsksUpTo before now (words_end words (is_early end)) → AsksUpTo before now (words_end words (tells_early status))
 asks_said before now words end last line err failed status which said asks =
     by (is_early end) (tells_early status) (early_said end last line err failed status which said) asks
   where
-    less : (o : Option Command) (name : Text) → option_map_or (λ command. command_end command true name) o 0 ≤ option_map_or (λ command. command_end command false name) o 0
-    less None name = omega arith
-    less (Some command) name = omega arith
-
     by : (e s : Bool) → (s ≡ true → e ≡ true) → AsksUpTo before now (words_end words e) → AsksUpTo before now (words_end words s)
     by true true h a = a
     by false false h a = a
-    by true false h a = asks_less before now _ (words_end words false) (λ name. less (command_of words) name) a
+    by true false h a = any_end before now words true a
     by false true h a = absurd (let wrong = h refl in cc)

@@ -89,5 +89,5 @@ module _ (words : List Text) (host : Host) (told : Option Files) (rose : Rises) 
   end_read (performed command {end} asks h) e = ended_read command end asks h e
 
   pub read_cause : (err : Text) → Answer words host told rose report out err → report.status ≡ 8 → Cause
-  read_cause err (end, ended, inl said) e = end_read ended (sym said.0 ∙ e)
-  read_cause err (end, ended, inr said) e = absurd (let nine = said.0 in omega (arith, nine, e))
+  read_cause err (end, ended, asked, inl said) e = end_read ended (sym said.0 ∙ e)
+  read_cause err (end, ended, asked, inr said) e = absurd (let nine = said.0 in omega (arith, nine, e))

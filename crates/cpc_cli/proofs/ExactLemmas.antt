@@ -168,9 +168,9 @@ module _ (host : Host) (files : Files) (words : List Text) (rose : Rises) (none 
   end_due (performed command {end} asks h) ample = ended_due command end asks h ample
 
   exact : (err : Text) → Answer words host (Some files) rose report out err → report.status ≢ 11 → Gives host files words report.status out err
-  exact err (end, ended, inl said) ample =
+  exact err (end, ended, asked, inl said) ample =
       record { end = end; due = end_due ended (λ e. ample (said.0 ∙ e)); its_status = said.0; its_line = said.1 }
-  exact err (end, ended, inr said) ample = absurd (none.err said.2)
+  exact err (end, ended, asked, inr said) ample = absurd (none.err said.2)
 
 -- the same where the shelf tells its files
 pub exact_where_told : (words : List Text) (host : Host) (told : Option Files) (rose : Rises) (report : Report) (out err : Text) → Answer words host told rose report out err → report.status ≢ 11

@@ -4,13 +4,13 @@ use Rattle.cpc_base.specs.Bytes.{Text}
 use Rattle.cpc_base.specs.Outside.{Files}
 use Rattle.cpc_tree.specs.Located.{LProgram, bare}
 use Rattle.cpc_tree.specs.Syntax.{Program}
-use Rattle.cpc_base.specs.declared.stop.Dialect.TheVariants.{Cpc, Event}
+use Rattle.cpc_base.specs.declared.stop.Dialect.TheVariants.{Cpc}
 use Rattle.cpc_check.specs.Accepted.{Accepts}
 use Rattle.cpc_sample.specs.Sample.{sample_text}
 use Rattle.cpc_cli_command.specs.Commands.{Options, Sample}
 use Rattle.cpc_cli.specs.Command.{Host, bytes_line, sample_options}
 use Rattle.cpc_cli.specs.Ran.{ClosedBy, HasHosts, NotTold, RanAnswered, RanInPart, RanTo, RanTold, history_with}
-use Rattle.cpc_cli.specs.Answer.{EndedIn, IsTranslated, Printed, Runs, RunsInPart, Takes, did, lacks_host, not_told, starved_in, unwritten_in}
+use Rattle.cpc_cli.specs.Answer.{IsPrinted, EndedIn, IsTranslated, Printed, Runs, RunsInPart, Takes, did, lacks_host, not_told, starved_in, unwritten_in}
 use Rattle.cpc_cli.specs.declared.answer.Report.{Report}
 use Rattle.cpc_cli.specs.declared.answer.Outcome.{Outcome}
 use Rattle.cpc_cli.specs.declared.answer.Role.TheVariants as R
@@ -22,7 +22,7 @@ use Rattle.cpc_cli.proofs.TopLemmas.{behind_heading, cut_behind}
 pub sample_takes : (told : Option Files) (number : ℕ) (text : Text) (q : LProgram) (old new : Report) → Printed q old → new.printed ≡ old.printed → text ≡ sample_text number
     → ((p : LProgram) × Accepts Cpc text p × IsTranslated p q) → Takes told (Sample number) new q
 sample_takes told number text q old new printed same is accepted =
-    (subst (λ v. Accepts Event v.items q) (sym same) printed.printed, (accepted.0, subst (λ t. Accepts Cpc t accepted.0) is accepted.1, accepted.2))
+    (subst (λ v. IsPrinted v.items q) (sym same) printed.printed, (accepted.0, subst (λ t. Accepts Cpc t accepted.0) is accepted.1, accepted.2))
 
 -- a sample's run is told with its options, by its program
 pub sample_told : (host : Host) (told : Option Files) (o : Options) (p q : Program) (report : Report) (unread : Text → Type 0) (unwritten : Type 0) (out : Text) (end now : End)

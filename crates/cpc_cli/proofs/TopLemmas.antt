@@ -27,7 +27,7 @@ use Rattle.cpc_translate.specs.Refusals.{IsTextFault}
 use Rattle.cpc_sample.specs.Sample.{sample_text}
 use Rattle.cpc_cli.specs.Command.{Host, InFile, IsRun, Labels, Source, by_exec, by_run, events_source, file_source, history_named, labels_in, labels_of, made_source, no_labels, source_of, threads_source}
 use Rattle.cpc_cli.specs.Ran.{FirstFits, HasHosts, IsAnswered, IsPartOf, IsUnbegun, LacksHost, MayHaveCells, NoSteps, NotTold, RanAnswered, RanInPart, RanTo, RanTold, RanWhole, TellsPolls, heading, history_with, run_text, shown, stop_in}
-use Rattle.cpc_cli.specs.Answer.{AcceptedAs, TextHas, IsTranslated, NotAccepted, Does, DoesInPart, EndedIn, did, not_begun, lacks_host, not_told, unwritten_in, starved_in, Nothing, NoRun, Printed, RefusesText, Runs, RunsInPart, Takes, line_of}
+use Rattle.cpc_cli.specs.Answer.{IsPrinted, AcceptedAs, TextHas, IsTranslated, NotAccepted, Does, DoesInPart, EndedIn, did, not_begun, lacks_host, not_told, unwritten_in, starved_in, Nothing, NoRun, Printed, RefusesText, Runs, RunsInPart, Takes, line_of}
 use Rattle.cpc_run_workers.specs.Reports.{IsCutShort, IsPrefix}
 use Rattle.cpc_cli.specs.declared.answer.Role.TheVariants as R
 use Rattle.cpc_cli.specs.declared.answer.Report.{Report}
@@ -163,7 +163,7 @@ run_ended host told command options text is q unread unwritten report out takes 
 -- what `run` runs, once the run has left the printed text as it was
 pub run_takes : (told : Option Files) (file : Text) (options : Options) (text : Bool) (q : LProgram) (old new : Report) → Printed q old → new.printed ≡ old.printed
     → AcceptedAs told (threads_source file) (λ p. IsTranslated p q) → Takes told (Run file options text) new q
-run_takes told file options text q old new printed same accepted = (subst (λ v. Accepts Event v.items q) (sym same) printed.printed, accepted)
+run_takes told file options text q old new printed same accepted = (subst (λ v. IsPrinted v.items q) (sym same) printed.printed, accepted)
 
 -- and what `exec` does
 pub exec_takes : (told : Option Files) (file : Text) (options : Options) (q : LProgram) (old new : Report) → NoRun old → new.printed ≡ old.printed

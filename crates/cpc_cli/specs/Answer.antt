@@ -16,10 +16,11 @@ use Rattle.cpc_translate.specs.declared.fault.TextFault.{TextFault}
 use Rattle.cpc_cli_command.specs.Commands.{Command, Check, Exec, Options, Sample, Translate, Run, command_of}
 use Rattle.cpc_check.specs.Accepted.{Accepts}
 use Rattle.cpc_translate.specs.Refusals.{IsTextFault}
-use Rattle.cpc_translate.specs.Promised.{NoLeak, Shape, converted}
+use Rattle.cpc_translate.specs.Promised.{IsPrint, NoLeak, Shape, converted}
 use Rattle.cpc_translate.specs.Faults as F
 use Rattle.cpc_sample.specs.Sample.{sample_text}
 use Rattle.cpc_run_workers.specs.Reports.{IsCutShort}
+use Rattle.cpc_cli.specs.Asked.{AsksUpTo, is_early, words_end}
 use Rattle.cpc_cli.specs.Command.{Host, InFile, IsMade, IsRun, Labels, Origin, Source, bytes_line, events_source, history_named, labels_in, limit_of, made_source, name_of, sample_options, source_of, text_limit, threads_source}
 use Rattle.cpc_cli.specs.Ran.{FileHas, HasHosts, IsAnswered, IsPartOf, LacksHost, NoSteps, NotTold, RanInPart, RanWhole, TellsPolls, history_with}
 use Rattle.cpc_cli.specs.declared.answer.Role.{Role}
@@ -30,21 +31,24 @@ use Rattle.cpc_cli.specs.declared.answer.Outcome.TheVariants.{Ended, Exited, Fai
 use Rattle.cpc_cli.specs.declared.answer.End.{End}
 use Rattle.cpc_cli.specs.declared.answer.End.TheVariants.{Done, Usage, Refused, Unread, Unwritten, Memory, TooLong, BadLine, NoHost}
 
--- the counts of faults of the shelf, by name, and of the two sinks
+-- the counts of faults of the shelf, by name, and of the two sinks; and how far each file was asked for
 pub record Counts : Type 0 where
   pub shelf : Text → ℕ
+  pub asked : Text → ℕ
   pub out : ℕ
   pub err : ℕ
 
--- which counts rose in a call
+-- which counts rose in a call, and that none was asked for beyond such ends
 pub record Rises : Type 1 where
   pub shelf : Text → Type 0
+  pub asked : (ends : Text → ℕ) → Type 0
   pub out : Type 0
   pub err : Type 0
 
 abbrev pub rises : (before now : Counts) → Rises
 rises before now = record {
   shelf = λ name. Rose (before.shelf name) (now.shelf name);
+  asked = AsksUpTo before.asked now.asked;
   out = Rose before.out now.out;
   err = Rose before.err now.err;
 }
@@ -62,9 +66,14 @@ pub record Nothing (report : Report) (out : Text) : Type 0 where
   pub no_run : NoRun report
   pub silent : out ≡ []
 
--- the printed text is accepted as q, and nothing was run
+-- a text is written as the printer writes an event program, and accepted as that
+pub record IsPrinted (text : Text) (q : LProgram) : Type 0 where
+  pub print : IsPrint text (bare q)
+  pub accepts : Accepts Event text q
+
+-- the printed text is that of q, and nothing was run
 pub record Printed (q : LProgram) (report : Report) : Type 0 where
-  pub printed : Accepts Event report.printed.items q
+  pub printed : IsPrinted report.printed.items q
   pub steps : report.steps ≡ 0
   pub cells : report.cells ≡ 0
 
@@ -114,12 +123,12 @@ RefusesText text (Refused fault) = IsTextFault Cpc text fault
 RefusesText text Memory = Unit {0}
 RefusesText text _ = ⊥
 
--- the program that a command runs: `run` and `sample` what the printed text is accepted as, a program with the same runs as the accepted one; `exec` the
+-- the program that a command runs: `run` and `sample` that of the printed text, a program with the same runs as the accepted one; `exec` the
 -- accepted one itself, and nothing is printed
 abbrev pub Takes : (told : Option Files) → Command → Report → LProgram → Type 0
-Takes told (Run file options text) report q = Accepts Event report.printed.items q × AcceptedAs told (threads_source file) (λ p. IsTranslated p q)
+Takes told (Run file options text) report q = IsPrinted report.printed.items q × AcceptedAs told (threads_source file) (λ p. IsTranslated p q)
 Takes told (Exec file options) report q = (report.printed.items ≡ []) × TextHas told (events_source file) (λ text. Accepts Event text q)
-Takes told (Sample number) report q = Accepts Event report.printed.items q × AcceptedAs told (made_source (sample_text number)) (λ p. IsTranslated p q)
+Takes told (Sample number) report q = IsPrinted report.printed.items q × AcceptedAs told (made_source (sample_text number)) (λ p. IsTranslated p q)
 Takes told (Translate file) report q = ⊥
 Takes told (Check file) report q = ⊥
 
@@ -249,7 +258,7 @@ Said line due failed status err = ((status ≡ due) × (err ≡ line)) ⊎ ((sta
 
 -- ---- the answer
 
--- there is an end with its cause, and what was said of it
+-- there is an end with its cause, what was asked for up to then, and what was said of it
 abbrev pub Answer : List Text → Host → Option Files → Rises → Report → (out err : Text) → Type 0
 Answer words host told rose report out err =
-    (end : End) × IsEnd words host told rose.shelf rose.out report out end × Said (line_of (labels_in words) end) (status_of end) rose.err report.status err
+    (end : End) × IsEnd words host told rose.shelf rose.out report out end × rose.asked (words_end words (is_early end)) × Said (line_of (labels_in words) end) (status_of end) rose.err report.status err

@@ -2,7 +2,6 @@
 use Rattle.std.specs.Prelude.{◌≡◌, ℕ, ℤ, ◌++◌, false, ◌<◌, ◌≤◌, Bool, List, [], length, Option, None, Some, codes}
 use Rattle.cpc_base.specs.Bytes.{Text}
 use Rattle.cpc_base.specs.declared.stop.Dialect.{Dialect}
-use Rattle.cpc_base.specs.declared.stop.Dialect.TheVariants.{Cpc, Event}
 use Rattle.cpc_base.specs.Outside.{Files}
 use Rattle.cpc_tree.specs.Located.{LProgram, bare}
 use Rattle.cpc_tree.specs.Texts.{Polls, read_history}
@@ -17,7 +16,7 @@ use Rattle.cpc_cli.specs.Command.{Host, InFile, IsMade, IsRun, Origin, Source, b
 use Rattle.cpc_sample.specs.Sample.{sample_text}
 use Rattle.cpc_run_workers.specs.Hosts.{missing_of}
 use Rattle.cpc_cli.specs.Ran.{HasHosts, IsAnswered, StandsSo, history_with, shown, stop_in}
-use Rattle.cpc_cli.specs.Answer.{IsTranslated, Rises, line_of, status_of}
+use Rattle.cpc_cli.specs.Answer.{IsPrinted, IsTranslated, Rises, line_of, status_of}
 use Rattle.cpc_cli.specs.declared.answer.Role.TheVariants as R
 use Rattle.cpc_cli.specs.declared.answer.Outcome.{Outcome}
 use Rattle.cpc_cli.specs.declared.answer.Outcome.TheVariants.{Accepted, Translated}
@@ -40,9 +39,9 @@ pub record IsProgram (files : Files) (source : Source) (p : LProgram) : Type 0 w
 
 -- the program that a command runs, and the printed text of it
 abbrev pub Given : Files → Command → (printed : Text) → LProgram → Type 0
-Given files (Run file options text) printed q = Accepts Event printed q × (p : LProgram) × IsProgram files (threads_source file) p × IsTranslated p q
+Given files (Run file options text) printed q = IsPrinted printed q × (p : LProgram) × IsProgram files (threads_source file) p × IsTranslated p q
 Given files (Exec file options) printed q = (printed ≡ []) × IsProgram files (events_source file) q
-Given files (Sample number) printed q = Accepts Event printed q × (p : LProgram) × IsProgram files (made_source (sample_text number)) p × IsTranslated p q
+Given files (Sample number) printed q = IsPrinted printed q × (p : LProgram) × IsProgram files (made_source (sample_text number)) p × IsTranslated p q
 Given files (Translate file) printed q = ⊥
 Given files (Check file) printed q = ⊥
 
@@ -83,7 +82,7 @@ pub data Due (host : Host) (files : Files) (words : List Text) : End → Text �
   for_check : (file : Text) (p : LProgram) → command_of words ≡ Some (Check file) → IsProgram files (threads_source file) p
       → Due host files words (Done Accepted) (codes "accepted\n")
   for_translate : (file printed : Text) (p q : LProgram) → command_of words ≡ Some (Translate file) → IsProgram files (threads_source file) p
-      → Accepts Event printed q → IsTranslated p q → Due host files words (Done Translated) printed
+      → IsPrinted printed q → IsTranslated p q → Due host files words (Done Translated) printed
   for_run : (command : Command) (options : Options) (text : Bool) (printed : Text) (q : LProgram) (polls : List T.Told) (answers : List ℤ) (n : ℕ) (outcome : Outcome)
       → command_of words ≡ Some command → IsRun command options text → CanRun host files command printed q → ArePolls files options.history polls
       → IsAnswered host (bare q) (history_with options polls answers) n → StandsSo (bare q) (history_with options polls answers) options.steps options.cells n outcome

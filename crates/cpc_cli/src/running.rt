@@ -30,6 +30,7 @@ use cpc_pool::Gate;
 use cpc_run_workers::{
     Ended, Limits, Outcome as RunOutcome, before_underscores, missing_host, run_with_workers,
 };
+use cpc_tree::names::text_of;
 use std::alloc::Global;
 use std::sync::{Arc, Wait};
 use std::thread::Threads;
@@ -86,16 +87,6 @@ fn write_heading<O: Sink>(text: bool, printed: &[u8], out: &mut O) -> Result<(),
             Err(fault) => Err(fault),
         },
         Err(fault) => Err(fault),
-    }
-}
-
-// The text of a name.
-fn text_of(names: &Names, name: Name) -> &[u8]
-    ensures { result.now ≡ in_table names.now name }
-{
-    match names.text(name) {
-        Some(text) => text,
-        None => b"",
     }
 }
 

@@ -350,13 +350,13 @@ where
     requires rule { ⟦<HostTable<R> as Kept>⟧.keeps hosts.now }
     ensures answer { Wrote (O.taken out.old) (O.taken out.new) (λ o. Wrote (E.taken err.old) (E.taken err.new) (λ e.
         Answer (map string_bytes words.now) (host_of (⟦<HostTable<R> as Kept>⟧.names hosts.now) R.answers) (F.files shelf.old)
-        (rises (record { shelf = F.faults shelf.old; out = O.faults out.old; err = E.faults err.old })
-        (record { shelf = F.faults shelf.new; out = O.faults out.new; err = E.faults err.new }))
+        (rises (record { shelf = F.faults shelf.old; asked = F.asked shelf.old; out = O.faults out.old; err = E.faults err.old })
+        (record { shelf = F.faults shelf.new; asked = F.asked shelf.new; out = O.faults out.new; err = E.faults err.new }))
         result o e)) }
     // Where the files are told, nothing failed and memory was ample, it is what is due to these words.
     ensures exact { WhereTold (F.files shelf.old) (λ files.
-        NoneRose files (rises (record { shelf = F.faults shelf.old; out = O.faults out.old; err = E.faults err.old })
-        (record { shelf = F.faults shelf.new; out = O.faults out.new; err = E.faults err.new }))
+        NoneRose files (rises (record { shelf = F.faults shelf.old; asked = F.asked shelf.old; out = O.faults out.old; err = E.faults err.old })
+        (record { shelf = F.faults shelf.new; asked = F.asked shelf.new; out = O.faults out.new; err = E.faults err.new }))
         → result.status ≢ 11
         → Wrote (O.taken out.old) (O.taken out.new) (λ o. Wrote (E.taken err.old) (E.taken err.new) (λ e.
         Gives (host_of (⟦<HostTable<R> as Kept>⟧.names hosts.now) R.answers) files (map string_bytes words.now) result.status o e))) }

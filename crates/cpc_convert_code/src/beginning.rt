@@ -13,21 +13,11 @@ ghost use Rattle.cpc_convert_items.specs.Listed.{listed};
 ghost use Rattle.cpc_convert_code.specs.Given.{AreGiven};
 
 use crate::parts::around;
-use cpc_base::{Name, Names, NoMemory};
+use cpc_base::{Names, NoMemory};
 use cpc_convert_items::Items;
 use cpc_convert_names::{Book, Called};
+use cpc_tree::names::is_main as is_named_main;
 use std::alloc::Global;
-
-// Whether a name is `main`. A name that the table does not have is not.
-#[tactic(auto, using(cpc_convert_names::proofs::Growing::bytes_there, cpc_convert_names::proofs::Growing::bytes_absent))]
-fn is_named_main(names: &Names, name: Name) -> bool
-    ensures { result ≡ bytes_eq (in_table names.now name) main_name }
-{
-    match names.text(name) {
-        Some(text) => text == b"main".as_slice(),
-        None => false,
-    }
-}
 
 // Whether a function is `main`.
 fn is_main(texts: &Names, called: &Called<'_>) -> bool

@@ -65,7 +65,21 @@ frame_fields t low vs s r =
     AndField _ _ refl (NotSo _ _ refl (NotSo _ _ refl (no_word (codes "code") low vs refl r)))
     (AndField _ _ refl (NotSo _ _ refl (no_word (codes "next") low vs refl r)) (AndField _ _ s (no_word (codes "value") low vs refl r) (rising_fields low vs r)))
 
+-- those behind its head
+pub fields_behind : (t : Ty) (vs : List Variable) → ScalarFields (head_fields t vs) → ScalarFields vs
+fields_behind t vs (AndField _ _ _ _ (AndField _ _ _ _ (AndField _ _ _ _ s))) = s
+
 -- ---- parameters
+
+-- no more are passed than there are variables
+pub passed_length : (k n : ℕ) (xs : List Variable) → length (passed_from k n xs) ≤ length xs
+passed_length k zero xs = omega arith
+passed_length k (suc n) [] = omega arith
+passed_length k (suc n) (x ∷ xs) = go (is_scalar x.type) (passed_length (suc k) n xs)
+  where
+    go : (b : Bool) → length (passed_from (suc k) n xs) ≤ length xs → length (variable_if b (record { called = variable_name k x.called; type = x.type }) (passed_from (suc k) n xs)) ≤ suc (length xs)
+    go true h = omega (arith, h)
+    go false h = omega (arith, h)
 
 -- those from the k-th on
 passed_rises : (k count : ℕ) (xs : List Variable) → k + count < 2 ^ 63 → ((j : ℕ) (x : Variable) → slice_get xs j ≡ Some x → has_marks x.called ≡ false) → Rising k (passed_from k count xs)

@@ -9,6 +9,7 @@ use Rattle.cpc_forms.specs.Graph.{Node, at_node}
 use Rattle.cpc_forms.specs.Flow.{Place, At, as_list}
 use Rattle.cpc_forms.specs.Split.{Split}
 use Rattle.cpc_forms.specs.Pieces.{is_owned_by, piece_nodes, first_of}
+pub use Rattle.cpc_forms.specs.Pieces.{is_next}
 use Rattle.cpc_convert_event.specs.Names.{to_name, node_label}
 use Rattle.cpc_convert_event.specs.Routines.{Routine, chosen}
 use Rattle.cpc_convert_event.specs.Lines.{Line, Does, Goes, Tests, Passes, frame_lines, hands_over, node_lines, all_do, behind_arrival}
@@ -131,11 +132,6 @@ pub data Put : Type 0 where
   Plain : Stmt → Put
   Jump : ℕ → Put
   JumpIf : Expr → ℕ → Put
-
--- whether a number is the one that stands next
-abbrev pub is_next : ℕ → Option ℕ → Bool
-is_next n None = false
-is_next n (Some m) = m == n
 
 -- a line before this number
 abbrev pub put_line : (following : Option ℕ) → Line → List Put

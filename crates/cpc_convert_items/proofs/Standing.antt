@@ -11,7 +11,8 @@ use Rattle.cpc_forms.specs.Flow.{At}
 use Rattle.cpc_lift_laws.specs.Search.{Link, keepers, closure_from}
 use Rattle.cpc_convert_event.specs.Routines.{Routine, variable_of, variable_or, closure_of}
 use Rattle.cpc_convert_names.specs.Called.{function_in, variables_in, name_in}
-use Rattle.cpc_convert_lines.specs.Known.{plain_seen, boxes_among, number_unless}
+use Rattle.cpc_forms_code.specs.Lifts.{unless}
+use Rattle.cpc_convert_lines.specs.Known.{plain_seen, boxes_among}
 use Rattle.cpc_convert_lines.specs.Around.{Stands, IsVariable}
 use Rattle.cpc_convert_lines.specs.declared.around.Around.{Around}
 
@@ -50,15 +51,15 @@ module _ (source : Table) (from to : Names) (p : Program) (r : Routine) (a : Aro
 
 -- ---- boxes
 
-number_before : (b : Bool) (k : ℕ) (ks more : List ℕ) → number_unless b k (ks ++ more) ≡ number_unless b k ks ++ more
+number_before : (b : Bool) (k : ℕ) (ks more : List ℕ) → unless b k (ks ++ more) ≡ unless b k ks ++ more
 number_before true k ks more = refl
 number_before false k ks more = refl
 
 -- one more variable may be a box
-pub among_more : (k i j : ℕ) (vs : List V.Variable) (v : V.Variable) → slice_get vs i ≡ Some v → j ≡ k + i → boxes_among k (take (suc i) vs) ≡ boxes_among k (take i vs) ++ number_unless v.is_register j []
+pub among_more : (k i j : ℕ) (vs : List V.Variable) (v : V.Variable) → slice_get vs i ≡ Some v → j ≡ k + i → boxes_among k (take (suc i) vs) ≡ boxes_among k (take i vs) ++ unless v.is_register j []
 among_more k i j [] v at is = let h : i < 0 = slice_get_within [] i v at in absurd (omega (arith, h))
 among_more k zero j (u ∷ vs) v at is =
     let same : u ≡ v = cc in
     let l : k ≡ j = omega (arith, is) in
-    ap (λ (w : V.Variable). number_unless w.is_register k []) same ∙ ap (λ m. number_unless v.is_register m []) l
-among_more k (suc i) j (u ∷ vs) v at is = ap (number_unless u.is_register k) (among_more (suc k) i j vs v at (omega (arith, is))) ∙ number_before u.is_register k (boxes_among (suc k) (take i vs)) (number_unless v.is_register j [])
+    ap (λ (w : V.Variable). unless w.is_register k []) same ∙ ap (λ m. unless v.is_register m []) l
+among_more k (suc i) j (u ∷ vs) v at is = ap (unless u.is_register k) (among_more (suc k) i j vs v at (omega (arith, is))) ∙ number_before u.is_register k (boxes_among (suc k) (take i vs)) (unless v.is_register j [])

@@ -3,7 +3,6 @@ ghost use Rattle.std.specs.Prelude.{◌≡◌, ◌++◌, ◌∷◌, [], map, OnO
 ghost use Rattle.cpc_tree.specs.Erase as E;
 ghost use Rattle.cpc_tree.specs.Erase.{Table, in_table, item_of, function_of};
 ghost use Rattle.cpc_tree.specs.Syntax as S;
-ghost use Rattle.cpc_meaning.specs.Threads.{is_cps_mode};
 ghost use Rattle.cpc_convert_event.specs.Converted.{kept_items, kept_function};
 ghost use Rattle.cpc_convert_names.specs.Book.{IsBook};
 ghost use Rattle.cpc_convert_items.specs.Listed.{listed};
@@ -14,18 +13,8 @@ use cpc_convert_images::copy_if;
 use cpc_convert_names::Book;
 use cpc_convert_respawning::{copy_fields, copy_parameters, respawn};
 use cpc_shapes::copy_of;
-use cpc_tree::program::{Function, Item, Mode};
+use cpc_tree::program::{Function, Item};
 use std::alloc::Global;
-
-// Whether the functions of a mode may give up the processor.
-fn is_cps(mode: Mode) -> bool
-    ensures { result ≡ is_cps_mode mode }
-{
-    match mode {
-        Mode::Cps => true,
-        Mode::Extern | Mode::Native | Mode::Detached => false,
-    }
-}
 
 impl Items {
     // A function that is not cps. `NoMemory` is want of memory.
@@ -77,7 +66,7 @@ impl Items {
                 result: given,
                 parameters,
             } => {
-                if is_cps(*mode) {
+                if mode.is_cps() {
                     return Ok(());
                 }
                 let given = copy_of(alloc, given)?;
@@ -91,7 +80,7 @@ impl Items {
                 })
             }
             Item::Function(function) => {
-                if is_cps(function.mode) {
+                if function.mode.is_cps() {
                     return Ok(());
                 }
                 self.keep_function(alloc, book, function)

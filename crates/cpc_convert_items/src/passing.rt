@@ -12,7 +12,7 @@ ghost use Rattle.cpc_convert_items.specs.Passed.{passed_one, passed_always};
 
 use crate::parts::field;
 use cpc_base::NoMemory;
-use cpc_convert_lines::{Around, is_scalar, local};
+use cpc_convert_lines::{Around, local};
 use cpc_forms_code::Variable;
 use cpc_shapes::copy_of;
 use cpc_tree::program::Field;
@@ -50,7 +50,7 @@ fn pass(
         return Ok(());
     }
     let variable = &variables[number];
-    if !is_scalar(variable.of) {
+    if !variable.of.is_scalar() {
         return Ok(());
     }
     pass_value(alloc, around, fields, number, variable)?;

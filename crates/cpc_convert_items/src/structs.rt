@@ -11,14 +11,14 @@ ghost use Rattle.cpc_convert_event.specs.Frames as F;
 ghost use Rattle.cpc_convert_names.specs.Book.{IsBook};
 ghost use Rattle.cpc_convert_names.specs.Called.{variables_in, nodes_in};
 ghost use Rattle.cpc_convert_lines.specs.Around.{Stands, IsVariable, IsNode};
-ghost use Rattle.cpc_convert_lines.specs.Known.{number_unless};
+ghost use Rattle.cpc_forms_code.specs.Lifts.{unless};
 ghost use Rattle.cpc_convert_items.specs.Listed.{listed};
 
 use crate::items::Items;
 use crate::parts::{field, head_fields};
 use crate::passing::passed;
 use cpc_base::{NoMemory, Place};
-use cpc_convert_lines::{Around, arriving_at, closure, is_scalar, local, local_type, piece, tag};
+use cpc_convert_lines::{Around, arriving_at, closure, local, local_type, piece, tag};
 use cpc_convert_names::Book;
 use cpc_forms_code::Variable;
 use cpc_num::Kind;
@@ -77,7 +77,7 @@ impl Items {
             → listed to self.new ≡ listed to self.old ++ F.value_struct_if (is_scalar r.function.result) r.function.called r.function.result) }
     {
         let given = &around.called.function().result;
-        if !is_scalar(given) {
+        if !given.is_scalar() {
             return Ok(());
         }
         let of = copy_of(alloc, given)?;
@@ -136,7 +136,7 @@ impl Items {
     ) -> Result<(), NoMemory>
         ensures { OnOk result ((source : Table) (from to : E.Names) (p : S.Program) (r : Routine) → Stands source from to p r around.entry
             → slice_get (variables_in around.entry.called.now.lifted.now) number ≡ Some variable.now
-            → listed to self.new ≡ listed to self.old ++ map (F.box_of r) (number_unless variable.now.is_register number [])) }
+            → listed to self.new ≡ listed to self.old ++ map (F.box_of r) (unless variable.now.is_register number [])) }
     {
         if variable.is_register {
             return Ok(());

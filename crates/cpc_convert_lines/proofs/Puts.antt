@@ -7,7 +7,8 @@ use Rattle.cpc_convert_event.specs.Names.{node_label}
 use Rattle.cpc_convert_event.specs.Lines.{Goes, Passes, all_do}
 use Rattle.cpc_convert_event.specs.Rows.{is_next, Plain, Jump, put_statement}
 use Rattle.cpc_convert_lines.specs.Puts.{statements_before}
-use Rattle.cpc_convert_standing.specs.Known.{number_unless, boxes_among}
+use Rattle.cpc_forms_code.specs.Lifts.{unless}
+use Rattle.cpc_convert_standing.specs.Known.{boxes_among}
 use Rattle.cpc_convert_lines.specs.Written.{Written, put, puts}
 
 -- two rows, one behind the other
@@ -53,7 +54,7 @@ all_put g xs i w u le so = ap (λ l. puts w (map g l)) (sym (ended xs i le)) ∙
 
 -- ---- rows of boxes
 
-boxes_first : (b : Bool) (k : ℕ) (ks : List ℕ) → number_unless b k ks ≡ number_unless b k [] ++ ks
+boxes_first : (b : Bool) (k : ℕ) (ks : List ℕ) → unless b k ks ≡ unless b k [] ++ ks
 boxes_first true k ks = refl
 boxes_first false k ks = refl
 
@@ -63,13 +64,13 @@ Rows F = (xs ys : List ℕ) → F (xs ++ ys) ≡ F xs ++ F ys
 
 -- the row of one variable is written, and the others are left
 pub box_put : (F : List ℕ → List Stmt) → Rows F → (vs : List Variable) (i j : ℕ) (v : Variable) (w t u : Written) → v ≡ get_or vs i v → i < length vs → j ≡ suc i
-    → puts w (F (boxes_among i (drop i vs))) ≡ u → t ≡ puts w (F (number_unless v.is_register i [])) → puts t (F (boxes_among j (drop j vs))) ≡ u
+    → puts w (F (boxes_among i (drop i vs))) ≡ u → t ≡ puts w (F (unless v.is_register i [])) → puts t (F (boxes_among j (drop j vs))) ≡ u
 box_put F rows vs i j v w t u is lt e so p =
     let ks = boxes_among (suc i) (drop j vs) in
     ap (λ x. puts x (F (boxes_among j (drop j vs)))) p
-    ∙ (ap (λ n. puts (puts w (F (number_unless v.is_register i []))) (F (boxes_among n (drop j vs)))) e
-    ∙ (sym (puts_both w (F (number_unless v.is_register i [])) (F ks))
-    ∙ (ap (puts w) (sym (rows (number_unless v.is_register i []) ks))
+    ∙ (ap (λ n. puts (puts w (F (unless v.is_register i []))) (F (boxes_among n (drop j vs)))) e
+    ∙ (sym (puts_both w (F (unless v.is_register i [])) (F ks))
+    ∙ (ap (puts w) (sym (rows (unless v.is_register i []) ks))
     ∙ (ap (λ l. puts w (F l)) (sym (boxes_first v.is_register i ks))
     ∙ (ap (λ l. puts w (F (boxes_among i l))) (sym (next vs i j v is lt e)) ∙ so)))))
 

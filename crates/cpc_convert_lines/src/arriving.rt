@@ -23,7 +23,7 @@ ghost use Rattle.cpc_convert_lines.specs.Puts.{place_in, loads_if};
 
 use crate::around::Around;
 use crate::out::Out;
-use crate::trees::{field, is_scalar, named};
+use crate::trees::{field, named};
 use cpc_base::{Name, NoMemory};
 use cpc_convert_images::both;
 use cpc_convert_names::Called;
@@ -49,7 +49,7 @@ fn arriving_from(alloc: Global, callee: &Called<'_>) -> Result<CType, NoMemory>
         → type_of to t ≡ arriving_if (T.is_scalar (function_of from (function_in callee.now.lifted.now)).result) (function_of from (function_in callee.now.lifted.now)).result) }
 {
     let result = &callee.function().result;
-    if is_scalar(result) {
+    if result.is_scalar() {
         let copy = copy_of(alloc, result)?;
         return Ok(copy);
     }

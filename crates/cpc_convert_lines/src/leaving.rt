@@ -8,7 +8,7 @@ ghost use Rattle.cpc_convert_event.specs.Routines.{Routine};
 ghost use Rattle.cpc_convert_event.specs.Lines as L;
 ghost use Rattle.cpc_convert_lines.specs.Written.{written, puts};
 ghost use Rattle.cpc_convert_lines.specs.Puts.{unboxes};
-ghost use Rattle.cpc_convert_standing.specs.Known.{number_unless};
+ghost use Rattle.cpc_forms_code.specs.Lifts.{unless};
 ghost use Rattle.cpc_convert_lines.specs.Around.{Stands, reads, IsVariable};
 
 use crate::around::{Around, local, readings};
@@ -49,7 +49,7 @@ fn unbox_unless(
     is_register: bool,
 ) -> Result<(), NoMemory>
     ensures { OnOk result ((source : Table) (from to : E.Names) (p : S.Program) (r : Routine) → Stands source from to p r around.entry → IsVariable around.entry number
-        → written to out.new ≡ puts (written to out.old) (unboxes r (number_unless is_register number []))) }
+        → written to out.new ≡ puts (written to out.old) (unboxes r (unless is_register number []))) }
 {
     if is_register {
         return Ok(());

@@ -15,7 +15,5 @@ pub use arriving::{arriving_at, load, load_arriving, target};
 pub use frames::{ask_block, begin_frame, make_frame};
 pub use leaving::{hand_nothing, hand_over, leave};
 pub use out::Out;
-pub use trees::{
-    any_pointer, field, frame_through, is_scalar, is_there, named, size_of, to_struct, zero,
-};
+pub use trees::{any_pointer, field, frame_through, is_there, named, size_of, to_struct, zero};
 pub use ways::{go_on, goto_where, pass};

@@ -5,7 +5,6 @@ ghost use Rattle.cpc_num.specs.declared.kinds.Op.TheVariants as O;
 ghost use Rattle.cpc_tree.specs.Erase as E;
 ghost use Rattle.cpc_tree.specs.Erase.{expr_of, type_of};
 ghost use Rattle.cpc_tree.specs.Syntax as S;
-ghost use Rattle.cpc_tree.specs.Typing as T;
 ghost use Rattle.cpc_convert_chain_laws.specs.Frames as F;
 ghost use Rattle.cpc_convert_chain_laws.specs.Driver as D;
 
@@ -14,16 +13,6 @@ use cpc_convert_images::{both, boxed};
 use cpc_num::{Kind, Op};
 use cpc_tree::program::{CType, Expr, Word};
 use std::alloc::Global;
-
-/// Whether a type is scalar: its values fill one cell.
-pub fn is_scalar(of: &CType) -> bool
-    ensures { (names : E.Names) → result ≡ T.is_scalar (type_of names of.now) }
-{
-    match of {
-        CType::Int(_) | CType::Condvar | CType::Pointer(_) | CType::Code { .. } => true,
-        CType::Void | CType::Struct(_) | CType::Array(_, _) => false,
-    }
-}
 
 /// A name.
 pub fn named(place: Place, name: Name) -> Expr

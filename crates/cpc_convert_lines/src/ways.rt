@@ -13,18 +13,9 @@ ghost use Rattle.cpc_convert_lines.specs.Around.{Stands, Leads, IsNode};
 use crate::around::{Around, label};
 use crate::out::Out;
 use cpc_base::NoMemory;
+use cpc_forms_code::is_next;
 use cpc_tree::program::Expr;
 use std::alloc::Global;
-
-// Whether a number is the one that stands next.
-fn is_next(number: usize, following: Option<usize>) -> bool
-    ensures { result ≡ R.is_next number following }
-{
-    match following {
-        Some(next) => next == number,
-        None => false,
-    }
-}
 
 /// A way behind a statement, where there is one. `NoMemory` is want of memory.
 pub fn go_on(

@@ -1,11 +1,10 @@
 -- Tables that grow, and what names mean in them.
-use Rattle.std.proofs.Common.{◌≡◌, ℕ, ◌<◌, ◌≤◌, inl, inr, [], ◌∷◌, ◌++◌, length, get_or, Some, None, true, false, cond, refl, sym, ap, ◌∙◌, arith, append_assoc, length-append}
-use Rattle.std.specs.Prelude.{bytes_eq, slice_get, unwrap_or}
+use Rattle.std.proofs.Common.{◌≡◌, ℕ, ◌<◌, ◌≤◌, inl, inr, [], ◌∷◌, ◌++◌, length, get_or, true, false, cond, refl, sym, ap, ◌∙◌, arith, append_assoc, length-append}
+use Rattle.std.specs.Prelude.{bytes_eq}
 use Rattle.std.specs.List.{list_any}
 use Rattle.std.proofs.lemmas.List.{append-nil, get_or_past}
 use Rattle.std.proofs.Math.ListN.{get_or-append}
 use Rattle.std.proofs.lemmas.Bool.{cases_lt}
-use Rattle.std.proofs.lemmas.Option.{get_or_from_slice_get, unwrap_or-slice_get}
 use Rattle.cpc_convert.specs.Converted.{marked}
 use Rattle.cpc_base.specs.Bytes.{Text}
 use Rattle.cpc_base.specs.Texts.{with_text}
@@ -38,14 +37,6 @@ read_there source now later to g h s n e = elim (cases_lt n.0 (length now)) [
   | inl lt ↦ sym ((spells_before now later to h s).spelled n lt)
   | inr le ↦ get_or_past now n.0 [] le ∙ (sym (get_or_past source n.0 [] (omega (arith, length_grown source now g))) ∙ e)
 ]
-
--- ---- the bytes of a name
-
-pub bytes_there : (table : Table) (n : ℕ) (t : Text) → Some t ≡ slice_get table n → t ≡ get_or table n []
-bytes_there table n t e = sym (get_or_from_slice_get table n t [] (sym e))
-
-pub bytes_absent : (table : Table) (n : ℕ) → None ≡ slice_get table n → [] ≡ get_or table n []
-bytes_absent table n e = ap (λ u. unwrap_or u []) e ∙ unwrap_or-slice_get table n []
 
 -- ---- names that are made of others
 

@@ -6,6 +6,7 @@ ghost use Rattle.cpc_convert.specs.Converted.{marked, spawner_name};
 ghost use Rattle.cpc_convert_names.specs.Tables.{HasGrown, Spells};
 
 use cpc_base::{Name, Names, NoMemory};
+use cpc_tree::names::text_of;
 use std::alloc::Global;
 
 /// The name of a text, which the table then has. `NoMemory` is want of memory.
@@ -17,17 +18,11 @@ pub(crate) fn interned(alloc: Global, names: &mut Names, text: &[u8]) -> Result<
 }
 
 // The bytes of a name, none of a name that is not in the table.
-#[tactic(auto, using(crate::proofs::Growing::bytes_there, crate::proofs::Growing::bytes_absent))]
 fn bytes_of(alloc: Global, names: &Names, of: Name) -> Result<Vec<u8>, NoMemory>
     ensures { IfOk result (λ v. v.items ≡ in_table names.now of) }
 {
-    match names.text(of) {
-        Some(text) => {
-            let bytes = Vec::from_slice(alloc, text)?;
-            Ok(bytes)
-        }
-        None => Ok(Vec::new(alloc)),
-    }
+    let bytes = Vec::from_slice(alloc, text_of(names, of))?;
+    Ok(bytes)
 }
 
 /// The name of a text with two underscores and a rest behind it. `NoMemory` is want of memory.

@@ -5,7 +5,7 @@ ghost use Rattle.cpc_tree.specs.Erase.{Table, expr_of, exprs_of, function_of};
 ghost use Rattle.cpc_tree.specs.Primitives as Q;
 ghost use Rattle.cpc_tree.specs.Syntax as S;
 ghost use Rattle.cpc_tree.specs.Typing.{function_named};
-ghost use Rattle.cpc_native_builtins.specs.Builtins.{primitive_of};
+ghost use Rattle.cpc_tree.specs.PrimitiveNames.{primitive_of};
 ghost use Rattle.cpc_convert_names.specs.Book.{IsBook, find};
 ghost use Rattle.cpc_convert_names.specs.Words.{AreOfLoop};
 ghost use Rattle.cpc_convert_names.specs.Called.{AreCalled, function_in, variables_in};
@@ -21,24 +21,25 @@ ghost use Rattle.cpc_convert_lines.specs.Known.{MeansFound, IsAlike, plain_seen}
 ghost use Rattle.cpc_convert_lines.specs.Around.{Stands, reads, Leads};
 
 use cpc_base::{Name, NoMemory};
+use cpc_check_rules::primitive_at;
 use cpc_convert_images::{Readings, image, images};
 use cpc_convert_lines::{
     Around, Out, ask_block, begin_frame, field, frame_through, hand_nothing, hand_over, make_frame,
     named, readings,
 };
 use cpc_convert_names::{Called, LoopWords};
-use cpc_native_builtins::{Builtin, builtin_at};
+use cpc_tree::primitive::Primitive;
 use cpc_tree::program::{Expr, Word};
 use std::alloc::Global;
 
 // The wait for a callback that stands for a wait.
-fn runtime_word(of_loop: &LoopWords, builtin: Option<Builtin>) -> Name
-    ensures { (to : E.Names) → AreOfLoop to of_loop.now → to result ≡ L.runtime_name (option_map primitive_of builtin) }
+fn runtime_word(of_loop: &LoopWords, primitive: Option<Primitive>) -> Name
+    ensures { (to : E.Names) → AreOfLoop to of_loop.now → to result ≡ L.runtime_name (option_map primitive_of primitive) }
 {
-    match builtin {
-        Some(Builtin::Sleep) => of_loop.sleep,
-        Some(Builtin::IoWait) => of_loop.io,
-        Some(Builtin::Wait) => of_loop.wait,
+    match primitive {
+        Some(Primitive::Sleep) => of_loop.sleep,
+        Some(Primitive::IoWait) => of_loop.io,
+        Some(Primitive::Wait) => of_loop.wait,
         _ => of_loop.ready,
     }
 }
@@ -83,7 +84,7 @@ fn wait(
     let mut made = images(alloc, arguments, readings(around, scope))?;
     made.push(named(place, book.own.drive))?;
     made.push(named(place, book.own.given))?;
-    let word = runtime_word(&book.of_loop, builtin_at(around.texts, name));
+    let word = runtime_word(&book.of_loop, primitive_at(around.texts, name));
     out.call(alloc, place, word, made)?;
     hand_nothing(alloc, out, around)?;
     Ok(())

@@ -16,7 +16,8 @@ use Rattle.cpc_convert_event.specs.Pieces.{loaded, begun}
 use Rattle.cpc_convert_event.specs.Rows.{number_where, numbers_of}
 use Rattle.cpc_convert_names.specs.Called.{function_in, variables_in, nodes_in, name_in}
 use Rattle.cpc_convert_lines.specs.Around.{Stands, IsVariable, IsNode}
-use Rattle.cpc_convert_lines.specs.Known.{number_unless, boxes_among}
+use Rattle.cpc_forms_code.specs.Lifts.{unless}
+use Rattle.cpc_convert_lines.specs.Known.{boxes_among}
 use Rattle.cpc_convert_lines.specs.declared.around.Around.{Around}
 use Rattle.cpc_convert_rows.specs.Steps.{IsOwner, step_of}
 use Rattle.cpc_convert_rows.specs.declared.stepped.Stepped.{Stepped}
@@ -42,7 +43,7 @@ where_before false n rest = refl
 pub chosen_done : (test : ℕ → Bool) (ns : List ℕ) (i : ℕ) (all x : List ℕ) → length ns ≤ i → all ++ chosen test (drop i ns) ≡ x → all ≡ x
 chosen_done test ns i all x past e = sym (append_empty all) ∙ (ap (λ ks. all ++ chosen test ks) (sym (drop_all i ns past)) ∙ e)
 
-where_unless : (b : Bool) (n : ℕ) (rest : List ℕ) → number_where (not b) n ++ rest ≡ number_unless b n rest
+where_unless : (b : Bool) (n : ℕ) (rest : List ℕ) → number_where (not b) n ++ rest ≡ unless b n rest
 where_unless true n rest = refl
 where_unless false n rest = refl
 

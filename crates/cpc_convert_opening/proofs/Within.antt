@@ -11,7 +11,8 @@ use Rattle.cpc_forms_code.specs.declared.boxed.Variable as V
 use Rattle.cpc_convert_event.specs.Routines.{Routine, closure_of, is_parameter, is_plain, number_before, chosen}
 use Rattle.cpc_convert_event.specs.Pieces.{loaded, begun}
 use Rattle.cpc_convert_event.specs.Rows.{owner_at, is_own, has_row, turned, rows_nodes, reached, stubs_of, row_of, falls, number_where, stub_behind, numbers_from, numbers_of}
-use Rattle.cpc_convert_lines.specs.Known.{number_unless, boxes_among}
+use Rattle.cpc_forms_code.specs.Lifts.{unless}
+use Rattle.cpc_convert_lines.specs.Known.{boxes_among}
 
 module _ (Q : ℕ → Type 0) where
   rest_all : (k : ℕ) (ks : List ℕ) → All Q (k ∷ ks) → All Q ks
@@ -105,7 +106,7 @@ module _ (Q : ℕ → Type 0) where
   begun_all r Start all boxes = All-append Q (chosen (λ k. not (is_parameter r.function k) && is_plain r k) (closure_of r Start)) r.boxes (chosen_all (λ k. not (is_parameter r.function k) && is_plain r k) (closure_of r Start) all) boxes
   begun_all r (At n) all boxes = All-nil Q
 
-  unless_all : (b : Bool) (k : ℕ) (ks : List ℕ) → Q k → All Q ks → All Q (number_unless b k ks)
+  unless_all : (b : Bool) (k : ℕ) (ks : List ℕ) → Q k → All Q ks → All Q (unless b k ks)
   unless_all true k ks q all = all
   unless_all false k ks q all = All-cons Q k ks q all
 

@@ -9,14 +9,14 @@ ghost use Rattle.cpc_convert_event.specs.Pieces as P;
 ghost use Rattle.cpc_convert_event.specs.Routines as R;
 ghost use Rattle.cpc_convert_event.specs.Routines.{Routine};
 ghost use Rattle.cpc_convert_lines.specs.Around.{Stands, IsVariable};
-ghost use Rattle.cpc_convert_lines.specs.Known.{number_unless, boxes_among};
+ghost use Rattle.cpc_convert_lines.specs.Known.{boxes_among};
 ghost use Rattle.cpc_convert_opening.specs.Whole.{IsWhole, rows_in};
 ghost use Rattle.cpc_convert_rows.specs.Steps.{IsStepped, IsOwner};
 
 use cpc_base::{Name, NoMemory};
 use cpc_convert_lines::Around;
 use cpc_convert_rows::{Stepped, add_if};
-use cpc_forms_code::{Owner, Variable};
+use cpc_forms_code::{Owner, Variable, keep_unless};
 use std::alloc::Global;
 
 /// The name of the piece of an owner, which is the tag of its frames.
@@ -144,17 +144,6 @@ fn begun_here(alloc: Global, around: Around<'_>, kept: &[usize]) -> Result<Vec<u
     }
     add_boxes(around.called.variables(), &mut all)?;
     Ok(all)
-}
-
-// A number is added, unless it is so. `NoMemory` is want of memory.
-fn keep_unless(is_so: bool, number: usize, all: &mut Vec<usize>) -> Result<(), NoMemory>
-    ensures { OnOk result (all.new.items ≡ all.old.items ++ number_unless is_so number []) }
-{
-    if is_so {
-        return Ok(());
-    }
-    all.push(number)?;
-    Ok(())
 }
 
 // All boxes among variables are added. `NoMemory` is want of memory.

@@ -12,13 +12,13 @@ ghost use Rattle.cpc_convert_event.specs.Routines.{Routine, local_of, locals_of,
 ghost use Rattle.cpc_convert_event.specs.Pieces.{next_load, below_if, value_load, load_of, words_if, called_so, to_frame, boxing_lines};
 ghost use Rattle.cpc_convert_names.specs.Called.{variables_in};
 ghost use Rattle.cpc_convert_lines.specs.Written.{written, puts};
-ghost use Rattle.cpc_convert_lines.specs.Known.{number_unless};
+ghost use Rattle.cpc_forms_code.specs.Lifts.{unless};
 ghost use Rattle.cpc_convert_lines.specs.Around.{Stands, IsVariable};
 
 use cpc_base::{Name, NoMemory};
 use cpc_convert_lines::{
-    Around, Out, any_pointer, field, is_scalar, load, load_arriving, local, local_type, named,
-    size_of, tag, to_struct,
+    Around, Out, any_pointer, field, load, load_arriving, local, local_type, named, size_of, tag,
+    to_struct,
 };
 use cpc_forms_code::Owner;
 use cpc_shapes::copy_of;
@@ -48,7 +48,7 @@ fn below(alloc: Global, around: Around<'_>) -> Result<CType, NoMemory>
     ensures { IfOk result (λ t. (source : Table) (from to : E.Names) (p : S.Program) (r : Routine) → Stands source from to p r around.entry
         → type_of to t ≡ below_if (T.is_scalar r.function.result) r.function.called) }
 {
-    if is_scalar(&around.called.function().result) {
+    if around.called.function().result.is_scalar() {
         let of = to_struct(alloc, around.called.value)?;
         return Ok(of);
     }
@@ -238,7 +238,7 @@ fn is_passed(around: Around<'_>, number: usize) -> bool
     match around.called.variables().get(number) {
         Some(variable) => {
             if number < around.called.function().parameters.len() {
-                return is_scalar(variable.of);
+                return variable.of.is_scalar();
             }
             false
         }
@@ -246,7 +246,8 @@ fn is_passed(around: Around<'_>, number: usize) -> bool
     }
 }
 
-// An argument is put in the box of its parameter. `NoMemory` is want of memory.
+// An argument is put in the box of its parameter. `NoMemory` is want of memory. It is answered also where there is no such variable,
+// or it has no name; no program that was read has such a parameter.
 fn fill_box(alloc: Global, out: &mut Out, around: Around<'_>, number: usize) -> Result<(), NoMemory>
     ensures { OnOk result ((source : Table) (from to : E.Names) (p : S.Program) (r : Routine) → Stands source from to p r around.entry → IsVariable around.entry number → is_parameter r.function number ≡ true
         → written to out.new ≡ puts (written to out.old) (fills_box (local_of r number).called (variable_of r number).called frame_name (local_of r number).called ∷ [])) }
@@ -276,7 +277,7 @@ fn box_unless(
     is_register: bool,
 ) -> Result<(), NoMemory>
     ensures { OnOk result ((source : Table) (from to : E.Names) (p : S.Program) (r : Routine) → Stands source from to p r around.entry → IsVariable around.entry number
-        → written to out.new ≡ puts (written to out.old) (boxing_lines r (number_unless is_register number []))) }
+        → written to out.new ≡ puts (written to out.old) (boxing_lines r (unless is_register number []))) }
 {
     if is_register {
         return Ok(());

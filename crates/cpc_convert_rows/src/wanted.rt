@@ -11,18 +11,8 @@ ghost use Rattle.cpc_convert_rows.specs.Ways.{jumps_to};
 use crate::marks::{mark, mark_some, unmarked};
 use crate::stepped::Stepped;
 use cpc_base::NoMemory;
-use cpc_forms_code::Owner;
+use cpc_forms_code::{Owner, is_next};
 use std::alloc::Global;
-
-// Whether a number is the one that stands next.
-fn is_next(number: usize, following: Option<usize>) -> bool
-    ensures { result ≡ R.is_next number following }
-{
-    match following {
-        Some(next) => next == number,
-        None => false,
-    }
-}
 
 // The number to which lines fall is marked, unless it stands next.
 fn mark_fall(marks: &mut Vec<u8>, falls: Option<usize>, following: Option<usize>)

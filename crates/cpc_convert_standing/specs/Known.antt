@@ -1,5 +1,5 @@
 -- What has to be known of the functions and the nodes of a lifted program, by texts of its names.
-use Rattle.std.specs.Prelude.{◌≡◌, ℕ, suc, ◌<◌, Bool, true, false, List, [], ◌∷◌, map, length, slice_get, get_or, Option, Some, option_map, All}
+use Rattle.std.specs.Prelude.{◌≡◌, ℕ, suc, ◌<◌, List, [], ◌∷◌, map, length, slice_get, get_or, Option, Some, option_map, All}
 use Rattle.cpc_base.specs.Bytes.{Text}
 use Rattle.cpc_tree.specs.Erase.{Names, Table, in_table, type_of, function_of}
 use Rattle.cpc_tree.specs.Points.{Simple}
@@ -14,6 +14,7 @@ use Rattle.cpc_forms_code.specs.declared.graph.Node.{Node}
 use Rattle.cpc_forms_code.specs.declared.lifted.LiftedFunction.{LiftedFunction}
 use Rattle.cpc_forms_code.specs.Seen.{stood_seen, AreNamed}
 use Rattle.cpc_forms_code.specs.Graphs.{node_seen}
+use Rattle.cpc_forms_code.specs.Lifts.{unless}
 use Rattle.cpc_convert_rows.specs.Routines.{Routine, is_plain, closure_of}
 use Rattle.cpc_convert_names.specs.Counted.{called_of}
 use Rattle.cpc_convert_names.specs.Called.{function_in, variables_in, nodes_in}
@@ -55,13 +56,9 @@ pub record IsKnown (source : Table) (from to : Names) (p : Program) (cs : List C
 -- ---- routines
 
 -- the numbers of the variables that are no registers
-abbrev pub number_unless : Bool → ℕ → List ℕ → List ℕ
-number_unless true k ks = ks
-number_unless false k ks = k ∷ ks
-
 abbrev pub boxes_among : (k : ℕ) → List V.Variable → List ℕ
 boxes_among k [] = []
-boxes_among k (v ∷ vs) = number_unless v.is_register k (boxes_among (suc k) vs)
+boxes_among k (v ∷ vs) = unless v.is_register k (boxes_among (suc k) vs)
 
 -- a routine is what the definitions compute of this function, with these closures
 pub record IsRoutine (source : Table) (from to : Names) (p : Program) (cs : List Called) (l : LiftedFunction) (r : Routine) : Type 0 where

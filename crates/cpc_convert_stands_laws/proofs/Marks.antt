@@ -29,10 +29,6 @@ unless_not : (b : Bool) (k : ℕ) (ks : List ℕ) → cond (not b) (k ∷ ks) ks
 unless_not true k ks = refl
 unless_not false k ks = refl
 
-number_unless : (b : Bool) (k : ℕ) (ks : List ℕ) → K.number_unless b k ks ≡ L.unless b k ks
-number_unless true k ks = refl
-number_unless false k ks = refl
-
 module _ (p : Program) (f : Function) (named : function_named p f.called ≡ Some f) where
   boxes_along : (k : ℕ) (xs : List Variable) → ((j : ℕ) (x : Variable) → slice_get xs j ≡ Some x → is_box p f.called (k + j) ≡ not (is_register f (k + j) x)) → boxes_from p f.called k (length xs) ≡ L.boxes_among k (marked_from f k xs)
   boxes_along k [] h = refl
@@ -50,7 +46,7 @@ module _ (p : Program) (f : Function) (named : function_named p f.called ≡ Som
 
 pub boxes_seen : (names : Names) (k : ℕ) (vs : List V.Variable) → K.boxes_among k vs ≡ L.boxes_among k (map (variable_seen names) vs)
 boxes_seen names k [] = refl
-boxes_seen names k (v ∷ vs) = ap (K.number_unless v.is_register k) (boxes_seen names (suc k) vs) ∙ number_unless v.is_register k (L.boxes_among (suc k) (map (variable_seen names) vs))
+boxes_seen names k (v ∷ vs) = ap (L.unless v.is_register k) (boxes_seen names (suc k) vs)
 
 -- ---- marks
 
@@ -64,7 +60,7 @@ none_below : (k j : ℕ) (vs : List V.Variable) → j < k → holds_number (K.bo
 none_below k j [] h = refl
 none_below k j (v ∷ vs) h = go v.is_register (none_below (suc k) j vs (omega (arith, h)))
   where
-    go : (b : Bool) → holds_number (K.boxes_among (suc k) vs) j ≡ false → holds_number (K.number_unless b k (K.boxes_among (suc k) vs)) j ≡ false
+    go : (b : Bool) → holds_number (K.boxes_among (suc k) vs) j ≡ false → holds_number (L.unless b k (K.boxes_among (suc k) vs)) j ≡ false
     go true i = i
     go false i = ap (λ b. b || holds_number (K.boxes_among (suc k) vs) j) (other_number k j h) ∙ i
 
@@ -72,12 +68,12 @@ pub marked_so : (k i : ℕ) (vs : List V.Variable) (v : V.Variable) → slice_ge
 marked_so k i [] v e j at = absurd (cc)
 marked_so k zero (w ∷ vs) v e j at = let h : w ≡ v = cc in go w.is_register (ap (λ (u : V.Variable). u.is_register) h) (none_below (suc k) j vs (omega (arith, at)))
   where
-    go : (b : Bool) → b ≡ v.is_register → holds_number (K.boxes_among (suc k) vs) j ≡ false → holds_number (K.number_unless b k (K.boxes_among (suc k) vs)) j ≡ not v.is_register
+    go : (b : Bool) → b ≡ v.is_register → holds_number (K.boxes_among (suc k) vs) j ≡ false → holds_number (L.unless b k (K.boxes_among (suc k) vs)) j ≡ not v.is_register
     go true s i = i ∙ ap not s
     go false s i = ap (λ b. b || holds_number (K.boxes_among (suc k) vs) j) (eq_holds k j (omega (arith, at))) ∙ ap not s
 marked_so k (suc i) (w ∷ vs) v e j at = go w.is_register (marked_so (suc k) i vs v e j (omega (arith, at)))
   where
-    go : (b : Bool) → holds_number (K.boxes_among (suc k) vs) j ≡ not v.is_register → holds_number (K.number_unless b k (K.boxes_among (suc k) vs)) j ≡ not v.is_register
+    go : (b : Bool) → holds_number (K.boxes_among (suc k) vs) j ≡ not v.is_register → holds_number (L.unless b k (K.boxes_among (suc k) vs)) j ≡ not v.is_register
     go true r = r
     go false r = ap (λ b. b || holds_number (K.boxes_among (suc k) vs) j) (smaller_number k j (omega (arith, at))) ∙ r
 

@@ -86,7 +86,7 @@ impl<T: Drop> Descr<T> {
         item
     }
 
-    /// The descriptor and the direction of each waiter, in order of arrival.
+    /// The descriptor and the direction of each waiter, in order of arrival. `NoMemory` is want of memory.
     pub fn waited(&self, alloc: Global) -> Result<Vec<(i64, Direction)>, NoMemory>
         ensures { IfOk result (λ places. places.items ≡ map M.place_of self.now.waiters) }
     {

@@ -9,12 +9,12 @@ use Rattle.cpc_eval_index.specs.contracts.index.ProgramTable as ProgramTable
 
 pub program_table_send : IsSend ProgramTable.the_row
 program_table_send = declared_send ProgramTable.the_type (
-  search (option.the_field_send, crosses, sendable) depth 30,
-  (declared.declared_send, (search (function_table_send, option.the_field_send, crosses, sendable) depth 30, tt)),
+  search (crosses, sendable) depth 30,
+  (declared.declared_send, (search (crosses, sendable) depth 30, (search (function_table_send, option.the_field_send, crosses, sendable) depth 30, tt))),
 )
 
 pub program_table_sync : IsSync ProgramTable.the_row
 program_table_sync = declared_sync ProgramTable.the_type (
-  search (option.the_field_sync, crosses, sendable) depth 30,
-  (declared.declared_sync, (search (function_table_sync, option.the_field_sync, crosses, sendable) depth 30, tt)),
+  search (crosses, sendable) depth 30,
+  (declared.declared_sync, (search (crosses, sendable) depth 30, (search (function_table_sync, option.the_field_sync, crosses, sendable) depth 30, tt))),
 )

@@ -10,6 +10,7 @@ use Rattle.cpc_shapes.proofs.Indexes.{pushed_at}
 use Rattle.cpc_eval_locals.specs.declared.locals.FunctionTable.{FunctionTable}
 use Rattle.cpc_eval_index.specs.Bodies.{IsItemTable, AreFunctionTables}
 use Rattle.cpc_eval_index.specs.Indexed.{program_items}
+use Rattle.cpc_eval_index.specs.Offsets.{AreOffsets}
 use Rattle.cpc_eval_index.specs.Tabled.{AreTables, IsProgramTable}
 use Rattle.cpc_types_structs.specs.Declares.{AreAllDeclared}
 use Rattle.cpc_types_structs.specs.Structs.{AreAllStructs}
@@ -27,6 +28,10 @@ declared_known i = ∥∥₁_elim i.tabled (hlevel props) (λ (d : IsProgramTabl
 
 pub structs_known : (i : Index) → AreAllStructs (program_items i) i.table.now.declared.structs
 structs_known i = let d = declared_known i in record { structs = d.declares.structs; all = d.all }
+
+-- of the offsets of fields too
+pub offsets_known : (i : Index) → AreOffsets (program_items i) i.table.now.offsets
+offsets_known i = ∥∥₁_elim i.tabled (hlevel props) (λ (d : IsProgramTable (program_items i) i.table.now). d.offsets)
 
 -- the table of the function that an item defines
 pub one_known : (i : Index) (k : ℕ) (x : Item) (o : Option FunctionTable) → Some x ≡ slice_get (program_items i) k → o ≡ get_or i.table.now.functions.items k None → ∥ IsItemTable x o ∥₁

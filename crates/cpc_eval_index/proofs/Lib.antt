@@ -1,8 +1,8 @@
 pub mod Crossing
 pub mod Kept
 pub mod Ended
+pub mod FieldRows
 pub mod First
 pub mod Known
-pub mod Offsets
 pub mod Standing
 pub mod Tabled

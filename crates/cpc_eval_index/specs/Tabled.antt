@@ -4,6 +4,7 @@ use Rattle.std.specs.List.{sum_by}
 use Rattle.cpc_tree.specs.declared.program.Item.{Item}
 use Rattle.cpc_eval_index.specs.Bodies.{AreFunctionTables}
 use Rattle.cpc_eval_index.specs.Ends.{inner_place, end_by}
+use Rattle.cpc_eval_index.specs.Offsets.{AreOffsets}
 use Rattle.cpc_eval_index.specs.Placed.{globals_in}
 use Rattle.cpc_types_structs.specs.Declares.{AreAllDeclared}
 use Rattle.cpc_eval_index.specs.declared.index.ProgramTable.{ProgramTable}
@@ -21,8 +22,10 @@ pub record AreTables (xs : List Item) (t : Tables) : Type 0 where
   pub ends : length t.ends.items ≡ length xs
   pub ended : (k : ℕ) (x : Item) → slice_get xs k ≡ Some x → get_or t.ends.items k k ≡ end_by t.ends.items k (inner_place (take k xs) x)
 
--- the table of a program of these items: what is told of their places, what they declare, and the tables of their functions
+-- the table of a program of these items: what is told of their places, what they declare, the offsets of the fields of their structs, and
+-- the tables of their functions
 pub record IsProgramTable (xs : List Item) (t : ProgramTable) : Type 0 where
   pub items : AreTables xs t.items
   pub declared : AreAllDeclared xs t.declared
+  pub offsets : AreOffsets xs t.offsets
   pub functions : AreFunctionTables xs t.functions.items

@@ -4,31 +4,27 @@ ghost use Rattle.cpc_tree.specs.Erase.{Names, type_of, field_of};
 ghost use Rattle.cpc_check_rules.specs.Apart.{AreApart};
 ghost use Rattle.cpc_tree.specs.Syntax.{Program};
 ghost use Rattle.cpc_tree.specs.Typing as T;
+ghost use Rattle.cpc_eval_index.specs.Offsets.{offsets_from};
 ghost use Rattle.cpc_eval_index.specs.Sized.{capped_field};
-ghost use Rattle.cpc_types_structs.specs.Indexed.{IsIndex};
-ghost use Rattle.cpc_types_structs.specs.Sized.{AreSizes};
 
 use cpc_base::Name;
 use cpc_tree::program::{CType, Field};
-use cpc_types_structs::Structs;
 
-/// The offset, capped, and the type of a field among these.
+/// The offset, capped, and the type of a field among these, by the row of their offsets.
 pub(crate) fn field_in<'p>(
     fields: &'p [Field],
     name: Name,
-    structs: &Structs,
+    offsets: &[u64],
 ) -> Option<(u64, &'p CType)>
-    requires { IsIndex structs.now.tags }
-    ensures { (names : Names) → AreApart names → (p : Program) → AreSizes structs.now names p
+    ensures { (names : Names) → AreApart names → (p : Program) → offsets.now ≡ offsets_from p 0 (map (field_of names) fields.now)
         → option_map (λ f. (f.0, type_of names f.1.now)) result ≡ capped_field (T.field_from p 0 (map (field_of names) fields.now) (names name)) }
 {
-    let mut offset: u64 = 0;
-    for field in fields {
+    for i in 0..fields.len() {
+        let field = &fields[i];
         if field.word.name.0 == name.0 {
-            return Some((offset, &field.of));
+            let offset = offsets.get(i)?;
+            return Some((*offset, &field.of));
         }
-        let count = structs.measure(&field.of)?;
-        offset = offset.saturating_add(count);
     }
     None
 }

@@ -10,25 +10,28 @@ ghost use Rattle.cpc_eval_index.specs.Tabled.{IsProgramTable};
 ghost use Rattle.cpc_eval_index.specs.Ends.{items_before, cells_at};
 ghost use Rattle.cpc_eval_index.specs.Meanings.{definition_seen, meant_if};
 ghost use Rattle.cpc_eval_index.specs.Sized.{capped_size, capped_field};
+ghost use Rattle.cpc_shapes.specs.Declaring.{fields_of};
 ghost use Rattle.cpc_types_structs.specs.Declares.{Declares};
 
 use crate::bodies::{function_tables, table_at};
 use crate::ends::last_struct;
 use crate::fields::field_in;
-use crate::items::{fields_of, function_of};
+use crate::items::function_of;
 use crate::meant::{Meant, meaning};
+use crate::offsets::Offsets;
 use crate::tables::Tables;
 use cpc_base::{Name, NoMemory};
 use cpc_eval_locals::{FunctionTable, Locals};
 use cpc_tree::program::{CType, Field, Function, Item, Program};
-use cpc_types_structs::Declared;
+use cpc_types_structs::{Declared, fields_of};
 use std::alloc::Global;
 
-/// What is found out of a program once: what its items declare, what is told of their places, and the tables of its functions.
-/// It has nothing of the program itself, so it can be kept beside it.
+/// What is found out of a program once: what its items declare, what is told of their places, where the fields of its structs are, and
+/// the tables of its functions. It has nothing of the program itself, so it can be kept beside it.
 pub struct ProgramTable {
     pub(crate) items: Tables,
     pub(crate) declared: Declared,
+    pub(crate) offsets: Offsets,
     pub(crate) functions: Vec<Option<FunctionTable>>,
 }
 
@@ -37,10 +40,12 @@ impl Drop for ProgramTable {
         let ProgramTable {
             items,
             declared,
+            offsets,
             functions,
         } = self;
         drop(items);
         drop(declared);
+        drop(offsets);
         drop(functions);
     }
 }
@@ -57,17 +62,19 @@ impl ProgramTable {
     {
         let mut declared = declared;
         let items = Tables::of(alloc, &program.items, &mut declared)?;
+        let offsets = Offsets::of(alloc, &program.items, &declared.structs)?;
         let functions = function_tables(alloc, &program.items)?;
         Ok(ProgramTable {
             items,
             declared,
+            offsets,
             functions,
         })
     }
 }
 
-/// What the names of a program stand for, and the locals of its functions, by the program's table. Each call takes a time that does
-/// not grow with the number of its items, and no memory.
+/// What the names of a program stand for, and the locals of its functions, by the program's table. Each call takes no memory, and a time
+/// that does not grow with the number of its items, but for `struct_before` where the last struct of the tag is not among the first items.
 #[derive(Clone, Copy)]
 pub struct Index<'p> {
     program: &'p Program,
@@ -170,9 +177,15 @@ impl<'p> Index<'p> {
     pub fn field(&self, tag: Name, name: Name) -> Option<(u64, &'p CType)>
         ensures { (names : Names) → AreApart names → option_map (λ f. (f.0, type_of names f.1.now)) result ≡ capped_field (T.field (items_of names self.now) (names tag) (names name)) }
     {
-        match self.fields(tag) {
+        match self.table.declared.structs.tagged(tag) {
             None => None,
-            Some(fields) => field_in(fields, name, &self.table.declared.structs),
+            Some(place) => match self.table.offsets.row(place) {
+                None => None,
+                Some(row) => match self.fields_at(place) {
+                    None => None,
+                    Some(fields) => field_in(fields, name, row),
+                },
+            },
         }
     }
 
@@ -197,16 +210,13 @@ impl<'p> Index<'p> {
         last_struct(&self.program.items, tag, before)
     }
 
-    // The fields of the struct that has a tag.
-    fn fields(&self, tag: Name) -> Option<&'p [Field]>
-        ensures { (names : Names) → AreApart names → option_map (λ fs. map (field_of names) fs.now) result ≡ T.fields (items_of names self.now) (names tag) }
+    // The fields of the struct that the item of a number declares.
+    fn fields_at(&self, place: usize) -> Option<&'p [Field]>
+        ensures { (names : Names) → option_map (λ fs. map (field_of names) fs.now) result ≡ fields_of names (slice_get (program_items self.now) place) }
     {
-        match self.table.declared.structs.tagged(tag) {
+        match item_at(self.program, place) {
             None => None,
-            Some(place) => match item_at(self.program, place) {
-                None => None,
-                Some(item) => fields_of(item),
-            },
+            Some(item) => fields_of(item),
         }
     }
 }

@@ -1,11 +1,10 @@
 //! What single items are.
-ghost use Rattle.std.specs.Prelude.{◌≡◌, ◌≤◌, map, option_map};
-ghost use Rattle.cpc_tree.specs.Erase.{Names, field_of, function_of};
-ghost use Rattle.cpc_shapes.specs.Declaring.{fields_seen};
+ghost use Rattle.std.specs.Prelude.{◌≡◌, ◌≤◌, option_map};
+ghost use Rattle.cpc_tree.specs.Erase.{Names, function_of};
 ghost use Rattle.cpc_eval_index.specs.Placed.{globals_in};
 ghost use Rattle.cpc_eval_index.specs.Meanings.{definition_seen};
 
-use cpc_tree::program::{Field, Function, Item};
+use cpc_tree::program::{Function, Item};
 
 /// How many globals an item is: one or none.
 pub(crate) fn globals_in(item: &Item) -> u64
@@ -15,16 +14,6 @@ pub(crate) fn globals_in(item: &Item) -> u64
     match item {
         Item::Global { .. } => 1,
         _ => 0,
-    }
-}
-
-/// The fields of the struct that an item declares.
-pub(crate) fn fields_of(item: &Item) -> Option<&[Field]>
-    ensures { (names : Names) → option_map (λ fs. map (field_of names) fs.now) result ≡ fields_seen names item.now }
-{
-    match item {
-        Item::Struct { fields, .. } => Some(fields),
-        _ => None,
     }
 }
 

@@ -7,6 +7,7 @@ mod fields;
 mod index;
 mod items;
 mod meant;
+mod offsets;
 mod tables;
 
 pub use index::{Index, ProgramTable};

@@ -8,6 +8,7 @@ use Rattle.cpc_tree.specs.Points.{Path, Nth, TheTest, TheYes, TheNo, TheStep, Th
 use Rattle.cpc_tree.specs.Registers.{or_empty, parameter_scope, scope_in_function}
 use Rattle.cpc_tree.specs.declared.program.Function as GFunction
 use Rattle.cpc_tree.specs.Erase.{Names, stmt_of, parameter_of, function_of}
+use Rattle.cpc_tree.proofs.Counted.{sum_capped}
 use Rattle.std.proofs.lemmas.List.{length-map}
 use Rattle.cpc_eval_values.specs.Counted.{capped}
 use Rattle.cpc_eval_locals.specs.Held.{Held, local_in, capped_held, held_among, held_from, held_after, held_behind, count_behind, held_at, held_in, held_arm}
@@ -15,9 +16,6 @@ use Rattle.cpc_eval_locals.specs.Held.{Held, local_in, capped_held, held_among, 
 held_if : (b : Bool) (n : ℕ) (t : Ty) (o : Held) → capped_held (if b then Some (n, t) else o) ≡ (if b then Some (capped n, t) else capped_held o)
 held_if true n t o = refl
 held_if false n t o = refl
-
-count_next : (n d : ℕ) → capped (capped n + d) ≡ capped (n + d)
-count_next n d = omega arith
 
 -- after one statement of a row, and after all
 after_is : (x : Text) (scope : Scope) (n : ℕ) (s : Stmt) → capped_held (local_in (extended scope n s) x) ≡ held_after x (capped n) (capped_held (local_in scope x)) s
@@ -29,21 +27,21 @@ behind_is x scope n NoStmt = refl
 behind_is x scope n (AndStmt s ss) =
     behind_is x (extended scope n s) (n + declared s) ss
     ∙ ap (λ o. held_behind x (capped (n + declared s)) o ss) (after_is x scope n s)
-    ∙ ap (λ m. held_behind x m (held_after x (capped n) (capped_held (local_in scope x)) s) ss) (sym (count_next n (declared s)))
+    ∙ ap (λ m. held_behind x m (held_after x (capped n) (capped_held (local_in scope x)) s) ss) (sym (sum_capped n (declared s)))
 
 count_is : (n : ℕ) (ss : Stmts) → count_behind (capped n) ss ≡ capped (n + length (locals_in ss))
 count_is n NoStmt = omega arith
 count_is n (AndStmt s ss) =
     let e : length (locals s ++ locals_in ss) ≡ declared s + length (locals_in ss) = length-append (locals s) (locals_in ss) in
     let d : n + declared s + length (locals_in ss) ≡ n + length (locals s ++ locals_in ss) = omega arith in
-    ap (λ m. count_behind m ss) (count_next n (declared s)) ∙ count_is (n + declared s) ss ∙ ap capped d
+    ap (λ m. count_behind m ss) (sum_capped n (declared s)) ∙ count_is (n + declared s) ss ∙ ap capped d
 
 mutual
   -- at a path
   pub scope_is : (x : Text) (scope : Scope) (n : ℕ) (s : Stmt) (p : Path) → capped_held (local_in (scope_at scope n s p) x) ≡ held_at x (capped n) (capped_held (local_in scope x)) s p
   scope_is x scope n (S.Block ss) (Nth k ∷ p) = row_is x scope n ss k p
   scope_is x scope n (S.If t a b) (TheYes ∷ p) = scope_is x scope n a p
-  scope_is x scope n (S.If t a b) (TheNo ∷ p) = arm_is x scope (n + declared a) b p ∙ ap (λ m. held_arm x m (capped_held (local_in scope x)) b p) (sym (count_next n (declared a)))
+  scope_is x scope n (S.If t a b) (TheNo ∷ p) = arm_is x scope (n + declared a) b p ∙ ap (λ m. held_arm x m (capped_held (local_in scope x)) b p) (sym (sum_capped n (declared a)))
   scope_is x scope n (S.While t s) (TheBody ∷ p) = scope_is x scope n s p
   scope_is x scope n (S.DoWhile s t) (TheBody ∷ p) = scope_is x scope n s p
   scope_is x scope n (S.For first t step s) (Nth k ∷ p) = row_is x scope n first k p
@@ -62,7 +60,7 @@ mutual
   row_is x scope n (AndStmt s ss) (suc k) p =
       row_is x (extended scope n s) (n + declared s) ss k p
       ∙ ap (λ o. held_in x (capped (n + declared s)) o ss k p) (after_is x scope n s)
-      ∙ ap (λ m. held_in x m (held_after x (capped n) (capped_held (local_in scope x)) s) ss k p) (sym (count_next n (declared s)))
+      ∙ ap (λ m. held_in x m (held_after x (capped n) (capped_held (local_in scope x)) s) ss k p) (sym (sum_capped n (declared s)))
   row_is x scope n NoStmt k p = refl
 
   arm_is : (x : Text) (scope : Scope) (n : ℕ) (o : MaybeStmt) (p : Path) → capped_held (local_in (scope_arm scope n o p) x) ≡ held_arm x (capped n) (capped_held (local_in scope x)) o p

@@ -5,7 +5,7 @@ ghost use Rattle.cpc_eval_locals.specs.Marks as M;
 ghost use Rattle.cpc_eval_locals.specs.Seen.{declared_seen, own_seen, marks_seen};
 
 use crate::counting::declared;
-use cpc_base::{Name, NoMemory};
+use cpc_base::{Name, NoMemory, behind};
 use cpc_shapes::copy_of;
 use cpc_tree::program::{CType, Statement};
 use std::alloc::Global;
@@ -97,16 +97,6 @@ fn row_key(heads: bool, n: usize) -> Key
     if heads { Key::Head(n) } else { Key::Row(n) }
 }
 
-// The number after a depth. `NoMemory` is want of numbers.
-fn deeper(depth: usize) -> Result<usize, NoMemory>
-    ensures { IfOk result (λ inner. inner ≡ suc depth) }
-{
-    match depth.checked_add(1) {
-        Some(inner) => Ok(inner),
-        None => Err(NoMemory),
-    }
-}
-
 // Marks a statement that is this part, and its parts, where it declares some.
 #[cycle(marked)]
 fn note(
@@ -122,7 +112,7 @@ fn note(
     if count == 0 {
         return Ok(());
     }
-    let inner = deeper(depth)?;
+    let inner = behind(depth)?;
     let own = declared_by(alloc, s)?;
     marks.push(Mark {
         depth,

@@ -1,15 +1,14 @@
 //! The variables of a function in their order, and which of them are registers.
-ghost use Rattle.std.specs.Prelude.{◌≡◌, ℕ, ◌<◌, false, length, get_or, replicate, IfOk};
-ghost use Rattle.cpc_tree.specs.Erase.{Names, type_of, function_of};
+ghost use Rattle.std.specs.Prelude.{◌≡◌, ℕ, ◌<◌, false, length, get_or, IfOk};
+ghost use Rattle.cpc_tree.specs.Erase.{Names, function_of};
 ghost use Rattle.cpc_tree.specs.Lists.{holds_number};
-ghost use Rattle.cpc_tree.specs.Typing as T;
 ghost use Rattle.cpc_tree.specs.Registers as R;
 ghost use Rattle.cpc_eval_variables.specs.Kept.{kept_from, kept_types, kept_of, types_kept};
 ghost use Rattle.cpc_eval_variables.specs.Told.{IsTold};
 ghost use Rattle.cpc_eval_variables.specs.Typed.{types_in, types_of};
 
 use crate::walk::Walk;
-use cpc_base::NoMemory;
+use cpc_base::{NoMemory, unset};
 use cpc_tree::program::{CType, Function};
 use std::alloc::Global;
 
@@ -21,29 +20,12 @@ pub struct Variable<'f> {
     pub is_register: bool,
 }
 
-// Whether a type is scalar: its values fill one cell.
-fn is_scalar(of: &CType) -> bool
-    ensures { (names : Names) → result ≡ T.is_scalar (type_of names of.now) }
-{
-    match of {
-        CType::Int(_) | CType::Condvar | CType::Pointer(_) | CType::Code { .. } => true,
-        CType::Void | CType::Struct(_) | CType::Array(_, _) => false,
-    }
-}
-
-// So many truth values that do not hold.
-fn unmarked(alloc: Global, count: usize) -> Result<Vec<bool>, NoMemory>
-    ensures { IfOk result (λ flags. flags.items ≡ replicate count false) }
-{
-    Ok(vec![in alloc; false; count]?)
-}
-
 // For each number below the count whether it is one of these.
 fn marked(alloc: Global, count: usize, numbers: &[usize]) -> Result<Vec<bool>, NoMemory>
     ensures length { IfOk result (λ flags. length flags.items ≡ count) }
     ensures flags { IfOk result (λ flags. (k : ℕ) → k < count → get_or flags.items k false ≡ holds_number numbers.now k) }
 {
-    let mut flags = unmarked(alloc, count)?;
+    let mut flags = unset(alloc, count)?;
     for number in numbers {
         if *number < flags.len() {
             flags[*number] = true;
@@ -66,7 +48,7 @@ fn kept<'f>(
         let of = types[i];
         kept.push(Variable {
             of,
-            is_register: is_scalar(of) && !flags[i],
+            is_register: of.is_scalar() && !flags[i],
         })?;
     }
     Ok(kept)

@@ -16,9 +16,10 @@ pub struct StreamSink<W> {
 }
 
 impl<W: Write> StreamSink<W> {
-    /// A stream, with no fault so far.
+    /// A stream as it is, with no fault so far.
     pub fn new(to: W) -> Self
-        ensures { result.faults.count ≡ 0 }
+        ensures stream { result.to ≡ to }
+        ensures none { result.faults.count ≡ 0 }
     {
         StreamSink {
             to,

@@ -5,11 +5,13 @@
 mod boxed;
 mod graph;
 mod lifted;
+mod numbers;
 mod scopes;
 mod split;
 
 pub use boxed::{Boxed, BoxedFunction, BoxedPoint, Manner, Stood, Variable};
 pub use graph::{Graph, GraphFunction, Node};
 pub use lifted::{LiftedFunction, LiftedProgram};
+pub use numbers::{is_next, keep_unless};
 pub use scopes::slot;
 pub use split::{Owner, SplitFunction, SplitProgram};

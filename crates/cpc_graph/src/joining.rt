@@ -8,9 +8,8 @@ ghost use Rattle.cpc_forms_code.specs.Graphs.{node_seen};
 ghost use Rattle.cpc_meaning.specs.Ways.{arrives_later, only_if};
 ghost use Rattle.cpc_graph.specs.Joined.{goes_at, arrival_at, node_on, joined};
 
-use crate::numbers::behind;
 use crate::onward::Way;
-use cpc_base::NoMemory;
+use cpc_base::{NoMemory, behind};
 use cpc_forms_code::{BoxedPoint, Manner, Node, Stood};
 use std::alloc::Global;
 

@@ -10,9 +10,9 @@ ghost use Rattle.cpc_graph.specs.Labels.{FindsLabels};
 ghost use Rattle.cpc_graph.specs.Ways.{way, ways_of, ways_in, ways_arm, header_ways, one_way, onward_seen};
 
 use crate::labels::Labels;
-use crate::numbers::{behind, first, is_last, is_none, rest};
+use crate::numbers::{first, is_last, rest};
 use crate::onward::{Onward, Way, going_to, looping, only, to_arm, to_rest, turn};
-use cpc_base::NoMemory;
+use cpc_base::{NoMemory, behind, is_none};
 use cpc_tree::program::Statement;
 use std::alloc::Global;
 

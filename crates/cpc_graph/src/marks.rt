@@ -7,8 +7,7 @@ ghost use Rattle.cpc_forms.specs.Table.{labels_of, labels_in, labels_arm, test_o
 ghost use Rattle.cpc_graph.specs.Ends.{ends_of, ends_in, ends_arm, header_ends, step_ends};
 ghost use Rattle.cpc_graph.specs.Labels.{labels_seen};
 
-use crate::numbers::{behind, is_none};
-use cpc_base::{Name, NoMemory};
+use cpc_base::{Name, NoMemory, behind, is_none};
 use cpc_tree::program::Statement;
 use std::alloc::Global;
 

@@ -1,19 +1,9 @@
 //! Numbers of nodes, and numbers that were noted.
-ghost use Rattle.std.specs.Prelude.{◌≡◌, ◌+◌, ◌<◌, length, drop, IfOk};
+ghost use Rattle.std.specs.Prelude.{◌≡◌, ◌+◌, ◌<◌, length, drop};
 ghost use Rattle.cpc_tree.specs.Lists.{first_or, rest_of, is_empty};
 
-use cpc_base::NoMemory;
+use cpc_base::is_none;
 use cpc_tree::program::Statement;
-
-/// The number behind this one. `NoMemory`: there is none; no memory holds so many nodes.
-pub(crate) fn behind(n: usize) -> Result<usize, NoMemory>
-    ensures { IfOk result (λ m. m ≡ n + 1) }
-{
-    match n.checked_add(1) {
-        Some(m) => Ok(m),
-        None => Err(NoMemory),
-    }
-}
 
 /// The first of these numbers, or 0.
 pub(crate) fn first(numbers: &[usize]) -> usize
@@ -32,16 +22,6 @@ pub(crate) fn rest(numbers: &[usize]) -> &[usize]
     match numbers.split_first() {
         Some((_, rest)) => rest,
         None => numbers,
-    }
-}
-
-/// Whether a row has no statement.
-pub(crate) fn is_none(row: &[Statement]) -> bool
-    ensures { result ≡ is_empty row.now }
-{
-    match row.split_first() {
-        Some(_) => false,
-        None => true,
     }
 }
 

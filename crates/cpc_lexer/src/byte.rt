@@ -1,6 +1,6 @@
 //! The classes of bytes.
 ghost use Rattle.std.specs.Prelude.{◌≡◌, ◌<◌, ◌↔◌, IsTrue, is_some, IfSome};
-ghost use Rattle.cpc_tree.specs.Pieces.{is_blank, in_word, digit_value, is_digit_of};
+ghost use Rattle.cpc_tree.specs.Pieces.{is_blank, digit_value, is_digit_of};
 
 /// A space, tab, line feed or carriage return.
 #[tactic(auto, unfolding(cpc_tree::specs::Pieces::is_blank))]
@@ -8,14 +8,6 @@ pub(crate) fn is_blank(b: u8) -> bool
     ensures { result ≡ is_blank b }
 {
     b == b' ' || b == b'\t' || b == b'\n' || b == b'\r'
-}
-
-/// A letter, a digit or `_`.
-#[tactic(auto, unfolding(cpc_tree::specs::Pieces::in_word))]
-pub(crate) fn is_in_word(b: u8) -> bool
-    ensures { result ≡ in_word b }
-{
-    b.is_ascii_alphanumeric() || b == b'_'
 }
 
 /// What a digit of a base up to 16 stands for.

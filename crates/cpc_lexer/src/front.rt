@@ -6,13 +6,13 @@ ghost use Rattle.cpc_tree.specs.Pieces.{Sign, first_state};
 ghost use Rattle.cpc_base.specs.declared.stop.Dialect as D;
 ghost use Rattle.cpc_lexer.specs.Fronts.{IsFront};
 
-use crate::byte::{is_blank, is_in_word};
+use crate::byte::is_blank;
 use crate::comment::{block_comment, line_comment};
 use crate::mark::mark;
 use crate::quoted::{Quote, quoted};
 use crate::word::run;
 use cpc_base::{Dialect, NoMemory};
-use cpc_tree::token::TokenKind;
+use cpc_tree::token::{TokenKind, is_in_word};
 use std::alloc::Global;
 
 /// What the front of a text is.

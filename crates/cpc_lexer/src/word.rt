@@ -5,12 +5,11 @@ ghost use Rattle.cpc_tree.specs.Tokens.{keyword_of};
 ghost use Rattle.cpc_tree.specs.Pieces.{in_word, name_limit, name_or_keyword, integer};
 ghost use Rattle.cpc_lexer.specs.Fronts.{front_piece, IsFrontNameless, IsFrontNumbered, IsFront};
 
-use crate::byte::is_in_word;
 use crate::fault::TOO_LONG;
 use crate::front::Front;
 use crate::integer::integer;
 use cpc_base::Dialect;
-use cpc_tree::token::{Keyword, TokenKind};
+use cpc_tree::token::{Keyword, TokenKind, is_in_word};
 
 /// What the longest run of letters, digits and `_` at the front of a text is.
 pub(crate) fn run(text: &[u8], dialect: Dialect) -> (Front, usize)

@@ -1,12 +1,12 @@
 //! The ways between the owners of a function, and what they use.
-ghost use Rattle.std.specs.Prelude.{◌≡◌, ◌++◌, [], length, map, option_map, OnOk, IfOk};
+ghost use Rattle.std.specs.Prelude.{◌≡◌, ◌++◌, length, map, option_map, OnOk, IfOk};
 ghost use Rattle.cpc_tree.specs.Erase.{Names};
 ghost use Rattle.cpc_check_rules.specs.Apart.{AreApart};
 ghost use Rattle.cpc_forms_code.specs.Seen.{AreNamed};
 ghost use Rattle.cpc_forms_code.specs.Points.{variable_seen};
 ghost use Rattle.cpc_forms_code.specs.Graphs.{node_seen};
 ghost use Rattle.cpc_forms_code.specs.Splits.{place_of, places_of};
-ghost use Rattle.cpc_forms_code.specs.Lifts.{unless, boxes_among};
+ghost use Rattle.cpc_forms_code.specs.Lifts.{boxes_among};
 ghost use Rattle.cpc_lift_closures.specs.Rows.{links_of};
 ghost use Rattle.cpc_lift.specs.Gathered.{node_ways, node_uses, ways_along, uses_along};
 
@@ -14,7 +14,7 @@ use crate::links::{add_ways, number};
 use crate::names::Scoped;
 use crate::uses::add_uses;
 use cpc_base::NoMemory;
-use cpc_forms_code::{Node, Owner, Variable};
+use cpc_forms_code::{Node, Owner, Variable, keep_unless};
 use cpc_lift_closures::Link;
 use std::alloc::Global;
 
@@ -32,24 +32,13 @@ impl Drop for Gathered {
     }
 }
 
-// Adds a box.
-fn add_box(is_register: bool, number: usize, boxes: &mut Vec<usize>) -> Result<(), NoMemory>
-    ensures { OnOk result (boxes.new.items ≡ boxes.old.items ++ unless is_register number []) }
-{
-    if is_register {
-        return Ok(());
-    }
-    boxes.push(number)?;
-    Ok(())
-}
-
 /// The boxes among variables, by their numbers in order. `NoMemory` is want of memory.
 pub(crate) fn boxes(alloc: Global, variables: &[Variable<'_>]) -> Result<Vec<usize>, NoMemory>
     ensures { IfOk result (λ boxes. (names : Names) → boxes.items ≡ boxes_among 0 (map (variable_seen names) variables.now)) }
 {
     let mut boxes = Vec::new(alloc);
     for i in 0..variables.len() {
-        add_box(variables[i].is_register, i, &mut boxes)?;
+        keep_unless(variables[i].is_register, i, &mut boxes)?;
     }
     Ok(boxes)
 }

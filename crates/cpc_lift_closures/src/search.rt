@@ -1,19 +1,12 @@
 //! The search backwards: from the owners that use a variable to all that lead to one.
-ghost use Rattle.std.specs.Prelude.{◌≡◌, ℕ, ◌+◌, ◌<◌, [], true, false, All, List, map, length, get_or, slice_set, replicate, IfOk, OnOk};
+ghost use Rattle.std.specs.Prelude.{◌≡◌, ℕ, ◌+◌, ◌<◌, [], true, false, All, List, map, length, get_or, slice_set, IfOk, OnOk};
 ghost use Rattle.cpc_lift_laws.specs.Search as S;
 ghost use Rattle.cpc_lift_closures.specs.Rows.{links_of, IsNumber, RowsAre, MarksAre};
 ghost use Rattle.cpc_lift_closures.specs.Turns.{queued, GoesOn, AreNumbers};
 
 use crate::links::Link;
-use cpc_base::NoMemory;
+use cpc_base::{NoMemory, unset};
 use std::alloc::Global;
-
-// So many marks that are not set.
-fn unset(alloc: Global, count: usize) -> Result<Vec<bool>, NoMemory>
-    ensures { IfOk result (λ marks. marks.items ≡ replicate count false) }
-{
-    Ok(vec![in alloc; false; count]?)
-}
 
 // Marks an owner that was not seen, and puts its sources into the queue.
 fn visit(

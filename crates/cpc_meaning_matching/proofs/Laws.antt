@@ -110,17 +110,21 @@ module _ {S T : Type 0} {Meet Near : S → T → Type 0} {Ga : S → Type 0} {Gb
       (λ le. let e : r.place m ≡ n = omega arith in inl (up _ _ (subst (λ i. Meet (a m) (b i)) e (r.meets m))))
       (cases_lt (r.place m) n)
 
-  pub near_some : ((x : S) (y : T) → Meet x y → Near x y) → (n : ℕ) → (m : ℕ) × (m ≤ n) × Near (a m) (b n)
-  near_some up n =
+  -- the row that a state of b is near to, with its end behind that state
+  pub near_row : ((x : S) (y : T) → Meet x y → Near x y) → (n : ℕ) → (m : ℕ) × (m ≤ n) × (n < r.place (suc m)) × Near (a m) (b n)
+  near_row up n =
       let h = row_at n in
       ⊎_elim
       (λ lt.
       ⊎_elim
-      (λ p. (h.0, omega (arith, place_ge h.0, h.1), p))
-      (λ p. (suc h.0, omega (arith, place_ge h.0, lt), p))
+      (λ p. (h.0, omega (arith, place_ge h.0, h.1), h.2, p))
+      (λ p. (suc h.0, omega (arith, place_ge h.0, lt), omega (arith, h.2, r.rises (suc h.0)), p))
       (r.inside h.0 n lt h.2))
-      (λ le. let e : r.place h.0 ≡ n = omega (arith, h.1) in (h.0, omega (arith, place_ge h.0), up _ _ (subst (λ i. Meet (a h.0) (b i)) e (r.meets h.0))))
+      (λ le. let e : r.place h.0 ≡ n = omega (arith, h.1) in (h.0, omega (arith, place_ge h.0), h.2, up _ _ (subst (λ i. Meet (a h.0) (b i)) e (r.meets h.0))))
       (cases_lt (r.place h.0) n)
+
+  pub near_some : ((x : S) (y : T) → Meet x y → Near x y) → (n : ℕ) → (m : ℕ) × (m ≤ n) × Near (a m) (b n)
+  near_some up n = let h = near_row up n in (h.0, h.1, h.3)
 
 -- the row of b whose row of c has a state of c is in the row of a
 between : {S T U : Type 0} {Meet1 Near1 : S → T → Type 0} {Meet2 Near2 : T → U → Type 0} {Ga : S → Type 0} {Gb : T → Type 0} {Gc : U → Type 0} {wa : S → ℕ} {wb : T → ℕ} {wc : U → ℕ} {a : ℕ → S} {b : ℕ → T} {c : ℕ → U} (p : Rows Meet1 Near1 Ga Gb wa wb a b) (q : Rows Meet2 Near2 Gb Gc wb wc b c) (m n : ℕ) → q.place (p.place m) ≤ n → n < q.place (p.place (suc m)) → (p.place m ≤ (row_at q n).0) × ((row_at q n).0 < p.place (suc m))

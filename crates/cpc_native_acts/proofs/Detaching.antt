@@ -27,9 +27,9 @@ use Rattle.cpc_eval_values.specs.Shown.{value_of, values_of}
 use Rattle.cpc_eval_values.specs.declared.assignment.Taken.{Taken}
 use Rattle.cpc_eval_values.specs.declared.assignment.Taken.TheVariants as T
 use Rattle.cpc_eval_values.specs.Takes.{taken_of}
-use Rattle.cpc_native_builtins.specs.declared.builtins.Builtin.{Builtin}
-use Rattle.cpc_native_builtins.specs.declared.builtins.Builtin.TheVariants as B
-use Rattle.cpc_native_builtins.specs.Builtins.{primitive_of}
+use Rattle.cpc_tree.specs.declared.primitive.Primitive.{Primitive}
+use Rattle.cpc_tree.specs.declared.primitive.Primitive.TheVariants as B
+use Rattle.cpc_tree.specs.PrimitiveNames.{primitive_of}
 use Rattle.cpc_native_acts.specs.Taken.{is_taken_as, are_taken, is_detached, IsAskedWith}
 use Rattle.cpc_native_plans.specs.Rows.{by_nth, third_code, detached_with}
 use Rattle.cpc_native_acts.proofs.Fitting.{fitted, taken_shown, asked_so}
@@ -226,12 +226,12 @@ takes_nothing p names [] e = refl
 takes_nothing p names (a ∷ vs) e = absurd cc
 
 -- a primitive of another name
-pub other_takes : (b : Builtin) (p : Program) (vs : List Value) → (b ≡ B.RtDetach → ⊥) → R.takes p (primitive_of b) vs ≡ P.takes_first (primitive_of b)
+pub other_takes : (b : Primitive) (p : Program) (vs : List Value) → (b ≡ B.RtDetach → ⊥) → R.takes p (primitive_of b) vs ≡ P.takes_first (primitive_of b)
 other_takes B.RtDetach p vs h = absurd (h refl)
 other_takes _ p vs h = refl
 
 -- another primitive of the code is another one of the language
-pub not_detached : (b : Builtin) → (b ≡ B.RtDetach → ⊥) → primitive_of b ≡ P.RtDetach → ⊥
+pub not_detached : (b : Primitive) → (b ≡ B.RtDetach → ⊥) → primitive_of b ≡ P.RtDetach → ⊥
 not_detached B.RtDetach h e = h refl
 not_detached _ h e = absurd cc
 

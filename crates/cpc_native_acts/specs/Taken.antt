@@ -12,7 +12,7 @@ use Rattle.cpc_eval_values.specs.declared.assignment.Taken.TheVariants.{AnyInteg
 use Rattle.cpc_eval_values.specs.Takes.{taken_of}
 use Rattle.cpc_native_builtins.specs.declared.call.Call.{Call}
 use Rattle.cpc_native_builtins.specs.declared.call.Call.TheVariants as C
-use Rattle.cpc_native_builtins.specs.Builtins.{primitive_of}
+use Rattle.cpc_tree.specs.PrimitiveNames.{primitive_of}
 
 -- a value that is set
 abbrev pub is_set : {C : Type 0} → ValueOf C → Bool

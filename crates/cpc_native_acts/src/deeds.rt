@@ -12,7 +12,7 @@ ghost use Rattle.cpc_eval.specs.Around.{context_of, IsToldIn};
 ghost use Rattle.cpc_eval.specs.Numbers.{AllNumbers, FoundNumbers};
 ghost use Rattle.cpc_eval.specs.Shapes.{shape_of};
 ghost use Rattle.cpc_eval.specs.Spots.{AreLawful};
-ghost use Rattle.cpc_native_builtins.specs.Builtins.{primitive_of};
+ghost use Rattle.cpc_tree.specs.PrimitiveNames.{primitive_of};
 ghost use Rattle.cpc_native_builtins.specs.Served.{IsServedCall, is_served_found, is_served_program};
 ghost use Rattle.cpc_native_plans.specs.Calls.{calls_code, calls_host};
 ghost use Rattle.cpc_native_plans.specs.Parts.{is_call_found};
@@ -22,11 +22,12 @@ ghost use Rattle.cpc_native_plans.specs.Plans.{planned, asks_for, IsSound, IsLaw
 use crate::taken::{asked_with, longs};
 use cpc_base::{Name, Names, Stop};
 use cpc_eval::{Around, Shape, Spot};
-use cpc_native_builtins::{Builtin, Call};
+use cpc_native_builtins::Call;
 use cpc_native_plans::{Plan, Row, passed, value_called};
 use cpc_native_points::Found;
 use cpc_num::Fault;
 use cpc_store::Value;
+use cpc_tree::primitive::Primitive;
 use cpc_tree::program::{CType, Expr, Function};
 use std::alloc::Global;
 
@@ -109,7 +110,7 @@ fn asks_host<'a>(
 // A primitive is asked for.
 fn asks_builtin<'a>(
     alloc: Global,
-    builtin: Builtin,
+    builtin: Primitive,
     arguments: &'a [Expr],
     around: &Around<'a>,
 ) -> Result<Deed, Stop<Fault>>

@@ -23,10 +23,11 @@ use cpc_base::{Name, Stop};
 use cpc_eval::Around;
 use cpc_eval_index::Index;
 use cpc_eval_values::{Taken, assigned, at_type, taken_as};
-use cpc_native_builtins::{Builtin, takes};
+use cpc_native_builtins::takes;
 use cpc_native_plans::{parameter_at, stopped, values};
 use cpc_num::Fault;
 use cpc_store::{Scalar, Value};
+use cpc_tree::primitive::Primitive;
 use cpc_tree::program::{Expr, Function};
 use std::alloc::Global;
 
@@ -81,7 +82,7 @@ fn detached_at(function: Option<&Function>, i: usize, value: Value) -> Result<Va
     ensures lawful { IfOk result (λ v. IsLawful (seen v)) }
 {
     if i < 2 {
-        return taken_at(takes(Builtin::RtDetach), i, value);
+        return taken_at(takes(Primitive::RtDetach), i, value);
     }
     match function {
         Some(function) => section_at(function, i - 2, value),
@@ -106,7 +107,7 @@ fn is_detached(values: &[Value]) -> bool
     ensures { result ≡ is_detached values.now }
 {
     match third_code(values) {
-        Some(_) => are_taken(takes(Builtin::RtDetach), &values[..2]),
+        Some(_) => are_taken(takes(Primitive::RtDetach), &values[..2]),
         None => values.is_empty(),
     }
 }

@@ -2,12 +2,11 @@
 ghost use Rattle.std.specs.Prelude.{◌≡◌, ◌↔◌, IsTrue, Some, map};
 ghost use Rattle.std.specs.List.{All};
 ghost use Rattle.cpc_store.specs.Seen.{seen};
-ghost use Rattle.cpc_store.specs.Store as S;
 ghost use Rattle.cpc_native_acts.specs.Taken.{is_set, is_integer, is_taken_as, are_taken, IsLong};
 
 use cpc_eval_values::Taken;
 use cpc_num::Kind;
-use cpc_store::{Scalar, Value};
+use cpc_store::{Value, suits};
 
 // Whether a value is set.
 fn is_set(value: Value) -> bool
@@ -25,21 +24,6 @@ fn is_integer(value: Value) -> bool
 {
     match value {
         Value::Int(_, _) => true,
-        _ => false,
-    }
-}
-
-// Whether a cell that is to hold such values may hold this one; an unset one it may.
-fn suits(wanted: Scalar, value: Value) -> bool
-    ensures { result ≡ S.suits wanted (seen value) }
-{
-    match (wanted, value) {
-        (_, Value::Unset) => true,
-        (Scalar::Int(wanted), Value::Int(kind, _)) => wanted == kind,
-        (Scalar::Pointer | Scalar::Code, Value::Null) => true,
-        (Scalar::Pointer, Value::At(..)) => true,
-        (Scalar::Code, Value::Code(_)) => true,
-        (Scalar::Cond, Value::Cond(_)) => true,
         _ => false,
     }
 }

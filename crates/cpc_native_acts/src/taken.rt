@@ -2,7 +2,7 @@
 ghost use Rattle.std.specs.Prelude.{◌≡◌, IfOk, OnOk, IfSome, Some, List, map, option_map, slice_get, true};
 ghost use Rattle.std.specs.List.{All};
 ghost use Rattle.std.specs.Result.{result_map_both};
-ghost use Rattle.cpc_tree.specs.Erase.{Names, expr_of, exprs_of};
+ghost use Rattle.cpc_tree.specs.Erase.{Names, exprs_of};
 ghost use Rattle.cpc_tree.specs.Primitives as P;
 ghost use Rattle.cpc_store.specs.Seen.{seen, IsLawful};
 ghost use Rattle.cpc_meaning.specs.Act as M;
@@ -14,7 +14,7 @@ ghost use Rattle.cpc_eval_index.specs.Indexed.{items_of};
 ghost use Rattle.cpc_eval.specs.Around.{context_of, IsToldIn};
 ghost use Rattle.cpc_eval.specs.Numbers.{AllNumbers};
 ghost use Rattle.cpc_eval.specs.Spots.{AreLawful};
-ghost use Rattle.cpc_native_builtins.specs.Builtins.{primitive_of};
+ghost use Rattle.cpc_tree.specs.PrimitiveNames.{primitive_of};
 ghost use Rattle.cpc_native_plans.specs.Stops.{MeetsOr, row_shown};
 ghost use Rattle.cpc_native_acts.specs.Taken.{are_taken, IsByte, IsLong, IsAskedWith};
 ghost use Rattle.cpc_native_plans.specs.Rows.{by_nth, taken, longs, asked_with, text_in};
@@ -24,10 +24,11 @@ use crate::fits::{are_long, are_taken};
 use cpc_base::{NoMemory, Stop};
 use cpc_eval::Around;
 use cpc_eval_values::{Taken, all_long, taken_as};
-use cpc_native_builtins::{Builtin, takes};
+use cpc_native_builtins::takes;
 use cpc_native_plans::{stopped, values};
 use cpc_num::{Fault, Kind};
 use cpc_store::Value;
+use cpc_tree::primitive::Primitive;
 use cpc_tree::program::Expr;
 use std::alloc::Global;
 
@@ -143,34 +144,24 @@ fn byte_values(alloc: Global, bytes: &[u8]) -> Result<Vec<Value>, NoMemory>
     Ok(row)
 }
 
-// The bytes of a string.
-fn text_of(e: &Expr) -> Option<&[u8]>
-    ensures { (names : Names) → option_map (λ bytes. bytes.now) result ≡ text_in (expr_of names e.now) }
-{
-    match e {
-        Expr::Text { bytes, .. } => Some(bytes),
-        _ => None,
-    }
-}
-
 // The bytes of a string that is the one argument.
 fn text_in(arguments: &[Expr]) -> Option<&[u8]>
     ensures { (names : Names) → option_map (λ bytes. bytes.now) result ≡ M.puts_text P.Puts (exprs_of names arguments.now) }
 {
     if arguments.len() == 1 {
-        text_of(&arguments[0])
+        arguments[0].text()
     } else {
         None
     }
 }
 
 // The bytes of the string of `cpc_puts`.
-fn puts_text(builtin: Builtin, arguments: &[Expr]) -> Option<&[u8]>
+fn puts_text(builtin: Primitive, arguments: &[Expr]) -> Option<&[u8]>
     ensures value { (names : Names) → option_map (λ bytes. bytes.now) result ≡ M.puts_text (primitive_of builtin) (exprs_of names arguments.now) }
     ensures puts { IfSome result (λ bytes. primitive_of builtin ≡ P.Puts) }
 {
     match builtin {
-        Builtin::Puts => text_in(arguments),
+        Primitive::Puts => text_in(arguments),
         _ => None,
     }
 }
@@ -180,7 +171,7 @@ fn puts_text(builtin: Builtin, arguments: &[Expr]) -> Option<&[u8]>
 /// The faults are those of `cpc_eval`, from left to right, and then `Unset` of the first that is to be set.
 pub(crate) fn asked_with<'a>(
     alloc: Global,
-    builtin: Builtin,
+    builtin: Primitive,
     arguments: &'a [Expr],
     around: &Around<'a>,
 ) -> Result<Vec<Value>, Stop<Fault>>
@@ -193,7 +184,7 @@ pub(crate) fn asked_with<'a>(
     match puts_text(builtin, arguments) {
         Some(bytes) => Ok(byte_values(alloc, bytes)?),
         None => match builtin {
-            Builtin::RtDetach => detached(alloc, arguments, around),
+            Primitive::RtDetach => detached(alloc, arguments, around),
             _ => taken(alloc, takes(builtin), arguments, around),
         },
     }

@@ -1,11 +1,11 @@
--- Programs whose code asks only for what the loop answers so far.
+-- Programs whose code asks only for what the loop answers.
 use Rattle.std.specs.Prelude.{◌≡◌, Bool, true, false, ◌&&◌, [], ◌∷◌, Option, Some, None}
 use Rattle.cpc_tree.specs.Syntax.{Expr, ENamed, Stmt, Block, Call, Detach, Spawn, If, While, DoWhile, For, Label, Stmts, NoStmt, AndStmt, MaybeStmt, Absent, Present, Function, Item, FunctionItem, Program}
 use Rattle.cpc_tree.specs.Primitives.{Primitive, Print, Putc, Puts, Now, CondNew, CondFree, Signal, SignalAll, Exit, Malloc, Free, RtFrame, RtBox, RtFrameFree, RtUnbox, RtReady, RtWait, RtSleep, RtIo, RtDetach, primitive_named}
 use Rattle.cpc_tree.specs.Points.{Found, Simple}
 use Rattle.cpc_native_builtins.specs.declared.call.Call as H
 use Rattle.cpc_native_builtins.specs.declared.call.Call.TheVariants as C
-use Rattle.cpc_native_builtins.specs.Builtins.{primitive_of}
+use Rattle.cpc_tree.specs.PrimitiveNames.{primitive_of}
 
 -- a primitive that the loop answers
 abbrev pub is_served : Primitive → Bool

@@ -1,13 +1,13 @@
 //! What the primitives take.
 ghost use Rattle.std.specs.Prelude.{◌≡◌, Some, map};
 ghost use Rattle.cpc_tree.specs.Primitives.{takes_first};
+ghost use Rattle.cpc_tree.specs.PrimitiveNames.{primitive_of};
 ghost use Rattle.cpc_eval_values.specs.Takes.{taken_of};
-ghost use Rattle.cpc_native_builtins.specs.Builtins.{primitive_of};
 
-use crate::builtins::Builtin;
 use cpc_eval_values::Taken;
 use cpc_num::Kind;
 use cpc_store::Scalar;
+use cpc_tree::primitive::Primitive;
 
 const LONG: Taken = Taken::SetOf(Scalar::Int(Kind::Long));
 
@@ -23,20 +23,22 @@ const FREE_POINTER: Taken = Taken::FreeOf(Scalar::Pointer);
 
 /// How a primitive takes its arguments, from left to right. `cpc_puts` takes a string besides, `rt_detach` a function and
 /// what that takes.
-pub fn takes(builtin: Builtin) -> &'static [Taken]
-    ensures { map Some result.now ≡ map taken_of (takes_first (primitive_of builtin)) }
+pub fn takes(primitive: Primitive) -> &'static [Taken]
+    ensures { map Some result.now ≡ map taken_of (takes_first (primitive_of primitive)) }
 {
-    match builtin {
-        Builtin::Print | Builtin::Putc => &[Taken::AnyInteger],
-        Builtin::Puts | Builtin::Now | Builtin::CondNew | Builtin::Yield => &[],
-        Builtin::CondFree | Builtin::Signal | Builtin::SignalAll | Builtin::Wait => &[CONDITION],
-        Builtin::Exit => &[INT],
-        Builtin::Malloc | Builtin::Sleep | Builtin::RtFrame | Builtin::RtBox => &[LONG],
-        Builtin::Free | Builtin::RtFrameFree | Builtin::RtUnbox => &[POINTER],
-        Builtin::IoWait => &[INT, INT],
-        Builtin::RtReady | Builtin::RtDetach => &[CALLBACK, FREE_POINTER],
-        Builtin::RtWait => &[CONDITION, CALLBACK, FREE_POINTER],
-        Builtin::RtSleep => &[LONG, CALLBACK, FREE_POINTER],
-        Builtin::RtIo => &[INT, INT, CALLBACK, FREE_POINTER],
+    match primitive {
+        Primitive::Print | Primitive::Putc => &[Taken::AnyInteger],
+        Primitive::Puts | Primitive::Now | Primitive::CondNew | Primitive::Yield => &[],
+        Primitive::CondFree | Primitive::Signal | Primitive::SignalAll | Primitive::Wait => &[
+            CONDITION,
+        ],
+        Primitive::Exit => &[INT],
+        Primitive::Malloc | Primitive::Sleep | Primitive::RtFrame | Primitive::RtBox => &[LONG],
+        Primitive::Free | Primitive::RtFrameFree | Primitive::RtUnbox => &[POINTER],
+        Primitive::IoWait => &[INT, INT],
+        Primitive::RtReady | Primitive::RtDetach => &[CALLBACK, FREE_POINTER],
+        Primitive::RtWait => &[CONDITION, CALLBACK, FREE_POINTER],
+        Primitive::RtSleep => &[LONG, CALLBACK, FREE_POINTER],
+        Primitive::RtIo => &[INT, INT, CALLBACK, FREE_POINTER],
     }
 }

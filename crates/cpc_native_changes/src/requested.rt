@@ -14,7 +14,7 @@ ghost use Rattle.cpc_native_points.specs.Finds.{found_of};
 ghost use Rattle.cpc_eval.specs.Around.{context_of, IsToldIn};
 ghost use Rattle.cpc_eval.specs.Numbers.{AllNumbers, FoundNumbers};
 ghost use Rattle.cpc_eval.specs.Spots.{AreLawful};
-ghost use Rattle.cpc_native_builtins.specs.Builtins.{primitive_of};
+ghost use Rattle.cpc_tree.specs.PrimitiveNames.{primitive_of};
 ghost use Rattle.cpc_native_plans.specs.Rows as W;
 ghost use Rattle.cpc_native_changes.specs.Foreseen.{Foresees, EntersOwnly, MakesSo, FreesSo, maker, freer, IsAlone};
 
@@ -22,10 +22,10 @@ use crate::changes::Change;
 use crate::looked::is_delivered;
 use cpc_eval::{Around, value};
 use cpc_eval_values::{Taken, taken_as};
-use cpc_native_builtins::Builtin;
 use cpc_native_points::Found;
 use cpc_num::Kind;
 use cpc_store::{Block, Class, Scalar, Value};
+use cpc_tree::primitive::Primitive;
 use cpc_tree::program::Expr;
 
 // The one argument as a primitive takes it, if it has a value that suits.
@@ -142,32 +142,32 @@ fn frees<'a>(class: Class, arguments: &'a [Expr], around: &Around<'a>) -> Change
 }
 
 // The class of the blocks that a primitive makes, if it makes any.
-fn class_made(builtin: Builtin) -> Option<Class>
-    ensures { result ≡ maker (primitive_of builtin) }
+fn class_made(primitive: Primitive) -> Option<Class>
+    ensures { result ≡ maker (primitive_of primitive) }
 {
-    match builtin {
-        Builtin::Malloc => Some(Class::Heap),
-        Builtin::RtFrame => Some(Class::Frame),
-        Builtin::RtBox => Some(Class::Auto),
+    match primitive {
+        Primitive::Malloc => Some(Class::Heap),
+        Primitive::RtFrame => Some(Class::Frame),
+        Primitive::RtBox => Some(Class::Auto),
         _ => None,
     }
 }
 
 // The class of the blocks that a primitive frees, if it frees any.
-fn class_freed(builtin: Builtin) -> Option<Class>
-    ensures { result ≡ freer (primitive_of builtin) }
+fn class_freed(primitive: Primitive) -> Option<Class>
+    ensures { result ≡ freer (primitive_of primitive) }
 {
-    match builtin {
-        Builtin::Free => Some(Class::Heap),
-        Builtin::RtFrameFree => Some(Class::Frame),
-        Builtin::RtUnbox => Some(Class::Auto),
+    match primitive {
+        Primitive::Free => Some(Class::Heap),
+        Primitive::RtFrameFree => Some(Class::Frame),
+        Primitive::RtUnbox => Some(Class::Auto),
         _ => None,
     }
 }
 
 /// A primitive is asked for with these arguments, by the call that stands there.
 pub(crate) fn requested<'a>(
-    builtin: Builtin,
+    builtin: Primitive,
     there: Found<'a>,
     arguments: &'a [Expr],
     around: &Around<'a>,

@@ -12,7 +12,7 @@ use Rattle.cpc_eval_values.specs.Shown.{value_of}
 use Rattle.cpc_eval.specs.Numbers.{AllNumbers}
 use Rattle.cpc_eval.specs.Shapes.{shape_of}
 use Rattle.cpc_eval.specs.Spots.{spot_of}
-use Rattle.cpc_native_builtins.specs.Builtins.{primitive_of}
+use Rattle.cpc_tree.specs.PrimitiveNames.{primitive_of}
 use Rattle.cpc_native_builtins.specs.Served.{IsServedCall}
 use Rattle.cpc_native_builtins.specs.declared.call.Call.{Call}
 use Rattle.cpc_native_builtins.specs.declared.call.Call.TheVariants as C

@@ -20,9 +20,10 @@ ghost use Rattle.cpc_native_plans.specs.Plans.{Lays, IsLawfulPlan, IsServedPlan,
 
 use crate::places::{aimed, aimed_at, returned, right_value, test_held};
 use cpc_base::{Name, Names};
+use cpc_check_rules::primitive_at;
 use cpc_eval::{Around, Shape, Spot, given, used_if, value};
 use cpc_eval_index::Meant;
-use cpc_native_builtins::{Call, builtin_at};
+use cpc_native_builtins::Call;
 use cpc_native_points::Found;
 use cpc_num::{Fault, Op};
 use cpc_store::Value;
@@ -156,7 +157,7 @@ fn calls_primitive<'a>(
     ensures lawful { IfOk result (λ p. IsLawfulPlan p) }
     ensures served { IfOk result (λ p. (names : Texts) → Spells texts.now names → calls_served (Y.ENamed (names name)) ≡ true → IsServedPlan p) }
 {
-    match builtin_at(texts, name) {
+    match primitive_at(texts, name) {
         Some(builtin) => Ok(Plan::Asks(Call::Builtin(builtin), arguments)),
         None => calls_value(function, arguments, around),
     }

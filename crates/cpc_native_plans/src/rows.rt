@@ -58,7 +58,7 @@ pub fn type_at(row: Row, i: usize) -> Option<&CType>
     }
 }
 
-/// The values of arguments, from left to right.
+/// The values of arguments, from left to right. `Memory` is want of memory.
 pub fn values<'a>(
     alloc: Global,
     arguments: &'a [Expr],
@@ -103,7 +103,7 @@ fn convert(row: Row, values: &mut [Value]) -> Result<(), Fault>
 
 /// The values of arguments for parameters of these types.
 ///
-/// The faults are those of `cpc_eval`, from left to right.
+/// The faults are those of `cpc_eval`, from left to right. `Memory` is want of memory.
 pub fn passed<'a>(
     alloc: Global,
     types: Row,

@@ -17,10 +17,11 @@ ghost use Rattle.cpc_native_sections.specs.Led.{LeadsTo, StaysWell, IsRunning, a
 
 use cpc_base::{Name, NoMemory};
 use cpc_native::{Machine, Request};
-use cpc_native_builtins::{Builtin, Call};
+use cpc_native_builtins::Call;
 use cpc_num::Fault;
 use cpc_sections::SectionEnd;
 use cpc_store::{Block, Class, Value};
+use cpc_tree::primitive::Primitive;
 use std::alloc::Global;
 
 // The most blocks, and the most cells of all blocks, of which a section has fewer.
@@ -144,8 +145,8 @@ pub(crate) fn asked(
         return Ok(Some(SectionEnd::Faulted(Fault::Code, function)));
     };
     match builtin {
-        Builtin::Malloc => allocates(alloc, machine, function, sole(&request.args)),
-        Builtin::Free => Ok(frees(alloc, machine, function, sole(&request.args))),
+        Primitive::Malloc => allocates(alloc, machine, function, sole(&request.args)),
+        Primitive::Free => Ok(frees(alloc, machine, function, sole(&request.args))),
         _ => Ok(Some(SectionEnd::Faulted(Fault::Code, function))),
     }
 }

@@ -10,7 +10,7 @@ ghost use Rattle.cpc_meaning.specs.Copies as C;
 ghost use Rattle.cpc_eval_values.specs.Shown.{value_of, store_of};
 ghost use Rattle.cpc_native.specs.Stops.{MeetsOr, row_shown};
 ghost use Rattle.cpc_run_globals.specs.Layouts.{AreLayouts};
-ghost use Rattle.cpc_native_sections.specs.Pointed.{pointee, pointed_type, or_named};
+ghost use Rattle.cpc_native_sections.specs.Pointed.{pointed_type, or_named};
 
 use cpc_base::{Name, Stop};
 use cpc_num::Fault;
@@ -47,22 +47,12 @@ fn defined(items: &[Item], name: Name) -> Option<&Function>
     None
 }
 
-// The type to which a type of pointers points.
-fn pointee(of: &CType) -> Option<&CType>
-    ensures { (names : Names) → option_map (λ t. type_of names t.now) result ≡ pointee (type_of names of.now) }
-{
-    match of {
-        CType::Pointer(target) => Some(target),
-        _ => None,
-    }
-}
-
 // The type to which the first parameter of a function points.
 fn pointed_type(function: &Function) -> Option<&CType>
     ensures { (names : Names) → option_map (λ t. type_of names t.now) result ≡ pointed_type (parameter_types (function_of names function.now)) }
 {
     match function.parameters.first() {
-        Some(parameter) => pointee(&parameter.of),
+        Some(parameter) => parameter.of.pointee(),
         None => None,
     }
 }

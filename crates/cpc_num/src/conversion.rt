@@ -29,6 +29,13 @@ fn rank(kind: Kind) -> u8
     }
 }
 
+/// Whether two kinds are one.
+pub fn same_kind(a: Kind, b: Kind) -> bool
+    ensures { result ≡ N.same_kind a b }
+{
+    rank(a) == rank(b)
+}
+
 /// The kind to which two operands are converted (C11 6.3.1.8).
 pub fn common(a: Kind, b: Kind) -> Kind
     ensures { result ≡ N.common a b }

@@ -8,6 +8,6 @@ mod kinds;
 mod laws;
 
 pub use arithmetic::{binary, negate};
-pub use conversion::{bits, common, convert, is_of, promoted};
+pub use conversion::{bits, common, convert, is_of, promoted, same_kind};
 pub use kinds::{Fault, Kind, Op};
 pub use laws::division_truncates;

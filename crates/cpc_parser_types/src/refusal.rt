@@ -6,8 +6,10 @@ ghost use Rattle.cpc_parser_types.specs.declared.refusal.Refusal.TheVariants.{Me
 use cpc_base::Place;
 use std::alloc::{AllocError, AllocFailed};
 
+/// The number of the fault that no program begins so.
 pub const SYNTAX: u8 = 1;
 
+/// The number of the fault that what is written nests too deep.
 pub const DEEP: u8 = 2;
 
 /// The fault of tokens that are no program.

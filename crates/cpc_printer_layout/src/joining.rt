@@ -2,13 +2,12 @@
 ghost use Rattle.std.specs.Prelude.{◌≡◌};
 ghost use Rattle.cpc_base.specs.declared.stop.Dialect.{Dialect};
 ghost use Rattle.cpc_tree.specs.Erase.{Names};
-ghost use Rattle.cpc_tree.specs.Pieces as S;
 ghost use Rattle.cpc_tree.specs.Tokens.{punctuator_spelling};
 ghost use Rattle.cpc_tree.specs.Spelling.{IsSpellable, spelling, joins};
 ghost use Rattle.cpc_printer_layout.specs.Sheets.{lexeme_of};
 
 use crate::sheet::Lexeme;
-use cpc_tree::token::Punctuator;
+use cpc_tree::token::{Punctuator, is_in_word};
 
 /// Whether the byte goes on the token, so that a blank must stand between them.
 #[tactic(auto, using(crate::proofs::SpelledJoins::joins_lexeme))]
@@ -16,7 +15,9 @@ pub(crate) fn joins(lexeme: &Lexeme, b: u8) -> bool
     ensures { (names : Names) (dialect : Dialect) → IsSpellable dialect (lexeme_of names lexeme.now) → joins (spelling (lexeme_of names lexeme.now)) b ≡ result }
 {
     match lexeme {
-        Lexeme::Keyword(_) | Lexeme::Name(_) | Lexeme::Filler | Lexeme::Integer(..) => in_word(b),
+        Lexeme::Keyword(_) | Lexeme::Name(_) | Lexeme::Filler | Lexeme::Integer(..) => is_in_word(
+            b,
+        ),
         Lexeme::Punctuator(mark) => joins_mark(*mark, b),
         Lexeme::Character(_) => false,
         Lexeme::Text(_) => false,
@@ -45,12 +46,4 @@ fn joins_mark(mark: Punctuator, b: u8) -> bool
         | Punctuator::ShiftRight => b == b'=',
         _ => false,
     }
-}
-
-/// A letter, a digit or `_`.
-#[tactic(auto, unfolding(cpc_tree::specs::Pieces::in_word))]
-fn in_word(b: u8) -> bool
-    ensures { result ≡ S.in_word b }
-{
-    b.is_ascii_alphanumeric() || b == b'_'
 }

@@ -80,7 +80,7 @@ impl Sheet {
         }
     }
 
-    /// Puts a token behind the others, after the blanks that were asked for.
+    /// Puts a token behind the others, after the blanks that were asked for. `NoMemory` is want of memory.
     pub fn put(&mut self, lexeme: Lexeme) -> Result<(), NoMemory>
         ensures row { OnOk result ((names : Names) → row_of names self.new ≡ row_of names self.old ++ lexeme_of names lexeme ∷ []) }
         ensures style { self.new.is_tight ≡ self.old.is_tight }
@@ -91,7 +91,7 @@ impl Sheet {
         Ok(())
     }
 
-    /// Puts a keyword behind the others.
+    /// Puts a keyword behind the others. `NoMemory` is want of memory.
     pub fn word(&mut self, word: Keyword) -> Result<(), NoMemory>
         ensures row { OnOk result ((names : Names) → row_of names self.new ≡ row_of names self.old ++ Word word ∷ []) }
         ensures style { self.new.is_tight ≡ self.old.is_tight }
@@ -99,7 +99,7 @@ impl Sheet {
         self.put(Lexeme::Keyword(word))
     }
 
-    /// Puts a punctuator behind the others.
+    /// Puts a punctuator behind the others. `NoMemory` is want of memory.
     pub fn mark(&mut self, mark: Punctuator) -> Result<(), NoMemory>
         ensures row { OnOk result ((names : Names) → row_of names self.new ≡ row_of names self.old ++ Mark mark ∷ []) }
         ensures style { self.new.is_tight ≡ self.old.is_tight }
@@ -107,7 +107,7 @@ impl Sheet {
         self.put(Lexeme::Punctuator(mark))
     }
 
-    /// Puts a name behind the others.
+    /// Puts a name behind the others. `NoMemory` is want of memory.
     pub fn name(&mut self, name: Name) -> Result<(), NoMemory>
         ensures row { OnOk result ((names : Names) → row_of names self.new ≡ row_of names self.old ++ Named (text_of names name) ∷ []) }
         ensures style { self.new.is_tight ≡ self.old.is_tight }
@@ -115,7 +115,7 @@ impl Sheet {
         self.put(Lexeme::Name(name))
     }
 
-    /// Puts a punctuator behind the others where it is needed.
+    /// Puts a punctuator behind the others where it is needed. `NoMemory` is want of memory.
     pub fn mark_if(&mut self, is_needed: bool, mark: Punctuator) -> Result<(), NoMemory>
         ensures row { OnOk result ((names : Names) → row_of names self.new ≡ row_of names self.old ++ cond is_needed (Mark mark ∷ []) []) }
         ensures style { self.new.is_tight ≡ self.old.is_tight }
@@ -126,7 +126,7 @@ impl Sheet {
         Ok(())
     }
 
-    /// Puts a punctuator with a blank on each side.
+    /// Puts a punctuator with a blank on each side. `NoMemory` is want of memory.
     pub fn between(&mut self, mark: Punctuator) -> Result<(), NoMemory>
         ensures row { OnOk result ((names : Names) → row_of names self.new ≡ row_of names self.old ++ Mark mark ∷ []) }
         ensures style { self.new.is_tight ≡ self.old.is_tight }

@@ -1,5 +1,5 @@
 //! How a token is spelled (C11 6.4).
-ghost use Rattle.std.specs.Prelude.{◌≡◌, ◌++◌, [], ◌∷◌, OnOk, decimal, flat_map};
+ghost use Rattle.std.specs.Prelude.{◌≡◌, ◌++◌, [], ◌∷◌, OnOk, flat_map};
 ghost use Rattle.cpc_tree.specs.Erase.{in_table};
 ghost use Rattle.cpc_tree.specs.Pieces.{quote_byte};
 ghost use Rattle.cpc_tree.specs.Spelling.{kind_suffix, byte_spelling, spelling};
@@ -8,7 +8,7 @@ ghost use Rattle.cpc_printer_layout.specs.Sheets.{lexeme_of};
 ghost use Rattle.cpc_printer_layout.specs.Layout.{quote_of};
 
 use crate::sheet::Lexeme;
-use cpc_base::{Names, NoMemory};
+use cpc_base::{Names, NoMemory, put_decimal};
 use cpc_num::Kind;
 
 /// What encloses a character, and what a string.
@@ -44,7 +44,7 @@ pub(crate) fn spell(out: &mut Vec<u8>, names: &Names, lexeme: &Lexeme) -> Result
         }
         Lexeme::Filler => out.push(b'_')?,
         Lexeme::Integer(kind, value) => {
-            decimal(out, value.unsigned_abs())?;
+            put_decimal(out, value.unsigned_abs())?;
             out.extend_from_slice(suffix(*kind))?;
         }
         Lexeme::Character(value) => literal(out, Quote::Single, &[value.rem_euclid(256) as u8])?,
@@ -63,17 +63,6 @@ fn suffix(kind: Kind) -> &'static [u8]
         Kind::Long => b"l",
         Kind::ULong => b"ul",
     }
-}
-
-/// Puts a number in decimal.
-fn decimal(out: &mut Vec<u8>, n: u128) -> Result<(), NoMemory>
-    ensures { OnOk result (out.new.items ≡ out.old.items ++ decimal n) }
-{
-    if n >= 10 {
-        decimal(out, n / 10)?;
-    }
-    out.push(b'0' + (n % 10) as u8)?;
-    Ok(())
 }
 
 /// Puts bytes between two quotes.

@@ -27,7 +27,8 @@ use Rattle.cpc_eval_values.specs.Shown.{value_of, values_of}
 use Rattle.cpc_run_code.specs.Stacks.{request_of}
 use Rattle.cpc_run_code.specs.Request as N
 use Rattle.cpc_run_code.specs.Stepped.TheVariants as X
-use Rattle.cpc_native_builtins.specs.Builtins.{asked_of, primitive_of}
+use Rattle.cpc_tree.specs.PrimitiveNames.{primitive_of}
+use Rattle.cpc_native_builtins.specs.Builtins.{asked_of}
 use Rattle.cpc_native_builtins.specs.declared.call.Call.{Call}
 use Rattle.cpc_native_builtins.specs.declared.call.Call.TheVariants as C
 use Rattle.cpc_run_code.specs.Laws.{AreOthers}

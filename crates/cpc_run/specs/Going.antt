@@ -18,7 +18,7 @@ use Rattle.cpc_meaning.specs.Section.{allocated}
 use Rattle.cpc_meaning.specs.Trees.{trees}
 use Rattle.cpc_meaning_laws.specs.Pointer.Made.{IsMadeCode}
 use Rattle.cpc_eval_values.specs.Shown.{value_of}
-use Rattle.cpc_native_builtins.specs.Builtins.{primitive_of}
+use Rattle.cpc_tree.specs.PrimitiveNames.{primitive_of}
 use Rattle.cpc_native_builtins.specs.declared.call.Call.{Call}
 use Rattle.cpc_native_builtins.specs.declared.call.Call.TheVariants as C
 use Rattle.cpc_run_code.specs.Laws.{AreOthers}

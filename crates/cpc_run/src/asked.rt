@@ -6,7 +6,7 @@ ghost use Rattle.cpc_check_rules.specs.Apart.{Spells};
 ghost use Rattle.cpc_tree.specs.Erase.{Names as Spelling};
 ghost use Rattle.cpc_tree.specs.Primitives as Q;
 ghost use Rattle.cpc_run_code.specs.NativeActsTaken.{IsAskedWith, IsCalledWith};
-ghost use Rattle.cpc_native_builtins.specs.Builtins.{primitive_of};
+ghost use Rattle.cpc_tree.specs.PrimitiveNames.{primitive_of};
 ghost use Rattle.cpc_native_builtins.specs.Served.{is_served, IsServedCall};
 ghost use Rattle.cpc_store.specs.Seen.{seen, IsLawful};
 ghost use Rattle.cpc_meaning.specs.Events.{callbacks};
@@ -23,11 +23,12 @@ ghost use Rattle.cpc_run.specs.Answers.{CameAnswered};
 use crate::looped::Loop;
 use cpc_base::{Name, Names, NoMemory};
 use cpc_hosts::{HostRule, HostTable, Kept};
-use cpc_native_builtins::{Builtin, Call};
+use cpc_native_builtins::Call;
 use cpc_run_code::Request;
 use cpc_run_jobs::Sections;
 use cpc_run_shown::{Outcome, put_output};
 use cpc_store::{Class, Value};
+use cpc_tree::primitive::Primitive;
 use std::alloc::{AllocError, Global};
 
 // A value modulo 256.
@@ -202,7 +203,7 @@ impl<'p> Loop<'p> {
         &mut self,
         alloc: Global,
         table: &Names,
-        builtin: Builtin,
+        builtin: Primitive,
         request: &Request,
         sections: &mut S,
         pending: &mut Vec<u8>,
@@ -221,28 +222,29 @@ impl<'p> Loop<'p> {
             → Did names result self.new (sent ++ pending.new.items) s (settles names self.old s (primitive (callbacks (program_in names self.old)) (primitive_of builtin) (values_of names request.now.args.items) (stack_in names self.old.machine) s)) }
     {
         match builtin {
-            Builtin::Print => self.print(alloc, request, pending),
-            Builtin::Putc => self.putc(alloc, request, pending),
-            Builtin::Puts => self.puts(alloc, request, pending),
-            Builtin::Now => self.tells_time(alloc, request),
-            Builtin::CondNew => self.makes_condition(alloc, request),
-            Builtin::CondFree => self.frees_condition(alloc, request),
-            Builtin::Signal => self.signals(alloc, request),
-            Builtin::SignalAll => self.signals_all(alloc, request),
-            Builtin::Exit => Ok(Some(self.exits(request))),
-            Builtin::Malloc => self.allocates(alloc, Class::Heap, request),
-            Builtin::Free => self.frees(alloc, Class::Heap, request),
-            Builtin::RtFrame => self.allocates(alloc, Class::Frame, request),
-            Builtin::RtBox => self.allocates(alloc, Class::Auto, request),
-            Builtin::RtFrameFree => self.frees(alloc, Class::Frame, request),
-            Builtin::RtUnbox => self.frees(alloc, Class::Auto, request),
-            Builtin::RtReady => self.readies(alloc, request),
-            Builtin::RtWait => self.waits(alloc, request, pending),
-            Builtin::RtSleep => self.sleeps(alloc, request, pending),
-            Builtin::RtIo => self.awaits(alloc, request, pending),
-            Builtin::RtDetach => self.detaches(alloc, table, request, sections, pending),
+            Primitive::Print => self.print(alloc, request, pending),
+            Primitive::Putc => self.putc(alloc, request, pending),
+            Primitive::Puts => self.puts(alloc, request, pending),
+            Primitive::Now => self.tells_time(alloc, request),
+            Primitive::CondNew => self.makes_condition(alloc, request),
+            Primitive::CondFree => self.frees_condition(alloc, request),
+            Primitive::Signal => self.signals(alloc, request),
+            Primitive::SignalAll => self.signals_all(alloc, request),
+            Primitive::Exit => Ok(Some(self.exits(request))),
+            Primitive::Malloc => self.allocates(alloc, Class::Heap, request),
+            Primitive::Free => self.frees(alloc, Class::Heap, request),
+            Primitive::RtFrame => self.allocates(alloc, Class::Frame, request),
+            Primitive::RtBox => self.allocates(alloc, Class::Auto, request),
+            Primitive::RtFrameFree => self.frees(alloc, Class::Frame, request),
+            Primitive::RtUnbox => self.frees(alloc, Class::Auto, request),
+            Primitive::RtReady => self.readies(alloc, request),
+            Primitive::RtWait => self.waits(alloc, request, pending),
+            Primitive::RtSleep => self.sleeps(alloc, request, pending),
+            Primitive::RtIo => self.awaits(alloc, request, pending),
+            Primitive::RtDetach => self.detaches(alloc, table, request, sections, pending),
             // Primitives of threads, for which no code of an event program asks.
-            Builtin::Yield | Builtin::Sleep | Builtin::IoWait | Builtin::Wait => unreachable!(),
+            Primitive::Yield | Primitive::Sleep | Primitive::IoWait | Primitive::Wait =>
+                unreachable!(),
         }
     }
 

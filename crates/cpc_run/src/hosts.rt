@@ -25,18 +25,9 @@ use cpc_num::Kind;
 use cpc_run_code::Request;
 use cpc_run_shown::{Outcome, put_host};
 use cpc_store::Value;
+use cpc_tree::names::text_of;
 use cpc_tree::program::{Item, Mode, Program};
 use std::alloc::Global;
-
-// The text of a name; one that is not in the table has none.
-fn text_of(names: &Names, name: Name) -> &[u8]
-    ensures { result.now ≡ in_table names.now name }
-{
-    match names.text(name) {
-        Some(text) => text,
-        None => b"",
-    }
-}
 
 // The name of an item that declares a function of the host which a table has not, with its arity.
 fn missing_item<R: HostRule>(names: &Names, item: &Item, hosts: &HostTable<R>) -> Option<Name>

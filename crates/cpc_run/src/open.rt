@@ -1,5 +1,5 @@
 //! The first state of a run.
-ghost use Rattle.std.specs.Prelude.{◌≡◌, [], ◌∷◌, None, Some, IsTrue, IfOk, IfSome, IfNone, bytes_eq, map, true, slice_get};
+ghost use Rattle.std.specs.Prelude.{◌≡◌, [], ◌∷◌, None, Some, IfOk, IfSome, IfNone, map, true, slice_get};
 ghost use Rattle.cpc_tree.specs.Erase.{Names as Spelling, in_table, item_of, program_of};
 ghost use Rattle.cpc_tree.specs.Syntax.{Function, Program as Bare};
 ghost use Rattle.cpc_tree.specs.Typing.{function_named};
@@ -21,19 +21,9 @@ use cpc_history_marks::Told;
 use cpc_run_code::{Code, Item};
 use cpc_run_globals::{Layouts, globals};
 use cpc_run_jobs::Jobs;
+use cpc_tree::names::is_main;
 use cpc_tree::program::{Item as Declared, Program};
 use std::alloc::Global;
-
-// Whether a name is that of `main`.
-fn is_main(names: &Names, name: Name) -> bool
-    ensures there { IsTrue result → slice_get names.now name.0 ≡ Some main_name }
-    ensures same { result ≡ bytes_eq (in_table names.now name) main_name }
-{
-    match names.text(name) {
-        Some(text) => text == b"main".as_slice(),
-        None => false,
-    }
-}
 
 // The name of `main`, where a function has it.
 fn main_of(program: &Program) -> Option<Name>

@@ -48,7 +48,7 @@ impl<'p> Code<'p> {
         Code { machine }
     }
 
-    /// A function is called, at the bottom of the stack.
+    /// A function is called, at the bottom of the stack. `NoMemory` is want of memory.
     pub fn call(&mut self, alloc: Global, function: Name, args: &[Value]) -> Result<(), NoMemory>
         requires lawful { All (λ v. IsLawful (seen v)) args.now }
         ensures items { (names : Spelling) → items_in names self.new ≡ items_in names self.old }
@@ -62,7 +62,7 @@ impl<'p> Code<'p> {
         self.machine.call(alloc, function, args)
     }
 
-    /// A step of the running code.
+    /// A step of the running code. `NoMemory` is want of memory.
     pub fn step(&mut self, alloc: Global) -> Result<Stepped, NoMemory>
         requires well { IsWell self.old }
         ensures items { (names : Spelling) → items_in names self.new ≡ items_in names self.old }
@@ -148,7 +148,7 @@ impl<'p> Code<'p> {
         self.machine.replace_store(store)
     }
 
-    /// Makes the next block of a class, its cells unset.
+    /// Makes the next block of a class, its cells unset. `NoMemory` is want of memory.
     pub fn alloc(&mut self, alloc: Global, class: Class, cells: u64) -> Result<Block, NoMemory>
         requires well { IsWell self.old }
         requires live { (names : Spelling) → S.store_cells (store_in names self.old) + cells < 2 ^ 63 }

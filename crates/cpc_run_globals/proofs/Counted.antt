@@ -1,8 +1,8 @@
 -- The cells of the store at the start are those of the globals.
-use Rattle.std.proofs.Common.{◌≡◌, ℕ, ◌+◌, ◌-◌, ◌^◌, ◌<◌, ◌≤◌, min, suc, List, [], ◌∷◌, length, drop, get_or, map, Option, Some, None, option_map, refl, sym, ap, subst, ◌∙◌, add-one, arith}
+use Rattle.std.proofs.Common.{◌≡◌, ℕ, ◌+◌, ◌-◌, ◌^◌, ◌<◌, ◌≤◌, min, suc, List, [], ◌∷◌, length, drop, get_or, map, Option, Some, None, option_map, refl, sym, ap, subst, ◌∙◌, arith}
 use Rattle.std.proofs.lemmas.List.{length-map, drop_all}
-use Rattle.std.proofs.Math.Seq.{drop-cons}
 use Rattle.cpc_base.specs.Bytes.{Text}
+use Rattle.cpc_base.proofs.Lists.{drop_to_item}
 use Rattle.cpc_num.specs.declared.kinds.Kind.{Kind}
 use Rattle.cpc_store.specs.declared.values.Class.TheVariants.{Static}
 use Rattle.cpc_store.specs.declared.values.Scalar.{Scalar}
@@ -14,6 +14,7 @@ use Rattle.cpc_tree.specs.Syntax.{Ty, Expr, ENamed, EInteger, ECharacter, EText,
 use Rattle.cpc_tree.specs.declared.program.Item as I
 use Rattle.cpc_tree.specs.declared.program.UnaryOp.TheVariants.{Minus, Plus, Not, Complement, Dereference, AddressOf}
 use Rattle.cpc_tree.specs.Typing.{Cells, cells, ◌>>=◌}
+use Rattle.cpc_tree.proofs.Counted.{present_step, absent_step}
 use Rattle.cpc_meaning.specs.Answer.{Answer, Gives, Faults, NoAnswer, needed, ◌>>=◌ as ◌>>>◌}
 use Rattle.cpc_meaning.specs.Layout.{scalar_of, scalars}
 use Rattle.cpc_meaning.specs.Start.{zero_of, text_over, start_cells, make_globals, globals}
@@ -175,23 +176,6 @@ empty_stored (Faults fault) (Some n) h e = absurd h
 
 -- ---- where one is incomplete
 
-absent_step : (o r : Option ℕ) (total : ℕ) → None ≡ option_map capped o → option_map (λ n. capped (total + n)) (o >>= (λ (m : ℕ). r >>= (λ (n : ℕ). Some (m + n)))) ≡ None
-absent_step None r total e = refl
-absent_step (Some m) r total e = cc
-
--- one that is complete is counted, and what is left is behind it
-present_step : (o r : Option ℕ) (total count : ℕ) → Some count ≡ option_map capped o
-    → option_map (λ n. capped (total + n)) (o >>= (λ (m : ℕ). r >>= (λ (n : ℕ). Some (m + n)))) ≡ option_map (λ n. capped (capped (total + count) + n)) r
-present_step None r total count e = cc
-present_step (Some m) None total count e = refl
-present_step (Some m) (Some n) total count e =
-    let f : count ≡ capped m = cc in
-    let g : capped (total + (m + n)) ≡ capped (capped (total + count) + n) = omega (arith, f) in
-    ap Some g
-
-next_item : (items : List I.Item) (i : ℕ) (x : I.Item) → i < length items → x ≡ get_or items i x → drop i items ≡ x ∷ drop (i + 1) items
-next_item items i x h is = drop-cons items i x h ∙ ap (λ y. y ∷ drop (suc i) items) (sym is) ∙ ap (λ j. x ∷ drop j items) (sym (add-one i))
-
 module _ (names : Names) (items indexed : List I.Item) (same : indexed ≡ items) (i : ℕ) (x : I.Item) (total : ℕ) (lt : i < length items) (is : x ≡ get_or items i x) where
   abbrev pub whole : Program
   whole = map (item_of names) items
@@ -203,7 +187,7 @@ module _ (names : Names) (items indexed : List I.Item) (same : indexed ≡ items
   none_stored before e =
       let here : None ≡ option_map capped (item_cells whole (item_of names x)) = subst (λ (xs : List I.Item). None ≡ option_map capped (item_cells (map (item_of names) xs) (item_of names x))) same e in
       let left : option_map (λ n. capped (total + n)) (all_cells whole (map (item_of names) (drop i items))) ≡ None =
-      ap (λ xs. option_map (λ n. capped (total + n)) (all_cells whole (map (item_of names) xs))) (next_item items i x lt is)
+      ap (λ xs. option_map (λ n. capped (total + n)) (all_cells whole (map (item_of names) xs))) (drop_to_item items i x lt is)
       ∙ absent_step (item_cells whole (item_of names x)) (all_cells whole (map (item_of names) (drop (i + 1) items))) total here in
       empty_stored (make_globals whole whole empty_store) (all_cells whole whole) (adds_all whole whole empty_store) (before ∙ left)
 
@@ -213,5 +197,5 @@ module _ (names : Names) (items indexed : List I.Item) (same : indexed ≡ items
       → option_map capped (all_cells whole whole) ≡ option_map (λ n. capped (capped (total + count) + n)) (all_cells whole (map (item_of names) (drop (i + 1) items)))
   next_stored count before e =
       let here : Some count ≡ option_map capped (item_cells whole (item_of names x)) = subst (λ (xs : List I.Item). Some count ≡ option_map capped (item_cells (map (item_of names) xs) (item_of names x))) same e in
-      before ∙ ap (λ xs. option_map (λ n. capped (total + n)) (all_cells whole (map (item_of names) xs))) (next_item items i x lt is)
+      before ∙ ap (λ xs. option_map (λ n. capped (total + n)) (all_cells whole (map (item_of names) xs))) (drop_to_item items i x lt is)
       ∙ present_step (item_cells whole (item_of names x)) (all_cells whole (map (item_of names) (drop (i + 1) items))) total count here

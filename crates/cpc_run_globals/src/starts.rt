@@ -6,7 +6,7 @@ ghost use Rattle.cpc_store.specs.Seen.{seen, IsLawful};
 ghost use Rattle.cpc_tree.specs.Erase.{Names, expr_of};
 ghost use Rattle.cpc_meaning.specs.Start as M;
 ghost use Rattle.cpc_eval_values.specs.Shown.{value_of, values_of};
-ghost use Rattle.cpc_run_globals.specs.Starts.{text_in, text_cell, only_kind, minus_number, start_number, number_cells};
+ghost use Rattle.cpc_run_globals.specs.Starts.{text_cell, only_kind, minus_number, start_number, number_cells};
 
 use cpc_base::NoMemory;
 use cpc_num::{Kind, convert};
@@ -118,16 +118,6 @@ fn number_cells(alloc: Global, kind: Kind, number: Option<i128>) -> Result<Vec<V
     Ok(cells)
 }
 
-// The bytes of a string.
-fn text_in(start: &Expr) -> Option<&[u8]>
-    ensures { (names : Names) → option_map (λ bytes. bytes.now) result ≡ text_in (expr_of names start.now) }
-{
-    match start {
-        Expr::Text { bytes, .. } => Some(bytes),
-        _ => None,
-    }
-}
-
 // The kind of an integer that is the only cell.
 fn only_kind(row: &[Scalar]) -> Option<Kind>
     ensures { result ≡ only_kind row.now }
@@ -143,7 +133,7 @@ fn written(alloc: Global, start: &Expr, row: &[Scalar]) -> Result<Vec<Value>, No
     ensures value { IfOk result (λ cells. (names : Names) → values_of names cells.items ≡ M.start_cells (Some (expr_of names start.now)) row.now) }
     ensures lawful { IfOk result (λ cells. All (λ v. IsLawful (seen v)) cells.items) }
 {
-    match text_in(start) {
+    match start.text() {
         Some(bytes) => text_cells(alloc, bytes, row),
         None => match only_kind(row) {
             Some(kind) => number_cells(alloc, kind, number(start, kind)),

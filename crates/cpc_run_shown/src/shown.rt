@@ -27,7 +27,7 @@ fn put_line(alloc: Global, mark: &Mark, pending: &mut Vec<u8>) -> Result<(), NoM
     Ok(())
 }
 
-/// What goes out for bytes that are output.
+/// What goes out for bytes that are output. `NoMemory` is want of memory.
 pub fn put_output(
     trace: bool,
     alloc: Global,
@@ -45,7 +45,8 @@ pub fn put_output(
     put_line(alloc, &Mark::Out(bytes), pending)
 }
 
-/// What goes out for a sleep, a wait on a condition or a wait for a descriptor: its line, where a trace is wanted.
+/// What goes out for a sleep, a wait on a condition or a wait for a descriptor: its line, where a trace is wanted. `NoMemory` is want of
+/// memory.
 pub fn put_wait(
     trace: bool,
     alloc: Global,
@@ -62,7 +63,7 @@ pub fn put_wait(
 }
 
 /// What goes out for a call of a function of the host, by its name, its arguments and its answer: its line, where a trace is
-/// wanted.
+/// wanted. `NoMemory` is want of memory.
 pub fn put_host(
     trace: bool,
     alloc: Global,
@@ -81,6 +82,7 @@ pub fn put_host(
 }
 
 /// What goes out for a section that is submitted, by its number and the name of its function: its line, where a trace is wanted.
+/// `NoMemory` is want of memory.
 pub fn put_section(
     trace: bool,
     alloc: Global,
@@ -97,7 +99,7 @@ pub fn put_section(
     put_line(alloc, &Mark::Section(number, name), pending)
 }
 
-/// What goes out for the first of these polls, which is taken: its line, where a trace is wanted.
+/// What goes out for the first of these polls, which is taken: its line, where a trace is wanted. `NoMemory` is want of memory.
 pub fn put_poll(
     trace: bool,
     alloc: Global,

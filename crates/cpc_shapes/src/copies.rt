@@ -52,7 +52,7 @@ fn copies_of(alloc: Global, list: &[CType]) -> Result<Vec<CType>, NoMemory>
     Ok(copies)
 }
 
-/// The type of a pointer to this.
+/// The type of a pointer to a copy of this type. `NoMemory` is want of memory.
 pub fn pointer_to(alloc: Global, of: &CType) -> Result<CType, NoMemory>
     ensures { IfOk result (λ pointer. (names : Names) → type_of names pointer ≡ TyPointer (type_of names of.now)) }
 {

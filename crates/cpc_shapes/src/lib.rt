@@ -8,6 +8,5 @@ mod shapes;
 pub use copies::{copy_of, pointer_to};
 pub use named::is_named;
 pub use shapes::{
-    is_condvar, is_reference, is_testable, is_void, kind_of, pointee, same_kind, same_type,
-    signature, tag_of,
+    is_condvar, is_reference, is_testable, is_void, kind_of, same_type, signature, tag_of,
 };

@@ -3,33 +3,12 @@ ghost use Rattle.std.specs.Prelude.{◌≡◌, ◌==◌, option_map};
 ghost use Rattle.cpc_tree.specs.Erase.{Names, type_of};
 ghost use Rattle.cpc_check_rules.specs.Apart.{AreApart};
 ghost use Rattle.cpc_shapes.specs.Listed.{listed_of};
-ghost use Rattle.cpc_num.specs.Number as N;
 ghost use Rattle.cpc_tree.specs.Typing as T;
 ghost use Rattle.cpc_shapes.specs.Shapes.{is_void, is_condvar, element, code_parts};
 
 use cpc_base::Name;
-use cpc_num::Kind;
+use cpc_num::{Kind, same_kind};
 use cpc_tree::program::CType;
-
-fn rank(kind: Kind) -> u8
-    ensures { result ≡ N.rank kind }
-{
-    match kind {
-        Kind::Char => 0,
-        Kind::UChar => 1,
-        Kind::Int => 2,
-        Kind::UInt => 3,
-        Kind::Long => 4,
-        Kind::ULong => 5,
-    }
-}
-
-/// Whether two kinds are one.
-pub fn same_kind(a: Kind, b: Kind) -> bool
-    ensures { result ≡ N.same_kind a b }
-{
-    rank(a) == rank(b)
-}
 
 /// Whether a type is `void`.
 pub fn is_void(of: &CType) -> bool
@@ -51,7 +30,7 @@ pub fn is_condvar(of: &CType) -> bool
     }
 }
 
-/// The kind of an integer type.
+/// The kind of an integer type; of any other type nothing.
 pub fn kind_of(of: &CType) -> Option<Kind>
     ensures { (names : Names) → result ≡ T.integer (type_of names of.now) }
 {
@@ -61,17 +40,7 @@ pub fn kind_of(of: &CType) -> Option<Kind>
     }
 }
 
-/// What a pointer type points to.
-pub fn pointee(of: &CType) -> Option<&CType>
-    ensures { (names : Names) → option_map (λ to. type_of names to.now) result ≡ T.target (type_of names of.now) }
-{
-    match of {
-        CType::Pointer(to) => Some(to),
-        _ => None,
-    }
-}
-
-/// The tag of a struct type.
+/// The tag of a struct type; of any other type nothing.
 pub fn tag_of(of: &CType) -> Option<Name>
     ensures { (names : Names) → option_map names result ≡ T.struct_tag (type_of names of.now) }
 {
@@ -91,7 +60,7 @@ fn elements(of: &CType) -> Option<(&CType, u64)>
     }
 }
 
-/// The result and the parameters of a code type.
+/// The result and the parameters of a code type; of any other type nothing.
 #[tactic(auto, using(std::proofs::lemmas::Grind::common_steps, crate::proofs::CodeParts::code_is))]
 pub fn signature(of: &CType) -> Option<(&CType, &[CType])>
     ensures { (names : Names) → option_map (λ a. (type_of names a.0.now, listed_of names a.1.now)) result ≡ code_parts (type_of names of.now) }
@@ -105,7 +74,7 @@ pub fn signature(of: &CType) -> Option<(&CType, &[CType])>
     }
 }
 
-/// Whether integers, pointers and codes: types whose values can be tested.
+/// Whether values of the type can be tested: integers and pointers, to functions too (C11 6.8.4.1).
 pub fn is_testable(of: &CType) -> bool
     ensures { (names : Names) → result ≡ T.is_testable (type_of names of.now) }
 {
@@ -117,7 +86,7 @@ pub fn is_testable(of: &CType) -> bool
     }
 }
 
-/// Whether pointers and codes: types beside which a literal 0 is null.
+/// Whether the type is a pointer, to a function too: beside it a literal 0 is null (C11 6.3.2.3).
 pub fn is_reference(of: &CType) -> bool
     ensures { (names : Names) → result ≡ T.is_reference (type_of names of.now) }
 {
@@ -141,7 +110,7 @@ pub fn same_type(a: &CType, b: &CType) -> bool
             None => false,
         },
         CType::Condvar => is_condvar(b),
-        CType::Pointer(t) => match pointee(b) {
+        CType::Pointer(t) => match b.pointee() {
             Some(u) => same_type(t, u),
             None => false,
         },

@@ -39,10 +39,11 @@ where
     ensures answer { IfOk result (λ report.
         Wrote (O.taken out.old) (O.taken out.new) (λ o. Wrote (E.taken err.old) (E.taken err.new) (λ e.
         Answer (map string_bytes words.now) (host_of standard_names StandardAnswers) (F.files shelf.old)
-        (rises (record { shelf = F.faults shelf.old; out = O.faults out.old; err = E.faults err.old })
-        (record { shelf = F.faults shelf.new; out = O.faults out.new; err = E.faults err.new }))
+        (rises (record { shelf = F.faults shelf.old; asked = F.asked shelf.old; out = O.faults out.old; err = E.faults err.old })
+        (record { shelf = F.faults shelf.new; asked = F.asked shelf.new; out = O.faults out.new; err = E.faults err.new }))
         report o e))) }
     ensures silent { OnErr result ((O.taken out.new ≡ O.taken out.old) × (E.taken err.new ≡ E.taken err.old)) }
+    ensures stays { F.files shelf.new ≡ F.files shelf.old }
     ensures asked { MatchResult result (λ report. AsksUpTo (F.asked shelf.old) (F.asked shelf.new) (words_end (map string_bytes words.now) (tells_early report.status)))
         (λ _. F.asked shelf.new ≡ F.asked shelf.old) }
 {
@@ -104,10 +105,11 @@ where
     ensures answer { IfOk result (λ report.
         Wrote (O.taken out.old) (O.taken out.new) (λ o. Wrote (E.taken err.old) (E.taken err.new) (λ e.
         Answer (map string_bytes words.now) (host_of standard_names StandardAnswers) (F.files shelf.old)
-        (rises (record { shelf = F.faults shelf.old; out = O.faults out.old; err = E.faults err.old })
-        (record { shelf = F.faults shelf.new; out = O.faults out.new; err = E.faults err.new }))
+        (rises (record { shelf = F.faults shelf.old; asked = F.asked shelf.old; out = O.faults out.old; err = E.faults err.old })
+        (record { shelf = F.faults shelf.new; asked = F.asked shelf.new; out = O.faults out.new; err = E.faults err.new }))
         report o e))) }
     ensures silent { OnErr result ((O.taken out.new ≡ O.taken out.old) × (E.taken err.new ≡ E.taken err.old)) }
+    ensures stays { F.files shelf.new ≡ F.files shelf.old }
     ensures asked { MatchResult result (λ report. AsksUpTo (F.asked shelf.old) (F.asked shelf.new) (words_end (map string_bytes words.now) (tells_early report.status)))
         (λ _. F.asked shelf.new ≡ F.asked shelf.old) }
 {

@@ -110,8 +110,8 @@ impl Blocks {
     }
 }
 
-/// Whether a value is one of the scalar, or unset.
-fn fits(wanted: Scalar, value: Value) -> bool
+/// Whether a cell that is to hold values of the scalar may hold this one; an unset one it may.
+pub fn suits(wanted: Scalar, value: Value) -> bool
     ensures { result ≡ S.suits wanted (seen value) }
 {
     match (wanted, value) {
@@ -134,7 +134,7 @@ fn load_cell(cells: &Vec<Value>, offset: u64, wanted: Scalar) -> Result<Value, F
         return Err(Fault::Bounds);
     }
     let value = cells[offset as usize];
-    if fits(wanted, value) {
+    if suits(wanted, value) {
         Ok(value)
     } else {
         Err(Fault::Kind)

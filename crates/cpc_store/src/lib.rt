@@ -6,5 +6,6 @@ mod classes;
 mod store;
 mod values;
 
+pub use blocks::suits;
 pub use store::Store;
 pub use values::{Block, Class, Scalar, Value};

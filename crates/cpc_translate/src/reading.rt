@@ -1,5 +1,5 @@
 //! A text as a program that breaks no rule.
-ghost use Rattle.std.specs.Prelude.{◌≡◌, ◌<◌, All, IfOk, Err};
+ghost use Rattle.std.specs.Prelude.{◌≡◌, ◌≢◌, ◌<◌, All, IfOk, Err};
 ghost use Rattle.cpc_base.specs.declared.stop.Stop.TheVariants.{Fault};
 ghost use Rattle.cpc_tree.specs.Erase.{program_of};
 ghost use Rattle.cpc_tree.specs.Grammar.{Parses};
@@ -7,10 +7,12 @@ ghost use Rattle.cpc_tree.specs.Locate.{located};
 ghost use Rattle.cpc_tree.specs.Located.{LProgram, bare};
 ghost use Rattle.cpc_check.specs.Accepted.{Accepts, IsWithin};
 ghost use Rattle.cpc_translate.specs.Refusals.{IsTextFault, uncut_as, unread_as};
+ghost use Rattle.cpc_check_rules.specs.declared.first.Breach.{Breach};
 ghost use Rattle.cpc_translate.specs.declared.fault.TextFault.{TextFault};
+ghost use Rattle.cpc_translate.specs.declared.fault.TextFault.TheVariants.{Check};
 
 use crate::fault::TextFault;
-use cpc_base::{Dialect, Names, NoMemory, Stop};
+use cpc_base::{Dialect, Names, NoMemory, Stop, are_bytes};
 use cpc_check::{Checked, check};
 use cpc_lexer::{LexFault, end_of_text, tokens};
 use cpc_parser::parse;
@@ -47,6 +49,8 @@ pub(crate) fn parsed(
     ensures program { IfOk result (λ p. Parses dialect text.now (located p)) }
     ensures within { IfOk result (λ p. IsWithin p) }
     ensures refused { (fault : TextFault) → result ≡ Err (Fault fault) → IsTextFault dialect text.now fault }
+    // It is refused for no rule.
+    ensures ruled { (breach : Breach) → result ≢ Err (Fault (Check breach)) }
 {
     let mut names = Names::new(alloc);
     let tokens = match tokens(alloc, text, dialect, &mut names) {
@@ -56,15 +60,6 @@ pub(crate) fn parsed(
     match parse(alloc, tokens.as_slice(), end_of_text(text), dialect, names) {
         Ok(program) => Ok(program),
         Err(stop) => Err(unread(stop)),
-    }
-}
-
-// Walks over a text, of which each element is a byte.
-fn are_bytes(text: &[u8])
-    ensures { All (λ b. b < 256) text.now }
-{
-    for byte in text {
-        let _byte = *byte;
     }
 }
 

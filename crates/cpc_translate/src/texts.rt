@@ -1,5 +1,5 @@
 //! What a text is, told without its program.
-ghost use Rattle.std.specs.Prelude.{◌≡◌, IfOk, OnOk, Err};
+ghost use Rattle.std.specs.Prelude.{◌≡◌, ◌≢◌, IfOk, OnOk, Err};
 ghost use Rattle.cpc_base.specs.declared.stop.Stop.TheVariants.{Fault};
 ghost use Rattle.cpc_tree.specs.Erase.{program_of};
 ghost use Rattle.cpc_tree.specs.Grammar.{Parses};
@@ -8,7 +8,9 @@ ghost use Rattle.cpc_tree.specs.declared.program.Program.{Program};
 ghost use Rattle.cpc_printer.specs.Style.{IsPrint};
 ghost use Rattle.cpc_check.specs.Accepted.{Accepts};
 ghost use Rattle.cpc_translate.specs.Refusals.{IsTextFault};
+ghost use Rattle.cpc_check_rules.specs.declared.first.Breach.{Breach};
 ghost use Rattle.cpc_translate.specs.declared.fault.TextFault.{TextFault};
+ghost use Rattle.cpc_translate.specs.declared.fault.TextFault.TheVariants.{Check};
 
 use crate::fault::TextFault;
 use crate::reading::{parsed, read};
@@ -39,6 +41,8 @@ pub fn accept(alloc: Global, text: &[u8], dialect: Dialect) -> Result<(), Stop<T
 pub fn laid_out(alloc: Global, text: &[u8], dialect: Dialect) -> Result<Vec<u8>, Stop<TextFault>>
     ensures printed { IfOk result (λ bytes. (p : Program) × (Parses dialect text.now (located p) × IsPrint bytes.items (program_of p))) }
     ensures refused { (fault : TextFault) → result ≡ Err (Fault fault) → IsTextFault dialect text.now fault }
+    // It is refused for no rule.
+    ensures ruled { (breach : Breach) → result ≢ Err (Fault (Check breach)) }
 {
     let program = parsed(alloc, text, dialect)?;
     match print(alloc, &program) {

@@ -14,3 +14,6 @@ pub mod Holding
 pub mod Named
 pub mod Options
 pub mod TypeRows
+pub mod Texts
+pub mod PrimitiveNames
+pub mod Counted

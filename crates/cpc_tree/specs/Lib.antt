@@ -9,6 +9,7 @@ pub mod Spelling
 pub mod Lists
 pub mod Typing
 pub mod Primitives
+pub mod PrimitiveNames
 pub mod Points
 pub mod Registers
 pub mod Trace

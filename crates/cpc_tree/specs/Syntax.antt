@@ -1,10 +1,11 @@
 -- Programs without places, in which each name is its text. Two programs are equal where these are.
-use Rattle.std.specs.Prelude.{ℕ, List, Option, ℤ, Some, None}
+use Rattle.std.specs.Prelude.{ℕ, Bool, true, false, List, Option, ℤ, Some, None}
 use Rattle.cpc_base.specs.Bytes.{Text}
 use Rattle.cpc_num.specs.declared.kinds.Kind.{Kind}
 use Rattle.cpc_num.specs.declared.kinds.Op.{Op}
 use Rattle.cpc_tree.specs.declared.program.UnaryOp.{UnaryOp}
 use Rattle.cpc_tree.specs.declared.program.Mode.{Mode}
+use Rattle.cpc_tree.specs.declared.program.Mode.TheVariants.{Cps}
 
 mutual
   pub data Ty : Type 0 where
@@ -96,6 +97,11 @@ pub data Item : Type 0 where
 -- a program is its items in order
 abbrev pub Program : Type 0
 Program = List Item
+
+-- whether a mode is cps
+abbrev pub is_cps_mode : Mode → Bool
+is_cps_mode Cps = true
+is_cps_mode _ = false
 
 -- the bytes of a string
 abbrev pub text_in : Expr → Option Text

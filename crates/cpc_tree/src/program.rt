@@ -1,7 +1,8 @@
 //! The trees of a program: each node with its place, each name by its number in the program's table.
 ghost use Rattle.std.specs.Prelude.{◌≡◌, IfOk, map, option_map};
 ghost use Rattle.cpc_tree.specs.Erase as E;
-ghost use Rattle.cpc_tree.specs.Erase.{type_of};
+ghost use Rattle.cpc_tree.specs.Erase.{type_of, expr_of};
+ghost use Rattle.cpc_tree.specs.Syntax.{is_cps_mode, text_in};
 ghost use Rattle.cpc_tree.specs.Typing as T;
 ghost use Rattle.cpc_tree.specs.Typing.{APlace};
 
@@ -35,12 +36,24 @@ pub enum UnaryOp {
 pub enum Mode {
     /// A function of the host, of which there are prototypes alone.
     Extern,
-    /// An ordinary function: it never gives up the processor.
+    /// An ordinary function: it never waits.
     Native,
-    /// A function that may give up the processor; it is called from such functions, or started as a thread.
+    /// A function that may wait; it is called from such functions, or started as a thread.
     Cps,
     /// A function that may run beside the others, in a worker, on a copy of cells.
     Detached,
+}
+
+impl Mode {
+    /// Whether the functions of the mode may wait.
+    pub fn is_cps(self) -> bool
+        ensures { result ≡ is_cps_mode self }
+    {
+        match self {
+            Mode::Cps => true,
+            Mode::Extern | Mode::Native | Mode::Detached => false,
+        }
+    }
 }
 
 /// A type of the language (C11 6.2.5).
@@ -80,6 +93,26 @@ impl Drop for CType {
 }
 
 impl CType {
+    /// Whether the type is scalar: a value of it fills one cell.
+    pub fn is_scalar(&self) -> bool
+        ensures { (names : E.Names) → result ≡ T.is_scalar (type_of names self.now) }
+    {
+        match self {
+            CType::Int(_) | CType::Condvar | CType::Pointer(_) | CType::Code { .. } => true,
+            CType::Void | CType::Struct(_) | CType::Array(_, _) => false,
+        }
+    }
+
+    /// What a pointer type points to, as a part of it; of any other type nothing.
+    pub fn pointee(&self) -> Option<&CType>
+        ensures { (names : E.Names) → option_map (λ to. type_of names to.now) result ≡ T.target (type_of names self.now) }
+    {
+        match self {
+            CType::Pointer(to) => Some(to),
+            _ => None,
+        }
+    }
+
     /// What a pointer type points to; of any other type nothing.
     pub fn target(self) -> Option<CType>
         ensures { (names : E.Names) → option_map (type_of names) result ≡ T.target (type_of names self) }
@@ -120,6 +153,18 @@ impl CType {
     {
         match self {
             CType::Code { result, parameters } => Some((result, parameters)),
+            _ => None,
+        }
+    }
+}
+
+impl Expr {
+    /// The bytes of a string; of any other expression nothing.
+    pub fn text(&self) -> Option<&[u8]>
+        ensures { (names : E.Names) → option_map (λ bytes. bytes.now) result ≡ text_in (expr_of names self.now) }
+    {
+        match self {
+            Expr::Text { bytes, .. } => Some(bytes),
             _ => None,
         }
     }

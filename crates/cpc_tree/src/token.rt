@@ -1,5 +1,6 @@
 //! Tokens: what a text is cut into.
 ghost use Rattle.std.specs.Prelude.{◌≡◌};
+ghost use Rattle.cpc_tree.specs.Pieces.{in_word};
 ghost use Rattle.cpc_tree.specs.Tokens.{keyword_spelling, punctuator_spelling};
 
 use cpc_base::{Name, Place};
@@ -392,6 +393,14 @@ pub enum TokenKind {
     Character(i128),
     /// A string literal (C11 6.4.5), by its bytes without a final zero.
     Text(Vec<u8>),
+}
+
+/// Whether a byte may stand in a name: a letter, a digit or `_` (C11 6.4.2).
+#[tactic(auto, unfolding(crate::specs::Pieces::in_word))]
+pub fn is_in_word(b: u8) -> bool
+    ensures { result ≡ in_word b }
+{
+    b.is_ascii_alphanumeric() || b == b'_'
 }
 
 /// A token, and where its first byte stands.

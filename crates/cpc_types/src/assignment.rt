@@ -9,7 +9,7 @@ use crate::expressions::typing;
 use crate::operators::{are_alike, is_null, used};
 use crate::scope::Scope;
 use cpc_base::NoMemory;
-use cpc_shapes::{is_condvar, kind_of, pointee, same_type};
+use cpc_shapes::{is_condvar, kind_of, same_type};
 use cpc_tree::program::{CType, Expr};
 use std::alloc::Global;
 
@@ -20,7 +20,7 @@ pub fn takes_value(t: &CType, null: bool, u: &CType) -> bool
 {
     match t {
         CType::Int(_) => kind_of(u).is_some(),
-        CType::Pointer(to) => match pointee(u) {
+        CType::Pointer(to) => match u.pointee() {
             Some(other) => null || are_alike(to, other),
             None => null,
         },

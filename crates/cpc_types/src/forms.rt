@@ -35,7 +35,7 @@ fn can_move(t: &CType, u: &CType, scope: &Scope) -> bool
     }
 }
 
-/// An operator on one operand. `named` tells whether it is a name.
+/// An operator on one operand. `named` tells whether it is a name. `NoMemory` is want of memory.
 pub fn unary_form(
     alloc: Global,
     op: UnaryOp,
@@ -56,7 +56,7 @@ pub fn unary_form(
     }
 }
 
-/// An operator on two operands. `nulls` tells which of them are the literal 0.
+/// An operator on two operands. `nulls` tells which of them are the literal 0. `NoMemory` is want of memory.
 pub fn binary_form(
     alloc: Global,
     op: Op,
@@ -143,7 +143,7 @@ fn chosen(nulls: (bool, bool), t: Option<CType>, u: Option<CType>) -> Option<CTy
     }
 }
 
-/// A cast. `null` tells whether the operand is the literal 0.
+/// A cast. `null` tells whether the operand is the literal 0. `NoMemory` is want of memory.
 #[tactic(auto, using(std::proofs::lemmas::Grind::common_steps, cpc_shapes::proofs::FormParts::cast_some, cpc_shapes::proofs::FormParts::cast_none))]
 pub fn cast_form(
     alloc: Global,
@@ -175,7 +175,7 @@ pub fn size_form(of: &CType, scope: &Scope) -> TypeFound
     }
 }
 
-/// An element.
+/// An element. `NoMemory` is want of memory.
 pub fn index_form(
     alloc: Global,
     operand: TypeFound,
@@ -211,7 +211,7 @@ fn element(
     }
 }
 
-/// A field of a place.
+/// A field of a place. `NoMemory` is want of memory.
 pub fn member_form(
     alloc: Global,
     found: TypeFound,
@@ -227,7 +227,7 @@ pub fn member_form(
     }
 }
 
-/// A field of what a pointer points to.
+/// A field of what a pointer points to. `NoMemory` is want of memory.
 #[tactic(auto, using(std::proofs::lemmas::Grind::common_steps, cpc_shapes::proofs::FormParts::arrow_some, cpc_shapes::proofs::FormParts::arrow_none))]
 pub fn arrow_form(
     alloc: Global,

@@ -1,10 +1,10 @@
 //! What names stand for.
-ghost use Rattle.std.specs.Prelude.{◌≡◌, map, option_map};
-ghost use Rattle.cpc_tree.specs.Erase.{Names, field_of};
-ghost use Rattle.cpc_shapes.specs.Declaring.{meaning, fields_seen};
+ghost use Rattle.std.specs.Prelude.{◌≡◌};
+ghost use Rattle.cpc_tree.specs.Erase.{Names};
+ghost use Rattle.cpc_shapes.specs.Declaring.{meaning};
 ghost use Rattle.cpc_types.specs.Meanings.{meant_of};
 
-use cpc_tree::program::{CType, Field, Item, Mode, Parameter};
+use cpc_tree::program::{CType, Item, Mode, Parameter};
 
 /// What a name stands for.
 #[derive(Clone, Copy)]
@@ -45,15 +45,5 @@ pub(crate) fn meaning(item: &Item) -> Meant<'_>
             result: &function.result,
             parameters: &function.parameters,
         },
-    }
-}
-
-/// The fields of the struct that an item declares.
-pub(crate) fn fields_of(item: &Item) -> Option<&[Field]>
-    ensures { (names : Names) → option_map (λ fs. map (field_of names) fs.now) result ≡ fields_seen names item.now }
-{
-    match item {
-        Item::Struct { fields, .. } => Some(fields),
-        _ => None,
     }
 }

@@ -13,8 +13,7 @@ ghost use Rattle.cpc_shapes.specs.Found.{used_of, pointed, can_move};
 use cpc_base::NoMemory;
 use cpc_num::{Kind, Op, common, promoted};
 use cpc_shapes::{
-    copy_of, is_condvar, is_reference, is_testable, is_void, kind_of, pointee, pointer_to,
-    same_type,
+    copy_of, is_condvar, is_reference, is_testable, is_void, kind_of, pointer_to, same_type,
 };
 use cpc_tree::program::{CType, Expr, UnaryOp};
 use std::alloc::Global;
@@ -73,9 +72,9 @@ fn common_type(t: &CType, u: &CType) -> Option<CType>
 pub(crate) fn moved<'t>(t: &'t CType, u: &'t CType) -> Option<&'t CType>
     ensures { (names : Names) → option_map (λ to. type_of names to.now) result ≡ pointed (type_of names t.now) (type_of names u.now) }
 {
-    match pointee(t) {
+    match t.pointee() {
         Some(to) => Some(to),
-        None => pointee(u),
+        None => u.pointee(),
     }
 }
 
@@ -101,12 +100,12 @@ pub(crate) fn sum_type(
 ) -> Result<Option<CType>, NoMemory>
     ensures { IfOk result (λ sum. (names : Names) (p : Program) → complete ≡ can_move p (type_of names t.now) (type_of names u.now) → optional_of names sum ≡ T.sum_type p (type_of names t.now) (type_of names u.now)) }
 {
-    match pointee(t) {
+    match t.pointee() {
         Some(to) => match kind_of(u) {
             Some(_) => movable(alloc, to, complete),
             None => Ok(None),
         },
-        None => match pointee(u) {
+        None => match u.pointee() {
             Some(to) => match kind_of(t) {
                 Some(_) => movable(alloc, to, complete),
                 None => Ok(None),
@@ -126,9 +125,9 @@ fn difference_type(
 ) -> Result<Option<CType>, NoMemory>
     ensures { IfOk result (λ rest. (names : Names) → AreApart names → (p : Program) → complete ≡ can_move p (type_of names t.now) (type_of names u.now) → optional_of names rest ≡ T.difference_type p (type_of names t.now) (type_of names u.now)) }
 {
-    match pointee(t) {
+    match t.pointee() {
         None => Ok(common_type(t, u)),
-        Some(to) => match pointee(u) {
+        Some(to) => match u.pointee() {
             Some(other) => Ok(distance_type(to, other, complete)),
             None => match kind_of(u) {
                 Some(_) => movable(alloc, to, complete),
@@ -163,8 +162,8 @@ fn int_if(holds: bool) -> Option<CType>
 fn order_type(t: &CType, u: &CType) -> Option<CType>
     ensures { (names : Names) → AreApart names → optional_of names result ≡ T.order_type (type_of names t.now) (type_of names u.now) }
 {
-    match pointee(t) {
-        Some(to) => match pointee(u) {
+    match t.pointee() {
+        Some(to) => match u.pointee() {
             Some(other) => int_if(same_type(to, other)),
             None => None,
         },
@@ -195,7 +194,7 @@ fn are_comparable(t: &CType, u: &CType) -> bool
 {
     match t {
         CType::Int(_) => kind_of(u).is_some(),
-        CType::Pointer(a) => match pointee(u) {
+        CType::Pointer(a) => match u.pointee() {
             Some(b) => are_alike(a, b),
             None => false,
         },
@@ -272,7 +271,7 @@ pub(crate) fn can_cast(null: bool, t: &CType, u: &CType) -> bool
 {
     match t {
         CType::Int(_) => kind_of(u).is_some(),
-        CType::Pointer(_) => null || pointee(u).is_some(),
+        CType::Pointer(_) => null || u.pointee().is_some(),
         CType::Code { .. } => null,
         _ => false,
     }

@@ -8,10 +8,10 @@ ghost use Rattle.cpc_types.specs.Integral.{AreTold};
 
 use crate::blocks::Blocks;
 use crate::items::Items;
-use crate::meant::{Meant, fields_of, meaning};
+use crate::meant::{Meant, meaning};
 use cpc_base::{Name, NoMemory};
 use cpc_tree::program::{CType, Field, Function, Program};
-use cpc_types_structs::{Declared, Structs};
+use cpc_types_structs::{Declared, Structs, fields_of};
 use std::alloc::Global;
 
 /// What is in scope at a place of a program: the items so far, and the blocks, the innermost last.

@@ -1,11 +1,11 @@
 -- The numbers of cells of types, capped.
-use Rattle.std.proofs.Common.{◌≡◌, ℕ, ◌+◌, ◌*◌, ◌-◌, ◌^◌, ◌<◌, ◌≤◌, min, suc, zero, inl, inr, List, ◌∷◌, length, get_or, drop, map, add-one, Option, Some, None, option_map, refl, ap, sym, ◌∙◌, arith}
+use Rattle.std.proofs.Common.{◌≡◌, ℕ, ◌+◌, ◌*◌, ◌-◌, ◌^◌, ◌<◌, ◌≤◌, min, suc, zero, inl, inr, List, length, get_or, drop, map, Option, Some, None, option_map, refl, ap, sym, ◌∙◌, arith}
 use Rattle.std.proofs.lemmas.Bool.{cases_lt}
-use Rattle.std.proofs.Math.Seq.{drop-cons}
+use Rattle.cpc_base.proofs.Lists.{drop_to_item}
+use Rattle.cpc_tree.proofs.Counted.{present_step, absent_step}
 use Rattle.cpc_tree.specs.Erase.{Names, type_of, field_of}
 use Rattle.cpc_tree.specs.Syntax.{Ty, TyArray, Program}
 use Rattle.cpc_tree.specs.Typing as T
-use Rattle.cpc_tree.specs.Typing.{◌>>=◌}
 use Rattle.cpc_tree.specs.declared.program.Field.{Field}
 use Rattle.cpc_shapes.specs.Counted.{fields_count}
 use Rattle.cpc_shapes.proofs.CellCounts.{size_array, fields_next}
@@ -33,10 +33,6 @@ product_capped n k = elim (cases_lt (2 ^ 64 - 1) k) [
   | inr h ↦ let f : capped k ≡ k = omega arith in let d : k * n ≡ n * k = omega arith in ap (λ x. capped (x * n)) f ∙ ap capped d
 ]
 
--- a sum with a capped number, capped
-pub sum_capped : (a n : ℕ) → capped (capped a + n) ≡ capped (a + n)
-sum_capped a n = omega arith
-
 -- ---- arrays
 
 array_capped : (o : Option ℕ) (n c : ℕ) → Some c ≡ option_map capped o → Some (min (c * n) (2 ^ 64 - 1)) ≡ option_map capped (option_map (λ k. n * k) o)
@@ -55,36 +51,20 @@ measure_incomplete p t n e = array_absent (T.size p t) n e ∙ sym (ap (option_m
 
 -- ---- fields
 
-count_step : (o r : Option ℕ) (total c : ℕ) → Some c ≡ option_map capped o
-    → option_map (λ n. capped (total + n)) (o >>= (λ (m : ℕ). r >>= (λ (n : ℕ). Some (m + n)))) ≡ option_map (λ n. capped (min (total + c) (2 ^ 64 - 1) + n)) r
-count_step None r total c e = cc
-count_step (Some m) None total c e = refl
-count_step (Some m) (Some n) total c e =
-    let f : c ≡ capped m = cc in
-    let g : capped (total + (m + n)) ≡ capped (capped (total + capped m) + n) = omega arith in
-    ap Some (g ∙ ap (λ x. capped (capped (total + x) + n)) (sym f))
-
-absent_step : (o r : Option ℕ) (total : ℕ) → None ≡ option_map capped o → option_map (λ n. capped (total + n)) (o >>= (λ (m : ℕ). r >>= (λ (n : ℕ). Some (m + n)))) ≡ None
-absent_step None r total e = refl
-absent_step (Some m) r total e = cc
-
-pub next_field : (fs : List Field) (i : ℕ) (x : Field) → i < length fs → x ≡ get_or fs i x → drop i fs ≡ x ∷ drop (i + 1) fs
-next_field fs i x h is = drop-cons fs i x h ∙ ap (λ y. y ∷ drop (suc i) fs) (sym is) ∙ ap (λ j. x ∷ drop j fs) (sym (add-one i))
-
 -- one more field is counted
 pub field_counted : (names : Names) (p : Program) (fs : List Field) (i : ℕ) (x : Field) (total c : ℕ) → i < length fs → x ≡ get_or fs i x → Some c ≡ capped_size p (type_of names x.of)
     → option_map (λ n. capped (total + n)) (fields_count p (map (field_of names) (drop i fs))) ≡ option_map (λ n. capped (min (total + c) (2 ^ 64 - 1) + n)) (fields_count p (map (field_of names) (drop (i + 1) fs)))
 field_counted names p fs i x total c h is e =
     let rest = map (field_of names) (drop (i + 1) fs) in
-    ap (λ gs. option_map (λ n. capped (total + n)) (fields_count p (map (field_of names) gs))) (next_field fs i x h is)
+    ap (λ gs. option_map (λ n. capped (total + n)) (fields_count p (map (field_of names) gs))) (drop_to_item fs i x h is)
     ∙ ap (option_map (λ n. capped (total + n))) (fields_next p (field_of names x) rest)
-    ∙ count_step (T.size p (type_of names x.of)) (fields_count p rest) total c e
+    ∙ present_step (T.size p (type_of names x.of)) (fields_count p rest) total c e
 
 -- one that is incomplete leaves no count
 pub field_uncounted : (names : Names) (p : Program) (fs : List Field) (i : ℕ) (x : Field) (total : ℕ) → i < length fs → x ≡ get_or fs i x → None ≡ capped_size p (type_of names x.of)
     → option_map (λ n. capped (total + n)) (fields_count p (map (field_of names) (drop i fs))) ≡ None
 field_uncounted names p fs i x total h is e =
     let rest = map (field_of names) (drop (i + 1) fs) in
-    ap (λ gs. option_map (λ n. capped (total + n)) (fields_count p (map (field_of names) gs))) (next_field fs i x h is)
+    ap (λ gs. option_map (λ n. capped (total + n)) (fields_count p (map (field_of names) gs))) (drop_to_item fs i x h is)
     ∙ ap (option_map (λ n. capped (total + n))) (fields_next p (field_of names x) rest)
     ∙ absent_step (T.size p (type_of names x.of)) (fields_count p rest) total e

@@ -36,7 +36,7 @@ impl Drop for Declared {
 }
 
 impl Declared {
-    /// What no item declares.
+    /// What an empty list of items declares: nothing.
     pub fn new(alloc: Global) -> Self
         ensures declares { Declares [] result }
         ensures count { result.structs.tags.count ≡ 0 }

@@ -68,7 +68,7 @@ impl Index {
         Ok(())
     }
 
-    /// One more item, which declares this name or none, comes into scope, in which all the others are.
+    /// One more item, which declares this name or none, comes into scope, in which all the others are. `NoMemory` is want of memory.
     pub fn push(&mut self, name: Option<Name>) -> Result<(), NoMemory>
         requires index { IsIndex self.old }
         requires all { self.old.count ≡ length self.old.names.items }

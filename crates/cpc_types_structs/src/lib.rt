@@ -9,6 +9,6 @@ mod structs;
 
 pub use declared::Declared;
 pub use index::Index;
-pub use items::{definition_of, name_of, tag_of};
+pub use items::{definition_of, fields_of, name_of, tag_of};
 pub use places::Places;
 pub use structs::Structs;

@@ -52,7 +52,7 @@ impl Places {
         Ok(())
     }
 
-    /// A name gets this number, where it has none yet.
+    /// A name gets this number, where it has none yet. `NoMemory` is want of memory.
     pub fn keep_first(&mut self, name: Option<Name>, number: usize) -> Result<(), NoMemory>
         ensures { OnOk result ((x : ℕ) → place_at self.new x ≡ or_place (place_at self.old x) (if is_name x name then Some number else None)) }
     {

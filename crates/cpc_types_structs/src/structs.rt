@@ -41,7 +41,7 @@ fn declared_size(item: &Item, structs: &Structs) -> Option<u64>
 }
 
 impl Structs {
-    /// Those of no item.
+    /// The structs of an empty list of items.
     pub fn new(alloc: Global) -> Self
         ensures structs { AreStructs [] result }
         ensures count { result.tags.count ≡ 0 }

@@ -1,11 +1,11 @@
 //! A text as a program that breaks no rule.
-ghost use Rattle.std.specs.Prelude.{◌<◌, All, IfOk};
+ghost use Rattle.std.specs.Prelude.{◌<◌, IfOk};
 ghost use Rattle.cpc_base.specs.declared.stop.Dialect.TheVariants as D;
 ghost use Rattle.cpc_tree.specs.Grammar.{Parses};
 ghost use Rattle.cpc_tree.specs.Locate.{located};
 ghost use Rattle.cpc_check.specs.Accepted.{IsWithin};
 
-use cpc_base::{Dialect, Names, Place, Stop};
+use cpc_base::{Dialect, Names, Place, Stop, are_bytes};
 use cpc_check::{Checked, check};
 use cpc_lexer::{end_of_text, tokens};
 use cpc_parser::parse;
@@ -33,15 +33,6 @@ fn parsed(alloc: Global, text: &[u8]) -> Result<Program, Stop<Place>>
         Ok(program) => Ok(program),
         Err(Stop::Memory) => Err(Stop::Memory),
         Err(Stop::Fault(fault)) => Err(Stop::Fault(fault.place)),
-    }
-}
-
-// Walks over a text, of which each element is a byte.
-fn are_bytes(text: &[u8])
-    ensures { All (λ b. b < 256) text.now }
-{
-    for byte in text {
-        let _byte = *byte;
     }
 }
 

@@ -15,7 +15,7 @@ use Rattle.cpc_tree.proofs.Options.{then_some}
 use Rattle.cpc_check_rules.specs.declared.rule.Rule.TheVariants.{Disagree}
 use Rattle.cpc_check_rules.specs.Scopes.{meant, typed, takes_value, takes_typed}
 use Rattle.cpc_check_rules.specs.Operators.{Where, typed_at, first, is_detached}
-use Rattle.cpc_check_rules.specs.Calls.{Wanted, Integer, Of, Callback, wanted_of, Takes, NoCallee, is_callee, section_callee, takes_section, all_integers, are_integers, is_integer_used, is_function, is_function_name, count, suits, suit_breaks}
+use Rattle.cpc_check_rules.specs.Calls.{Wanted, Integer, Of, Callback, wanted_of, takes_section, all_integers, are_integers, is_integer_used, is_function, is_function_name, count, suits, suit_breaks}
 use Rattle.cpc_check_rules.specs.ExprRules.{expr_breaks, arg_breaks, args_breaks}
 use Rattle.cpc_check_rules.proofs.Sameness.{type_is}
 use Rattle.cpc_store.specs.declared.values.Scalar.{Scalar}
@@ -248,14 +248,6 @@ module _ (d : Dialect) (p : Program) (facts : Facts p) (f : Function) (w : Where
   all_taken_here (t ∷ ts) NoLExpr n h = absurd (omega arith)
 
   -- ---- sections
-
-  pub section_meant : (m : Meant) → is_callee (section_callee w.scope m) ≡ true → (ps : List Ty) × (m ≡ AFunction Detached (TyInt Int) ps) × (takes_section w.scope ps ≡ true)
-  section_meant (AFunction Detached (TyInt Int) ps) h = go (takes_section w.scope ps) refl h
-    where
-      go : (b : Bool) → takes_section w.scope ps ≡ b → is_callee (cond b (Takes (map (λ t. Of t) ps) (TyInt Int)) NoCallee) ≡ true → (us : List Ty) × (AFunction Detached (TyInt Int) ps ≡ AFunction Detached (TyInt Int) us) × (takes_section w.scope us ≡ true)
-      go true e h = (ps, refl, e)
-      go false e h = by_false_true h
-  section_meant _ h = by_false_true h
 
   all_scalars : (q : Program) (ts : List Ty) → all_integers ts ≡ true → (xs : List Scalar) × (scalars ts ≡ Some xs)
   all_scalars q [] h = ([], refl)

@@ -14,7 +14,7 @@ use Rattle.cpc_tree.specs.declared.program.Mode.TheVariants.{Extern, Native, Cps
 use Rattle.cpc_tree.specs.Syntax.{Ty, TyVoid, TyInt, TyCondvar, TyPointer, TyCode, TyStruct, TyArray, Expr, ENamed, EBinary, Exprs, Variable, Function, Program}
 use Rattle.cpc_tree.specs.Syntax as S
 use Rattle.cpc_tree.specs.Located.{Ident, LExpr, LExprs, LStmt, Block, Empty, Declare, Assign, Call, Detach, Spawn, If, While, DoWhile, For, Goto, Label, Break, Continue, Return, LStmts, NoLStmt, AndLStmt, MaybeLStmt, NoneLStmt, SomeLStmt, bare_expr, bare_exprs, bare_stmt, bare_stmts, bare_maybe}
-use Rattle.cpc_tree.specs.Typing.{Scope, Meant, ALocal, AGlobal, AFunction, NotMeant, Typed, AValue, APlace, type_named, named, typing, typing_of, used, size, is_null, is_testable, binary_type, function_named, parameter_types}
+use Rattle.cpc_tree.specs.Typing.{Scope, Meant, ALocal, AFunction, Typed, AValue, APlace, type_named, named, typing, typing_of, used, size, is_null, binary_type, function_named, parameter_types}
 use Rattle.cpc_tree.specs.Points.{extended, extended_all, declared, locals, locals_in, locals_arm}
 use Rattle.cpc_tree.proofs.Options.{then_some}
 use Rattle.cpc_check_rules.specs.declared.rule.Rule.TheVariants.{Disagree, NoPlace, Twice, Incomplete, BadReturn, CpsInNative, CpsForm, NotClosed}
@@ -29,8 +29,8 @@ use Rattle.cpc_check_rules.proofs.Scopes.{meant_last, meant_before}
 use Rattle.cpc_meaning.specs.Act.{right_side}
 use Rattle.cpc_meaning.proofs.Functions.{text_same}
 use Rattle.cpc_check_laws.specs.Sound.Typed.{Gets, IsTest, IsTestIf, Assigns, Delivers, AllGet, Detaches, IsOpen, IsTyped, StepTyped, BodyTyped, AllTyped, ArmTyped, AllSized}
-use Rattle.cpc_check_laws.proofs.Sound.Unbroken.{split, not_broken, holds_then, binary_some, typed_of}
-use Rattle.cpc_check_laws.proofs.Sound.Agreement.{Matches, Grows, sizes_grow, Facts, At, item_of, takes_converts, typed_here, gets_here, args_here, section_meant, detaches_here}
+use Rattle.cpc_check_laws.proofs.Sound.Unbroken.{split, holds_then, binary_some, writable_is, tested_type_is, right_name, spawn_meant, section_meant, typed_of}
+use Rattle.cpc_check_laws.proofs.Sound.Agreement.{Matches, Grows, sizes_grow, Facts, At, item_of, takes_converts, typed_here, gets_here, args_here, detaches_here}
 use Rattle.cpc_check_laws.proofs.Sound.Callees.{number_here, call_here}
 use Rattle.cpc_check_laws.proofs.Sound.Shapes.{StepWritten, Written, AllWritten, MaybeWritten, all_first_written}
 use Rattle.cpc_check_laws.proofs.Native.NativeValues.{unbroken}
@@ -52,10 +52,6 @@ binary_value names p op a b d h =
     let n = then_some (used m.0) _ d m.2 in
     let r = then_some (binary_type p op (is_null a) (is_null b) l.0 n.0) _ d n.2 in
     (r.0, sym (some_is (AValue r.0) d r.2))
-
-writable_is : (d : Typed) → is_writable d ≡ true → (t : Ty) × (d ≡ APlace t)
-writable_is (APlace t) e = (t, refl)
-writable_is (AValue t) e = by_false_true e
 
 module _ (d : Dialect) (p : Program) (facts : Facts p) (f : Function) where
   -- with one more name
@@ -151,10 +147,6 @@ module _ (d : Dialect) (p : Program) (facts : Facts p) (f : Function) where
         let c = typed_of w e k.0 in
         let t = tested_type_is (used c.0) (holds_then (is_tested (used c.0)) (first e) Disagree (subst (λ o. tested_breaks o (first e) ≡ []) c.1 k.1)) in
         record { typed = c.0; type = t.0; is_typed = typed_here d p facts f w scope at (bare_expr e) c.0 c.1; is_type = t.1; testable = t.2 }
-      where
-        tested_type_is : (o : Option Ty) → is_tested o ≡ true → (t : Ty) × (o ≡ Some t) × (is_testable t ≡ true)
-        tested_type_is None e = by_false_true e
-        tested_type_is (Some t) e = (t, refl, e)
 
     maybe_test_here : (o : Option LExpr) → maybe_test w o ≡ [] → IsTestIf p scope (option_map bare_expr o)
     maybe_test_here None h = tt
@@ -170,13 +162,6 @@ module _ (d : Dialect) (p : Program) (facts : Facts p) (f : Function) where
     cps_is Extern h = by_false_true h
     cps_is Detached h = by_false_true h
 
-    right_name : (m : Meant) (c : Callee) (q : Place) → wrong_name m c q ≡ [] → is_callee c ≡ true
-    right_name m (Takes ws r) q h = refl
-    right_name NotMeant NoCallee q h = not_broken _ _ h
-    right_name (ALocal k t) NoCallee q h = not_broken _ _ h
-    right_name (AGlobal k t) NoCallee q h = not_broken _ _ h
-    right_name (AFunction mode r ps) NoCallee q h = not_broken _ _ h
-
     -- what is started by its name with arguments
     started_here : (x : Ident) (c : Callee) (es : LExprs) → started_breaks w x c es ≡ [] → (is_callee c ≡ true) × ((ps : List Ty) (r : Ty) → c ≡ Takes (map (λ t. Of t) ps) r → AllGet p scope ps (bare_exprs es))
     started_here x c es h =
@@ -191,21 +176,12 @@ module _ (d : Dialect) (p : Program) (facts : Facts p) (f : Function) where
         let h1 = split (at_if (not (is_cps w.mode)) k CpsInNative) _ h in
         let h2 = split (at_if (is_event w.dialect) k CpsForm) _ h1.1 in
         let s = started_here x (section_callee w.scope (meant w.scope x.text)) es h2.1 in
-        let m = section_meant d p facts f w scope at (meant w.scope x.text) s.0 in
+        let m = section_meant w.scope (meant w.scope x.text) s.0 in
         let e : section_callee w.scope (meant w.scope x.text) ≡ Takes (map (λ t. Of t) m.0) (TyInt Int) = ap (section_callee w.scope) m.1 ∙ ap (λ b. cond b (Takes (map (λ t. Of t) m.0) (TyInt Int)) NoCallee) m.2 in (
           record { dialect = sym at.dialect ∙ cpc_is w.dialect (unbroken (is_event w.dialect) k CpsForm h2.0); not_detached = ap is_detached (sym at.mode) ∙ cps_is w.mode (holds_then (is_cps w.mode) k CpsInNative h1.0) },
           detaches_here d p facts f w scope at x.text m.0 es m.1 m.2 (s.1 m.0 (TyInt Int) e),
           ap is_cps (sym at.mode) ∙ holds_then (is_cps w.mode) k CpsInNative h1.0,
         )
-
-    spawn_meant : (m : Meant) → is_callee (spawn_callee m) ≡ true → (r : Ty) × (ps : List Ty) × (m ≡ AFunction Cps r ps)
-    spawn_meant (AFunction Cps r ps) h = (r, ps, refl)
-    spawn_meant (AFunction Native r ps) h = by_false_true h
-    spawn_meant (AFunction Extern r ps) h = by_false_true h
-    spawn_meant (AFunction Detached r ps) h = by_false_true h
-    spawn_meant NotMeant h = by_false_true h
-    spawn_meant (ALocal k t) h = by_false_true h
-    spawn_meant (AGlobal k t) h = by_false_true h
 
     spawn_here : (q : Place) (x : Ident) (es : LExprs) → spawn_breaks w q x es ≡ [] → IsOpen d f.mode × ((h : Function) × (function_named p x.text ≡ Some h) × AllGet p scope (parameter_types h) (bare_exprs es) × (is_cps h.mode ≡ true))
     spawn_here q x es h =

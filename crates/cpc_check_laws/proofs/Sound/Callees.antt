@@ -21,8 +21,8 @@ use Rattle.cpc_check_rules.specs.Calls.{Wanted, Of, String, ForSection, Callback
 use Rattle.cpc_check_rules.specs.ExprRules.{expr_breaks, called_breaks, arg_breaks, args_breaks, call_breaks}
 use Rattle.cpc_check_laws.specs.Sound.Typed.{Gets, GetsTaken, AllGet, TakesArguments, is_for, is_own, is_variable, is_pointer_call, Calls, CallsHost, CallsFunction, CallsPrimitive, CallsPointer}
 use Rattle.cpc_check_laws.proofs.Sound.Answers.{no_some}
-use Rattle.cpc_check_laws.proofs.Sound.Unbroken.{split, not_broken, holds_then, typed_of}
-use Rattle.cpc_check_laws.proofs.Sound.Agreement.{Matches, Facts, At, item_of, typed_here, suits_here, of_here, args_here, taken_here, all_taken_here, section_meant, detaches_here}
+use Rattle.cpc_check_laws.proofs.Sound.Unbroken.{split, not_broken, holds_then, section_meant, typed_of}
+use Rattle.cpc_check_laws.proofs.Sound.Agreement.{Matches, Facts, At, item_of, typed_here, suits_here, of_here, args_here, taken_here, all_taken_here, detaches_here}
 use Rattle.cpc_check_laws.proofs.Native.NativeValues.{unbroken}
 
 module _ (d : Dialect) (p : Program) (facts : Facts p) (f : Function) (w : Where) (scope : Scope) (at : At d p f w scope) where
@@ -61,7 +61,7 @@ module _ (d : Dialect) (p : Program) (facts : Facts p) (f : Function) (w : Where
   section_name given a b x es ga gb n h =
       let i = third_breaks given (section_callee w.scope (meant w.scope x.text)) (LNamed x) es h in
       let j = suits_here d p facts f w scope at ForSection (LNamed x) i in
-      let m = section_meant d p facts f w scope at (meant w.scope x.text) j.2 in
+      let m = section_meant w.scope (meant w.scope x.text) j.2 in
       let k : section_callee w.scope (meant w.scope x.text) ≡ Takes (map (λ t. Of t) m.0) (TyInt Int) = ap (section_callee w.scope) m.1 ∙ ap (λ b. cond b (Takes (map (λ t. Of t) m.0) (TyInt Int)) NoCallee) m.2 in
       let n2 : length (count es) ≡ length (map (λ t. Of t) m.0) = subst (λ c. length (count es) ≡ length (detached_wants given c) - 1) k n ∙ omega arith in
       let h2 : args_breaks w (ForSection ∷ map (λ t. Of t) m.0) (AndLExpr (LNamed x) es) ≡ [] = subst (λ c. args_breaks w (detached_wants given c) (AndLExpr (LNamed x) es) ≡ []) k h in

@@ -14,7 +14,7 @@ use Rattle.cpc_check_laws.proofs.Sound.Answers.{no_some, if_some}
 use Rattle.cpc_check_laws.proofs.Sound.Options.{then_of}
 use Rattle.cpc_check_laws.proofs.Sound.Expressions.{sign_some, tested_is}
 
-tested_more : (o u : Option Typed) (t : Ty) → ((d : Typed) → o ≡ Some d → u ≡ Some d) → tested_type o ≡ Some t → tested_type u ≡ Some t
+pub tested_more : (o u : Option Typed) (t : Ty) → ((d : Typed) → o ≡ Some d → u ≡ Some d) → tested_type o ≡ Some t → tested_type u ≡ Some t
 tested_more o u t more h = let m = tested_is o t h in ap tested_type (more m.0 m.1 ∙ sym m.1) ∙ h
 
 module _ (p q : Program) (sizes : (t : Ty) (n : ℕ) → size p t ≡ Some n → size q t ≡ Some n) where

@@ -1,5 +1,5 @@
--- An expression that breaks no rule has a type.
-use Rattle.std.proofs.Common.{◌≡◌, ◌&&◌, not, ℕ, Bool, true, false, cond, [], ◌∷◌, ◌++◌, Option, Some, None, refl, sym, ◌∙◌, ap}
+-- What breaks no rule: an expression has a type, and a name means what it has to.
+use Rattle.std.proofs.Common.{◌≡◌, ◌&&◌, not, ℕ, Bool, true, false, cond, List, [], ◌∷◌, ◌++◌, map, Option, Some, None, refl, sym, ◌∙◌, ap}
 use Rattle.std.specs.Prelude.{is_some}
 use Rattle.std.specs.Option.{is_none}
 use Rattle.cpc_base.specs.Bytes.{Text}
@@ -7,20 +7,22 @@ use Rattle.cpc_base.specs.declared.stop.Place.{Place}
 use Rattle.cpc_base.proofs.Truth.{by_false_true, not_fails, and_fails_second, and_holds}
 use Rattle.cpc_num.specs.declared.kinds.Op.{Op}
 use Rattle.cpc_num.specs.declared.kinds.Op.TheVariants.{Add}
-use Rattle.cpc_num.specs.declared.kinds.Kind.TheVariants.{ULong}
+use Rattle.cpc_num.specs.declared.kinds.Kind.TheVariants.{Int, ULong}
 use Rattle.cpc_tree.specs.declared.program.Mode.{Mode}
 use Rattle.cpc_tree.specs.declared.program.Mode.TheVariants.{Extern, Native, Cps, Detached}
 use Rattle.cpc_tree.specs.declared.program.UnaryOp.{UnaryOp}
 use Rattle.cpc_tree.specs.declared.program.UnaryOp.TheVariants.{Minus, Plus, Not, Complement, Dereference, AddressOf}
 use Rattle.cpc_tree.specs.Syntax.{Ty, TyVoid, TyInt, TyCondvar, TyPointer, TyCode, TyStruct, TyArray}
 use Rattle.cpc_tree.specs.Located.{Ident, LExpr, LNamed, LInteger, LCharacter, LText, LUnary, LBinary, LAnd, LOr, LChoose, LCast, LSizeOf, LIndex, LMember, LArrow, LCall}
-use Rattle.cpc_tree.specs.Typing.{Meant, ALocal, AGlobal, AFunction, NotMeant, Typed, AValue, APlace, type_named, used, typed_place, size, fields}
+use Rattle.cpc_tree.specs.Typing.{Meant, ALocal, AGlobal, AFunction, NotMeant, Typed, AValue, APlace, type_named, used, typed_place, size, fields, is_testable}
 use Rattle.cpc_check_rules.specs.declared.rule.Rule.{Rule}
 use Rattle.cpc_check_rules.specs.declared.rule.Rule.TheVariants.{Incomplete, NoField}
 use Rattle.cpc_check_rules.specs.Rule.{Broken, at_if}
 use Rattle.cpc_check_rules.specs.Scopes.{Scope, meant, measured}
 use Rattle.cpc_check_rules.specs.Operators.{Where, typed_at, first, name_breaks, no_rule, binary_breaks, is_incomplete_sum, address_breaks, field_breaks, member_breaks, arrow_breaks, pointed}
+use Rattle.cpc_check_rules.specs.Calls.{Of, Callee, Takes, NoCallee, is_callee, takes_section, section_callee, spawn_callee}
 use Rattle.cpc_check_rules.specs.ExprRules.{expr_breaks}
+use Rattle.cpc_check_rules.specs.StmtRules.{is_writable, is_tested, wrong_name}
 use Rattle.cpc_check_laws.proofs.Sound.Answers.{no_some}
 use Rattle.cpc_check_laws.proofs.Sound.Options.{then_of}
 use Rattle.cpc_check_laws.proofs.Native.NativeValues.{unbroken}
@@ -50,6 +52,35 @@ binary_some s op a b whole q e h k = go (is_incomplete_sum s op a b) e
     go : (x : Bool) → cond x ((q, Incomplete) ∷ []) (no_rule (is_some a && is_some b) whole q) ≡ [] → (d : Typed) × (whole ≡ Some d)
     go true e = not_broken _ [] e
     go false e = rule_some (is_some a && is_some b) whole q e (and_holds (is_some a) (is_some b) h k)
+
+-- ---- what is written, tested and called
+
+pub writable_is : (d : Typed) → is_writable d ≡ true → (t : Ty) × (d ≡ APlace t)
+writable_is (APlace t) e = (t, refl)
+writable_is (AValue t) e = by_false_true e
+
+pub tested_type_is : (o : Option Ty) → is_tested o ≡ true → (t : Ty) × (o ≡ Some t) × (is_testable t ≡ true)
+tested_type_is None e = by_false_true e
+tested_type_is (Some t) e = (t, refl, e)
+
+pub right_name : (m : Meant) (c : Callee) (q : Place) → wrong_name m c q ≡ [] → is_callee c ≡ true
+right_name m (Takes ws r) q h = refl
+right_name NotMeant NoCallee q h = not_broken _ _ h
+right_name (ALocal k t) NoCallee q h = not_broken _ _ h
+right_name (AGlobal k t) NoCallee q h = not_broken _ _ h
+right_name (AFunction mode r ps) NoCallee q h = not_broken _ _ h
+
+pub spawn_meant : (m : Meant) → is_callee (spawn_callee m) ≡ true → (r : Ty) × (ps : List Ty) × (m ≡ AFunction Cps r ps)
+spawn_meant (AFunction Cps r ps) h = (r, ps, refl)
+spawn_meant _ h = by_false_true h
+
+pub section_meant : (s : Scope) (m : Meant) → is_callee (section_callee s m) ≡ true → (ps : List Ty) × (m ≡ AFunction Detached (TyInt Int) ps) × (takes_section s ps ≡ true)
+section_meant s (AFunction Detached (TyInt Int) ps) h = go (takes_section s ps) refl h
+  where
+    go : (b : Bool) → takes_section s ps ≡ b → is_callee (cond b (Takes (map (λ t. Of t) ps) (TyInt Int)) NoCallee) ≡ true → (us : List Ty) × (AFunction Detached (TyInt Int) ps ≡ AFunction Detached (TyInt Int) us) × (takes_section s us ≡ true)
+    go true e h = (ps, refl, e)
+    go false e h = by_false_true h
+section_meant s _ h = by_false_true h
 
 -- ---- expressions
 

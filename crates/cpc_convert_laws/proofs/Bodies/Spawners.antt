@@ -41,8 +41,8 @@ use Rattle.cpc_convert_event.specs.Routines.{passed_from, passed, variable_if}
 use Rattle.cpc_convert_event.specs.Converted.{converted}
 use Rattle.cpc_convert_event.specs.NameLaws.{IsCps, TheStart}
 use Rattle.cpc_convert_event.proofs.BoxesThere.{structs_there}
-use Rattle.cpc_convert_event.proofs.Fields.{Rising, passed_rise, frame_fields}
-use Rattle.cpc_convert_laws.proofs.Native.SpawnerCall.{passed_few, behind_head}
+use Rattle.cpc_convert_event.proofs.Fields.{Rising, passed_rise, frame_fields, fields_behind}
+use Rattle.cpc_convert_laws.proofs.Native.SpawnerCall.{passed_few}
 use Rattle.cpc_convert_laws.proofs.Native.SpawnerScope.{no_frame, no_driver, no_piece, frame_piece}
 use Rattle.cpc_convert_laws.specs.Rules.Laws.{Knows, BodyFine}
 use Rattle.cpc_convert_laws.proofs.Rules.KeptRows.{Source}
@@ -169,7 +169,7 @@ module _ (p : Program) (source : Source p) (f : Function) (c : IsCps p f) (items
   fields_scalar = frame_fields (TyInt Int) 0 xs refl rise
 
   scalars : ScalarFields xs
-  scalars = behind_head (TyInt Int) xs fields_scalar
+  scalars = fields_behind (TyInt Int) xs fields_scalar
 
   struct : IsStruct all tag (head_fields (TyInt Int) xs)
   struct = struct_there p all k tag (head_fields (TyInt Int) xs) fields_scalar ((structs_there p source.named).start f c)

@@ -1,7 +1,7 @@
 -- A call that breaks no rule, of what is neither a cps function nor a primitive that waits, breaks none as its image.
 use Rattle.std.proofs.Common.{◌≡◌, ◌&&◌, not, Bool, true, false, List, [], Option, Some, None, refl, sym, ◌∙◌, ap, subst}
 use Rattle.cpc_base.specs.Bytes.{Text}
-use Rattle.cpc_base.proofs.Truth.{by_false_true}
+use Rattle.cpc_base.proofs.Truth.{by_false_true, not_holds, and_with_true}
 use Rattle.cpc_tree.specs.declared.program.Mode.{Mode}
 use Rattle.cpc_tree.specs.declared.program.Mode.TheVariants.{Extern, Native, Cps, Detached}
 use Rattle.cpc_tree.specs.Syntax.{Ty, Expr, ENamed, EInteger, ECharacter, EText, EUnary, EBinary, EAnd, EOr, EChoose, ECast, ESizeOf, EIndex, EMember, EArrow, ECall, Exprs}
@@ -25,10 +25,6 @@ use Rattle.cpc_convert_laws.proofs.Complete.Called.{args_carried, number_there}
 both_false : (a b : Bool) → a ≡ false → (a && b) ≡ false
 both_false true b e = by_false_true (sym e)
 both_false false b e = refl
-
-and_true : (a : Bool) → (a && true) ≡ false → a ≡ false
-and_true true e = by_false_true (sym e)
-and_true false e = refl
 
 no_cps : (m : Mode) (u : Ty) (ts : List Ty) (o : Option Primitive) → stays_meant (AFunction m u ts) o ≡ true → is_cps m ≡ false
 no_cps Cps u ts o h = by_false_true h
@@ -78,7 +74,7 @@ module _ (w v : Where) (r : Readings) (c : Carries w v r) where
       let k = split (at_if (gives_up prim && not (is_cps w.mode)) here CpsInNative) _ h in
       let l = split (at_if (is_detached w.mode && not (is_closed prim)) here NotClosed) _ k.1 in
       let m = split (at_if (is_rt prim && not (is_event w.dialect)) here RtCall) _ l.1 in
-      (and_true (is_rt prim) (subst (λ d. (is_rt prim && not (is_event d)) ≡ false) c.source (unbroken (is_rt prim && not (is_event w.dialect)) here RtCall m.0)), l.0)
+      (sym (and_with_true (is_rt prim)) ∙ subst (λ d. (is_rt prim && not (is_event d)) ≡ false) c.source (unbroken (is_rt prim && not (is_event w.dialect)) here RtCall m.0), l.0)
 
   primitive_there : (prim : Primitive) → gives_up prim ≡ false → primitive_breaks w here prim ≡ [] → primitive_breaks v here prim ≡ []
   primitive_there prim e h =
@@ -121,17 +117,13 @@ module _ (w v : Where) (r : Readings) (c : Carries w v r) where
   named_there x es _ _ prim i (IsCps o u ts) s pointer h = by_false_true s
   named_there x es _ _ None i (StaysNothing e) s pointer h = not_broken _ _ h
   named_there x es _ _ (Some prim) i (StaysNothing e) s pointer h =
-      let waits_not : gives_up prim ≡ false = no (gives_up prim) s in
+      let waits_not : gives_up prim ≡ false = not_holds (gives_up prim) s in
       record {
         called = ap (λ m. named_breaks v (expr_here (ENamed x)) here (expr_breaks v (expr_here (ENamed x))) m (primitive_named x)) (e prim i)
             ∙ ap (unmeant_breaks v here) i ∙ primitive_there prim waits_not h;
         same = ap (λ m. named_callee v (expr_here (ENamed x)) (exprs_here (images r es)) m (primitive_named x)) (e prim i)
             ∙ ap (λ o. unmeant_callee v.scope o (exprs_here (images r es))) i ∙ ap (λ ws. Takes ws (gives prim)) (wants_there prim es (cpc_row prim h).0);
       }
-    where
-      no : (b : Bool) → not b ≡ true → b ≡ false
-      no true e = by_false_true e
-      no false e = refl
 
   name_pointer : (x : Text) → PointerThere x (r x)
   name_pointer x h = (pointer_there (ENamed x) h, code_there (ENamed x) (split (expr_breaks w (expr_here (ENamed x))) _ h).0)

@@ -17,14 +17,14 @@ use Rattle.cpc_check_rules.specs.Rule.{at_if}
 use Rattle.cpc_check_rules.specs.Scopes as S
 use Rattle.cpc_check_rules.specs.Scopes.{in_items, in_blocks, meant, takes_value, takes_typed, with_name, is_here, is_sized, has_cells}
 use Rattle.cpc_check_rules.specs.Operators.{Where, first, is_detached, is_cps}
-use Rattle.cpc_check_rules.specs.Calls.{Wanted, Of, Callee, Takes, NoCallee, spawn_callee, gives_up, named_breaks, named_callee, number_breaks, wanted, result, callee, count, is_callee}
+use Rattle.cpc_check_rules.specs.Calls.{Wanted, Of, Takes, spawn_callee, gives_up, named_breaks, named_callee, number_breaks, wanted, result, callee, count}
 use Rattle.cpc_check_rules.specs.ExprRules.{expr_breaks, called_breaks, arg_breaks, args_breaks, call_breaks}
 use Rattle.cpc_check_rules.specs.StmtRules.{variable, behind, all_behind, to_breaks, test_breaks, maybe_test, start_breaks, wrong_name, return_breaks, stmt_breaks, stmts_breaks, maybe_breaks}
 use Rattle.cpc_check_rules.specs.FunctionRules.{is_kept, is_reserved, holds_underscores, reserved_breaks, locals, locals_in, locals_maybe}
 use Rattle.cpc_check_laws.proofs.Native.NativeValues.{both_none, cpc, event, unbroken}
 use Rattle.cpc_check_laws.proofs.Native.OnePlace.{here, ident_here, expr_here, exprs_here, stmt_here, stmts_here, maybe_here}
 use Rattle.cpc_check_laws.proofs.Sound.Agreement.{used_taken}
-use Rattle.cpc_check_laws.proofs.Sound.Unbroken.{split, not_broken, holds_then}
+use Rattle.cpc_check_laws.proofs.Sound.Unbroken.{split, holds_then, right_name, spawn_meant}
 use Rattle.cpc_convert.specs.Converted.{spawner_name, respawned, respawned_all, respawned_arm}
 use Rattle.cpc_convert_image_laws.specs.Images.{image, image_if}
 use Rattle.cpc_convert_laws.specs.Complete.Reads.{Carries, stays_meant, stays_called}
@@ -227,24 +227,13 @@ module _ (before after : Program) (keeps : KeepsItems before after) (m : Mode) (
       let l = split (at_if (not (is_cps m)) here CpsInNative) _ k.1 in
       by_false_true (sym native ∙ holds_then (is_cps m) here CpsInNative l.0)
 
-  right_name : (k : Meant) (c : Callee) (q : Place) → wrong_name k c q ≡ [] → is_callee c ≡ true
-  right_name k (Takes ws t) q h = refl
-  right_name NotMeant NoCallee q h = not_broken _ _ h
-  right_name (ALocal n t) NoCallee q h = not_broken _ _ h
-  right_name (AGlobal n t) NoCallee q h = not_broken _ _ h
-  right_name (AFunction mode t ts) NoCallee q h = not_broken _ _ h
-
-  spawned_is : (k : Meant) → is_callee (spawn_callee k) ≡ true → (t : Ty) × (ts : List Ty) × (k ≡ AFunction Cps t ts)
-  spawned_is (AFunction Cps t ts) h = (t, ts, refl)
-  spawned_is _ h = by_false_true h
-
   spawn_kept : (blocks : List S.Block) → HidesNone blocks → (x : Text) (es : Exprs) → stmt_breaks (w blocks) (stmt_here (Spawn x es)) ≡ [] → stmt_breaks (v blocks) (stmt_here (respawned (Spawn x es))) ≡ []
   spawn_kept blocks hides x es h =
       let k = meant (over before blocks) x in
       let h1 = split (at_if (is_detached m) here NotClosed) _ h in
       let h2 = split (wrong_name k (spawn_callee k) here) _ h1.1 in
       let h3 = split (number_breaks (spawn_callee k) (exprs_here es) here) _ h2.1 in
-      let t = spawned_is k (right_name k (spawn_callee k) here h2.0) in
+      let t = spawn_meant k (right_name k (spawn_callee k) here h2.0) in
       let ws = map (λ t. Of t) t.1 in
       let is : spawn_callee k ≡ Takes ws t.0 = ap spawn_callee t.2 in
       let numbers : number_breaks (Takes ws t.0) (exprs_here es) here ≡ [] = subst (λ c. number_breaks c (exprs_here es) here ≡ []) is h3.0 in

@@ -7,11 +7,10 @@ use Rattle.cpc_base.proofs.Truth.{by_false_true, eq_reflexive}
 use Rattle.cpc_num.specs.declared.kinds.Kind.{Kind}
 use Rattle.cpc_num.specs.declared.kinds.Kind.TheVariants.{Int, ULong}
 use Rattle.cpc_num.specs.declared.kinds.Op.TheVariants.{Ne}
-use Rattle.cpc_num.proofs.KindLemmas.{same_kind-refl}
 use Rattle.cpc_tree.specs.declared.program.Mode.TheVariants.{Native}
-use Rattle.cpc_tree.specs.Syntax.{Ty, TyVoid, TyInt, TyCondvar, TyPointer, TyCode, TyStruct, TyArray, Tys, NoTy, AndTy, Expr, ENamed, EInteger, EBinary, ECast, ESizeOf, EArrow, Exprs}
+use Rattle.cpc_tree.specs.Syntax.{Ty, TyVoid, TyInt, TyCondvar, TyPointer, TyCode, TyStruct, TyArray, Expr, ENamed, EInteger, EBinary, ECast, ESizeOf, EArrow, Exprs}
 use Rattle.cpc_tree.specs.Located.{bare_expr}
-use Rattle.cpc_tree.specs.Typing.{ALocal, AFunction, Typed, AValue, APlace, type_named, used, size, field, same_type, same_types, is_scalar, is_testable, is_reference, is_null, tys_of, function_type, equality_type, ◌>>=◌}
+use Rattle.cpc_tree.specs.Typing.{ALocal, AFunction, Typed, AValue, APlace, type_named, used, size, field, is_scalar, is_testable, is_reference, is_null, tys_of, function_type, equality_type, ◌>>=◌}
 use Rattle.cpc_tree.specs.Primitives.{any_pointer}
 use Rattle.cpc_meaning.proofs.Functions.{text_same}
 use Rattle.cpc_check_rules.specs.declared.rule.Rule.TheVariants.{Disagree, NoPlace, NotClosed, Incomplete, WrongNumber}
@@ -21,6 +20,7 @@ use Rattle.cpc_check_rules.specs.Operators.{Where, typed_at, first, is_detached,
 use Rattle.cpc_check_rules.specs.Calls.{Wanted, Integer, Of, Callback, String, ForSection, Takes, count, number_breaks, is_integer_used, is_function, suit_breaks, Anything}
 use Rattle.cpc_check_rules.specs.ExprRules.{expr_breaks, arg_breaks, args_breaks}
 use Rattle.cpc_check_rules.specs.StmtRules.{is_tested, place_breaks, target_breaks, given_breaks, to_breaks, tested_breaks, test_breaks}
+use Rattle.cpc_check_rules.proofs.Sameness.{type_itself}
 use Rattle.cpc_check_laws.proofs.Native.NativeValues.{both_none}
 use Rattle.cpc_check_laws.proofs.Native.OnePlace.{here, ident_here, expr_here, exprs_here, expr_again}
 use Rattle.cpc_check_laws.proofs.Sound.Answers.{no_some}
@@ -31,20 +31,6 @@ use Rattle.cpc_convert_laws.proofs.Complete.Carried.{rule_none, arrow_none, bina
 use Rattle.cpc_convert_laws.proofs.Complete.Called.{suit_none}
 
 -- ---- types
-
-mutual
-  pub type_itself : (t : Ty) → same_type t t ≡ true
-  type_itself TyVoid = refl
-  type_itself (TyInt k) = same_kind-refl k
-  type_itself TyCondvar = refl
-  type_itself (TyPointer t) = type_itself t
-  type_itself (TyCode r ts) = rw (type_itself r) (types_itself ts)
-  type_itself (TyStruct tag) = text_same tag
-  type_itself (TyArray t n) = rw (type_itself t) (eq_reflexive n)
-
-  types_itself : (ts : Tys) → same_types ts ts ≡ true
-  types_itself NoTy = refl
-  types_itself (AndTy t ts) = rw (type_itself t) (types_itself ts)
 
 -- a value of a scalar type is assignable to it
 pub takes_itself : (t : Ty) → is_scalar t ≡ true → takes_value t false t ≡ true

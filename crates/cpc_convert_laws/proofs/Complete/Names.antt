@@ -1,7 +1,7 @@
 -- What names stand for in blocks, over the items of a source and those of its event program.
-use Rattle.std.proofs.Common.{◌≡◌, ◌||◌, Bool, true, false, List, [], ◌∷◌, ◌++◌, Option, Some, None, bytes_eq, codes, refl, sym, ◌∙◌, ap}
+use Rattle.std.proofs.Common.{◌≡◌, true, false, List, [], ◌∷◌, ◌++◌, Option, Some, None, bytes_eq, codes, refl, sym, ◌∙◌, ap}
 use Rattle.cpc_base.specs.Bytes.{Text}
-use Rattle.cpc_base.proofs.Truth.{by_false_true}
+use Rattle.cpc_base.proofs.Truth.{by_false_true, or_by_second}
 use Rattle.cpc_tree.specs.declared.program.Mode.{Mode}
 use Rattle.cpc_tree.specs.Syntax.{Ty, Expr, ENamed, EInteger, ECharacter, EText, EUnary, EBinary, EAnd, EOr, EChoose, ECast, ESizeOf, EIndex, EMember, EArrow, ECall, Exprs, NoExpr, AndExpr, Variable}
 use Rattle.cpc_tree.specs.Typing.{Meant, ALocal, AFunction}
@@ -82,11 +82,7 @@ HidesNone blocks = (x : Text) (m : Meant) → in_blocks blocks m (spawner_name x
 
 underscores_in : (f rest : Text) → holds_underscores (f ++ 95 ∷ 95 ∷ rest) ≡ true
 underscores_in [] rest = refl
-underscores_in (c ∷ f) rest = either (begins_with (codes "__") (c ∷ (f ++ 95 ∷ 95 ∷ rest))) (holds_underscores (f ++ 95 ∷ 95 ∷ rest)) (underscores_in f rest)
-  where
-    either : (a b : Bool) → b ≡ true → (a || b) ≡ true
-    either true b e = refl
-    either false b e = e
+underscores_in (c ∷ f) rest = or_by_second (begins_with (codes "__") (c ∷ (f ++ 95 ∷ 95 ∷ rest))) (holds_underscores (f ++ 95 ∷ 95 ∷ rest)) (underscores_in f rest)
 
 -- a name without underscores is none of a spawner
 no_spawner : (y x : Text) → holds_underscores y ≡ false → bytes_eq y (spawner_name x) ≡ false

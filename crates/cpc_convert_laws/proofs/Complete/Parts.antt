@@ -1,5 +1,5 @@
 -- The parts of statements that break no rule.
-use Rattle.std.proofs.Common.{◌≡◌, ◌==◌, not, Bool, true, false, cond, List, [], ◌∷◌, ◌++◌, length, map, Option, Some, None, refl, sym, ◌∙◌, ap, subst, arith}
+use Rattle.std.proofs.Common.{◌≡◌, ◌==◌, not, true, false, cond, List, [], ◌∷◌, ◌++◌, length, map, Option, Some, None, refl, sym, ◌∙◌, ap, subst, arith}
 use Rattle.std.specs.Prelude.{option_map}
 use Rattle.cpc_base.specs.Bytes.{Text}
 use Rattle.cpc_base.proofs.Truth.{by_false_true, or_neither, eq_means, not_fails}
@@ -8,7 +8,7 @@ use Rattle.cpc_tree.specs.declared.program.Mode.{Mode}
 use Rattle.cpc_tree.specs.declared.program.Mode.TheVariants.{Cps, Detached}
 use Rattle.cpc_tree.specs.Syntax.{Ty, TyVoid, TyInt, TyCondvar, TyPointer, TyCode, TyStruct, TyArray, Expr, ENamed, Exprs, NoExpr, AndExpr, Assign, Call, Detach, Spawn, Return}
 use Rattle.cpc_tree.specs.Located.{bare_expr}
-use Rattle.cpc_tree.specs.Typing.{Meant, ALocal, AGlobal, AFunction, NotMeant, Typed, APlace, used, is_testable}
+use Rattle.cpc_tree.specs.Typing.{AFunction, NotMeant, Typed, APlace, used, is_testable}
 use Rattle.cpc_tree.specs.Primitives.{Primitive, primitive_named, Taken, AnyInteger, SetOf, FreeOf, takes_first}
 use Rattle.cpc_tree.specs.Primitives as P
 use Rattle.cpc_check_rules.specs.declared.rule.Rule.TheVariants.{Disagree, NoPlace, BadReturn, WrongNumber, CpsInNative, NotClosed, CpsForm}
@@ -19,7 +19,7 @@ use Rattle.cpc_check_rules.specs.Calls.{Wanted, Integer, Of, Callback, Callee, T
 use Rattle.cpc_check_rules.specs.ExprRules.{expr_breaks, called_breaks, arg_breaks, args_breaks}
 use Rattle.cpc_check_rules.specs.StmtRules.{is_writable, place_breaks, target_breaks, fits_breaks, given_breaks, to_breaks, is_tested, tested_breaks, test_breaks, start_breaks, wrong_name, started_breaks, is_void, unfit_return, stmt_breaks}
 use Rattle.cpc_check_laws.proofs.Native.OnePlace.{here, ident_here, expr_here, exprs_here, expr_again, stmt_here}
-use Rattle.cpc_check_laws.proofs.Sound.Unbroken.{split, not_broken, holds_then, typed_of}
+use Rattle.cpc_check_laws.proofs.Sound.Unbroken.{split, holds_then, writable_is, tested_type_is, right_name, spawn_meant, section_meant, typed_of}
 use Rattle.cpc_check_laws.proofs.Native.NativeValues.{unbroken}
 use Rattle.cpc_convert_laws.specs.Complete.Sets.{Has, Sets, Writes, AllSet, NoneSet, AndSet, Gives, Suits, AllSuit, NoneSuits, AndSuits, is_simple}
 use Rattle.cpc_convert_laws.proofs.Complete.Typing.{type_again}
@@ -42,17 +42,13 @@ module _ (w : Where) where
         takes = ap (λ e. takes_typed t e d.0) (sym (expr_again e)) ∙ holds_then (takes_typed t (bare_expr (expr_here e)) d.0) here Disagree (subst (λ o. fits_breaks (Some (APlace t)) (expr_here e) o here ≡ []) is k);
       }
 
-  place_is : (d : Typed) → is_writable d ≡ true → (t : Ty) × (d ≡ APlace t)
-  place_is (APlace t) h = (t, refl)
-  place_is _ h = by_false_true h
-
   target_writes : (e : Expr) → target_breaks w (expr_here e) ≡ [] → (t : Ty) × Writes w t e
   target_writes e h =
       let k = split (expr_breaks w (expr_here e)) _ h in
       let d = has_of e k.0 in
       let is : typed_at w (expr_here e) ≡ Some d.0 = type_again w e ∙ d.1.is_typed in
       let writable = holds_then (is_writable d.0) (first (expr_here e)) NoPlace (subst (λ o. place_breaks o (first (expr_here e)) ≡ []) is k.1) in
-      let t = place_is d.0 writable in
+      let t = writable_is d.0 writable in
       (t.0, record { has = subst (Has w e) t.1 d.1; writable = subst (λ d. is_writable d ≡ true) t.1 writable })
 
   -- ---- statements
@@ -81,12 +77,8 @@ module _ (w : Where) where
       let k = split (expr_breaks w (expr_here e)) _ h in
       let d = has_of e k.0 in
       let is : typed_at w (expr_here e) ≡ Some d.0 = type_again w e ∙ d.1.is_typed in
-      let t = tested_is (used d.0) (holds_then (is_tested (used d.0)) (first (expr_here e)) Disagree (subst (λ o. tested_breaks o (first (expr_here e)) ≡ []) is k.1)) in
+      let t = tested_type_is (used d.0) (holds_then (is_tested (used d.0)) (first (expr_here e)) Disagree (subst (λ o. tested_breaks o (first (expr_here e)) ≡ []) is k.1)) in
       (d.0, t.0, d.1, t.1, t.2)
-    where
-      tested_is : (o : Option Ty) → is_tested o ≡ true → (t : Ty) × (o ≡ Some t) × (is_testable t ≡ true)
-      tested_is None e = by_false_true e
-      tested_is (Some t) e = (t, refl, e)
 
   pub gives_of : (o : Option Expr) (u : Option Ty) (t : Ty) → u ≡ Some t → to_breaks w (option_map expr_here o) here u ≡ [] → Gives w o t
   gives_of None u t i h = tt
@@ -175,13 +167,6 @@ module _ (w : Where) where
 
   -- ---- spawns and sections
 
-  right_name : (k : Meant) (c : Callee) (q : _) → wrong_name k c q ≡ [] → is_callee c ≡ true
-  right_name k (Takes ws t) q h = refl
-  right_name NotMeant NoCallee q h = not_broken _ _ h
-  right_name (ALocal n t) NoCallee q h = not_broken _ _ h
-  right_name (AGlobal n t) NoCallee q h = not_broken _ _ h
-  right_name (AFunction mode t ts) NoCallee q h = not_broken _ _ h
-
   started_parts : (x : Text) (es : Exprs) (c : Callee) → started_breaks w (ident_here x) c (exprs_here es) ≡ [] → (is_callee c ≡ true) × ((ts : List Ty) (t : Ty) → c ≡ Takes (map (λ t. Of t) ts) t → AllSet w ts es)
   started_parts x es c h =
       let k = split (wrong_name (meant w.scope x) c here) _ h in
@@ -190,25 +175,13 @@ module _ (w : Where) where
         λ ts t i. all_set ts es (counted (map (λ t. Of t) ts) t es here (subst (λ c. number_breaks c (exprs_here es) here ≡ []) i l.0)) (subst (λ c. args_breaks w (wanted c) (exprs_here es) ≡ []) i l.1),
       )
 
-  spawned_is : (k : Meant) → is_callee (spawn_callee k) ≡ true → (t : Ty) × (ts : List Ty) × (k ≡ AFunction Cps t ts)
-  spawned_is (AFunction Cps t ts) h = (t, ts, refl)
-  spawned_is _ h = by_false_true h
-
   pub spawn_parts : (x : Text) (es : Exprs) → stmt_breaks w (stmt_here (Spawn x es)) ≡ [] → (t : Ty) × (ts : List Ty) × (meant w.scope x ≡ AFunction Cps t ts) × AllSet w ts es
   spawn_parts x es h =
       let k = split (at_if (is_event w.dialect) here CpsForm) _ h in
       let l = split (at_if (is_detached w.mode) here NotClosed) _ k.1 in
       let s = started_parts x es (spawn_callee (meant w.scope x)) l.1 in
-      let t = spawned_is (meant w.scope x) s.0 in
+      let t = spawn_meant (meant w.scope x) s.0 in
       (t.0, t.1, t.2, s.1 t.1 t.0 (ap spawn_callee t.2))
-
-  section_is : (k : Meant) → is_callee (section_callee w.scope k) ≡ true → (ts : List Ty) × (k ≡ AFunction Detached (TyInt Int) ts) × (takes_section w.scope ts ≡ true)
-  section_is (AFunction Detached (TyInt Int) ts) h = go (takes_section w.scope ts) refl h
-    where
-      go : (b : Bool) → takes_section w.scope ts ≡ b → is_callee (cond b (Takes (map (λ t. Of t) ts) (TyInt Int)) NoCallee) ≡ true → (us : List Ty) × (AFunction Detached (TyInt Int) ts ≡ AFunction Detached (TyInt Int) us) × (takes_section w.scope us ≡ true)
-      go true e h = (ts, refl, e)
-      go false e h = by_false_true h
-  section_is _ h = by_false_true h
 
   pub section_parts : (to : Option Expr) (x : Text) (es : Exprs) → stmt_breaks w (stmt_here (Detach to x es)) ≡ []
       → (ts : List Ty) × (meant w.scope x ≡ AFunction Detached (TyInt Int) ts) × (takes_section w.scope ts ≡ true) × AllSet w ts es × Gives w to (TyInt Int)
@@ -217,5 +190,5 @@ module _ (w : Where) where
       let l = split (at_if (not (is_cps w.mode)) here CpsInNative) _ k.1 in
       let m = split (at_if (is_event w.dialect) here CpsForm) _ l.1 in
       let s = started_parts x es (section_callee w.scope (meant w.scope x)) m.1 in
-      let t = section_is (meant w.scope x) s.0 in
+      let t = section_meant w.scope (meant w.scope x) s.0 in
       (t.0, t.1, t.2, s.1 t.0 (TyInt Int) (ap (section_callee w.scope) t.1 ∙ ap (λ b. cond b (Takes (map (λ t. Of t) t.0) (TyInt Int)) NoCallee) t.2), gives_of to _ (TyInt Int) refl k.0)

@@ -1,9 +1,9 @@
 -- Statements that are made break no rule, and flat bodies of them.
-use Rattle.std.proofs.Common.{◌≡◌, ◌&&◌, ◌||◌, not, Bool, true, false, cond, List, [], ◌∷◌, ◌++◌, map, codes, Option, Some, None, refl, sym, ◌∙◌, ap, subst, length}
+use Rattle.std.proofs.Common.{◌≡◌, ◌&&◌, ◌||◌, not, true, false, cond, List, [], ◌∷◌, ◌++◌, map, codes, Option, Some, None, refl, sym, ◌∙◌, ap, subst, length}
 use Rattle.std.specs.Prelude.{option_map}
 use Rattle.cpc_base.specs.Bytes.{Text}
 use Rattle.cpc_base.specs.declared.stop.Dialect.TheVariants as D
-use Rattle.cpc_base.proofs.Truth.{by_false_true}
+use Rattle.cpc_base.proofs.Truth.{by_false_true, and_with_false}
 use Rattle.cpc_num.specs.declared.kinds.Kind.TheVariants.{Int}
 use Rattle.cpc_tree.specs.declared.program.Mode.{Mode}
 use Rattle.cpc_tree.specs.declared.program.Mode.TheVariants.{Detached}
@@ -75,14 +75,10 @@ module _ (v : Where) where
       let row : primitive_breaks v here prim ≡ [] =
       both_none _ _ (ap (λ b. at_if (b && not (is_cps v.mode)) here CpsInNative) g)
       (both_none _ _ (ap (λ b. at_if (b && not (is_closed prim)) here NotClosed) closed)
-      (both_none _ _ (ap (λ d. at_if (is_rt prim && not (is_event d)) here RtCall) dialect ∙ ap (λ b. at_if b here RtCall) (never (is_rt prim))) (ap (λ b. at_if (b && is_event v.dialect) here CpsForm) g))) in
+      (both_none _ _ (ap (λ d. at_if (is_rt prim && not (is_event d)) here RtCall) dialect ∙ ap (λ b. at_if b here RtCall) (and_with_false (is_rt prim))) (ap (λ b. at_if (b && is_event v.dialect) here CpsForm) g))) in
       let called : called_breaks v f (expr_breaks v f) ≡ [] = ap (λ m. named_breaks v f here (expr_breaks v f) m (primitive_named x)) e ∙ ap (unmeant_breaks v here) i ∙ row in
       both_none _ _ (subst (λ c. to_breaks v (option_map expr_here to) here (result c) ≡ []) (sym is) (to_fine v to (gives prim) k))
       (both_none _ _ called (both_none _ _ (subst (λ c. number_breaks c (exprs_here es) here ≡ []) (sym is) numbers) (subst (λ c. args_breaks v (wanted c) (exprs_here es) ≡ []) (sym is) arguments)))
-    where
-      never : (b : Bool) → (b && false) ≡ false
-      never true = refl
-      never false = refl
 
   simple_wants : (prim : Primitive) (es : Exprs) → is_simple prim ≡ true → wants v.scope prim (exprs_here es) ≡ map wanted_of (takes_first prim)
   simple_wants P.Puts es h = by_false_true h

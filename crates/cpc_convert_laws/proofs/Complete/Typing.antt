@@ -12,8 +12,8 @@ use Rattle.cpc_check_laws.proofs.Native.OnePlace.{expr_here, expr_again}
 use Rattle.cpc_check_laws.proofs.Sound.Answers.{no_some}
 use Rattle.cpc_check_laws.proofs.Sound.Options.{then_of}
 use Rattle.cpc_check_laws.proofs.Sound.Agreement.{Grows, sizes_grow}
-use Rattle.cpc_check_laws.proofs.Sound.Expressions.{sign_some, tested_is}
-use Rattle.cpc_check_laws.proofs.Sound.More.{typing_more}
+use Rattle.cpc_check_laws.proofs.Sound.Expressions.{sign_some}
+use Rattle.cpc_check_laws.proofs.Sound.More.{tested_more, typing_more}
 use Rattle.cpc_convert_image_laws.specs.Images.{Reading, Readings, image_named, image}
 use Rattle.cpc_convert_image_laws.proofs.Types.{same_null}
 use Rattle.cpc_convert_laws.specs.Complete.Reads.{Reads, ReadsLocal, ReadsField, StaysLocal, StaysGlobal, StaysFunction, IsCps, StaysNothing, Carries}
@@ -50,16 +50,13 @@ module _ (w v : Where) (r : Readings) (c : Carries w v r) where
   address_image x _ _ (IsCps o u ts) b d g h = no_some b g
   address_image x _ _ (StaysNothing e) b d g h = no_some b g
 
-  tested_image : (o u : Option Typed) (t : Ty) → ((d : Typed) → o ≡ Some d → u ≡ Some d) → tested_type o ≡ Some t → tested_type u ≡ Some t
-  tested_image o u t more h = let m = tested_is o t h in ap tested_type (more m.0 m.1 ∙ sym m.1) ∙ h
-
   tests : (a b : Expr) (d : Typed) → test_type (typing_of (meant w.scope) v.scope.items a) (typing_of (meant w.scope) v.scope.items b) ≡ Some d
       → ((d : Typed) → typing_of (meant w.scope) v.scope.items a ≡ Some d → typed v.scope (image r a) ≡ Some d) → ((d : Typed) → typing_of (meant w.scope) v.scope.items b ≡ Some d → typed v.scope (image r b) ≡ Some d)
       → test_type (typed v.scope (image r a)) (typed v.scope (image r b)) ≡ Some d
   tests a b d h f g =
       let k = then_some (tested_type (typing_of (meant w.scope) v.scope.items a)) _ d h in
       let l = then_some (tested_type (typing_of (meant w.scope) v.scope.items b)) _ d k.2 in
-      then_of (tested_type (typed v.scope (image r a))) _ k.0 d (tested_image _ _ k.0 f k.1) (then_of (tested_type (typed v.scope (image r b))) _ l.0 d (tested_image _ _ l.0 g l.1) l.2)
+      then_of (tested_type (typed v.scope (image r a))) _ k.0 d (tested_more _ _ k.0 f k.1) (then_of (tested_type (typed v.scope (image r b))) _ l.0 d (tested_more _ _ l.0 g l.1) l.2)
 
   -- where more is declared, images have the types of what they are images of
   read_image : (e : Expr) (d : Typed) → typing_of (meant w.scope) v.scope.items e ≡ Some d → typed v.scope (image r e) ≡ Some d
@@ -88,7 +85,7 @@ module _ (w v : Where) (r : Readings) (c : Carries w v r) where
       let l = then_some (used k.0) _ d k.2 in
       let m = then_some (typing_of (meant w.scope) v.scope.items b) _ d l.2 in
       let n = then_some (used m.0) _ d m.2 in
-      then_of (tested_type (typed v.scope (image r t))) _ o.0 d (tested_image _ _ o.0 (λ d h. read_image t d h) o.1) (then_of (typed v.scope (image r a)) _ k.0 d (read_image a k.0 k.1) (then_of (used k.0) _ l.0 d l.1
+      then_of (tested_type (typed v.scope (image r t))) _ o.0 d (tested_more _ _ o.0 (λ d h. read_image t d h) o.1) (then_of (typed v.scope (image r a)) _ k.0 d (read_image a k.0 k.1) (then_of (used k.0) _ l.0 d l.1
       (then_of (typed v.scope (image r b)) _ m.0 d (read_image b m.0 m.1) (then_of (used m.0) _ n.0 d n.1 (rw (same_null r a, same_null r b) n.2)))))
   read_image (ECast t e) d h =
       let k = then_some (typing_of (meant w.scope) v.scope.items e) _ d h in

@@ -9,7 +9,7 @@ use Rattle.cpc_tree.specs.Typing.{function_named}
 use Rattle.cpc_tree.specs.Trace.{Outcome, Going, Ended, Exited, Failed, HistoryEnded, BadHistory, is_over}
 use Rattle.cpc_meaning_matching.specs.Steps.{or_stay}
 use Rattle.cpc_meaning_matching.specs.Systems.{run, NeverStuck}
-use Rattle.cpc_meaning_matching.proofs.Laws.{near_some, spent-one, spent-within, place_ge, place_cost, row_at}
+use Rattle.cpc_meaning_matching.proofs.Laws.{near_row, spent-one, spent-within, place_ge, place_cost, row_at}
 use Rattle.cpc_meaning_matching.proofs.Systems.{matches_live}
 use Rattle.cpc_meaning.specs.Events.{CallMain, event, callbacks, callbacks_of}
 use Rattle.cpc_meaning.specs.History.{History}
@@ -86,12 +86,24 @@ module _ (p : Program) (had : Had p) (does : PiecesDo p had.known (IsFine p) (Ca
         bounded (inl going) = related_bounded p (z p had).codes (z p had).there (stood_thin p had.convertible.named had.cps) _ _ (stand.meets m).stands (sym (lifted_rest p h m).outcome ∙ going)
         bounded (inr none) = (stand.meets m).bounded ((lifted_rest p h m).rests none)
 
+    abbrev events : ℕ → Target
+    events = run (event_system (trees (converted p)) h)
+
+    -- a state of the event program comes as early as the cost of the threads' steps up to its row allows
+    recent : (n m : ℕ) → n < stand.place (suc m) → n ≤ cost p * (m + 2)
+    recent n m before =
+        let spent = place_cost stand (suc m) in
+        let steps = spent-one events (stand.place (suc m)) in
+        let within = spent-within (λ (s : Source). cost p) (cost p) (run (lifted_threads p h)) (λ i. omega arith) (suc m) in
+        omega (arith, before, spent, steps, within)
+
     -- wherever nothing runs in the event program they are held
-    cps_rests : (n : ℕ) → (event (converted p) h n).running ≡ None → (m : ℕ) × (m ≤ n) × ((threaded p h m).running ≡ None) × FramesHeld p (threaded p h m) (event (converted p) h n)
+    cps_rests : (n : ℕ) → (event (converted p) h n).running ≡ None
+        → (m : ℕ) × (m ≤ n) × (n ≤ cost p * (m + 2)) × ((threaded p h m).running ≡ None) × FramesHeld p (threaded p h m) (event (converted p) h n)
     cps_rests n none =
-        let near = near_some stand (holds_inside p had does h) n in
-        let held = held_by p h near.0 (event (converted p) h n) (near.2.bounded none) in
-        (near.0, near.1, held.rested none, held)
+        let near = near_row stand (holds_inside p had does h) n in
+        let held = held_by p h near.0 (event (converted p) h n) (near.3.bounded none) in
+        (near.0, near.1, recent n near.0 near.2, held.rested none, held)
 
     -- the measure of the lifted run is within that of the threads
     within_measure : (m : ℕ) → split_measure p (lifted_after p h m) ≤ measure p (threaded p h m)
@@ -104,7 +116,7 @@ module _ (p : Program) (had : Had p) (does : PiecesDo p had.known (IsFine p) (Ca
 
     -- after n steps
     abbrev Few : ℕ → Target → Type 0
-    Few n t = (m : ℕ) × (m ≤ n) × ((threaded p h m).trace ≡ t.trace) × (live_cells t ≤ measure p (threaded p h m) + cost p)
+    Few n t = (m : ℕ) × (m ≤ n) × ((n ≤ cost p * (m + 2)) ⊎ (is_over t.outcome ≡ true)) × ((threaded p h m).trace ≡ t.trace) × (live_cells t ≤ measure p (threaded p h m) + cost p)
 
     abbrev states : ℕ → Target
     states = event (converted p) h
@@ -112,17 +124,19 @@ module _ (p : Program) (had : Had p) (does : PiecesDo p had.known (IsFine p) (Ca
     -- where the run goes on, or nothing runs
     calm_few : (n : ℕ) → (is_over (states n).outcome ≡ true → (states n).running ≡ None) → Few n (states n)
     calm_few n calm =
-        let near = near_some stand (holds_inside p had does h) n in
-        let few = near.2.few calm in
+        let near = near_row stand (holds_inside p had does h) n in
+        let few = near.3.few calm in
         let same = within_measure near.0 in
-        (near.0, near.1, (lifted_rest p h near.0).trace ∙ near.2.alike.trace, omega (arith, few, same))
+        (near.0, near.1, inl (recent n near.0 near.2), (lifted_rest p h near.0).trace ∙ near.3.alike.trace, omega (arith, few, same))
 
-    later_few : (n : ℕ) (t : Target) → Few n t → Few (suc n) t
-    later_few n t few = let before = few.1 in (few.0, omega (arith, before), few.2, few.3)
+    -- one step later, where the run is over
+    later_few : (n : ℕ) (t : Target) → is_over t.outcome ≡ true → Few n t → Few (suc n) t
+    later_few n t over few = let before = few.1 in (few.0, omega (arith, before), inr over, few.3, few.4)
 
     -- after a step of a state that goes on
     next_few : (n : ℕ) → (states n).outcome ≡ Going → Few n (states n) → (o : Option Target) → next (callbacks (converted p)) (states n) ≡ o → Few (suc n) (states (suc n))
-    next_few n going few None e = later_few n (states (suc n)) (subst (Few n) (sym (ap (or_stay (states n)) e)) few)
+    next_few n going few None e = calm_few (suc n)
+        (λ over. absurd (let l : true ≡ false = sym over ∙ ap (λ (u : Target). is_over u.outcome) (ap (or_stay (states n)) e) ∙ ap is_over going in cc))
     next_few n going few (Some t) e = subst (Few (suc n)) same (by_over (is_over t.outcome) refl t.running refl)
       where
         same : t ≡ states (suc n)
@@ -134,14 +148,14 @@ module _ (p : Program) (had : Had p) (does : PiecesDo p had.known (IsFine p) (Ca
         here : (is_over t.outcome ≡ true → t.running ≡ None) → Few (suc n) t
         here calm = subst (Few (suc n)) (sym same) (calm_few (suc n) (subst (λ (u : Target). is_over u.outcome ≡ true → u.running ≡ None) same calm))
 
-        ended : (t.running ≡ None) ⊎ ((t.trace ≡ (states n).trace) × (live_cells t ≡ live_cells (states n))) → Few (suc n) t
-        ended (inl none) = here (λ over. none)
-        ended (inr kept) = let before = few.1 in let few' = few.3 in let live = kept.1 in (few.0, omega (arith, before), few.2 ∙ sym kept.0, omega (arith, few', live))
+        ended : is_over t.outcome ≡ true → (t.running ≡ None) ⊎ ((t.trace ≡ (states n).trace) × (live_cells t ≡ live_cells (states n))) → Few (suc n) t
+        ended over (inl none) = here (λ over. none)
+        ended over (inr kept) = let before = few.1 in let few' = few.4 in let live = kept.1 in (few.0, omega (arith, before), inr over, few.3 ∙ sym kept.0, omega (arith, few', live))
 
         by_over : (b : Bool) → is_over t.outcome ≡ b → (k : Option (Stack Point)) → t.running ≡ k → Few (suc n) t
         by_over false i k j = here (λ over. absurd (let l : true ≡ false = sym over ∙ i in cc))
         by_over true i None j = here (λ over. j)
-        by_over true i (Some k) j = ended (step_ends (trees (converted p)) (states n) t going stepped i)
+        by_over true i (Some k) j = ended i (step_ends (trees (converted p)) (states n) t going stepped i)
 
     -- at every number of steps
     cps_few : (n : ℕ) → Few n (states n)
@@ -157,11 +171,10 @@ module _ (p : Program) (had : Had p) (does : PiecesDo p had.known (IsFine p) (Ca
         going (BadHistory k) e = absurd (cc)
 
         go : Few n (states n) → (b : Bool) → is_over (states n).outcome ≡ b → Few (suc n) (states (suc n))
-        go few true over = later_few n (states (suc n)) (subst (Few n) (sym (ap (or_stay (states n)) ((machine_ends (callbacks_of (trees (converted p))) CallMain h).none (states n) over))) few)
+        go few true over =
+            let same = sym (ap (or_stay (states n)) ((machine_ends (callbacks_of (trees (converted p))) CallMain h).none (states n) over)) in
+            later_few n (states (suc n)) (subst (λ (u : Target). is_over u.outcome ≡ true) same over) (subst (Few n) same few)
         go few false i = next_few n (going (states n).outcome i) few (next (callbacks (converted p)) (states n)) refl
-
-    abbrev events : ℕ → Target
-    events = run (event_system (trees (converted p)) h)
 
     cps_comes_to : (m : ℕ) → GoesOrRests (threaded p h m) → (n : ℕ) × (m ≤ n) × (n ≤ cost p * (m + 1)) × FramesHeld p (threaded p h m) (event (converted p) h n)
     cps_comes_to m fine =
@@ -240,8 +253,8 @@ converted_all list end p read unbroken = go (some_cps (bare p) (bare p))
           λ h m fine. (m, omega arith, omega arith, subst (λ q. FramesHeld (bare p) (threaded (bare p) h m) (event q h m)) (sym is.same) (held h m)),
           λ h n. (n, n, omega arith, omega arith, omega arith, λ fine. subst (λ q. FramesHeld (bare p) (threaded (bare p) h n) (event q h n)) (sym is.same) (held h n)),
           λ h n none.
-              let f = subst (λ q. FramesHeld (bare p) (threaded (bare p) h n) (event q h n)) (sym is.same) (held h n) in (n, omega arith, f.rested none, f),
-          λ h n. let f = subst (λ q. FramesHeld (bare p) (threaded (bare p) h n) (event q h n)) (sym is.same) (held h n) in (n, omega arith, f.trace, f.live),
+              let f = subst (λ q. FramesHeld (bare p) (threaded (bare p) h n) (event q h n)) (sym is.same) (held h n) in (n, omega arith, omega arith, f.rested none, f),
+          λ h n. let f = subst (λ q. FramesHeld (bare p) (threaded (bare p) h n) (event q h n)) (sym is.same) (held h n) in (n, omega arith, inl (omega arith), f.trace, f.live),
         )
 
     go : (routines (bare p) ≡ []) ⊎ CpsAmong (bare p) → All (bare p)

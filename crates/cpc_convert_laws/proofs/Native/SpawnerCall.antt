@@ -1,5 +1,5 @@
 -- The call of a spawner: its variables are registers that hold the arguments, each found by its name.
-use Rattle.std.proofs.Common.{◌≡◌, ℕ, zero, suc, ◌+◌, ◌≤◌, Bool, true, false, cond, List, [], ◌∷◌, ◌++◌, map, length, slice_get, Some, refl, sym, ◌∙◌, ap, subst, arith}
+use Rattle.std.proofs.Common.{◌≡◌, ℕ, suc, ◌+◌, ◌≤◌, true, cond, List, [], ◌∷◌, ◌++◌, map, length, slice_get, Some, refl, sym, ◌∙◌, ap, subst, arith}
 use Rattle.cpc_base.specs.Bytes.{Text}
 use Rattle.cpc_check_laws.specs.Sound.Suits.{converts}
 use Rattle.cpc_check_laws.specs.Sound.Typed.{AllGet}
@@ -26,7 +26,7 @@ use Rattle.cpc_convert_event.specs.Lines.{save_of}
 use Rattle.cpc_convert_event.specs.Names.{start_name, frame_name, variable_name}
 use Rattle.cpc_convert_event.specs.Pieces.{parameter_of, spawner_function}
 use Rattle.cpc_convert_event.specs.Routines.{variable_if, passed_from, passed}
-use Rattle.cpc_convert_event.proofs.Fields.{Rising, NoneRises, OneRises}
+use Rattle.cpc_convert_event.proofs.Fields.{Rising, NoneRises, OneRises, passed_length}
 use Rattle.cpc_convert_event.proofs.Filling.{saving_from}
 use Rattle.cpc_convert_laws.proofs.Accepted.Pieces.{converts_scalar}
 use Rattle.cpc_convert_laws.proofs.Native.SpawnerScope.{past}
@@ -63,17 +63,8 @@ pub spawner_takes : (f : Function) → AllScalar (parameter_types f) → paramet
 spawner_takes f h = sym (types_taken (passed f) ∙ passed_types f h)
 
 -- no more are passed than there are variables
-fewer : (k n : ℕ) (xs : List Variable) → length (passed_from k n xs) ≤ length xs
-fewer k zero xs = omega arith
-fewer k (suc n) [] = omega arith
-fewer k (suc n) (x ∷ xs) = go (is_scalar x.type) (fewer (suc k) n xs)
-  where
-    go : (b : Bool) → length (passed_from (suc k) n xs) ≤ length xs → length (variable_if b (record { called = variable_name k x.called; type = x.type }) (passed_from (suc k) n xs)) ≤ suc (length xs)
-    go true h = omega (arith, h)
-    go false h = omega (arith, h)
-
 pub passed_few : (f : Function) → length (passed f) ≤ length (variables f)
-passed_few f = fewer 0 (length f.parameters) (variables f)
+passed_few f = passed_length 0 (length f.parameters) (variables f)
 
 -- ---- arguments
 
@@ -161,7 +152,3 @@ holds_all q top slots k _ _ more scope (AndField _ _ sc none distinct) (NotSo _ 
 pub saves_all : (q : Program) (scope : Scope) (slots : List Slot) (tag : Text) (t : Ty) (xs : List Variable) (vs : List Value) → IsStruct q tag (head_fields t xs) → AllHold q scope slots xs vs → Saving q scope slots tag 3 (map save_of xs) vs
 saves_all q scope slots tag t xs vs s all =
     saving_from q scope slots tag 3 xs vs (λ i x e. s.field (suc (suc (suc i))) x e ∙ ap (λ n. Some (n, x.type)) (let z : suc (suc (suc i)) ≡ 3 + i = omega arith in z)) all
-
--- no two of them are called alike
-pub behind_head : (t : Ty) (xs : List Variable) → ScalarFields (head_fields t xs) → ScalarFields xs
-behind_head t xs (AndField _ _ s a (AndField _ _ s' a' (AndField _ _ s'' a'' h))) = h

@@ -57,7 +57,7 @@ use Rattle.cpc_convert_event.specs.Pieces.{parameter_of, spawner_function}
 use Rattle.cpc_convert_event.specs.Routines.{passed}
 use Rattle.cpc_convert_event.proofs.Apart.{spawner_is}
 use Rattle.cpc_convert_event.proofs.BoxesThere.{structs_there}
-use Rattle.cpc_convert_event.proofs.Fields.{Rising, frame_fields, passed_rise}
+use Rattle.cpc_convert_event.proofs.Fields.{Rising, frame_fields, fields_behind, passed_rise}
 use Rattle.cpc_convert_event.proofs.Lookups.{functions_found}
 use Rattle.cpc_convert_event.proofs.Meanings.{items_meant}
 use Rattle.cpc_convert_laws.specs.Accepted.Known.{Stays}
@@ -76,7 +76,7 @@ use Rattle.cpc_convert_laws.proofs.Native.Instance.{setting_of}
 use Rattle.cpc_convert_laws.proofs.Native.Names.{used_kept}
 use Rattle.cpc_convert_laws.proofs.Native.Natives.{AllSpawn}
 use Rattle.cpc_convert_laws.proofs.Native.Respawned.{same_next, same_scope_from}
-use Rattle.cpc_convert_laws.proofs.Native.SpawnerCall.{AllScalar, get_scalar, passed_types, spawner_takes, passed_few, fit_all, same_number, all_registers, flat_saves, spawner_called, holds_all, saves_all, behind_head}
+use Rattle.cpc_convert_laws.proofs.Native.SpawnerCall.{AllScalar, get_scalar, passed_types, spawner_takes, passed_few, fit_all, same_number, all_registers, flat_saves, spawner_called, holds_all, saves_all}
 use Rattle.cpc_convert_laws.proofs.Native.SpawnerScope.{no_plain, no_frame, no_driver, no_piece, frame_piece, past_both, unhidden}
 use Rattle.cpc_convert_laws.proofs.Native.Wholes.{kept_named}
 
@@ -201,7 +201,7 @@ module _ (p : Program) (h : Convertible p) (g : Function) (cps : IsCps p g) wher
     spawner_runs there fine given =
         let struct = (structs_there p h.named).start g cps in
         let is_g = (functions_found p h.named).spawners g cps in
-        let fields : ScalarFields (passed g) = behind_head (TyInt Int) (passed g) (frame_fields (TyInt Int) 0 (passed g) refl rising) in (
+        let fields : ScalarFields (passed g) = fields_behind (TyInt Int) (passed g) (frame_fields (TyInt Int) 0 (passed g) refl rising) in (
           record {
             entered = slots;
             made = spawner_called g q (beside bs w.store) vs rising fits;

@@ -1,58 +1,36 @@
 -- The rows of functions that are made: their prototypes, the driver, and their definitions, whose bodies break no rule.
-use Rattle.std.proofs.Common.{◌≡◌, ℕ, zero, suc, ◌==◌, ◌&&◌, not, Bool, true, false, List, [], ◌∷◌, map, length, decimal, slice_get, Some, refl, ◌∙◌, ap, codes}
+use Rattle.std.proofs.Common.{◌≡◌, ℕ, zero, suc, ◌&&◌, not, Bool, true, false, List, [], ◌∷◌, map, length, decimal, slice_get, Some, refl, ◌∙◌, ap, codes}
 use Rattle.cpc_base.specs.Bytes.{Text}
 use Rattle.cpc_base.specs.declared.stop.Dialect.TheVariants as D
-use Rattle.cpc_base.proofs.Truth.{eq_reflexive, and_holds}
+use Rattle.cpc_base.proofs.Truth.{and_holds}
 use Rattle.cpc_num.specs.declared.kinds.Kind.TheVariants.{Int}
-use Rattle.cpc_num.proofs.KindLemmas.{same_kind-refl}
 use Rattle.cpc_tree.specs.declared.program.Mode.TheVariants.{Native}
 use Rattle.cpc_tree.specs.Registers.{variables}
-use Rattle.cpc_tree.specs.Syntax.{Ty, TyVoid, TyInt, TyCondvar, TyPointer, TyCode, TyStruct, TyArray, Tys, NoTy, AndTy, Variable, Function, FunctionItem, Program}
-use Rattle.cpc_tree.specs.Typing.{same_type, same_types, is_scalar, parameter_type}
+use Rattle.cpc_tree.specs.Syntax.{TyInt, Variable, Function, FunctionItem, Program}
+use Rattle.cpc_tree.specs.Typing.{same_type, is_scalar, parameter_type}
 use Rattle.cpc_check_rules.specs.declared.rule.Rule.TheVariants.{Reserved, Twice, Disagree, Undeclared, Incomplete}
 use Rattle.cpc_check_rules.specs.Rule.{at_if}
 use Rattle.cpc_check_rules.specs.Scopes.{Scope}
 use Rattle.cpc_check_rules.specs.FunctionRules.{is_kept, repeated, reserved_breaks, parameter_names}
 use Rattle.cpc_check_rules.specs.ItemRules.{outside, same_mode, same_list, agrees, is_item, is_function, is_clash, is_disagreeing, is_extern, is_host_like, types, field_names, cps_breaks, parameters_breaks, sized_breaks, item_breaks}
+use Rattle.cpc_check_rules.proofs.Sameness.{type_itself, list_itself}
 use Rattle.cpc_check_laws.proofs.Native.NativeValues.{both_none}
 use Rattle.cpc_check_laws.proofs.Native.OnePlace.{here, ident_here, variable_here, parameter_here, item_here}
-use Rattle.cpc_meaning.proofs.Functions.{text_same}
 use Rattle.cpc_convert.specs.Converted.{prototype, function_item}
 use Rattle.cpc_convert.specs.Members.{Has}
 use Rattle.cpc_convert_chain_laws.specs.Structs.{ScalarFields, NoFields, AndField}
-use Rattle.cpc_convert_chain_laws.specs.Driver.{head_fields}
 use Rattle.cpc_convert_event.specs.Names.{variable_name}
 use Rattle.cpc_convert_event.specs.Routines.{variable_if, passed_from, passed}
 use Rattle.cpc_convert_event.specs.Pieces.{parameter_of}
 use Rattle.cpc_convert_event.specs.NameLaws.{IsCps}
 use Rattle.cpc_convert_event.proofs.Apart.{behind, piece_is, spawner_is}
-use Rattle.cpc_convert_event.proofs.Fields.{passed_rise, frame_fields}
+use Rattle.cpc_convert_event.proofs.Fields.{passed_rise, frame_fields, fields_behind}
 use Rattle.cpc_convert_event.proofs.Made.{Made, MadeSpawner, MadePiece}
 use Rattle.cpc_convert_laws.specs.Rules.Laws.{BodyFine}
 use Rattle.cpc_convert_laws.proofs.Rules.KeptRows.{Source}
 use Rattle.cpc_convert_laws.proofs.Rules.Names.{made_unkept}
 use Rattle.cpc_convert_laws.proofs.Rules.Source.{signature, types_here}
 use Rattle.cpc_convert_laws.proofs.Rules.Types.{scalar_sized, scalars_apart}
-
--- ---- types are themselves
-
-mutual
-  type_itself : (t : Ty) → same_type t t ≡ true
-  type_itself TyVoid = refl
-  type_itself (TyInt k) = same_kind-refl k
-  type_itself TyCondvar = refl
-  type_itself (TyPointer t) = type_itself t
-  type_itself (TyCode r ps) = and_holds (same_type r r) (same_types ps ps) (type_itself r) (types_itself ps)
-  type_itself (TyStruct tag) = text_same tag
-  type_itself (TyArray t n) = and_holds (same_type t t) (n == n) (type_itself t) (eq_reflexive n)
-
-  types_itself : (ts : Tys) → same_types ts ts ≡ true
-  types_itself NoTy = refl
-  types_itself (AndTy t ts) = and_holds (same_type t t) (same_types ts ts) (type_itself t) (types_itself ts)
-
-list_itself : (ts : List Ty) → same_list ts ts ≡ true
-list_itself [] = refl
-list_itself (t ∷ ts) = and_holds (same_type t t) (same_list ts ts) (type_itself t) (list_itself ts)
 
 -- ---- heads
 
@@ -118,9 +96,6 @@ passed_free k zero xs h = refl
 passed_free k (suc n) [] h = refl
 passed_free k (suc n) (x ∷ xs) h =
     free_if (is_scalar x.type) (record { called = variable_name k x.called; type = x.type }) (passed_from (suc k) n xs) (variable_free k x.called (h 0 x refl)) (passed_free (suc k) n xs (λ j y e. h (suc j) y e))
-
-fields_behind : (t : Ty) (vs : List Variable) → ScalarFields (head_fields t vs) → ScalarFields vs
-fields_behind t vs (AndField _ _ _ _ (AndField _ _ _ _ (AndField _ _ _ _ s))) = s
 
 module _ (p : Program) (source : Source p) where
   free : (f : Function) → Has (FunctionItem f) p → is_kept f.called ≡ false

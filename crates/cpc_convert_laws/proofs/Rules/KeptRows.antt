@@ -1,6 +1,7 @@
 -- Items that stay of a program that breaks no rule of the dialect Cpc break none of the dialect Event.
-use Rattle.std.proofs.Common.{◌≡◌, inl, ℕ, suc, ◌&&◌, Bool, true, false, List, [], ◌∷◌, ◌++◌, map, reverse, length, bytes_eq, refl, sym, ◌∙◌, ap, subst}
+use Rattle.std.proofs.Common.{◌≡◌, inl, ℕ, suc, Bool, true, false, List, [], ◌∷◌, ◌++◌, map, reverse, length, bytes_eq, refl, sym, ◌∙◌, ap, subst}
 use Rattle.cpc_base.specs.Bytes.{Text}
+use Rattle.cpc_base.proofs.Truth.{false_unless_true, and_both}
 use Rattle.cpc_base.specs.declared.stop.Dialect.TheVariants as D
 use Rattle.cpc_tree.specs.declared.program.Mode.{Mode}
 use Rattle.cpc_tree.specs.declared.program.Mode.TheVariants.{Extern, Native, Cps, Detached}
@@ -59,21 +60,9 @@ pub record Source (p : Program) : Type 0 where
 
 pub beside_other : (x : Text) (new : Signature) (i : Item) → (Declares x i → ⊥) → Beside x new i
 beside_other x new (StructItem tag fs) h = tt
-beside_other x new (GlobalItem g t s) h = by_not (bytes_eq g x) h
-  where
-    by_not : (b : Bool) → (b ≡ true → ⊥) → b ≡ false
-    by_not true h = absurd (h refl)
-    by_not false h = refl
-beside_other x new (PrototypeItem m f r ps) h = inl (by_not (bytes_eq f x) h)
-  where
-    by_not : (b : Bool) → (b ≡ true → ⊥) → b ≡ false
-    by_not true h = absurd (h refl)
-    by_not false h = refl
-beside_other x new (FunctionItem f) h = inl (by_not (bytes_eq f.called x) h)
-  where
-    by_not : (b : Bool) → (b ≡ true → ⊥) → b ≡ false
-    by_not true h = absurd (h refl)
-    by_not false h = refl
+beside_other x new (GlobalItem g t s) h = false_unless_true (bytes_eq g x) h
+beside_other x new (PrototypeItem m f r ps) h = inl (false_unless_true (bytes_eq f x) h)
+beside_other x new (FunctionItem f) h = inl (false_unless_true (bytes_eq f.called x) h)
 
 pub beside_kept : (x : Text) (new : Signature) (i j : Item) → KeptItem i j → Beside x new i → Beside x new j
 beside_kept x new _ _ (KeepStruct tag fs) h = h
@@ -103,12 +92,8 @@ function_has q f h = go q (split q h)
 pub passed_types : (k : ℕ) (ps : List Parameter) (rest : List Variable) → all_scalar (map parameter_type ps) ≡ true → map parameter_type (map parameter_of (passed_from k (length ps) (map as_variable ps ++ rest))) ≡ map parameter_type ps
 passed_types k [] rest h = refl
 passed_types k (q ∷ ps) rest h =
-    let s = both (is_scalar q.type) (all_scalar (map parameter_type ps)) h in
+    let s = and_both (is_scalar q.type) (all_scalar (map parameter_type ps)) h in
     ap (λ b. map parameter_type (map parameter_of (variable_if b (record { called = variable_name k (or_empty q.called); type = q.type }) (passed_from (suc k) (length ps) (map as_variable ps ++ rest))))) s.0 ∙ ap (λ ts. q.type ∷ ts) (passed_types (suc k) ps rest s.1)
-  where
-    both : (a b : Bool) → (a && b) ≡ true → (a ≡ true) × (b ≡ true)
-    both true b e = (refl, e)
-    both false b e = absurd (cc)
 
 -- ---- names
 

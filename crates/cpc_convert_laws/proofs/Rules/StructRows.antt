@@ -1,5 +1,5 @@
 -- The rows of the structs that are made: of frames, and of boxes behind the items that stay.
-use Rattle.std.proofs.Common.{◌≡◌, ⊎_elim, ℕ, zero, suc, ◌+◌, ◌<◌, ◌≤◌, ◌^◌, Bool, true, false, not, List, [], ◌∷◌, ◌++◌, map, reverse, length, get_or, decimal, Some, refl, sym, ◌∙◌, ap, subst, append_assoc, append-nil, codes, arith}
+use Rattle.std.proofs.Common.{◌≡◌, ⊎_elim, ℕ, suc, ◌+◌, ◌<◌, ◌≤◌, ◌^◌, Bool, true, false, not, List, [], ◌∷◌, ◌++◌, map, reverse, length, get_or, decimal, Some, refl, sym, ◌∙◌, ap, subst, append_assoc, append-nil, codes, arith}
 use Rattle.std.proofs.lemmas.Option.{slice_get-get_or}
 use Rattle.std.proofs.lemmas.Bool.Decides.{nat_tests}
 use Rattle.std.proofs.lemmas.List.{length-map}
@@ -32,13 +32,13 @@ use Rattle.cpc_lift_laws.proofs.Boxes.{boxes_are_below}
 use Rattle.cpc_convert_chain_laws.specs.Structs.{ScalarFields}
 use Rattle.cpc_convert_chain_laws.specs.Driver.{frame_tag}
 use Rattle.cpc_convert_event.specs.Names.{box_tag}
-use Rattle.cpc_convert_event.specs.Routines.{routine_of, closure_of, variable_of, variable_or, local_of, locals_of, variable_if, passed_from, passed}
+use Rattle.cpc_convert_event.specs.Routines.{routine_of, closure_of, variable_of, variable_or, local_of, locals_of, passed}
 use Rattle.cpc_convert_event.specs.Frames.{start_struct, leader_struct, arriving_type, box_of, boxes_of, value_struct_if, structs_of}
 use Rattle.cpc_convert_event.specs.Converted.{kept_items, routines, all_structs, all_boxes, routine_if, routines_in}
 use Rattle.cpc_convert_event.specs.NameLaws.{IsCps}
 use Rattle.cpc_convert_event.proofs.Apart.{behind, piece_is, value_is, box_is}
 use Rattle.cpc_convert_event.proofs.Extending.{Beyond}
-use Rattle.cpc_convert_event.proofs.Fields.{kept_rises, passed_rise, frame_fields, NoneRises}
+use Rattle.cpc_convert_event.proofs.Fields.{kept_rises, passed_length, passed_rise, frame_fields, NoneRises}
 use Rattle.cpc_convert_event.proofs.Framed.{tag_of, held}
 use Rattle.cpc_convert_event.proofs.Locals.{closure_rise}
 use Rattle.cpc_convert_event.proofs.Numbers.{Rises, NoneRise, OneRise}
@@ -60,15 +60,6 @@ use Rattle.cpc_convert_laws.proofs.Rules.FunctionRows.{free_name}
 rises_length : (high low : ℕ) (ns : List ℕ) → low ≤ high → Rises high low ns → length ns + low ≤ high
 rises_length high low _ h (NoneRise _) = omega arith
 rises_length high low _ h (OneRise _ n ns l b r) = let k = rises_length high (suc n) ns (omega arith) r in omega (arith, k, l)
-
-if_length : (b : Bool) (x : Variable) (rest : List Variable) (n : ℕ) → length rest ≤ n → length (variable_if b x rest) ≤ suc n
-if_length true x rest n h = omega (arith, h)
-if_length false x rest n h = omega (arith, h)
-
-passed_length : (k count : ℕ) (xs : List Variable) → length (passed_from k count xs) ≤ length xs
-passed_length k zero xs = omega arith
-passed_length k (suc n) [] = omega arith
-passed_length k (suc n) (x ∷ xs) = if_length (is_scalar x.type) _ (passed_from (suc k) n xs) (length xs) (passed_length (suc k) n xs)
 
 -- ---- frames
 

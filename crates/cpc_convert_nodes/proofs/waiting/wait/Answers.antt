@@ -31,7 +31,7 @@ returns c = λ source from to p r st leads same.
     ∙ (followed_by to c.in_ok-made.made.items c.named.result c.named-2.result
     ∙ (ap (λ (xs : S.Exprs). I.followed xs (expr_of to c.named.result) (expr_of to c.named-2.result)) made
     ∙ (ap (λ (x : S.Expr). I.followed (I.images names es) x (expr_of to c.named-2.result)) drive ∙ ap (λ (x : S.Expr). I.followed (I.images names es) (S.ENamed drive_name) x) given))) in
-    let word = c.runtime_word-word.ensures to st.book.of_loop ∙ ap L.runtime_name (c.builtin_at.ensures from (subst (λ (t : Table). Spells t from) (sym st.texts) st.spells)) in
+    let word = c.runtime_word-word.ensures to st.book.of_loop ∙ ap L.runtime_name (c.primitive_at.ensures from (subst (λ (t : Table). Spells t from) (sym st.texts) st.spells)) in
     let called = call_put framed _ _ _ _ _ _ _ (c.in_ok-call.ensures to) refl (ap S.ENamed word) row in
     behind u framed _ (L.frame_lines_if r to_name c.args.arrival) (S.Call None (S.ENamed (L.runtime_name (primitive_named (from c.args.name)))) (I.followed (I.images names es) (S.ENamed drive_name) (S.ENamed to_name)) ∷ L.hands_nothing ∷ []) frame
     (behind framed _ _ (S.Call None (S.ENamed (L.runtime_name (primitive_named (from c.args.name)))) (I.followed (I.images names es) (S.ENamed drive_name) (S.ENamed to_name)) ∷ []) (L.hands_nothing ∷ []) called (c.in_ok-hand_nothing.ensures to))

@@ -1,25 +1,35 @@
-use Rattle.std.proofs.Common.{◌∙◌, ◌+◌, ℕ, map, drop, sym, ap, arith}
-use Rattle.cpc_tree.specs.Erase.{field_of}
-use Rattle.cpc_tree.specs.Typing as T
-use Rattle.cpc_eval_index.proofs.Offsets.{behind, field_here, field_passed, field_lost}
+use Rattle.std.proofs.Common.{◌≤◌, ◌<◌, ◌∙◌, ap, sym, option_map, refl, length, arith}
+use Rattle.std.proofs.lemmas.Option.{slice_get_read, slice_get_past}
+use Rattle.cpc_tree.specs.Erase.{type_of}
+use Rattle.cpc_eval_index.proofs.FieldRows.{found_by, field_here, field_passed, field_over}
 use Rattle.cpc_eval_index.proofs.fields.field_in.Goals as goal
 
-pub loop-field-preserved : goal.loop-field-preserved
-loop-field-preserved c = record {
-  low = omega arith;
-  rest = λ names apart p sizes.
-      c.loop-field.invariant.rest names apart p sizes
-      ∙ field_passed names apart p c.args.fields.now c.loop-field.field-index c.field-item.result c.args.name c.loop-field.offset c.loop-field-test.true c.field-item.is _ c.if-field-name.false (c.in_ok-count.ensures names p sizes)
-      ∙ ap (λ (s : ℕ). behind s (T.field_from p 0 (map (field_of names) (drop (c.loop-field.field-index + 1) c.args.fields.now)) (names c.args.name))) (sym c.saturating_add-offset.ensures);
-}
+pub loop-i-preserved : goal.loop-i-preserved
+loop-i-preserved c = λ names apart.
+    c.loop-i.invariant names apart
+    ∙ field_passed names apart c.args.offsets.now c.args.fields.now c.loop-i.i c.args.name c.index-fields-i.result c.loop-i-test.true c.index-fields-i.is c.if-field-name.false
+
+pub returns-in_err-offset : goal.returns-in_err-offset
+returns-in_err-offset c = λ names apart p is.
+    let past : length c.args.offsets.now ≤ c.loop-i.i = omega (arith, c.in_err-offset.ensures.lookup) in
+    rw c.from_residual.ensures
+    (sym (found_by names p c.args.offsets.now c.args.fields.now c.args.name is
+    ∙ c.loop-i.invariant names apart
+    ∙ field_here names apart c.args.offsets.now c.args.fields.now c.loop-i.i c.args.name c.index-fields-i.result c.loop-i-test.true c.index-fields-i.is c.if-field-name.true
+    ∙ ap (option_map (λ n. (n, type_of names c.index-fields-i.result.of))) (slice_get_past c.args.offsets.now c.loop-i.i past)))
 
 pub returns-then-field-name : goal.returns-then-field-name
-returns-then-field-name c = λ names apart p sizes.
-    sym (c.loop-field.invariant.rest names apart p sizes
-    ∙ field_here names apart p c.args.fields.now c.loop-field.field-index c.field-item.result c.args.name c.loop-field.offset c.loop-field-test.true c.field-item.is c.if-field-name.true c.loop-field.invariant.low)
+returns-then-field-name c = λ names apart p is.
+    let ns = c.args.offsets.now in
+    let i = c.loop-i.i in
+    let within : i < length ns = omega (arith, c.in_ok-offset.ensures.lookup) in
+    sym (found_by names p c.args.offsets.now c.args.fields.now c.args.name is
+    ∙ c.loop-i.invariant names apart
+    ∙ field_here names apart c.args.offsets.now c.args.fields.now c.loop-i.i c.args.name c.index-fields-i.result c.loop-i-test.true c.index-fields-i.is c.if-field-name.true
+    ∙ ap (option_map (λ n. (n, type_of names c.index-fields-i.result.of))) (slice_get_read ns (length ns) i c.in_ok-offset.offset.now refl within c.in_ok-offset.ensures.lookup.1))
 
-pub returns-in_err-count : goal.returns-in_err-count
-returns-in_err-count c = λ names apart p sizes.
-    rw c.from_residual.ensures
-    (sym (c.loop-field.invariant.rest names apart p sizes
-    ∙ field_lost names apart p c.args.fields.now c.loop-field.field-index c.field-item.result c.args.name c.loop-field.offset c.loop-field-test.true c.field-item.is c.if-field-name.false (c.in_err-count.ensures names p sizes)))
+pub returns : goal.returns
+returns c = λ names apart p is.
+    sym (found_by names p c.args.offsets.now c.args.fields.now c.args.name is
+    ∙ c.loop-i.invariant names apart
+    ∙ field_over names c.args.offsets.now c.args.fields.now c.loop-i.i c.args.name c.loop-i-test.false)

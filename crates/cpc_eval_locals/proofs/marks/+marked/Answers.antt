@@ -14,7 +14,7 @@ mark_parts-returns-in_ok-mark_row-in-For t c =
 pub note-returns : goal.note-returns
 note-returns t c =
     note_ok c.mark_parts.result c.mark_parts.new.marks.items c.push.new.self.items c.args.marks.now.items c.args.key c.args.depth c.in_ok-inner.inner c.declared-count.result c.in_ok-own.own c.args.s.now
-    c.in_ok-push.ensures.items c.in_ok-inner.ensures c.declared-count.ensures c.in_ok-own.ensures (omega (arith, c.if-count-eq0.false)) c.mark_parts.ensures
+    c.in_ok-push.ensures.items (omega (arith, c.in_ok-inner.ensures)) c.declared-count.ensures c.in_ok-own.ensures (omega (arith, c.if-count-eq0.false)) c.mark_parts.ensures
 
 pub mark_row-loop-n-preserved : goal.mark_row-loop-n-preserved
 mark_row-loop-n-preserved t c = (

@@ -5,7 +5,7 @@ use Rattle.cpc_meaning.specs.Requests as R
 use Rattle.cpc_meaning.specs.Act as M
 use Rattle.cpc_eval_values.specs.Shown.{values_of}
 use Rattle.cpc_eval.specs.Around.{context_of}
-use Rattle.cpc_native_builtins.specs.Builtins.{primitive_of}
+use Rattle.cpc_tree.specs.PrimitiveNames.{primitive_of}
 use Rattle.cpc_native_builtins.specs.declared.call.Call.TheVariants as C
 use Rattle.cpc_native_plans.specs.Rows.{asked_with}
 use Rattle.cpc_native_acts.specs.declared.deeds.Deed.TheVariants as D

@@ -4,7 +4,7 @@ use Rattle.cpc_tree.specs.Primitives.{takes_first}
 use Rattle.cpc_meaning.specs.Eval as E
 use Rattle.cpc_meaning.specs.Requests as R
 use Rattle.cpc_eval.specs.Around.{context_of}
-use Rattle.cpc_native_builtins.specs.Builtins.{primitive_of}
+use Rattle.cpc_tree.specs.PrimitiveNames.{primitive_of}
 use Rattle.cpc_native_plans.specs.Rows.{asked_with}
 use Rattle.cpc_native_plans.proofs.Calling.{then_same}
 use Rattle.cpc_native_plans.proofs.Stopping.{or_by}

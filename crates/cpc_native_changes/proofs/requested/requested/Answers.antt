@@ -3,7 +3,7 @@ use Rattle.cpc_base.specs.Bytes.{Text}
 use Rattle.cpc_tree.specs.Erase.{exprs_of}
 use Rattle.cpc_meaning.specs.Act as M
 use Rattle.cpc_native_points.specs.Finds.{found_of}
-use Rattle.cpc_native_builtins.specs.Builtins.{primitive_of}
+use Rattle.cpc_tree.specs.PrimitiveNames.{primitive_of}
 use Rattle.cpc_eval.specs.Around.{context_of}
 use Rattle.cpc_native_changes.specs.Foreseen.{Foresees}
 use Rattle.cpc_native_changes.proofs.Requesting.{maker_no_text, freer_no_text, other_asked}

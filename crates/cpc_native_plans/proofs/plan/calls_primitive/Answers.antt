@@ -4,7 +4,7 @@ use Rattle.cpc_meaning.specs.Answer.{Answer}
 use Rattle.cpc_meaning.specs.Act as M
 use Rattle.cpc_eval_index.specs.Indexed.{items_of}
 use Rattle.cpc_eval.specs.Around.{context_of}
-use Rattle.cpc_native_builtins.specs.Builtins.{primitive_of}
+use Rattle.cpc_tree.specs.PrimitiveNames.{primitive_of}
 use Rattle.cpc_native_builtins.specs.declared.call.Call.TheVariants as C
 use Rattle.cpc_native_plans.specs.Calls.{calls_unmeant}
 use Rattle.cpc_native_plans.specs.Plans.{Lays}

@@ -16,7 +16,7 @@ returns-in-Keyword c =
         ]
       ]
     ] in
-    λ names dialect e. joins_lexeme c.args.lexeme.now b names dialect e ∙ (test ∙ sym c.in_word.ensures)
+    λ names dialect e. joins_lexeme c.args.lexeme.now b names dialect e ∙ (test ∙ sym c.is_in_word.ensures)
 
 pub returns-in-Punctuator : goal.returns-in-Punctuator
 returns-in-Punctuator c =

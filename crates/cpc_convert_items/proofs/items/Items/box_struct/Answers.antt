@@ -9,7 +9,7 @@ use Rattle.cpc_convert_event.specs.Frames.{box_of}
 use Rattle.cpc_convert_event.specs.Names.{box_tag}
 use Rattle.cpc_convert_event.specs.Pieces.{called_so}
 use Rattle.cpc_convert_event.specs.Routines.{variable_of}
-use Rattle.cpc_convert_lines.specs.Known.{number_unless}
+use Rattle.cpc_forms_code.specs.Lifts.{unless}
 use Rattle.cpc_convert_names.specs.Called.{variables_in}
 use Rattle.cpc_convert_items.specs.Listed.{listed}
 use Rattle.cpc_convert_items.proofs.Standing.{variable_is}
@@ -27,4 +27,4 @@ returns-in_ok-push-in-Some c = on_ok_weaker c.add_struct.result (λ h source fro
     ∙ (ap (λ o. called_so (or_empty (option_map (text_of to) o)) (type_of to v.of.now)) (sym c.in-Some.is) ∙ sym (variable_is source from to p r c.args.around s k v at))) in
     h to ∙ (ap (λ u. old ++ StructItem u (map (field_of to) c.push.new.self.items) ∷ []) tagged ∙ (ap (λ (u : List GField.Field). old ++ StructItem (box_tag r.function.called k) (map (field_of to) u) ∷ []) c.in_ok-push-in-Some.ensures.items
     ∙ (ap (λ fs. old ++ StructItem (box_tag r.function.called k) fs ∷ []) fields ∙ (ap (λ x. old ++ StructItem (box_tag r.function.called k) (x ∷ []) ∷ []) same
-    ∙ ap (λ b. old ++ map (box_of r) (number_unless b k [])) (sym c.if-variable.false)))))) c.add_struct.ensures
+    ∙ ap (λ b. old ++ map (box_of r) (unless b k [])) (sym c.if-variable.false)))))) c.add_struct.ensures

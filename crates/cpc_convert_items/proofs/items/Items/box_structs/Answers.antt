@@ -2,7 +2,8 @@ use Rattle.std.proofs.Common.{◌≡◌, ◌∙◌, [], ◌++◌, map, take, len
 use Rattle.std.proofs.lemmas.List.{append-nil, take_all, map-append}
 use Rattle.std.proofs.lemmas.Option.{slice_get_read}
 use Rattle.cpc_convert_event.specs.Frames.{box_of}
-use Rattle.cpc_convert_lines.specs.Known.{boxes_among, number_unless}
+use Rattle.cpc_forms_code.specs.Lifts.{unless}
+use Rattle.cpc_convert_lines.specs.Known.{boxes_among}
 use Rattle.cpc_convert_names.specs.Called.{variables_in}
 use Rattle.cpc_convert_items.specs.Listed.{listed}
 use Rattle.cpc_convert_items.proofs.Standing.{among_more}
@@ -19,7 +20,7 @@ loop-number-preserved c = λ source from to p r s.
     let at : slice_get vs k ≡ Some v = slice_get_read vs (length vs) k v refl c.loop-number-test.true c.index-variables-number.is in
     let there : slice_get (variables_in c.args.around.called.now.lifted.now) k ≡ Some v = subst (λ l. slice_get l k ≡ Some v) c.variables-variables.ensures at in
     let old = listed to c.args.self.now in
-    let more = number_unless v.is_register k [] in
+    let more = unless v.is_register k [] in
     c.in_ok-box_struct.ensures source from to p r s there ∙ (ap (λ u. u ++ map (box_of r) more) (c.loop-number.invariant source from to p r s) ∙ (append_assoc old (map (box_of r) (boxes_among 0 (take k vs))) (map (box_of r) more)
     ∙ (ap (λ u. old ++ u) (sym (map-append (box_of r) (boxes_among 0 (take k vs)) more)) ∙ (ap (λ u. old ++ map (box_of r) u) (sym (among_more 0 k k vs v at (omega arith))) ∙ ap (λ j. old ++ map (box_of r) (boxes_among 0 (take j vs))) (sym (add-one k))))))
 

@@ -1,7 +1,8 @@
 use Rattle.std.proofs.Common.{◌++◌, [], subst, sym}
 use Rattle.cpc_meaning.specs.Events.{callbacks}
 use Rattle.cpc_meaning.specs.Machine.{asked_by, primitive}
-use Rattle.cpc_native_builtins.specs.Builtins.{asked_of, primitive_of}
+use Rattle.cpc_tree.specs.PrimitiveNames.{primitive_of}
+use Rattle.cpc_native_builtins.specs.Builtins.{asked_of}
 use Rattle.cpc_eval_values.specs.Shown.{values_of}
 use Rattle.cpc_run.specs.Answers.{Answered, CameAnswered}
 use Rattle.cpc_run_code.specs.Code.{stack_in}

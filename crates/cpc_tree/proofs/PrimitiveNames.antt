@@ -4,8 +4,8 @@ use Rattle.std.specs.Prelude.{find, bytes_eq, if◌then◌else◌}
 use Rattle.cpc_base.specs.Bytes.{Text}
 use Rattle.cpc_base.proofs.Truth.{bytes_eq_exchanged}
 use Rattle.cpc_tree.specs.Primitives as P
-use Rattle.cpc_check_values.specs.declared.primitives.Primitive.{Primitive}
-use Rattle.cpc_check_values.specs.Wants.{primitive_of, spelling_of, all_primitives, primitive_found}
+use Rattle.cpc_tree.specs.declared.primitive.Primitive.{Primitive}
+use Rattle.cpc_tree.specs.PrimitiveNames.{primitive_of, spelling_of, all_primitives, primitive_found}
 
 chosen : (b : Bool) (p : Primitive) (o : Option Primitive) (r : Option P.Primitive) → option_map primitive_of o ≡ r
     → option_map primitive_of (if b then Some p else o) ≡ (if b then Some (primitive_of p) else r)

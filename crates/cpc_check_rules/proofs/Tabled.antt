@@ -7,9 +7,9 @@ use Rattle.cpc_base.specs.Bytes.{Text}
 use Rattle.cpc_base.specs.declared.names.Name.{Name}
 use Rattle.cpc_tree.specs.Erase.{Names, Table}
 use Rattle.cpc_tree.specs.Primitives as P
+use Rattle.cpc_tree.specs.PrimitiveNames.{primitive_of}
 use Rattle.cpc_check_rules.specs.Apart.{Spells}
-use Rattle.cpc_check_values.specs.declared.primitives.Primitive.{Primitive}
-use Rattle.cpc_check_values.specs.Wants.{primitive_of}
+use Rattle.cpc_tree.specs.declared.primitive.Primitive.{Primitive}
 
 spelled : (table : Table) (names : Names) (n : Name) (text : Text) → Spells table names → slice_get table n.0 ≡ Some text → names n ≡ text
 spelled table names n text s e = s.inside n (slice_get_within table n.0 text e) ∙ get_or_from_slice_get table n.0 text [] e
