@@ -33,7 +33,7 @@ use Rattle.cpc_convert_print_laws.proofs.Programs.{converted_prints}
 module _ (dialect : Dialect) (q : Program) (can : Printable q) (spelled : All (λ x. IsSpellable dialect x) (printed_row q)) (deep : program_depth (is_tight_for q) q ≤ nesting_limit dialect) (printed : Text) (print : IsPrint printed q) where
   -- the tokens of the print
   cut : (list : List Placed) × (end : Place) × Row dialect text_start printed list end [] × (lexemes list ≡ printed_row q)
-  cut = print dialect spelled text_start
+  cut = print.cuts dialect spelled text_start
 
   -- they end behind its last byte
   end : cut.1 ≡ place_behind text_start printed

@@ -1,6 +1,6 @@
 //! Files that are opened by name.
-ghost use Rattle.std.specs.Prelude.{◌≡◌, ◌≤◌, length, IfOk};
-ghost use Rattle.cpc_base.specs.Outside.{IsRead};
+ghost use Rattle.std.specs.Prelude.{◌≡◌, ◌≤◌, length, IfOk, MatchResult};
+ghost use Rattle.cpc_base.specs.Outside.{IsRead, one_more};
 
 use crate::faults::Faults;
 use crate::opener::Opener;
@@ -45,7 +45,16 @@ impl<O: Opener> Shelf for OpenedShelf<O> {
 
     ghost asked = { λ _ _. 0 };
 
-    fn read_at(&mut self, name: &str, offset: u64, into: &mut [u8]) -> Result<usize, Failed> {
+    /// An error is one fault more, and what was read is none.
+    fn read_at(&mut self, name: &str, offset: u64, into: &mut [u8]) -> Result<usize, Failed>
+        ensures within { IfOk result (λ n. n ≤ length into.new) }
+        ensures bytes { IfOk result (λ n. IsRead (O.files self.old.opener) name.now offset into.new n) }
+        ensures opener { self.new.opener ≡ self.old.opener }
+        ensures later { self.old.faults.count ≤ self.new.faults.count }
+        ensures counted { MatchResult result
+            (λ _. self.new.faults.count ≡ self.old.faults.count)
+            (λ _. self.new.faults.count ≡ one_more self.old.faults.count) }
+    {
         let read = read_piece(&self.opener, name, offset, into);
         self.faults.noted(read)
     }

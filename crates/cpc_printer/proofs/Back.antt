@@ -5,9 +5,9 @@ use Rattle.cpc_base.specs.Bytes.{Text}
 use Rattle.cpc_base.specs.declared.stop.Place.{Place}
 use Rattle.cpc_base.specs.declared.stop.Dialect.{Dialect}
 use Rattle.cpc_base.specs.declared.stop.Dialect.TheVariants as D
-use Rattle.cpc_tree.specs.Tokens.{Placed}
+use Rattle.cpc_tree.specs.Tokens.{Lexeme, Placed}
 use Rattle.cpc_tree.specs.Cut.{text_start, place_behind, Row, nothing, a_space, a_token}
-use Rattle.cpc_tree.specs.Spelling.{IsSpellable}
+use Rattle.cpc_tree.specs.Spelling.{IsSpellable, CutsTo}
 use Rattle.cpc_tree.specs.Syntax.{Program}
 use Rattle.cpc_tree.specs.Located.{LItem, LProgram, bare, bare_item}
 use Rattle.cpc_tree.specs.Locate.{located}
@@ -19,10 +19,11 @@ use Rattle.cpc_tree.specs.declared.program.Program as GProgram
 use Rattle.cpc_tree.proofs.Known.{AreBytes, row_spellable}
 use Rattle.cpc_tree.proofs.Places.{bare_program}
 use Rattle.cpc_tree.proofs.Behind.{behind_none}
+use Rattle.cpc_printer_layout.specs.Layout.{IsLaidOut}
 use Rattle.cpc_printer_laws.proofs.LeastPrograms.{prints_least}
 use Rattle.cpc_printer_laws.proofs.FitPrograms.{read_spellable}
 use Rattle.cpc_printer_laws.proofs.ProgramsRead.{prints_back}
-use Rattle.cpc_printer.specs.Style.{is_tight_for, IsPrint, ReadsBack}
+use Rattle.cpc_printer.specs.Style.{is_tight_for, printed_row, IsPrint, ReadsBack}
 
 behind_both : (v w : Text) (p : Place) → place_behind p (v ++ w) ≡ place_behind (place_behind p v) w
 unfolding place_behind
@@ -60,7 +61,7 @@ module _ (dialect : Dialect) (text : Text) (p : LProgram) (bytes : AreBytes text
   tight = is_tight_for (bare p)
 
   cut : (list : List Placed) × (end : Place) × Row dialect text_start printed list end [] × (lexemes list ≡ program_row tight (bare p))
-  cut = print dialect (read_spellable dialect tight parses.0 p.items parses.2.1 spelled parses.2.3) text_start
+  cut = print.cuts dialect (read_spellable dialect tight parses.0 p.items parses.2.1 spelled parses.2.3) text_start
 
   end : cut.1 ≡ place_behind text_start printed
   end = row_end cut.2 refl
@@ -79,6 +80,13 @@ module _ (dialect : Dialect) (text : Text) (p : LProgram) (bytes : AreBytes text
 pub tree_back : (program : GProgram.Program) (printed : Text) → IsPrint printed (program_of program) → (dialect : Dialect) (text : Text) → AreBytes text → Parses dialect text (located program) → ReadsBack dialect printed (program_of program)
 tree_back program printed print dialect text bytes parses =
     subst (λ q. ReadsBack dialect printed q) (bare_program program) (reads_back dialect text (located program) bytes parses printed (subst (λ q. IsPrint printed q) (sym (bare_program program)) print))
+
+-- a text of the tokens of a program in its style is a print of it
+pub answer_print : {E : Type 0} (program : Program) (xs : List Lexeme) (r : Result (Vec ℕ Global) E) → xs ≡ printed_row program → IfOk r (λ bytes. IsLaidOut xs bytes.items)
+    → IfOk r (λ bytes. (dialect : Dialect) → All (IsSpellable dialect) xs → CutsTo dialect bytes.items xs) → IfOk r (λ bytes. IsPrint bytes.items program)
+answer_print program xs (Ok v) e laid cuts =
+    record { laid = subst (λ ys. IsLaidOut ys v.items) e laid; cuts = subst (λ ys. (dialect : Dialect) → All (IsSpellable dialect) ys → CutsTo dialect v.items ys) e cuts }
+answer_print program xs (Err f) e laid cuts = tt
 
 -- the same of an answer that may be want of memory
 pub answer_back : {E : Type 0} (program : GProgram.Program) (r : Result (Vec ℕ Global) E) → IfOk r (λ bytes. IsPrint bytes.items (program_of program))

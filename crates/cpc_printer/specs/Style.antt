@@ -7,6 +7,7 @@ use Rattle.cpc_tree.specs.Located.{LProgram, bare}
 use Rattle.cpc_tree.specs.Grammar.{Parses}
 use Rattle.cpc_tree.specs.Tokens.{Lexeme}
 use Rattle.cpc_tree.specs.Spelling.{IsSpellable, CutsTo}
+use Rattle.cpc_printer_layout.specs.Layout.{IsLaidOut}
 use Rattle.cpc_tree.specs.ItemPrint.{program_row, program_depth}
 
 -- the tight style is for programs that nest deeper than is read, with all stars
@@ -17,9 +18,10 @@ is_tight_for program = nat_lt 256 (program_depth false program)
 abbrev pub printed_row : Program → List Lexeme
 printed_row program = program_row (is_tight_for program) program
 
--- a text of a program, in a dialect that spells all its tokens
-abbrev pub IsPrint : Text → Program → Type 0
-IsPrint text program = (dialect : Dialect) → All (IsSpellable dialect) (printed_row program) → CutsTo dialect text (printed_row program)
+-- A text of a program: its tokens as they are spelled, and blanks. In a dialect that spells all of them it is cut into these tokens.
+pub record IsPrint (text : Text) (program : Program) : Type 0 where
+  pub laid : IsLaidOut (printed_row program) text
+  pub cuts : (dialect : Dialect) → All (IsSpellable dialect) (printed_row program) → CutsTo dialect text (printed_row program)
 
 -- The text is cut and read as a program that is equal but for its places.
 abbrev pub ReadsBack : Dialect → Text → Program → Type 0

@@ -16,7 +16,7 @@ use Rattle.cpc_tree.proofs.Spelled.{spelling_piece}
 use Rattle.cpc_printer_layout.specs.declared.sheet.Lexeme.{Lexeme}
 use Rattle.cpc_printer_layout.specs.declared.sheet.Piece.{Piece}
 use Rattle.cpc_printer_layout.specs.Sheets.{lexeme_of}
-use Rattle.cpc_printer_layout.specs.Layout.{IsPrevious, previous_spelling, IsSetBehind}
+use Rattle.cpc_printer_layout.specs.Layout.{IsPrevious, previous_spelling, IsSetBehind, IsLaid, NothingLaid, LaidNext, IsLaidOut}
 
 -- no byte goes on nothing
 apart_nothing : (w : Text) → IsApart [] w
@@ -46,10 +46,11 @@ row names pieces = map (λ (piece : Piece). lexeme_of names piece.lexeme) pieces
 
 -- the text of the first n tokens, the last of which is given
 pub record LaidSoFar (names : Names) (pieces : List Piece) (n : ℕ) (written : Text) (last : Option Lexeme) : Type 0 where
+  pub spelled : IsLaid (take n (row names pieces)) written
   pub laid : (dialect : Dialect) → All (IsSpellable dialect) (take n (row names pieces)) → CutsSoFar dialect (take n (row names pieces)) written (previous_spelling names last) × IsPrevious dialect names last
 
 pub laid_none : (names : Names) (pieces : List Piece) → LaidSoFar names pieces 0 [] None
-laid_none names pieces = record { laid = λ dialect all. (so_far_none dialect, tt) }
+laid_none names pieces = record { spelled = NothingLaid; laid = λ dialect all. (so_far_none dialect, tt) }
 
 last_of : (dialect : Dialect) (w : Text) (x : T.Lexeme) → piece_of dialect w ≡ Some (Token x) → IsLast dialect w
 last_of dialect [] x e = tt
@@ -73,20 +74,28 @@ more dialect names done x was now last set so_far known spellable =
     subst (λ u. CutsSoFar dialect (done ++ y ∷ []) u (spelling y)) (sym set.put)
     (so_far_more dialect done was (previous_spelling names last) set.blanks (spelling y) y so_far (is_last dialect names last known) set.all (λ e. set.apart e dialect known) (spelling_piece dialect y spellable))
 
+-- one token more
+row_more : (names : Names) (pieces : List Piece) (n : ℕ) (p : Piece) → n < length pieces → p ≡ get_or pieces n p → take (n + 1) (row names pieces) ≡ take n (row names pieces) ++ lexeme_of names p.lexeme ∷ []
+row_more names pieces n p lt e =
+    let y = lexeme_of names p.lexeme in
+    let within : n < length (row names pieces) = rw length-map lt in
+    let here : get_or (row names pieces) n y ≡ y = get_or-map (λ (piece : Piece). lexeme_of names piece.lexeme) pieces n p y lt ∙ ap (λ (q : Piece). lexeme_of names q.lexeme) (sym e) in
+    ap (λ (k : ℕ). take k (row names pieces)) (add-one n) ∙ (take-suc (row names pieces) n y within ∙ ap (λ u. take n (row names pieces) ++ u ∷ []) here)
+
 pub laid_more : (names : Names) (pieces : List Piece) (n : ℕ) (was now : Text) (last : Option Lexeme) (p : Piece) → n < length pieces → p ≡ get_or pieces n p
     → LaidSoFar names pieces n was last → IsSetBehind names last p.lexeme was now → LaidSoFar names pieces (n + 1) now (Some p.lexeme)
-laid_more names pieces n was now last p lt e laid set = record {
-  laid = λ dialect all.
-      let y = lexeme_of names p.lexeme in
-      let done = take n (row names pieces) in
-      let within : n < length (row names pieces) = rw length-map lt in
-      let here : get_or (row names pieces) n y ≡ y = get_or-map (λ (piece : Piece). lexeme_of names piece.lexeme) pieces n p y lt ∙ ap (λ (q : Piece). lexeme_of names q.lexeme) (sym e) in
-      let next : take (n + 1) (row names pieces) ≡ done ++ y ∷ [] = ap (λ (k : ℕ). take k (row names pieces)) (add-one n) ∙ (take-suc (row names pieces) n y within ∙ ap (λ u. done ++ u ∷ []) here) in
-      let parts = subst (λ u. All (IsSpellable dialect) u) next all in
-      let before = laid.laid dialect (all_front (IsSpellable dialect) done (y ∷ []) parts) in
-      let spellable = all_last (IsSpellable dialect) done y parts in
-      (subst (λ u. CutsSoFar dialect u now (spelling y)) (sym next) (more dialect names done p.lexeme was now last set before.0 before.1 spellable), spellable);
-}
+laid_more names pieces n was now last p lt e laid set =
+    let y = lexeme_of names p.lexeme in
+    let done = take n (row names pieces) in
+    let next : take (n + 1) (row names pieces) ≡ done ++ y ∷ [] = row_more names pieces n p lt e in
+    record {
+      spelled = subst (λ u. IsLaid u now) (sym next) (subst (λ u. IsLaid (done ++ y ∷ []) u) (sym set.put) (LaidNext done y was set.blanks laid.spelled set.all));
+      laid = λ dialect all.
+          let parts = subst (λ u. All (IsSpellable dialect) u) next all in
+          let before = laid.laid dialect (all_front (IsSpellable dialect) done (y ∷ []) parts) in
+          let spellable = all_last (IsSpellable dialect) done y parts in
+          (subst (λ u. CutsSoFar dialect u now (spelling y)) (sym next) (more dialect names done p.lexeme was now last set before.0 before.1 spellable), spellable);
+    }
 
 -- at the end there are only blanks
 pub laid_all : (names : Names) (pieces : List Piece) (n : ℕ) (written blanks text : Text) (last : Option Lexeme) → LaidSoFar names pieces n written last → length pieces ≤ n → AllPass is_blank blanks → text ≡ written ++ blanks
@@ -97,3 +106,9 @@ laid_all names pieces n written blanks text last laid end blank e dialect all =
     let known = laid.laid dialect (subst (λ u. All (IsSpellable dialect) u) (sym whole) all) in
     let cuts = so_far_all dialect (take n (row names pieces)) written (previous_spelling names last) blanks known.0 (is_last dialect names last known.1) blank in
     subst (λ u. CutsTo dialect u (row names pieces)) (sym e) (subst (λ u. CutsTo dialect (written ++ blanks) u) whole cuts)
+
+pub laid_out : (names : Names) (pieces : List Piece) (n : ℕ) (written blanks text : Text) (last : Option Lexeme) → LaidSoFar names pieces n written last → length pieces ≤ n → AllPass is_blank blanks → text ≡ written ++ blanks
+    → IsLaidOut (row names pieces) text
+laid_out names pieces n written blanks text last laid end blank e =
+    let le : length (row names pieces) ≤ n = rw length-map end in
+    record { tokens = written; blanks = blanks; laid = subst (λ u. IsLaid u written) (take_all n (row names pieces) le) laid.spelled; all = blank; whole = e }

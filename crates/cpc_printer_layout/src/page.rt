@@ -4,7 +4,7 @@ ghost use Rattle.cpc_base.specs.declared.stop.Dialect.{Dialect};
 ghost use Rattle.cpc_tree.specs.Erase.{Names as Spelling, in_table};
 ghost use Rattle.cpc_tree.specs.Spelling.{IsApart, IsSpellable, CutsTo};
 ghost use Rattle.cpc_printer_layout.specs.Sheets.{row_of};
-ghost use Rattle.cpc_printer_layout.specs.Layout.{IsPrevious, previous_spelling, IsSetBehind, BlanksMore};
+ghost use Rattle.cpc_printer_layout.specs.Layout.{IsPrevious, previous_spelling, IsSetBehind, IsLaidOut, BlanksMore};
 
 use crate::joining::joins;
 use crate::sheet::{Gap, Lexeme, Piece, Sheet};
@@ -19,7 +19,8 @@ use std::alloc::Global;
 ///
 /// `NoMemory` for want of memory.
 pub fn text(alloc: Global, names: &Names, sheet: &Sheet) -> Result<Vec<u8>, NoMemory>
-    ensures { IfOk result (λ bytes. (dialect : Dialect) → All (IsSpellable dialect) (row_of (in_table names.now) sheet.now) → CutsTo dialect bytes.items (row_of (in_table names.now) sheet.now)) }
+    ensures laid { IfOk result (λ bytes. IsLaidOut (row_of (in_table names.now) sheet.now) bytes.items) }
+    ensures cuts { IfOk result (λ bytes. (dialect : Dialect) → All (IsSpellable dialect) (row_of (in_table names.now) sheet.now) → CutsTo dialect bytes.items (row_of (in_table names.now) sheet.now)) }
 {
     let mut out = Vec::new(alloc);
     let mut last = None;

@@ -1,12 +1,9 @@
-use Rattle.std.proofs.Common.{◌≡◌, ap, ◌∙◌, not, IfOk, List, All, subst}
-use Rattle.cpc_base.specs.declared.stop.Dialect.{Dialect}
+use Rattle.std.proofs.Common.{◌≡◌, ap, ◌∙◌, not}
 use Rattle.cpc_base.proofs.Truth.{not_of_not}
 use Rattle.cpc_tree.specs.Erase.{program_of, in_table}
-use Rattle.cpc_tree.specs.Tokens.{Lexeme}
-use Rattle.cpc_tree.specs.Spelling.{IsSpellable, CutsTo}
 use Rattle.cpc_printer_layout.specs.Sheets.{row_of}
 use Rattle.cpc_printer.specs.Style.{is_tight_for, printed_row}
-use Rattle.cpc_printer.proofs.Back.{answer_back}
+use Rattle.cpc_printer.proofs.Back.{answer_print, answer_back}
 use Rattle.cpc_printer.proofs.text.print.Goals as goal
 
 pub returns : goal.returns
@@ -17,5 +14,5 @@ returns c =
     let none = c.new-sheet.ensures.row names in
     let put = c.in_ok-items.ensures.row names in
     let all : row_of names c.items.new.out ≡ printed_row program = rw (none, style, c.deref.ensures.value) at put in
-    let row = subst (λ (x : List Lexeme). IfOk c.text.result (λ bytes. (dialect : Dialect) → All (IsSpellable dialect) x → CutsTo dialect bytes.items x)) all c.text.ensures in
+    let row = answer_print program (row_of names c.items.new.out) c.text.result all c.text.ensures.laid c.text.ensures.cuts in
     record { row = row; back = answer_back c.args.program.now c.text.result row }
