@@ -18,8 +18,8 @@ use cpc_shapes::copy_of;
 use cpc_tree::program::CType;
 use std::alloc::Global;
 
-/// The table of the source, all names of the conversion, and those of the function whose lines are written; each of its lines has the place
-/// of the function.
+/// The table of the source, all names of the conversion, and those of the function whose lines are written; each of its lines is given the
+/// place of the function (no clause speaks of places).
 #[derive(Clone, Copy)]
 pub struct Around<'a> {
     pub place: Place,

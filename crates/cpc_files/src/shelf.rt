@@ -8,7 +8,7 @@ use cpc_base::{Failed, Shelf};
 use std::io;
 use std::io::{Read, Seek, SeekFrom};
 
-/// The files of an opener, with one count of faults for all names. Each read opens its file anew.
+/// The files of an opener, with one count of faults for all names.
 #[derive(Drop)]
 pub struct OpenedShelf<O> {
     opener: O,

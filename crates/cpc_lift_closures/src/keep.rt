@@ -33,7 +33,8 @@ fn add_kept(variable: usize, marks: &[bool], rows: &mut Vec<Vec<usize>>) -> Resu
 }
 
 /// For each owner its closure: the variables that it has to keep, in order, where these are the ways between owners and the
-/// variables that owners use. It takes as many turns as there are ways and uses, for each variable. `NoMemory` is want of memory.
+/// variables that owners use. For each variable it takes as many turns as there are ways, and uses of the variable (no clause says so).
+/// `NoMemory` is want of memory.
 pub fn closures(
     alloc: Global,
     owners: usize,

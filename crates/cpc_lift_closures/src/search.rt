@@ -51,7 +51,7 @@ fn turn(
 }
 
 /// Marks for the owners that lead to one of these users by the ways, of which the sources are the rows. Each user is looked at once,
-/// and each way is followed once. `NoMemory` is want of memory.
+/// and each way is followed once at most (no clause says so). `NoMemory` is want of memory.
 pub(crate) fn keepers(
     alloc: Global,
     ways: &[Link],

@@ -24,8 +24,6 @@ fn write_back(block: Block, offset: u64, cells: &[Value], store: &mut Store) -> 
 
 /// Writes cells through a pointer, one behind another. What is no pointer to a cell takes none.
 ///
-/// The cells before the one that could not be written are written.
-///
 /// - `Freed`: the block is not live.
 /// - `Bounds`: it has too few cells.
 pub fn write_to(pointer: Value, cells: &[Value], store: &mut Store) -> Result<(), Fault>

@@ -46,9 +46,9 @@ pub fn collect_one(store: &mut Store, finished: &Finished) -> Result<Value, (Fau
 }
 
 /// What sections come to that are told in this order: their values, once the cells of each went back; or the first fault, of a
-/// section, or of the cells that it gave back. After a fault the cells of those before it were written.
+/// section, or of the cells that it gave back.
 ///
-/// `NoMemory` is want of memory; then some of the cells were written.
+/// `NoMemory` is want of memory. No clause says what the store holds then, or after a fault.
 pub fn collect(
     alloc: Global,
     store: &mut Store,

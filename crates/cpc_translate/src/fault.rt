@@ -42,7 +42,7 @@ impl TextFault {
         }
     }
 
-    /// Its number among the faults of its stage, from 1 on.
+    /// Its number among the faults of its stage.
     pub fn number(&self) -> u8
         ensures { result ≡ number_of self.now }
     {
