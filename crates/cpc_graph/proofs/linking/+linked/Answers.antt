@@ -6,9 +6,9 @@ use Rattle.cpc_forms.specs.Table as T
 use Rattle.cpc_forms.specs.Table.{test_of, body_of}
 use Rattle.cpc_tree.specs.Lists.{first_or, rest_of}
 use Rattle.cpc_tree.proofs.Nodes.{block_row}
+use Rattle.cpc_forms_code.proofs.Statements.{for_row, if_row, while_row, do_row}
 use Rattle.cpc_graph.specs.Ends.{ends_of, ends_in, ends_arm}
 use Rattle.cpc_graph.specs.Ways.{way, ways_of, onward_seen}
-use Rattle.cpc_graph.proofs.Marking.{for_row, if_row, while_row, do_row}
 use Rattle.cpc_graph.proofs.Linked.{some_ways, front_back, to_the_rest, ends_at, ways_more, finds_same, header_added, ways_end, if_rest, if_left, if_ways, while_ends, while_ways, do_rest, do_ways, for_ends, for_ways, is_leaf, leaf_ways}
 use Rattle.cpc_graph.proofs.linking.+linked.Goals as goal
 

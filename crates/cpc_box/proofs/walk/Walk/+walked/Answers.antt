@@ -3,9 +3,10 @@ use Rattle.std.proofs.lemmas.Result.{on_ok_weaker}
 use Rattle.cpc_tree.specs.Erase.{expr_of, stmt_of, list_of, maybe_at}
 use Rattle.cpc_tree.proofs.Nodes.{row_more, row_end, block_row}
 use Rattle.cpc_eval_index.specs.Indexed.{items_of}
+use Rattle.cpc_forms_code.proofs.Statements.{if_row, while_row, do_row, for_row}
 use Rattle.cpc_box.proofs.Going.{stands_on, stands_in, by_stmt, if_walked, while_walked, do_walked, for_walked}
 use Rattle.cpc_box.proofs.Rows.{begins, stands_there, goes_on, ends, rest_same}
-use Rattle.cpc_box.proofs.Statements.{if_row, while_row, do_row, for_row, empty_block, full_block}
+use Rattle.cpc_box.proofs.Statements.{empty_block, full_block}
 use Rattle.cpc_box.proofs.walk.Walk.+walked.Goals as goal
 
 pub inside-returns-in-Block : goal.inside-returns-in-Block

@@ -6,9 +6,10 @@ use Rattle.cpc_tree.specs.Erase.{expr_of, stmt_of, list_of, maybe_at}
 use Rattle.cpc_tree.proofs.Nodes.{block_row}
 use Rattle.cpc_forms.specs.Order.{points_of, points_arm}
 use Rattle.cpc_forms.specs.Table.{labels_of, labels_in, labels_arm, test_of, body_of}
+use Rattle.cpc_forms_code.proofs.Statements.{for_row}
 use Rattle.cpc_graph.specs.Ends.{ends_of, ends_in, ends_arm, header_ends, step_ends}
 use Rattle.cpc_graph.specs.Labels.{labels_seen}
-use Rattle.cpc_graph.proofs.Marking.{unnamed, on_any, place_within, put_place, three_added, labels_back, none_row, some_points, points_more, ends_more, labels_more, for_row, for_count}
+use Rattle.cpc_graph.proofs.Marking.{unnamed, on_any, place_within, put_place, three_added, labels_back, none_row, some_points, points_more, ends_more, labels_more, for_count}
 use Rattle.cpc_graph.proofs.marks.Marks.+marked.Goals as goal
 
 -- ---- a number that is noted before
