@@ -1,23 +1,19 @@
 -- The labels that are noted with their numbers lead where a goto leads.
 use Rattle.std.proofs.Common.{◌≡◌, ℕ, ◌+◌, Bool, true, false, List, [], ◌∷◌, ◌++◌, length, Option, Some, None, option_map, cond, bytes_eq, refl, sym, ◌∙◌, ap, arith}
 use Rattle.cpc_base.specs.Bytes.{Text}
+use Rattle.cpc_base.specs.Lists.{or_place}
 use Rattle.cpc_tree.specs.Syntax.{Stmt, Block, Empty, Declare, Assign, Call, Detach, Spawn, If, While, DoWhile, For, Goto, Label, Break, Continue, Return, Stmts, NoStmt, AndStmt, MaybeStmt, Absent, Present}
 use Rattle.cpc_tree.specs.Points.{Part, Nth, TheTest, TheYes, TheNo, TheStep, TheBody, Path, enter, path_under, path_later, or_else, labelled, labelled_in, labelled_arm}
 use Rattle.cpc_forms.specs.Order.{points_of, number, number_in, number_arm}
 use Rattle.cpc_forms.specs.Table.{test_of, body_of, Marked, labels_of, labels_in, labels_arm, marked}
 use Rattle.cpc_graph_laws.proofs.MoreFacts.{enter_number}
 
--- the first number, or else the second
-abbrev or_number : Option ℕ → Option ℕ → Option ℕ
-or_number None o = o
-or_number (Some n) o = Some n
-
-marked_case : (b : Bool) (n : ℕ) (o : Option ℕ) (r : Option ℕ) → cond b (Some n) (or_number o r) ≡ or_number (cond b (Some n) o) r
+marked_case : (b : Bool) (n : ℕ) (o : Option ℕ) (r : Option ℕ) → cond b (Some n) (or_place o r) ≡ or_place (cond b (Some n) o) r
 marked_case true n o r = refl
 marked_case false n o r = refl
 
 -- of two lists
-marked_both : (xs ys : List Marked) (l : Text) → marked (xs ++ ys) l ≡ or_number (marked xs l) (marked ys l)
+marked_both : (xs ys : List Marked) (l : Text) → marked (xs ++ ys) l ≡ or_place (marked xs l) (marked ys l)
 marked_both [] ys l = refl
 marked_both (m ∷ xs) ys l = ap (λ o. cond (bytes_eq m.0 l) (Some m.1) o) (marked_both xs ys l) ∙ marked_case (bytes_eq m.0 l) m.1 (marked xs l) (marked ys l)
 
@@ -27,7 +23,7 @@ module _ (num : Path → ℕ) where
   under_number part num' e None = refl
   under_number part num' e (Some path) = ap (λ n. Some n) (e path)
 
-  or_else_number : (o r : Option Path) → option_map num (or_else o r) ≡ or_number (option_map num o) (option_map num r)
+  or_else_number : (o r : Option Path) → option_map num (or_else o r) ≡ or_place (option_map num o) (option_map num r)
   or_else_number None r = refl
   or_else_number (Some path) r = refl
 
@@ -99,9 +95,9 @@ mutual
   labels_number l (Block (AndStmt s ss)) n = labels_number_in l (AndStmt s ss) n ∙ row_agrees (AndStmt s ss) n (from (Block (AndStmt s ss)) n) (λ k path. refl) (labelled_in l (AndStmt s ss)) (row_labelled l (AndStmt s ss))
   labels_number l (If t a b) n =
       marked_both (labels_of a (n + 1)) (labels_arm b (n + 1 + length (points_of a))) l
-      ∙ ap (λ o. or_number o (marked (labels_arm b (n + 1 + length (points_of a))) l))
+      ∙ ap (λ o. or_place o (marked (labels_arm b (n + 1 + length (points_of a))) l))
       (labels_number l a (n + 1) ∙ sym (under_number (from (If t a b) n) TheYes (from a (n + 1)) (λ path. omega arith) (labelled l a)))
-      ∙ ap (or_number (option_map (from (If t a b) n) (path_under TheYes (labelled l a))))
+      ∙ ap (or_place (option_map (from (If t a b) n) (path_under TheYes (labelled l a))))
       (labels_number_arm l b (n + 1 + length (points_of a)) ∙ sym (under_number (from (If t a b) n) TheNo (λ path. n + 1 + length (points_of a) + number_arm b path false) (λ path. omega arith) (labelled_arm l b)))
       ∙ sym (or_else_number (from (If t a b) n) (path_under TheYes (labelled l a)) (path_under TheNo (labelled_arm l b)))
   labels_number l (While t s) n = labels_number l s (n + 1) ∙ sym (under_number (from (While t s) n) TheBody (from s (n + 1)) (λ path. omega arith) (labelled l s))
@@ -127,9 +123,9 @@ mutual
   labels_number_in l NoStmt n = refl
   labels_number_in l (AndStmt s ss) n =
       marked_both (labels_of s n) (labels_in ss (n + length (points_of s))) l
-      ∙ ap (λ o. or_number o (marked (labels_in ss (n + length (points_of s))) l))
+      ∙ ap (λ o. or_place o (marked (labels_in ss (n + length (points_of s))) l))
       (labels_number l s n ∙ sym (under_number (row_number (AndStmt s ss) n) (Nth 0) (from s n) (λ path. refl) (labelled l s)))
-      ∙ ap (or_number (option_map (row_number (AndStmt s ss) n) (path_under (Nth 0) (labelled l s))))
+      ∙ ap (or_place (option_map (row_number (AndStmt s ss) n) (path_under (Nth 0) (labelled l s))))
       (labels_number_in l ss (n + length (points_of s)) ∙ sym (later_number s ss n (labelled_in l ss) (row_labelled l ss)))
       ∙ sym (or_else_number (row_number (AndStmt s ss) n) (path_under (Nth 0) (labelled l s)) (path_later (labelled_in l ss)))
 

@@ -33,6 +33,11 @@ held_rest true n m ns e = go (n == m)
     go false = e
 held_rest false n m ns e = e
 
+-- a number before others, where a test holds
+once_if : (b : Bool) (n : ℕ) (ns : List ℕ) → holds_number ns n ≡ false → Once ns → Once (number_if b n ns)
+once_if true n ns e o = AndOther n ns e o
+once_if false n ns e o = o
+
 -- ---- owners
 
 pub place_same : (k l : Place) → same_place k l ≡ true → k ≡ l
@@ -72,10 +77,6 @@ module _ (flow : Flow) (l : Place) where
       go : (suc k ≤ m → holds_number (owned_from l (suc k) (owners_from flow (suc k) size)) m ≡ true) → (k ≡ m) ⊎ (suc k ≤ m) → holds_number (owned_from l k (owners_from flow k (suc size))) m ≡ true
       go h (inl i) = held_first (is_owned_by l (owner_of flow k)) k m (owned_from l (suc k) (owners_from flow (suc k) size)) (is_owned l (owner_of flow k) (ap (owner_of flow) i ∙ e)) i
       go h (inr i) = held_rest (is_owned_by l (owner_of flow k)) k m (owned_from l (suc k) (owners_from flow (suc k) size)) (h i)
-
-  once_if : (b : Bool) (n : ℕ) (ns : List ℕ) → holds_number ns n ≡ false → Once ns → Once (number_if b n ns)
-  once_if true n ns e o = AndOther n ns e o
-  once_if false n ns e o = o
 
   not_held : (k size : ℕ) (b : Bool) → holds_number (owned_from l (suc k) (owners_from flow (suc k) size)) k ≡ b → b ≡ false
   not_held k size true e = absurd (let h = (held_is (suc k) size k e).0 in omega arith)
@@ -117,11 +118,7 @@ module _ (m : ℕ) where
 
   without_once : (ns : List ℕ) → Once ns → Once (without m ns)
   without_once _ NoNumber = NoNumber
-  without_once _ (AndOther n ns e o) = once_of (not (n == m)) n (without m ns) (none_case ns n _ refl e) (without_once ns o)
-    where
-      once_of : (b : Bool) (n : ℕ) (ns : List ℕ) → holds_number ns n ≡ false → Once ns → Once (number_if b n ns)
-      once_of true n ns e o = AndOther n ns e o
-      once_of false n ns e o = o
+  without_once _ (AndOther n ns e o) = once_if (not (n == m)) n (without m ns) (none_case ns n _ refl e) (without_once ns o)
 
   gone : (ns : List ℕ) (b : Bool) → holds_number (without m ns) m ≡ b → b ≡ false
   gone ns true e = absurd ((without_is ns m e).1 refl)
