@@ -6,10 +6,10 @@ use Rattle.cpc_tree.specs.Syntax as S
 use Rattle.cpc_tree.specs.Typing.{Scope}
 use Rattle.cpc_tree.specs.Points.{Nth, TheYes, TheBody, Path, Point, Here, Simple, found, enter, Move, Into, Out, ToLabel, under, if_holds, after, next_point}
 use Rattle.cpc_tree.specs.Registers.{scope_in_function}
+use Rattle.cpc_meaning.proofs.Blocks.{found_at}
 use Rattle.cpc_convert_chain_laws.specs.Flat.{point_at, dropped, is_line, is_test, bare, standing, onward, arm, label_in, Stands, LineAt}
 use Rattle.cpc_convert_chain_laws.proofs.Lines.{PlainOne, plain_one, leads, LineOne, line_one}
 use Rattle.cpc_convert_chain_laws.proofs.Flat.{path_at, passed, found_here, scope_here, next_out, next_label, next_into}
-use Rattle.cpc_convert_chain_laws.proofs.Rows.{found_at}
 
 under_onward : (x : Stmt) → under TheBody (onward x) ≡ onward x
 under_onward (S.Goto l) = refl
@@ -157,7 +157,7 @@ module _ (g : Function) (body : Stmts) (k : ℕ) (scope : Scope) (n : ℕ) (x : 
   arm_found t a e = found_in_it ∙ (arm_one w.statement t a w.is_line (w.is_bare ∙ e)).stands
     where
       found_in_it : found g.body (Nth k ∷ arm w.statement) ≡ found w.statement (arm w.statement)
-      found_in_it = ap (λ b. found b (Nth k ∷ arm w.statement)) w.stands.is_body ∙ found_at k body w.statement rest (arm w.statement) w.stands.is_left
+      found_in_it = ap (λ b. found b (Nth k ∷ arm w.statement)) w.stands.is_body ∙ found_at body k w.statement rest (arm w.statement) w.stands.is_left
 
   pub arm_next : (t : Expr) (a : Stmt) (h : Bool) → x ≡ If t a Absent → onward a ≡ Out → next_point g.body (Here (Nth k ∷ arm w.statement)) h ≡ Some (point_at (suc k) rest)
   arm_next t a h e f = next_out g body k scope n w.statement rest w.stands (arm w.statement) h ((arm_one w.statement t a w.is_line (w.is_bare ∙ e)).goes h ∙ ap (under TheYes) f)

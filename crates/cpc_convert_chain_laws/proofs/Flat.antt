@@ -6,9 +6,10 @@ use Rattle.cpc_tree.specs.Syntax as S
 use Rattle.cpc_tree.specs.Typing.{Scope}
 use Rattle.cpc_tree.specs.Points.{Nth, Path, Here, found, enter, Into, Out, ToLabel, after, arrived, at_label, begin, next_point, scope_at, scope_in, extended, declared}
 use Rattle.cpc_tree.specs.Registers.{outer_scope, scope_in_function}
+use Rattle.cpc_meaning.proofs.Blocks.{found_at}
 use Rattle.cpc_convert_chain_laws.specs.Flat.{point_at, dropped, is_flat, are_flat, bare, standing, label_in, scope_to, count_to, Stands}
 use Rattle.cpc_convert_chain_laws.proofs.Lines.{LineOne, line_one, leads}
-use Rattle.cpc_convert_chain_laws.proofs.Rows.{dropped_more, flat_here, found_at, after_at, moved, arrived_onto}
+use Rattle.cpc_convert_chain_laws.proofs.Rows.{dropped_more, flat_here, after_at, moved, arrived_onto}
 use Rattle.cpc_convert_chain_laws.proofs.Labels.{label_at}
 
 -- the path of the k-th statement
@@ -96,7 +97,7 @@ module _ (g : Function) (body : Stmts) where
 
     -- what stands there
     pub found_here : found g.body (path_at k s) ≡ standing (bare s)
-    found_here = ap (λ b. found b (path_at k s)) w.is_body ∙ found_at k body s rest (enter s) w.is_left ∙ one.stands
+    found_here = ap (λ b. found b (path_at k s)) w.is_body ∙ found_at body k s rest (enter s) w.is_left ∙ one.stands
 
     -- the scope anywhere in the statement
     pub scope_here : (p : Path) → scope_in_function g (Nth k ∷ p) ≡ extended scope n s

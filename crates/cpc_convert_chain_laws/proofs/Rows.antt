@@ -4,7 +4,7 @@ use Rattle.cpc_base.specs.Bytes.{Text}
 use Rattle.cpc_base.proofs.Truth.{and_both}
 use Rattle.cpc_tree.specs.Syntax.{Stmt, Block, Declare, Stmts, NoStmt, AndStmt, MaybeStmt, Absent, Present}
 use Rattle.cpc_tree.specs.Syntax as S
-use Rattle.cpc_tree.specs.Points.{Nth, Path, found, found_in, enter, Move, Into, Out, ToLabel, Broken, Continued, NoMove, under, later, or_out, enter_rest, after, after_all, labelled, arrived}
+use Rattle.cpc_tree.specs.Points.{Nth, Path, enter, Move, Into, Out, ToLabel, Broken, Continued, NoMove, under, later, or_out, enter_rest, after, after_all, labelled, arrived}
 use Rattle.cpc_convert_chain_laws.specs.Flat.{point_at, before, dropped, is_flat, are_flat, has_label}
 use Rattle.cpc_convert_chain_laws.proofs.Lines.{line_one}
 
@@ -36,19 +36,6 @@ flat_here zero NoStmt s rest f e = absurd (cc)
 flat_here zero (AndStmt t ss) s rest f e = let g : t ≡ s = cc in ap is_flat (sym g) ∙ (and_both (is_flat t) (are_flat ss) f).0
 flat_here (suc k) NoStmt s rest f e = absurd (cc)
 flat_here (suc k) (AndStmt t ss) s rest f e = flat_here k ss s rest (and_both (is_flat t) (are_flat ss) f).1 e
-
--- ---- what stands at the k-th
-
-found_in_at : (k : ℕ) (ss : Stmts) (s : Stmt) (rest : Stmts) (p : Path) → dropped k ss ≡ AndStmt s rest → found_in ss k p ≡ found s p
-found_in_at zero NoStmt s rest p e = absurd (cc)
-found_in_at zero (AndStmt t ss) s rest p e = let f : t ≡ s = cc in ap (λ x. found x p) f
-found_in_at (suc k) NoStmt s rest p e = absurd (cc)
-found_in_at (suc k) (AndStmt t ss) s rest p e = found_in_at k ss s rest p e
-
-pub found_at : (k : ℕ) (ss : Stmts) (s : Stmt) (rest : Stmts) (p : Path) → dropped k ss ≡ AndStmt s rest → found (Block ss) (Nth k ∷ p) ≡ found s p
-found_at zero NoStmt s rest p e = absurd (cc)
-found_at (suc k) NoStmt s rest p e = absurd (cc)
-found_at k (AndStmt t ss) s rest p e = found_in_at k (AndStmt t ss) s rest p e
 
 -- ---- where control goes from it
 

@@ -1,7 +1,7 @@
 -- Behind the declarations of a flat body the scope stays: at any line, and where a goto leads; and what the loaded names stand for.
 use Rattle.std.proofs.Common.{◌≡◌, ℕ, zero, suc, ◌+◌, Bool, true, false, ◌&&◌, cond, List, [], ◌∷◌, ◌++◌, length, map, slice_get, bytes_eq, Some, refl, ◌∙◌, ap, subst, arith}
 use Rattle.cpc_base.specs.Bytes.{Text}
-use Rattle.cpc_base.proofs.Truth.{and_both}
+use Rattle.cpc_base.proofs.Truth.{and_both, and_holds}
 use Rattle.cpc_tree.specs.Syntax.{Stmt, Stmts, NoStmt, AndStmt, Function, Program}
 use Rattle.cpc_tree.specs.Typing.{Scope, ALocal, named}
 use Rattle.cpc_store.specs.Store.{Value}
@@ -67,10 +67,7 @@ leads_on g front scope n left l j none flat lines e st =
 -- lines are flat
 pub lines_flat : (ss : Stmts) → are_lines ss ≡ true → are_flat ss ≡ true
 lines_flat NoStmt e = refl
-lines_flat (AndStmt s ss) e = let both = and_both (is_line s) (are_lines ss) e in and_true (is_flat s) (are_flat ss) (line_flat s both.0) (lines_flat ss both.1)
-  where
-    and_true : (a b : Bool) → a ≡ true → b ≡ true → (a && b) ≡ true
-    and_true a b e f = ap (λ x. x && b) e ∙ f
+lines_flat (AndStmt s ss) e = let both = and_both (is_line s) (are_lines ss) e in and_holds (is_flat s) (are_flat ss) (line_flat s both.0) (lines_flat ss both.1)
 
 -- ---- loaded names
 

@@ -5,12 +5,12 @@ use Rattle.cpc_base.specs.Bytes.{Text}
 use Rattle.cpc_num.specs.declared.kinds.Fault.{Fault}
 use Rattle.cpc_num.specs.declared.kinds.Fault.TheVariants as F
 use Rattle.cpc_store.specs.declared.values.Class.{Class}
-use Rattle.cpc_store.specs.Store.{Value, Unset, Whole, Null, At, Code, Cond, Store, blocks, with_blocks, alloc, live, cells_of, next_block, free, save, same_class}
-use Rattle.cpc_store.proofs.StoreLemmas.{cells_of-alloc_same, cells_of-alloc_other, cells_of-set_other}
+use Rattle.cpc_store.specs.Store.{Value, Unset, Whole, Null, At, Code, Cond, Store, blocks, with_blocks, alloc, cells_of, next_block, free, save, same_class}
+use Rattle.cpc_store.proofs.StoreLemmas.{cells_of-alloc_other, cells_of-set_other}
 use Rattle.cpc_meaning.specs.Answer.{of_result}
-use Rattle.cpc_meaning.proofs.Stores.{blocks_with, save_there}
+use Rattle.cpc_meaning.proofs.Stores.{save_there}
 use Rattle.cpc_meaning_laws.proofs.Pointer.Blocks.{Only}
-use Rattle.cpc_meaning_laws.proofs.Pointer.Stores.{class_cases, set_live}
+use Rattle.cpc_meaning_laws.proofs.Pointer.Stores.{class_cases, set_same, alloc_same}
 use Rattle.cpc_convert_image_laws.specs.Held.{IsHeld, IsHeldStore}
 
 module _ (C : Text → Type 0) where
@@ -40,19 +40,11 @@ module _ (C : Text → Type 0) where
   set_holds : (c : Class) (n : ℕ) (b : Option (List Value)) (s : Store) → IsHeldStore C s → ((cells : List Value) → b ≡ Some cells → IsHeldCells cells) → IsHeldStore C (with_blocks c (slice_set (blocks c s) n b) s)
   set_holds c n b s made h = λ d m k cells v e g. by d m k cells v (class_cases d c) (cases_eq m n) e g
     where
-      same : (d : Class) (m : ℕ) → d ≡ c → m ≡ n → (cells : List Value) → cells_of d m (with_blocks c (slice_set (blocks c s) n b) s) ≡ Some cells → b ≡ Some cells
-      same d m i j cells e =
-          set_live (blocks c s) n b cells
-          (ap (λ bs. live (slice_get bs n)) (sym (blocks_with c (slice_set (blocks c s) n b) s))
-          ∙ ap (λ q. live (slice_get (blocks c (with_blocks c (slice_set (blocks c s) n b) s)) q)) (sym j)
-          ∙ ap (λ q. live (slice_get (blocks q (with_blocks c (slice_set (blocks c s) n b) s)) m)) (sym i)
-          ∙ e)
-
       other : (d : Class) (m k : ℕ) (cells : List Value) (v : Value) → (d ≡ c → ¬ (m ≡ n)) → cells_of d m (with_blocks c (slice_set (blocks c s) n b) s) ≡ Some cells → slice_get cells k ≡ Some v → IsHeld C v
       other d m k cells v apart e g = made d m k cells v (sym (cells_of-set_other c n b s d m apart) ∙ e) g
 
       by : (d : Class) (m k : ℕ) (cells : List Value) (v : Value) → (d ≡ c) ⊎ ¬ (d ≡ c) → (m ≡ n) ⊎ ¬ (m ≡ n) → cells_of d m (with_blocks c (slice_set (blocks c s) n b) s) ≡ Some cells → slice_get cells k ≡ Some v → IsHeld C v
-      by d m k cells v (inl i) (inl j) e g = h cells (same d m i j cells e) k v g
+      by d m k cells v (inl i) (inl j) e g = h cells (set_same c n b s d m i j cells e) k v g
       by d m k cells v (inr apart) o e g = other d m k cells v (λ i. absurd (apart i)) e g
       by d m k cells v (inl i) (inr apart) e g = other d m k cells v (λ i. apart) e g
 
@@ -61,21 +53,11 @@ module _ (C : Text → Type 0) where
   pub alloc_holds : (c : Class) (more : List Value) (s : Store) → IsHeldStore C s → IsHeldCells more → IsHeldStore C (alloc c more s)
   alloc_holds c more s made h = λ d m k cells v e g. by d m k cells v (class_cases d c) (cases_eq m (next_block c s)) e g
     where
-      new : (cells : List Value) → cells_of c (next_block c s) (alloc c more s) ≡ Some cells → more ≡ cells
-      new cells e = let i : Some more ≡ Some cells = sym (cells_of-alloc_same c more s) ∙ e in cc
-
-      same : (d : Class) (m : ℕ) → d ≡ c → m ≡ next_block c s → (cells : List Value) → cells_of d m (alloc c more s) ≡ Some cells → more ≡ cells
-      same d m i j cells e =
-          new cells
-          (ap (λ q. cells_of c q (alloc c more s)) (sym j)
-          ∙ ap (λ q. cells_of q m (alloc c more s)) (sym i)
-          ∙ e)
-
       other : (d : Class) (m k : ℕ) (cells : List Value) (v : Value) → (d ≡ c → ¬ (m ≡ next_block c s)) → cells_of d m (alloc c more s) ≡ Some cells → slice_get cells k ≡ Some v → IsHeld C v
       other d m k cells v apart e g = made d m k cells v (sym (cells_of-alloc_other c more s d m apart) ∙ e) g
 
       by : (d : Class) (m k : ℕ) (cells : List Value) (v : Value) → (d ≡ c) ⊎ ¬ (d ≡ c) → (m ≡ next_block c s) ⊎ ¬ (m ≡ next_block c s) → cells_of d m (alloc c more s) ≡ Some cells → slice_get cells k ≡ Some v → IsHeld C v
-      by d m k cells v (inl i) (inl j) e g = h k v (ap (λ xs. slice_get xs k) (same d m i j cells e) ∙ g)
+      by d m k cells v (inl i) (inl j) e g = h k v (ap (λ xs. slice_get xs k) (alloc_same c more s d m i j cells e) ∙ g)
       by d m k cells v (inr apart) o e g = other d m k cells v (λ i. absurd (apart i)) e g
       by d m k cells v (inl i) (inr apart) e g = other d m k cells v (λ i. apart) e g
 
