@@ -14,28 +14,25 @@ use Rattle.cpc_convert_event.specs.Rows.{number_where}
 use Rattle.cpc_convert_rows.proofs.Marking.{unequal}
 
 module _ {X : Type 0} (items : X → List ℕ) where
-  read : (rows : List X) (m : ℕ) (d : X) → m < length rows → get_or (map items rows) m [] ≡ items (get_or rows m d)
-  read rows m d lt = get_or-map items rows m d [] lt
-
   -- a node goes into its row, and the others stay
   pub node_added : (rows : List X) (to node : ℕ) (old new : X) (m : ℕ) → to < length rows → m < length rows → old ≡ get_or rows to old → items new ≡ items old ++ node ∷ []
       → get_or (map items (set rows to new)) m [] ≡ get_or (map items rows) m [] ++ number_where (to == m) node
   node_added rows to node old new m lt lm e f = go (to == m) refl
     where
       at_new : get_or (map items (set rows to new)) m [] ≡ items (get_or (set rows to new) m new)
-      at_new = read (set rows to new) m new (omega (arith, lm, length-set rows to new))
+      at_new = get_or-map items (set rows to new) m new [] (omega (arith, lm, length-set rows to new))
 
       go : (b : Bool) → (to == m) ≡ b → get_or (map items (set rows to new)) m [] ≡ get_or (map items rows) m [] ++ number_where b node
       go true i =
           let q = sym (eq_means to m i) in
           let here : get_or (map items (set rows to new)) m [] ≡ items old ++ node ∷ [] =
           at_new ∙ ap (λ n. items (get_or (set rows to new) n new)) q ∙ ap items (get_or-set_same rows to new new lt) ∙ f in
-          let before : get_or (map items rows) m [] ≡ items old = read rows m old lm ∙ ap (λ n. items (get_or rows n old)) q ∙ ap items (sym e) in
+          let before : get_or (map items rows) m [] ≡ items old = get_or-map items rows m old [] lm ∙ ap (λ n. items (get_or rows n old)) q ∙ ap items (sym e) in
           here ∙ ap (λ r. r ++ node ∷ []) (sym before)
       go false i =
           let ne = eq_not_means to m i in
           let other : ¬ (m ≡ to) = λ j. ne (sym j) in
-          at_new ∙ ap items (get_or-set_other rows to m new new other) ∙ sym (read rows m new lm) ∙ sym (append_empty (get_or (map items rows) m []))
+          at_new ∙ ap items (get_or-set_other rows to m new new other) ∙ sym (get_or-map items rows m new [] lm) ∙ sym (append_empty (get_or (map items rows) m []))
 
 -- owners have numbers of their own
 pub same_numbers : (k l : Place) → (owner_number k == owner_number l) ≡ same_place k l

@@ -8,9 +8,9 @@ use Rattle.cpc_forms.specs.Flow.{Place, At}
 use Rattle.cpc_convert_event.specs.Routines.{Routine}
 use Rattle.cpc_convert_event.specs.Lines.{node_lines, frame_lines, hands_over}
 use Rattle.cpc_convert_event.specs.Names.{to_name}
-use Rattle.cpc_convert_event.specs.Rows.{is_own, row_of, lines_by, any_leads, put_lines, put_rows, first_number, is_wanted}
+use Rattle.cpc_convert_event.specs.Rows.{is_own, row_of, lines_by, any_leads, is_next, put_lines, put_rows, first_number, is_wanted}
 use Rattle.cpc_convert_rows.specs.declared.steps.Step.{Step}
-use Rattle.cpc_convert_rows.specs.Ways.{leads_to, jumps_to, ways_lead}
+use Rattle.cpc_convert_rows.specs.Ways.{jumps_to, ways_lead}
 use Rattle.cpc_convert_rows.specs.Steps.{step_at, no_step, step_of}
 use Rattle.cpc_convert_rows.proofs.Led.{node_leads, done_leads}
 
@@ -24,9 +24,9 @@ row_leads p r l n k o e = ap (λ b. any_leads k (put_lines o (lines_by b p r n))
 
 -- marks of an own row
 pub own_marked : (p : Program) (r : Routine) (l : Place) (n k : ℕ) (o : Option ℕ) (s : Step) (old mid new own : Bool) → own ≡ is_own r.split l n → own ≡ true → s ≡ step_at r n
-    → mid ≡ (old || leads_to k s.test) → new ≡ (mid || jumps_to k o s.falls) → new ≡ (old || any_leads k (put_lines o (row_of p r l n).lines))
+    → mid ≡ (old || is_next k s.test) → new ≡ (mid || jumps_to k o s.falls) → new ≡ (old || any_leads k (put_lines o (row_of p r l n).lines))
 own_marked p r l n k o s old mid new own is owned e f g =
-    g ∙ (ap (λ b. b || jumps_to k o s.falls) f ∙ (sym (or_regrouped old (leads_to k s.test) (jumps_to k o s.falls))
+    g ∙ (ap (λ b. b || jumps_to k o s.falls) f ∙ (sym (or_regrouped old (is_next k s.test) (jumps_to k o s.falls))
     ∙ (ap (λ (x : Step). old || ways_lead k o x.test x.falls) e ∙ ap (λ b. old || b) (sym (row_leads p r l n k o (sym is ∙ owned))))))
 
 -- a row that goes to another leader leads nowhere

@@ -38,11 +38,6 @@ stood_falls w (AtStatement Nothing) n m b = n
 abbrev pub falls_of : Routine → Node → Option ℕ
 falls_of r node = stood_falls node.manner node.stood node.yes node.no (behind_arrival r node.arrival)
 
--- whether a way leads to a number
-abbrev pub leads_to : ℕ → Option ℕ → Bool
-leads_to k None = false
-leads_to k (Some n) = n == k
-
 -- whether a way behind lines is a goto to a number, where this one stands next
 abbrev pub jumps_to : ℕ → (following : Option ℕ) → Option ℕ → Bool
 jumps_to k o None = false
@@ -50,4 +45,4 @@ jumps_to k o (Some n) = not (is_next n o) && (n == k)
 
 -- whether lines with this test and this fall lead to a number
 abbrev pub ways_lead : ℕ → (following test falls : Option ℕ) → Bool
-ways_lead k o t f = leads_to k t || jumps_to k o f
+ways_lead k o t f = is_next k t || jumps_to k o f

@@ -3,9 +3,9 @@
 ghost use Rattle.std.specs.Prelude.{◌≡◌, ℕ, List, ◌<◌, ◌==◌, ◌||◌, ◌∷◌, ◌++◌, [], true, not, length, IfOk, OnOk};
 ghost use Rattle.cpc_tree.specs.Lists.{holds_number};
 ghost use Rattle.cpc_forms.specs.Flow.{as_list};
+ghost use Rattle.cpc_forms.specs.Pieces.{is_next};
 ghost use Rattle.cpc_convert_event.specs.Rows.{number_where};
 ghost use Rattle.cpc_convert_rows.specs.Marks.{AreMarked, is_set};
-ghost use Rattle.cpc_convert_rows.specs.Ways.{leads_to};
 
 use cpc_base::NoMemory;
 use std::alloc::Global;
@@ -33,7 +33,7 @@ pub(crate) fn mark(marks: &mut Vec<u8>, number: usize)
 pub(crate) fn mark_some(marks: &mut Vec<u8>, to: Option<usize>)
     ensures long { length marks.new.items ≡ length marks.old.items }
     ensures marks { (ns : List ℕ) → AreMarked marks.old.items ns → AreMarked marks.new.items (ns ++ as_list to) }
-    ensures each { (k : ℕ) → k < length marks.old.items → is_set marks.new.items k ≡ (is_set marks.old.items k || leads_to k to) }
+    ensures each { (k : ℕ) → k < length marks.old.items → is_set marks.new.items k ≡ (is_set marks.old.items k || is_next k to) }
 {
     if let Some(number) = to {
         mark(marks, number);
