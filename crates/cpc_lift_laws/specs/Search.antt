@@ -31,7 +31,7 @@ search ways zero work seen = seen
 search ways (suc n) [] seen = seen
 search ways (suc n) (m ∷ work) seen = search ways n (work_after (holds_number seen m) ways m work) (seen_after (holds_number seen m) m seen)
 
--- the owners that have a variable in their closures: each user is looked at once, and each way followed once
+-- the owners that have a variable in their closures
 abbrev pub keepers : List Link → List Link → ℕ → List ℕ
 keepers ways uses k = search ways (length (before uses k) + length ways) (before uses k) []
 

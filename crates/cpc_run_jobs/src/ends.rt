@@ -53,10 +53,9 @@ fn told<S: Sections>(
 }
 
 /// What the sections come to that these events name, each of which is taken out: their values, once the cells of each went back; or
-/// the first fault, of a section, or of the cells that it gave back. After a fault the cells of those before it were written. What
-/// an event names that is not out is passed over.
+/// the first fault, of a section, or of the cells that it gave back. What an event names that is not out is passed over.
 ///
-/// `NoMemory` is want of memory, of whoever ran a section too; then some of the cells were written.
+/// `NoMemory` is want of memory, of whoever ran a section too.
 pub(crate) fn all_told<S: Sections>(
     alloc: Global,
     out: &mut Out,

@@ -131,10 +131,9 @@ impl<'p> Jobs<'p> {
 
     /// What the sections come to that these events name, in this order, by whoever runs the sections of this program: the end of each
     /// is waited for, and it is out no more. Their values, once the cells of each went back; or the first fault, of a section, or of
-    /// the cells that it gave back. After a fault the cells of those before it were written. What an event names that is not out is
-    /// passed over.
+    /// the cells that it gave back. What an event names that is not out is passed over.
     ///
-    /// `NoMemory` is want of memory, here or of whoever ran a section; then some of the cells were written.
+    /// `NoMemory` is want of memory, here or of whoever ran a section.
     pub fn finish<S: Sections>(
         &mut self,
         alloc: Global,
