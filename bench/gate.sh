@@ -1,6 +1,6 @@
 #!/usr/bin/env bash
 # gate.sh: runs the gate, `.ci/run`, and prints what each crate took of the processors in it, dearest first, in seconds: for its proof, for
-# its tests (which are proved with it a second time), and for its must-fail edits. Ends with the gate's status.
+# its tests (which are proved with it a second time), and for its must-fail edits; then, how much of the disk it took. Ends with the gate's status.
 # gate.sh last: prints that of the last gate once more, and runs nothing.
 # rt tells no times, so each second the prover's processes are looked at. What one takes in its last second is missed: the last line has
 # the sum beside all that the gate took, with what else it does.
@@ -86,4 +86,6 @@ done <"$lines"
 wait "$gate"
 status=$?
 sum
+# what it left on the disk, which is what it needs of it but for about 1 GiB of files that are gone at its end
+du -sm crates/*/out | awk '{ sum += $1 } END { printf "%d MiB of the disk in the folders out\n", sum }'
 exit "$status"
