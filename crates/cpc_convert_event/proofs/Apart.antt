@@ -1,8 +1,9 @@
 -- Names that are made are apart: from those of the source, and from each other.
-use Rattle.std.proofs.Common.{◌≡◌, ℕ, ◌<◌, ◌^◌, [], ◌++◌, get_or, decimal, refl, ap, codes, arith}
+use Rattle.std.proofs.Common.{◌≡◌, ℕ, ◌<◌, ◌^◌, false, [], ◌++◌, get_or, decimal, bytes_eq, refl, ◌∙◌, ap, codes, arith}
 use Rattle.cpc_base.specs.Bytes.{Text}
+use Rattle.cpc_convert.specs.Marks.{has_marks}
 use Rattle.cpc_convert.specs.Converted.{marked, spawner_name}
-use Rattle.cpc_convert.proofs.Marks.{NoUnderscore, decimal_is, no_bar_of}
+use Rattle.cpc_convert.proofs.Marks.{NoUnderscore, marked_differs, decimal_is, no_bar_of}
 use Rattle.cpc_forms.specs.Flow.{Place, Start, At}
 use Rattle.cpc_convert_chain_laws.specs.Driver.{drive_name, frame_tag}
 use Rattle.cpc_convert_event.specs.Names.{start_name, leader_name, piece_name, value_tag, box_tag}
@@ -34,6 +35,10 @@ frame_is = refl
 
 pub driver_is : drive_name ≡ marked (codes "drive") (codes "")
 driver_is = refl
+
+-- the driver's name is none without marks
+pub unlike_driver : (x : Text) → has_marks x ≡ false → bytes_eq drive_name x ≡ false
+unlike_driver x h = ap (λ y. bytes_eq y x) driver_is ∙ marked_differs (codes "drive") (codes "") x h
 
 pub no_underscore_behind : (l : Place) → NoUnderscore (behind l)
 no_underscore_behind Start = no_bar_of _ (λ k. absurd (omega arith))

@@ -1,7 +1,7 @@
 -- The boxes of a call, as the start of an event program makes them.
 use Rattle.std.proofs.Common.{◌≡◌, ℕ, zero, suc, ◌+◌, ◌<◌, ◌≤◌, Bool, true, false, not, ◌&&◌, ◌||◌, ◌==◌, cond, List, [], ◌∷◌, ◌++◌, length, slice_get, pos, Option, Some, None, refl, sym, ◌∙◌, ap, subst, arith}
 use Rattle.cpc_base.specs.Bytes.{Text}
-use Rattle.cpc_base.proofs.Truth.{eq_means, lt_holds, lt_fails}
+use Rattle.cpc_base.proofs.Truth.{eq_means, lt_holds, lt_fails, not_holds, not_fails}
 use Rattle.cpc_num.specs.declared.kinds.Kind.TheVariants.{ULong}
 use Rattle.cpc_tree.specs.Lists.{holds_number, rest_of}
 use Rattle.cpc_tree.specs.Syntax.{TyPointer, TyStruct, ESizeOf, Stmt, Variable, Function, Program}
@@ -139,14 +139,6 @@ module _ (p : Program) (ok : IsNamed p) (f : Function) (c : IsCps p f) (sc : Par
             (known.large 1 (scalar_size p x.type scalar)) (s.field (suc (suc (suc k))) (record { called = variable_name k x.called; type = x.type }) at_k) scalar is_arg fits more.boxing;
       }
 
-  not_false : (b : Bool) → not b ≡ true → b ≡ false
-  not_false true e = absurd (cc)
-  not_false false e = refl
-
-  not_true' : (b : Bool) → not b ≡ false → b ≡ true
-  not_true' true e = refl
-  not_true' false e = absurd (cc)
-
   -- all of them, where so many parameters are left
   boxing_from : (k left : ℕ) (xs : List Variable) (us : List Value) → ((i : ℕ) → slice_get xs i ≡ slice_get (variables f) (k + i)) → ((i : ℕ) → slice_get us i ≡ slice_get args (k + i)) → AllFit (passed_from k left xs) us
       → (length f.parameters ≤ k + left) → (0 < left → k + left ≡ length f.parameters) → From k xs us (boxing_lines r (boxes_from p f.called k (length xs)))
@@ -169,8 +161,8 @@ module _ (p : Program) (ok : IsNamed p) (f : Function) (c : IsCps p f) (sc : Par
       go true b more =
           subst (λ y. From k (x ∷ xs) [] (box_lines r k y ++ boxing_lines r (boxes_from p f.called (suc k) (length xs)))) (sym is_x)
           (subst (λ d. From k (x ∷ xs) [] (OfLocal k x (fills_if (d && is_scalar x.type) (variable_name k x.called) x.called ++ boxing_lines r (boxes_from p f.called (suc k) (length xs))))) (sym none)
-          (one_local k x xs _ e b (not_false (is_register f k x) (sym (is_boxed k x e) ∙ b)) more))
-      go false b more = one_register k x xs [] _ e (not_true' (is_register f k x) (sym (is_boxed k x e) ∙ b)) more
+          (one_local k x xs _ e b (not_holds (is_register f k x) (sym (is_boxed k x e) ∙ b)) more))
+      go false b more = one_register k x xs [] _ e (not_fails (is_register f k x) (sym (is_boxed k x e) ∙ b)) more
   boxing_from k (suc left) (x ∷ xs) us is_xs is_us fit most exact =
       by_fit us (subst (λ d. AllFit (variable_if d (record { called = variable_name k x.called; type = x.type }) (passed_from (suc k) left xs)) us) (sc k x h e) fit) is_us
       (λ vs i g. boxing_from (suc k) left xs vs (λ j. is_xs (suc j) ∙ ap (slice_get (variables f)) (let z : k + suc j ≡ suc k + j = omega arith in z)) i g (let z : length f.parameters ≤ suc k + left = omega (arith, most) in z) (λ l. let x = exact (omega arith) in let z : suc k + left ≡ length f.parameters = omega (arith, x) in z))
@@ -196,8 +188,8 @@ module _ (p : Program) (ok : IsNamed p) (f : Function) (c : IsCps p f) (sc : Par
           subst (λ y. From k (x ∷ xs) (u ∷ vs) (box_lines r k y ++ rest)) (sym is_x)
           (subst (λ d. From k (x ∷ xs) (u ∷ vs) (OfLocal k x (fills_if (d && is_scalar x.type) (variable_name k x.called) x.called ++ rest))) (sym some)
           (subst (λ d. From k (x ∷ xs) (u ∷ vs) (OfLocal k x (fills_if d (variable_name k x.called) x.called ++ rest))) (sym (sc k x h e))
-          (one_parameter k x xs u vs rest e b (not_false (is_register f k x) (sym (is_boxed k x e) ∙ b)) h is_u fits more)))
-      go u vs is_u fits false b more = one_register k x xs (u ∷ vs) rest e (not_true' (is_register f k x) (sym (is_boxed k x e) ∙ b)) more
+          (one_parameter k x xs u vs rest e b (not_holds (is_register f k x) (sym (is_boxed k x e) ∙ b)) h is_u fits more)))
+      go u vs is_u fits false b more = one_register k x xs (u ∷ vs) rest e (not_fails (is_register f k x) (sym (is_boxed k x e) ∙ b)) more
 
       by_fit : (us : List Value) → AllFit (record { called = variable_name k x.called; type = x.type } ∷ passed_from (suc k) left xs) us → ((i : ℕ) → slice_get us i ≡ slice_get args (k + i))
           → ((vs : List Value) → ((i : ℕ) → slice_get vs i ≡ slice_get args (suc k + i)) → AllFit (passed_from (suc k) left xs) vs → From (suc k) xs vs rest)

@@ -47,6 +47,11 @@ pub data Rising : ℕ → List Variable → Type 0 where
   NoneRises : (low : ℕ) → Rising low []
   OneRises : (low k : ℕ) (x : Text) (t : Ty) (vs : List Variable) → low ≤ k → k < 2 ^ 63 → has_marks x ≡ false → is_scalar t ≡ true → Rising (suc k) vs → Rising low (record { called = variable_name k x; type = t } ∷ vs)
 
+-- also from a lower number on
+rising_lower : (low high : ℕ) (vs : List Variable) → low ≤ high → Rising high vs → Rising low vs
+rising_lower low high _ h (NoneRises _) = NoneRises low
+rising_lower low high _ h (OneRises _ k x t vs l hk hx s r) = OneRises low k x t vs (omega arith) hk hx s r
+
 not_later : (j : ℕ) (x : Text) (low : ℕ) (vs : List Variable) → j < low → j < 2 ^ 63 → has_marks x ≡ false → Rising low vs → NotCalled (variable_name j x) vs
 not_later j x low _ h hj hx (NoneRises _) = NoneSo
 not_later j x low _ h hj hx (OneRises _ k y t vs l hk hy s r) = NotSo _ _ (variables_apart j k x y hj hk hx hy (λ e. absurd (omega arith))) (not_later j x (suc k) vs (omega arith) hj hx r)
@@ -89,11 +94,7 @@ passed_rises k (suc n) (x ∷ xs) h names = go (is_scalar x.type) refl (passed_r
   where
     go : (b : Bool) → is_scalar x.type ≡ b → Rising (suc k) (passed_from (suc k) n xs) → Rising k (variable_if b (record { called = variable_name k x.called; type = x.type }) (passed_from (suc k) n xs))
     go true e r = OneRises k k x.called x.type _ (omega arith) (omega arith) (names 0 x refl) e r
-    go false e r = lower k (suc k) _ (omega arith) r
-      where
-        lower : (low high : ℕ) (vs : List Variable) → low ≤ high → Rising high vs → Rising low vs
-        lower low high _ h (NoneRises _) = NoneRises low
-        lower low high _ h (OneRises _ k x t vs l hk hx s r) = OneRises low k x t vs (omega arith) hk hx s r
+    go false e r = rising_lower k (suc k) _ (omega arith) r
 
 -- ---- variables that are kept
 
@@ -125,10 +126,6 @@ module _ (p : Program) (ok : IsNamed p) (f : Function) (c : IsCps p f) where
   closure_rises ways uses l k zero h = NoneRises k
   closure_rises ways uses l k (suc n) h = go (holds_number (keepers ways uses k) l) (closure_rises ways uses l (suc k) n (omega arith))
     where
-      lower : (low high : ℕ) (vs : List Variable) → low ≤ high → Rising high vs → Rising low vs
-      lower low high _ i (NoneRises _) = NoneRises low
-      lower low high _ i (OneRises _ j x t vs m hj hx s r) = OneRises low j x t vs (omega arith) hj hx s r
-
       there : (x : Variable) → slice_get (variables f) k ≡ Some x → Rising (suc k) (locals_of (routine_of p f) (closure_from ways uses l (suc k) n)) → Rising k (stood_variable (routine_of p f) k x ∷ locals_of (routine_of p f) (closure_from ways uses l (suc k) n))
       there x e r =
           let few = ok.few f c.has in
@@ -144,7 +141,7 @@ module _ (p : Program) (ok : IsNamed p) (f : Function) (c : IsCps p f) where
       go : (b : Bool) → Rising (suc k) (locals_of (routine_of p f) (closure_from ways uses l (suc k) n))
           → Rising k (locals_of (routine_of p f) (cond b (k ∷ closure_from ways uses l (suc k) n) (closure_from ways uses l (suc k) n)))
       go true r = here r
-      go false r = lower k (suc k) _ (omega arith) r
+      go false r = rising_lower k (suc k) _ (omega arith) r
 
   pub kept_rises : (l : Place) → Rising 0 (locals_of (routine_of p f) (closure_of (routine_of p f) l))
   kept_rises l = closure_rises _ _ _ 0 (length (variables f)) (omega arith)

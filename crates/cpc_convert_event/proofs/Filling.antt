@@ -121,7 +121,7 @@ module _ (p : Program) (ok : IsNamed p) (f : Function) (c : IsCps p f) where
   loads_leader n h next v vs fits fits' all =
       let s = leader_there p ok f c n h in
       let below = rises_below (length (variables f)) 0 (kept n) (closure_rise p ok f c (At n)) in
-      head_loads p r (At n) (converted p) (piece_name f.called (At n)) (arriving_type p r (At n)) (locals_of r (kept n)) (piece_name f.called (At n)) vs next v vs (kept n) s (arriving_scalar p r n) (λ e. refl) fits fits'
+      head_loads p r (At n) (converted p) (piece_name f.called (At n)) (arriving_type p r (At n)) (locals_of r (kept n)) (piece_name f.called (At n)) vs next v vs (kept n) s (arriving_scalar p r (At n)) (λ e. refl) fits fits'
       (loading_from (converted p) (piece_name f.called (At n)) (frame_cells (record { piece = piece_name f.called (At n); values = vs }) next v) 3 (locals_of r (kept n)) vs (struct_fields (converted p) (piece_name f.called (At n)) (arriving_type p r (At n)) (locals_of r (kept n)) s)
       (λ i w e. ap (slice_get (frame_cells (record { piece = piece_name f.called (At n); values = vs }) next v)) (let z : 3 + i ≡ suc (suc (suc i)) = omega arith in z) ∙ e) (none_word p ok f c (codes "e") (kept n) refl below) (locals_scalar p ok f c (kept n) below) all)
 

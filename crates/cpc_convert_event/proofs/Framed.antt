@@ -1,9 +1,9 @@
 -- Which structs are made of the cps functions of a program, and that their tags are apart.
-use Rattle.std.proofs.Common.{◌≡◌, ℕ, ◌<◌, ◌^◌, ◌==◌, ◌||◌, ⊎_elim, Bool, true, false, List, [], ◌∷◌, ◌++◌, map, decimal, Some, refl, sym, ◌∙◌, ap, subst, codes, arith}
+use Rattle.std.proofs.Common.{◌≡◌, ℕ, ◌<◌, ◌^◌, ◌==◌, ◌||◌, ⊎_elim, Bool, true, false, List, [], ◌∷◌, ◌++◌, map, decimal, refl, sym, ◌∙◌, ap, subst, codes, arith}
 use Rattle.cpc_base.specs.Bytes.{Text}
 use Rattle.cpc_base.proofs.Truth.{eq_reflexive, or_by_second}
 use Rattle.cpc_tree.specs.Syntax.{Function, Item, StructItem, GlobalItem, PrototypeItem, FunctionItem, Program}
-use Rattle.cpc_tree.specs.Typing.{is_scalar, function_named}
+use Rattle.cpc_tree.specs.Typing.{is_scalar}
 use Rattle.cpc_meaning.specs.Threads.{is_cps_mode}
 use Rattle.cpc_convert.specs.Marks.{has_marks}
 use Rattle.cpc_convert.specs.Converted.{marked}
@@ -20,9 +20,9 @@ use Rattle.cpc_convert_event.specs.Names.{piece_name, value_tag, box_tag}
 use Rattle.cpc_convert_event.specs.Routines.{routine_of}
 use Rattle.cpc_convert_event.specs.Frames.{any_frame, value_struct, value_struct_if, start_struct, leader_struct, structs_of, box_of, boxes_of}
 use Rattle.cpc_convert_event.specs.Converted.{routine_if, routines_in, all_structs, all_boxes}
-use Rattle.cpc_convert_event.specs.NameLaws.{IsNamed, IsCps}
-use Rattle.cpc_convert_event.proofs.Apart.{behind, piece_is, value_is, box_is, frame_is, differ_at, no_underscore_behind, no_bar_nothing, piece_nothing, Small, StartIsSmall, NumberIsSmall, behind_is}
-use Rattle.cpc_convert_event.proofs.Made.{Mapped, OfNumber, map_has, has_map}
+use Rattle.cpc_convert_event.specs.NameLaws.{ALeader, IsNamed}
+use Rattle.cpc_convert_event.proofs.Apart.{behind, piece_is, value_is, box_is, frame_is, differ_at, no_underscore_behind, no_bar_nothing, piece_nothing, Small, StartIsSmall, behind_is}
+use Rattle.cpc_convert_event.proofs.Made.{Mapped, OfNumber, map_has, has_map, unmarked, small, one_function}
 
 -- a struct that is made
 pub data Framed (p : Program) (items : List Item) : Item → Type 0 where
@@ -157,55 +157,46 @@ value_piece Start k = differ_at 0 (codes "value") (codes "start") (λ e. absurd 
 value_piece (At n) k = differ_at 0 (codes "value") (codes "at" ++ decimal n) (λ e. absurd (omega arith)) k
 
 module _ (p : Program) (ok : IsNamed p) where
-  unmarked : (f : Function) → Has (FunctionItem f) p → has_marks f.called ≡ false
-  unmarked f h = ok.unmarked (FunctionItem f) h
-
-  small : (f : Function) → IsCps p f → (n : ℕ) → Has n (routine_of p f).split.leaders → Small (At n)
-  small f h n k = NumberIsSmall n (ok.small f h n k)
-
-  one_function : (f g : Function) → Has (FunctionItem f) p → Has (FunctionItem g) p → f.called ≡ g.called → f ≡ g
-  one_function f g h k e = let z : Some f ≡ Some g = sym (ok.found f h) ∙ ap (function_named p) e ∙ ok.found g k in cc
-
   -- tags of a word or a function with different texts behind them
   differ : (f g d e : Text) → has_marks f ≡ false → has_marks g ≡ false → NoUnderscore d → NoUnderscore e → (d ≡ e → ⊥) → (t u : Text) → t ≡ marked f d → u ≡ marked g e → t ≡ u → ⊥
   differ f g d e hf hg nd ne h t u i j k = h (marked_is f g d e hf hg nd ne (sym i ∙ k ∙ j)).1
 
   value_start : (f g : Function) (l : Place) → Has (FunctionItem f) p → Has (FunctionItem g) p → value_tag f.called ≡ piece_name g.called l → ⊥
-  value_start f g l h k e = differ f.called g.called (codes "value") (behind l) (unmarked f h) (unmarked g k) no_bar_value (no_underscore_behind l) (value_piece l) _ _ (value_is f.called) (piece_is g.called l) e
+  value_start f g l h k e = differ f.called g.called (codes "value") (behind l) (unmarked ok f h) (unmarked ok g k) no_bar_value (no_underscore_behind l) (value_piece l) _ _ (value_is f.called) (piece_is g.called l) e
 
   value_any : (f : Function) → Has (FunctionItem f) p → value_tag f.called ≡ frame_tag → ⊥
-  value_any f h e = differ f.called (codes "frame") (codes "value") (codes "") (unmarked f h) refl no_bar_value no_bar_nothing value_nothing _ _ (value_is f.called) frame_is e
+  value_any f h e = differ f.called (codes "frame") (codes "value") (codes "") (unmarked ok f h) refl no_bar_value no_bar_nothing value_nothing _ _ (value_is f.called) frame_is e
 
   piece_any : (f : Function) (l : Place) → Has (FunctionItem f) p → piece_name f.called l ≡ frame_tag → ⊥
-  piece_any f l h e = differ f.called (codes "frame") (behind l) (codes "") (unmarked f h) refl (no_underscore_behind l) no_bar_nothing (piece_nothing l) _ _ (piece_is f.called l) frame_is e
+  piece_any f l h e = differ f.called (codes "frame") (behind l) (codes "") (unmarked ok f h) refl (no_underscore_behind l) no_bar_nothing (piece_nothing l) _ _ (piece_is f.called l) frame_is e
 
   -- pieces of one name
-  pieces_same : (f g : Function) (a b : Place) → Has (FunctionItem f) p → Has (FunctionItem g) p → Small a → Small b → piece_name f.called a ≡ piece_name g.called b → (f ≡ g) × (a ≡ b)
+  pub pieces_same : (f g : Function) (a b : Place) → Has (FunctionItem f) p → Has (FunctionItem g) p → Small a → Small b → piece_name f.called a ≡ piece_name g.called b → (f ≡ g) × (a ≡ b)
   pieces_same f g a b h k sa sb e =
-      let m = marked_is f.called g.called (behind a) (behind b) (unmarked f h) (unmarked g k) (no_underscore_behind a) (no_underscore_behind b) (sym (piece_is f.called a) ∙ e ∙ piece_is g.called b) in
-      (one_function f g h k m.0, behind_is a b sa sb m.1)
+      let m = marked_is f.called g.called (behind a) (behind b) (unmarked ok f h) (unmarked ok g k) (no_underscore_behind a) (no_underscore_behind b) (sym (piece_is f.called a) ∙ e ∙ piece_is g.called b) in
+      (one_function ok f g h k m.0, behind_is a b sa sb m.1)
 
   -- the number of a box is one of a variable
-  box_small : (f : Function) → Has (FunctionItem f) p → (k : ℕ) → Has k (routine_of p f).boxes → k < 2 ^ 63
+  pub box_small : (f : Function) → Has (FunctionItem f) p → (k : ℕ) → Has k (routine_of p f).boxes → k < 2 ^ 63
   box_small f h k b =
       let below = boxes_are_below p f.called f (ok.found f h) k ((boxes_exact p f.called k).0 (held k (boxes p f.called) b)) in
       let few = ok.few f h in
       omega (arith, below, few)
 
   box_any : (f : Function) (k : ℕ) → Has (FunctionItem f) p → box_tag f.called k ≡ frame_tag → ⊥
-  box_any f k h e = differ f.called (codes "frame") (codes "box" ++ decimal k) (codes "") (unmarked f h) refl (no_bar_box k) no_bar_nothing (box_nothing k) _ _ (box_is f.called k) frame_is e
+  box_any f k h e = differ f.called (codes "frame") (codes "box" ++ decimal k) (codes "") (unmarked ok f h) refl (no_bar_box k) no_bar_nothing (box_nothing k) _ _ (box_is f.called k) frame_is e
 
   box_no_value : (f g : Function) (k : ℕ) → Has (FunctionItem f) p → Has (FunctionItem g) p → box_tag f.called k ≡ value_tag g.called → ⊥
-  box_no_value f g k h i e = differ f.called g.called (codes "box" ++ decimal k) (codes "value") (unmarked f h) (unmarked g i) (no_bar_box k) no_bar_value (box_value k) _ _ (box_is f.called k) (value_is g.called) e
+  box_no_value f g k h i e = differ f.called g.called (codes "box" ++ decimal k) (codes "value") (unmarked ok f h) (unmarked ok g i) (no_bar_box k) no_bar_value (box_value k) _ _ (box_is f.called k) (value_is g.called) e
 
   box_no_piece : (f g : Function) (k : ℕ) (l : Place) → Has (FunctionItem f) p → Has (FunctionItem g) p → box_tag f.called k ≡ piece_name g.called l → ⊥
-  box_no_piece f g k l h i e = differ f.called g.called (codes "box" ++ decimal k) (behind l) (unmarked f h) (unmarked g i) (no_bar_box k) (no_underscore_behind l) (box_piece k l) _ _ (box_is f.called k) (piece_is g.called l) e
+  box_no_piece f g k l h i e = differ f.called g.called (codes "box" ++ decimal k) (behind l) (unmarked ok f h) (unmarked ok g i) (no_bar_box k) (no_underscore_behind l) (box_piece k l) _ _ (box_is f.called k) (piece_is g.called l) e
 
-  boxes_same : (f g : Function) (j k : ℕ) → Has (FunctionItem f) p → Has (FunctionItem g) p → j < 2 ^ 63 → k < 2 ^ 63 → box_tag f.called j ≡ box_tag g.called k → (f ≡ g) × (j ≡ k)
+  pub boxes_same : (f g : Function) (j k : ℕ) → Has (FunctionItem f) p → Has (FunctionItem g) p → j < 2 ^ 63 → k < 2 ^ 63 → box_tag f.called j ≡ box_tag g.called k → (f ≡ g) × (j ≡ k)
   boxes_same f g j k h i sj sk e =
-      let m = marked_is f.called g.called (codes "box" ++ decimal j) (codes "box" ++ decimal k) (unmarked f h) (unmarked g i) (no_bar_box j) (no_bar_box k) (sym (box_is f.called j) ∙ e ∙ box_is g.called k) in
+      let m = marked_is f.called g.called (codes "box" ++ decimal j) (codes "box" ++ decimal k) (unmarked ok f h) (unmarked ok g i) (no_bar_box j) (no_bar_box k) (sym (box_is f.called j) ∙ e ∙ box_is g.called k) in
       let numbers : decimal j ≡ decimal k = let z = m.1 in cc in
-      (one_function f g h i m.0, decimal_is j k sj sk numbers)
+      (one_function ok f g h i m.0, decimal_is j k sj sk numbers)
 
   -- structs of one tag are one
   pub framed_once : (x y : Item) → Framed p p x → Framed p p y → tag_of y ≡ tag_of x → y ≡ x
@@ -226,18 +217,18 @@ module _ (p : Program) (ok : IsNamed p) where
       ap (λ z. box_of (routine_of p z) m) s.0 ∙ ap (box_of (routine_of p f)) s.1
   framed_once _ _ (AValue f h c) AnyFrame e = absurd (value_any f h (sym e))
   framed_once _ _ (AValue f h c) (AValue g k d) e =
-      let m = marked_is g.called f.called (codes "value") (codes "value") (unmarked g k) (unmarked f h) no_bar_value no_bar_value (sym (value_is g.called) ∙ e ∙ value_is f.called) in
-      ap (λ z. value_struct z.called z.result) (one_function g f k h m.0)
+      let m = marked_is g.called f.called (codes "value") (codes "value") (unmarked ok g k) (unmarked ok f h) no_bar_value no_bar_value (sym (value_is g.called) ∙ e ∙ value_is f.called) in
+      ap (λ z. value_struct z.called z.result) (one_function ok g f k h m.0)
   framed_once _ _ (AValue f h c) (AStart g k d) e = absurd (value_start f g Start h k (sym e))
   framed_once _ _ (AValue f h c) (OfLeader g m k d j) e = absurd (value_start f g (At m) h k (sym e))
   framed_once _ _ (AStart f h c) AnyFrame e = absurd (piece_any f Start h (sym e))
   framed_once _ _ (AStart f h c) (AValue g k d) e = absurd (value_start g f Start k h e)
   framed_once _ _ (AStart f h c) (AStart g k d) e = ap start_struct (pieces_same g f Start Start k h StartIsSmall StartIsSmall e).0
-  framed_once _ _ (AStart f h c) (OfLeader g m k d j) e = absurd (let s = (pieces_same g f (At m) Start k h (small g (record { has = k; mode = d }) m j) StartIsSmall e).1 in cc)
+  framed_once _ _ (AStart f h c) (OfLeader g m k d j) e = absurd (let s = (pieces_same g f (At m) Start k h (small ok g (record { has = k; mode = d }) (At m) (ALeader m j)) StartIsSmall e).1 in cc)
   framed_once _ _ (OfLeader f n h c i) AnyFrame e = absurd (piece_any f (At n) h (sym e))
   framed_once _ _ (OfLeader f n h c i) (AValue g k d) e = absurd (value_start g f (At n) k h e)
-  framed_once _ _ (OfLeader f n h c i) (AStart g k d) e = absurd (let s = (pieces_same g f Start (At n) k h StartIsSmall (small f (record { has = h; mode = c }) n i) e).1 in cc)
+  framed_once _ _ (OfLeader f n h c i) (AStart g k d) e = absurd (let s = (pieces_same g f Start (At n) k h StartIsSmall (small ok f (record { has = h; mode = c }) (At n) (ALeader n i)) e).1 in cc)
   framed_once _ _ (OfLeader f n h c i) (OfLeader g m k d j) e =
-      let s = pieces_same g f (At m) (At n) k h (small g (record { has = k; mode = d }) m j) (small f (record { has = h; mode = c }) n i) e in
+      let s = pieces_same g f (At m) (At n) k h (small ok g (record { has = k; mode = d }) (At m) (ALeader m j)) (small ok f (record { has = h; mode = c }) (At n) (ALeader n i)) e in
       let numbers : m ≡ n = cc in
       ap (λ z. leader_struct p (routine_of p z) m) s.0 ∙ ap (leader_struct p (routine_of p f)) numbers

@@ -3,7 +3,7 @@ use Rattle.std.proofs.Common.{◌≡◌, ◌⊎◌, inl, inr, ⊎_elim, ℕ, zer
 use Rattle.std.proofs.lemmas.Bool.Decides.{nat_tests}
 use Rattle.std.proofs.lemmas.List.{reverse-append, reverse-reverse}
 use Rattle.cpc_base.specs.Bytes.{Text}
-use Rattle.cpc_base.proofs.Truth.{eq_reflexive, and_both, or_by_second, false_unless_true, or_neither, or_both_fail, eq_means, eq_fails}
+use Rattle.cpc_base.proofs.Truth.{eq_reflexive, and_both, or_by_second, false_unless_true, or_neither, or_both_fail, eq_means, eq_fails, or_with_false, not_holds}
 use Rattle.cpc_base.proofs.Lists.{length_of_map}
 use Rattle.cpc_tree.specs.Lists.{holds_number}
 use Rattle.cpc_tree.specs.Syntax.{TyPointer, TyStruct, ENamed, Stmt, Block, Empty, Declare, Assign, Call, Detach, Spawn, If, While, DoWhile, For, Goto, Label, Break, Continue, Return, Stmts, NoStmt, AndStmt, Function, Program}
@@ -100,24 +100,16 @@ rows_node_is s l n h = (chosen_is (has_row s) (piece_nodes s l) n (turned_is (fi
 -- ---- the order of rows
 
 where_is : (b : Bool) (n m : ℕ) → holds_number (number_where b n) m ≡ true → (b ≡ true) × (n ≡ m)
-where_is true n m h = (refl, one (n == m) refl h)
-  where
-    one : (c : Bool) → (n == m) ≡ c → (c || false) ≡ true → n ≡ m
-    one true e i = eq_means n m e
-    one false e i = absurd (cc)
+where_is true n m h = (refl, eq_means n m (sym (or_with_false (n == m)) ∙ h))
 where_is false n m h = absurd (cc)
 
 -- a stub is one of the leaders that has no place yet
-behind_is : (stubs placed : List ℕ) (o : Option ℕ) (m : ℕ) → holds_number (stub_behind stubs placed o) m ≡ true → (holds_number stubs m ≡ true) × (holds_number placed m ≡ false)
+pub behind_is : (stubs placed : List ℕ) (o : Option ℕ) (m : ℕ) → holds_number (stub_behind stubs placed o) m ≡ true → (holds_number stubs m ≡ true) × (holds_number placed m ≡ false)
 behind_is stubs placed None m h = absurd (cc)
 behind_is stubs placed (Some n) m h =
     let w = where_is (holds_number stubs n && not (holds_number placed n)) n m h in
     let t = and_both (holds_number stubs n) (not (holds_number placed n)) w.0 in
-    (ap (holds_number stubs) (sym w.1) ∙ t.0, ap (holds_number placed) (sym w.1) ∙ unheld (holds_number placed n) t.1)
-  where
-    unheld : (b : Bool) → not b ≡ true → b ≡ false
-    unheld true e = absurd (cc)
-    unheld false e = refl
+    (ap (holds_number stubs) (sym w.1) ∙ t.0, ap (holds_number placed) (sym w.1) ∙ not_holds (holds_number placed n) t.1)
 
 behind_once : (stubs placed : List ℕ) (o : Option ℕ) → Once (stub_behind stubs placed o)
 behind_once stubs placed None = NoNumber

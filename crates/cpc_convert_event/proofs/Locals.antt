@@ -2,7 +2,7 @@
 use Rattle.std.proofs.Common.{◌≡◌, ℕ, zero, suc, ◌+◌, ◌<◌, ◌≤◌, ◌^◌, Bool, true, false, not, ◌&&◌, ◌||◌, ◌==◌, cond, List, [], ◌∷◌, ◌++◌, map, length, get_or, slice_get, bytes_eq, Option, Some, None, refl, sym, ◌∙◌, ap, subst, codes, arith}
 use Rattle.std.proofs.lemmas.Option.{slice_get-get_or, slice_get_within}
 use Rattle.cpc_base.specs.Bytes.{Text}
-use Rattle.cpc_base.proofs.Truth.{eq_reflexive, and_both, or_by_second, or_neither, eq_means, bytes_eq_fails_back}
+use Rattle.cpc_base.proofs.Truth.{eq_reflexive, or_by_second, or_neither, eq_means, bytes_eq_fails_back, not_holds, and_first, and_second}
 use Rattle.cpc_base.proofs.Lists.{append_empty}
 use Rattle.cpc_num.specs.declared.kinds.Kind.TheVariants.{Int}
 use Rattle.cpc_tree.specs.Lists.{holds_number, is_empty}
@@ -190,6 +190,11 @@ scalars_if : (b : Bool) (x : Variable) (rest : List Variable) → (b ≡ true �
 scalars_if true x rest h g = AndScalar x rest (h refl) g
 scalars_if false x rest h g = g
 
+-- what points to the frame below
+pub below_scalar : (f : Text) (b : Bool) → is_scalar (below_if b f) ≡ true
+below_scalar f true = refl
+below_scalar f false = refl
+
 -- ---- words
 
 module _ (a b c : Bool) (t : Ty) where
@@ -311,15 +316,7 @@ module _ (p : Program) (ok : IsNamed p) (f : Function) (c : IsCps p f) where
   begins_in k = not (is_parameter f k) && is_plain r k
 
   plain_unboxed : (b : Bool) (k : ℕ) → (b && is_plain r k) ≡ true → holds_number r.boxes k ≡ false
-  plain_unboxed b k e = go (holds_number r.boxes k) (and_both b (is_plain r k) e).1
-    where
-      go : (h : Bool) → not h ≡ true → h ≡ false
-      go true i = absurd (cc)
-      go false i = refl
-
-  not_begun : (b d : Bool) → (b && d) ≡ true → (not b && d) ≡ false
-  not_begun true d e = refl
-  not_begun false d e = absurd (cc)
+  plain_unboxed b k e = not_holds (holds_number r.boxes k) (and_second b (is_plain r k) e)
 
   once_all : (l : Place) → Once (loaded r l ++ begun r l)
   once_all Start =
@@ -327,7 +324,7 @@ module _ (p : Program) (ok : IsNamed p) (f : Function) (c : IsCps p f) where
       let o = rises_once count 0 ks (closure_rise Start) in
       once_append (chosen passes_in ks) (chosen begins_in ks ++ r.boxes) (once_chosen passes_in ks o)
       (once_append (chosen begins_in ks) r.boxes (once_chosen begins_in ks o) (rises_once count 0 r.boxes boxes_all) (λ n h. plain_unboxed (not (is_parameter f n)) n (chosen_is begins_in ks n h).1))
-      (λ n h. let t = (chosen_is passes_in ks n h).1 in not_in_append (chosen begins_in ks) r.boxes n (chosen_out begins_in ks n (not_begun (is_parameter f n) (is_plain r n) t)) (plain_unboxed (is_parameter f n) n t))
+      (λ n h. let t = (chosen_is passes_in ks n h).1 in not_in_append (chosen begins_in ks) r.boxes n (chosen_out begins_in ks n (ap (λ b. not b && is_plain r n) (and_first (is_parameter f n) (is_plain r n) t))) (plain_unboxed (is_parameter f n) n t))
   once_all (At n) = once_append (closure_of r (At n)) [] (rises_once count 0 _ (closure_rise (At n))) NoNumber (λ m h. refl)
 
   pub loaded_below : (l : Place) → AllBelow count (loaded r l)
@@ -414,18 +411,10 @@ module _ (p : Program) (ok : IsNamed p) (f : Function) (c : IsCps p f) where
         let d = map_length (loads_of p r l) in
         omega (arith, within, a, b, d)
 
-    value_scalar : (l : Place) → is_scalar (arriving_type p r l) ≡ true
-    value_scalar Start = refl
-    value_scalar (At n) = arriving_scalar p r n
-
-    below_scalar : (b : Bool) → is_scalar (below_if b f.called) ≡ true
-    below_scalar true = refl
-    below_scalar false = refl
-
     all_scalar : (gives ≡ true → is_scalar f.result ≡ true) → Scalars (piece_locals p r l)
     all_scalar h =
-        AndScalar _ _ refl (AndScalar _ _ refl (AndScalar _ _ (below_scalar (is_scalar f.result))
-        (scalars_if (takes_value r l) _ rest (λ e. value_scalar l)
+        AndScalar _ _ refl (AndScalar _ _ refl (AndScalar _ _ (below_scalar f.called (is_scalar f.result))
+        (scalars_if (takes_value r l) _ rest (λ e. arriving_scalar p r l)
         (scalars_append (locals_of r (loaded r l)) _ (locals_scalar (loaded r l) (loaded_below l)) (scalars_append (words_of p r l) _ (words_scalar makes calls gives f.result h) (locals_scalar (begun r l) (begun_below l)))))))
 
   held_right : (xs ys : List ℕ) (k : ℕ) → holds_number ys k ≡ true → holds_number (xs ++ ys) k ≡ true

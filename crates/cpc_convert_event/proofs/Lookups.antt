@@ -10,7 +10,7 @@ use Rattle.cpc_meaning.proofs.Functions.{texts_differ}
 use Rattle.cpc_convert.specs.Marks.{has_marks}
 use Rattle.cpc_convert.specs.Converted.{marked, spawner_name}
 use Rattle.cpc_convert.specs.Members.{Has, OnTop, Below}
-use Rattle.cpc_convert.proofs.Marks.{NoUnderscore, marked_is, marked_differs, differs_marked, no_bar_spawn}
+use Rattle.cpc_convert.proofs.Marks.{NoUnderscore, marked_is, differs_marked, no_bar_spawn}
 use Rattle.cpc_convert.proofs.Listed.{skip_prototypes, find_function, pass_functions}
 use Rattle.cpc_forms.specs.Flow.{Place}
 use Rattle.cpc_convert_chain_laws.specs.Driver.{drive_name, drive_function}
@@ -19,7 +19,7 @@ use Rattle.cpc_convert_event.specs.Routines.{Routine, routine_of}
 use Rattle.cpc_convert_event.specs.Pieces.{piece_function, spawner_function}
 use Rattle.cpc_convert_event.specs.Converted.{kept_function, item_unless, kept_items, routines, all_structs, all_boxes, all_made, main_function, main_if, converted_with, converted}
 use Rattle.cpc_convert_event.specs.NameLaws.{IsOwner, IsNamed, IsCps, IsKept, FunctionsAreFound}
-use Rattle.cpc_convert_event.proofs.Apart.{behind, piece_is, spawner_is, driver_is, piece_nothing, spawn_nothing, no_underscore_behind, no_bar_nothing}
+use Rattle.cpc_convert_event.proofs.Apart.{behind, piece_is, spawner_is, driver_is, piece_nothing, spawn_nothing, no_underscore_behind, no_bar_nothing, unlike_driver}
 use Rattle.cpc_convert_event.proofs.Structs.{skip_functions, all_structs_are, all_boxes_are}
 use Rattle.cpc_convert_event.proofs.Made.{made_one_name, made_marked, has_piece, has_spawner}
 use Rattle.cpc_convert_event.proofs.StructsThere.{behind_boxes}
@@ -111,9 +111,6 @@ module _ (p : Program) (ok : IsNamed p) where
 
   find_driver : (f : Function) → IsCps p f → function_named (converted p) drive_name ≡ Some drive_function
   find_driver f c = made_there p (routines p) (spawner_function f) drive_name (has_spawner p f c)
-
-  unlike_driver : (x : Text) → has_marks x ≡ false → bytes_eq drive_name x ≡ false
-  unlike_driver x h = ap (λ y. bytes_eq y x) driver_is ∙ marked_differs (codes "drive") (codes "") x h
 
   find_native : (f : Function) → IsKept p f → function_named (converted p) f.called ≡ Some (kept_function f)
   find_native f k = go (routines p)

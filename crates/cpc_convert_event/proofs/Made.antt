@@ -91,33 +91,34 @@ module _ (p : Program) where
 
 -- ---- its names
 
-module _ (p : Program) (ok : IsNamed p) where
-  unmarked : (f : Function) → Has (FunctionItem f) p → has_marks f.called ≡ false
+module _ {p : Program} (ok : IsNamed p) where
+  pub unmarked : (f : Function) → Has (FunctionItem f) p → has_marks f.called ≡ false
   unmarked f h = ok.unmarked (FunctionItem f) h
 
-  small : (f : Function) → IsCps p f → (l : Place) → IsOwner (routine_of p f) l → Small l
+  pub small : (f : Function) → IsCps p f → (l : Place) → IsOwner (routine_of p f) l → Small l
   small f h _ TheStart = StartIsSmall
   small f h _ (ALeader n k) = NumberIsSmall n (ok.small f h n k)
 
   -- functions of one name are one
-  one_function : (f g : Function) → Has (FunctionItem f) p → Has (FunctionItem g) p → f.called ≡ g.called → f ≡ g
+  pub one_function : (f g : Function) → Has (FunctionItem f) p → Has (FunctionItem g) p → f.called ≡ g.called → f ≡ g
   one_function f g h k e = let z : Some f ≡ Some g = sym (ok.found f h) ∙ ap (function_named p) e ∙ ok.found g k in cc
 
+module _ (p : Program) (ok : IsNamed p) where
   -- what is made of one name is one
   pub made_once : (g h : Function) → Made p p g → Made p p h → h.called ≡ g.called → h ≡ g
   made_once _ _ (MadeSpawner f has c) (MadeSpawner e has' c') k =
-      let m = marked_is e.called f.called (codes "spawn") (codes "spawn") (unmarked e has') (unmarked f has) no_bar_spawn no_bar_spawn (sym (spawner_is e.called) ∙ k ∙ spawner_is f.called) in
-      ap spawner_function (one_function e f has' has m.0)
+      let m = marked_is e.called f.called (codes "spawn") (codes "spawn") (unmarked ok e has') (unmarked ok f has) no_bar_spawn no_bar_spawn (sym (spawner_is e.called) ∙ k ∙ spawner_is f.called) in
+      ap spawner_function (one_function ok e f has' has m.0)
   made_once _ _ (MadeSpawner f has c) (MadePiece e l has' c' o) k =
-      let m = marked_is e.called f.called (behind l) (codes "spawn") (unmarked e has') (unmarked f has) (no_underscore_behind l) no_bar_spawn (sym (piece_is e.called l) ∙ k ∙ spawner_is f.called) in
+      let m = marked_is e.called f.called (behind l) (codes "spawn") (unmarked ok e has') (unmarked ok f has) (no_underscore_behind l) no_bar_spawn (sym (piece_is e.called l) ∙ k ∙ spawner_is f.called) in
       absurd (piece_spawn l m.1)
   made_once _ _ (MadePiece f l has c o) (MadeSpawner e has' c') k =
-      let m = marked_is e.called f.called (codes "spawn") (behind l) (unmarked e has') (unmarked f has) no_bar_spawn (no_underscore_behind l) (sym (spawner_is e.called) ∙ k ∙ piece_is f.called l) in
+      let m = marked_is e.called f.called (codes "spawn") (behind l) (unmarked ok e has') (unmarked ok f has) no_bar_spawn (no_underscore_behind l) (sym (spawner_is e.called) ∙ k ∙ piece_is f.called l) in
       absurd (piece_spawn l (sym m.1))
   made_once _ _ (MadePiece f l has c o) (MadePiece e n has' c' o') k =
-      let m = marked_is e.called f.called (behind n) (behind l) (unmarked e has') (unmarked f has) (no_underscore_behind n) (no_underscore_behind l) (sym (piece_is e.called n) ∙ k ∙ piece_is f.called l) in
-      let same = behind_is n l (small e (record { has = has'; mode = c' }) n o') (small f (record { has = has; mode = c }) l o) m.1 in
-      ap (λ x. piece_function p (routine_of p x) n) (one_function e f has' has m.0) ∙ ap (piece_function p (routine_of p f)) same
+      let m = marked_is e.called f.called (behind n) (behind l) (unmarked ok e has') (unmarked ok f has) (no_underscore_behind n) (no_underscore_behind l) (sym (piece_is e.called n) ∙ k ∙ piece_is f.called l) in
+      let same = behind_is n l (small ok e (record { has = has'; mode = c' }) n o') (small ok f (record { has = has; mode = c }) l o) m.1 in
+      ap (λ x. piece_function p (routine_of p x) n) (one_function ok e f has' has m.0) ∙ ap (piece_function p (routine_of p f)) same
 
   pub made_one_name : (g : Function) → Has g (all_made p (routines p)) → (h : Function) → Has h (all_made p (routines p)) → bytes_eq h.called g.called ≡ true → h ≡ g
   made_one_name g k h j e = made_once g h (made_is p p g k) (made_is p p h j) (same_text h.called g.called e)

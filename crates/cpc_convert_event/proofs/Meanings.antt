@@ -13,7 +13,7 @@ use Rattle.cpc_meaning.proofs.Functions.{texts_differ, same_text}
 use Rattle.cpc_convert.specs.Marks.{has_marks}
 use Rattle.cpc_convert.specs.Converted.{marked}
 use Rattle.cpc_convert.specs.Members.{Has, OnTop, Below}
-use Rattle.cpc_convert.proofs.Marks.{NoUnderscore, marked_is, marked_differs, no_bar_spawn}
+use Rattle.cpc_convert.proofs.Marks.{NoUnderscore, marked_is, no_bar_spawn}
 use Rattle.cpc_convert.proofs.Listed.{find_prototype, pass_prototypes, pass_items}
 use Rattle.cpc_convert_image_laws.specs.InPlace.{is_cps}
 use Rattle.cpc_convert_chain_laws.specs.Driver.{drive_name, drive_function}
@@ -21,7 +21,7 @@ use Rattle.cpc_convert_event.specs.Routines.{Routine, routine_of}
 use Rattle.cpc_convert_event.specs.Pieces.{piece_function, spawner_function}
 use Rattle.cpc_convert_event.specs.Converted.{kept_function, item_unless, kept_items, routines, all_structs, all_boxes, all_made, main_function, main_if, converted_with, converted}
 use Rattle.cpc_convert_event.specs.NameLaws.{IsNamed, ItemsAreMeant}
-use Rattle.cpc_convert_event.proofs.Apart.{behind, piece_is, spawner_is, driver_is, piece_nothing, spawn_nothing, no_underscore_behind, no_bar_nothing}
+use Rattle.cpc_convert_event.proofs.Apart.{behind, piece_is, spawner_is, driver_is, piece_nothing, spawn_nothing, no_underscore_behind, no_bar_nothing, unlike_driver}
 use Rattle.cpc_convert_event.proofs.Structs.{skip_names, all_structs_are, all_boxes_are}
 use Rattle.cpc_convert_event.proofs.Made.{Made, MadeSpawner, MadePiece, made_is, made_one_name, made_marked, has_piece, has_spawner}
 use Rattle.cpc_convert_event.proofs.Lookups.{behind_driver}
@@ -101,9 +101,6 @@ module _ (p : Program) (ok : IsNamed p) where
       go : (h : Function) → Made p p h → bytes_eq h.called drive_name ≡ false
       go _ (MadeSpawner f has c) = ap (λ y. bytes_eq y drive_name) (spawner_is f.called) ∙ apart f.called (codes "spawn") (ok.unmarked (FunctionItem f) has) no_bar_spawn spawn_nothing
       go _ (MadePiece f l has c o) = ap (λ y. bytes_eq y drive_name) (piece_is f.called l) ∙ apart f.called (behind l) (ok.unmarked (FunctionItem f) has) (no_underscore_behind l) (piece_nothing l)
-
-  unlike_driver : (x : Text) → has_marks x ≡ false → bytes_eq drive_name x ≡ false
-  unlike_driver x h = ap (λ y. bytes_eq y x) driver_is ∙ marked_differs (codes "drive") (codes "") x h
 
   -- `main` is called so, where it is cps
   main_nothing : (x : Text) → is_cps (item_named 0 p x) ≡ false → (n : ℕ) → item_named n (main_if (T.is_cps (function_named p main_name))) x ≡ NotMeant

@@ -15,7 +15,7 @@ use Rattle.cpc_convert.specs.Members.{Has, OnTop, Below}
 use Rattle.cpc_convert.proofs.Marks.{marked_has}
 use Rattle.cpc_convert.proofs.Members.{has_left, has_either}
 use Rattle.cpc_forms.specs.Graph.{Node, at_node}
-use Rattle.cpc_forms.specs.Flow.{Start, At}
+use Rattle.cpc_forms.specs.Flow.{Place, Start, At}
 use Rattle.cpc_convert_chain_laws.specs.Structs.{IsStruct, ScalarFields}
 use Rattle.cpc_convert_chain_laws.specs.Driver.{drive_function, frame_tag, head_fields}
 use Rattle.cpc_convert_event.specs.Names.{piece_name, value_tag}
@@ -147,8 +147,9 @@ arriving_stood_scalar p AsCps AtEnd = refl
 arriving_stood_scalar p InPlace s = refl
 arriving_stood_scalar p ByFrame s = refl
 
-pub arriving_scalar : (p : Program) (r : Routine) (n : ℕ) → is_scalar (arriving_type p r (At n)) ≡ true
-arriving_scalar p r n = go (slice_get r.split.graph.nodes n)
+pub arriving_scalar : (p : Program) (r : Routine) (l : Place) → is_scalar (arriving_type p r l) ≡ true
+arriving_scalar p r Start = refl
+arriving_scalar p r (At n) = go (slice_get r.split.graph.nodes n)
   where
     go : (o : Option Node) → is_scalar (at_node (TyInt Int) (λ node. arriving_stood p node.manner node.stood) o) ≡ true
     go None = refl
@@ -202,4 +203,4 @@ module _ (p : Program) (ok : IsNamed p) where
       let r = routine_of p f in
       let h = among f c (leader_struct p r n) (has_leader p f n k) in
       is_there (piece_name f.called (At n)) (head_fields (arriving_type p r (At n)) (locals_of r (closure_of r (At n)))) f.called (behind (At n)) (leader_struct p r n) h (piece_is f.called (At n)) (OfLeader f n c.has c.mode k) (behind_any (leader_struct p r n) h)
-      (frame_fields (arriving_type p r (At n)) 0 (locals_of r (closure_of r (At n))) (arriving_scalar p r n) (kept_rises p ok f c (At n)))
+      (frame_fields (arriving_type p r (At n)) 0 (locals_of r (closure_of r (At n))) (arriving_scalar p r (At n)) (kept_rises p ok f c (At n)))

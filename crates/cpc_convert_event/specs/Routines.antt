@@ -10,7 +10,7 @@ use Rattle.cpc_convert_image_laws.specs.Locals.{readings_in, local_type}
 use Rattle.cpc_forms.specs.Graph.{graph_of}
 use Rattle.cpc_forms.specs.Flow.{Place, Start, At}
 use Rattle.cpc_forms.specs.Split.{Split, split_of, owner_or}
-pub use Rattle.cpc_forms.specs.Split.{owner_number, position_owner, positions_from, code_of}
+pub use Rattle.cpc_forms.specs.Split.{owner_number, position_owner, positions_from, code_of, number_if as number_before}
 use Rattle.cpc_lift_laws.specs.Search.{Link, closure}
 use Rattle.cpc_lift_laws.specs.Nodes.{ways_of_nodes, uses_of_nodes}
 use Rattle.cpc_lift_laws.specs.Lift.{boxes}
@@ -102,10 +102,6 @@ abbrev pub is_parameter : Function → ℕ → Bool
 is_parameter f k = nat_lt k (length f.parameters)
 
 -- those of these numbers of which a test holds
-abbrev pub number_before : Bool → ℕ → List ℕ → List ℕ
-number_before true k ks = k ∷ ks
-number_before false k ks = ks
-
 abbrev pub chosen : (ℕ → Bool) → List ℕ → List ℕ
 chosen test [] = []
 chosen test (k ∷ ks) = number_before (test k) k (chosen test ks)

@@ -10,16 +10,12 @@ use Rattle.cpc_forms.specs.Flow.{Place, At, as_list}
 use Rattle.cpc_forms.specs.Split.{Split}
 use Rattle.cpc_forms.specs.Pieces.{is_owned_by, piece_nodes, first_of}
 pub use Rattle.cpc_forms.specs.Pieces.{is_next}
+pub use Rattle.cpc_forms.specs.Spread.{known as owner_at}
 use Rattle.cpc_convert_event.specs.Names.{to_name, node_label}
 use Rattle.cpc_convert_event.specs.Routines.{Routine, chosen}
 use Rattle.cpc_convert_event.specs.Lines.{Line, Does, Goes, Tests, Passes, frame_lines, hands_over, node_lines, all_do, behind_arrival}
 
 -- ---- the nodes of a piece
-
--- what is known of a node's owner, where there is a node
-abbrev pub owner_at : Option (Option Place) → Option Place
-owner_at None = None
-owner_at (Some o) = o
 
 -- whether l owns a node
 abbrev pub is_own : Split → Place → ℕ → Bool
