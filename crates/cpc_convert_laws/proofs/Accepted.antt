@@ -14,6 +14,7 @@ pub mod Points
 pub mod Functions
 pub mod Lives
 pub mod Walk
+pub mod Agendas
 pub mod Spawns
 pub mod Begins
 pub mod Cells

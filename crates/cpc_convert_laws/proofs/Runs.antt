@@ -6,7 +6,7 @@ pub mod Join
 mod Signed
 pub mod Sections
 pub mod Called
-mod Pass
+pub mod Pass
 pub mod Natives
 pub mod Had
 pub mod Pieces

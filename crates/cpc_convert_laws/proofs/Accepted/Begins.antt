@@ -1,5 +1,5 @@
 -- Calls that are to begin have their arguments, and sections hold codes of native functions alone: in all states of the threads of split graphs.
-use Rattle.std.proofs.Common.{◌≡◌, ℕ, zero, suc, Bool, true, false, cond, List, [], ◌∷◌, slice_get, Option, Some, None, Result, Ok, Err, refl, subst}
+use Rattle.std.proofs.Common.{◌≡◌, ℕ, zero, suc, Bool, true, false, cond, List, [], ◌∷◌, slice_get, Option, Some, None, Ok, Err, refl, subst}
 use Rattle.std.specs.List.{All}
 use Rattle.std.proofs.lemmas.List.Elements.{All-nil, All-cons, All-head, All-tail, All-push}
 use Rattle.cpc_base.specs.Bytes.{Text}
@@ -9,41 +9,33 @@ use Rattle.cpc_store.specs.Store.{Value, Unset, At, Store, cells_of, load, load_
 use Rattle.cpc_tree.specs.Lists.{first_or, rest_of}
 use Rattle.cpc_tree.specs.Syntax.{Function, Program}
 use Rattle.cpc_tree.specs.Typing.{function_named, parameter_types}
-use Rattle.cpc_num.specs.declared.kinds.Fault.{Fault}
 use Rattle.cpc_num.specs.declared.kinds.Fault.TheVariants as F
-use Rattle.cpc_meaning_matching.specs.Steps.{or_stay}
 use Rattle.cpc_meaning_matching.specs.Systems.{run}
-use Rattle.cpc_meaning.specs.Agenda.{Due, Agenda, new_agenda, poll}
+use Rattle.cpc_meaning.specs.Agenda.{Agenda, new_agenda}
 use Rattle.cpc_meaning.specs.Answer.{Gives, of_result}
 use Rattle.cpc_meaning.specs.Copies.{copied, pointed_layout, copy_of}
 use Rattle.cpc_meaning.specs.History.{History}
-use Rattle.cpc_meaning.specs.Machine.{State, next}
+use Rattle.cpc_meaning.specs.Machine.{State}
 use Rattle.cpc_meaning.specs.Matching.{thread_system}
 use Rattle.cpc_meaning.specs.Plain.{Form, Stack, Asks, plain}
 use Rattle.cpc_meaning.specs.Requests.{Asked, Builtin, Host, ToSpawn, Section}
 use Rattle.cpc_meaning.specs.Section.{Job}
 use Rattle.cpc_meaning.specs.Start.{main_name}
-use Rattle.cpc_meaning.specs.Threads.{Thread, Pending, Suspended, threads_of}
+use Rattle.cpc_meaning.specs.Threads.{Thread, Pending, Suspended}
 use Rattle.cpc_meaning_laws.proofs.Pointer.Blocks.{Only, only_then, any_then}
 use Rattle.cpc_check_laws.specs.Kept.Codes.{IsCode, IsCodeStore}
 use Rattle.cpc_check_laws.specs.Kept.Fits.{FitAll}
-use Rattle.cpc_check_laws.specs.Kept.Kept.{IsSteady, KeptAgenda}
+use Rattle.cpc_check_laws.specs.Kept.Kept.{IsSteady}
 use Rattle.cpc_check_laws.specs.Kept.Layers.{Holds}
 use Rattle.cpc_check_laws.proofs.Kept.Agendas as A
 use Rattle.cpc_check_laws.proofs.Kept.CodeActs.{DoneCode, plain_code}
 use Rattle.cpc_check_laws.proofs.Kept.Steps.{DoneSo, plain_so}
 use Rattle.cpc_convert_laws.specs.Accepted.Known.{AreScalar, BeginsWell}
-use Rattle.cpc_convert_laws.specs.Accepted.Moves.{Shuffled, MadeCondition, FreedCondition, Signalled, SignalledAll, BeganRound, WasPolled, Added, IsReady, Sleeps, AwaitsIo, WaitsOn, AwaitsSection, IsKept}
+use Rattle.cpc_convert_laws.specs.Accepted.Moves.{IsReady, IsKept}
+use Rattle.cpc_convert_laws.specs.Arrival.Arrivals.{AnyValue}
+use Rattle.cpc_convert_laws.proofs.Accepted.Agendas.{Lists, shuffled_lists, added_lists, later_lists}
 use Rattle.cpc_convert_laws.proofs.Accepted.Spawns.{Spawning, step_spawns}
-use Rattle.cpc_convert_laws.proofs.Accepted.Walk.{Next, next_so}
-
--- nothing is said of a result
-abbrev pub Any : Value → Type 0
-Any v = Unit {0}
-
-pub any_values : (vs : List Value) → All Any vs
-any_values [] = All-nil Any
-any_values (v ∷ vs) = All-cons Any v vs tt (any_values vs)
+use Rattle.cpc_convert_laws.proofs.Accepted.Walk.{step_so}
 
 -- a section holds codes of native or detached functions alone
 pub record CodedJob (p : Program) (j : Job) : Type 0 where
@@ -97,12 +89,9 @@ module _ {P : Type 0} (p : Form P) where
   abbrev Fine : Thread P → Type 0
   Fine x = BeginsWell p.program x
 
-  abbrev Lists : Agenda (Thread P) → Type 0
-  Lists a = KeptAgenda Fine Any a
-
   -- items and sections, whatever the store and the running stack
   abbrev pub Begun : Store → Option (Stack P) → Agenda (Thread P) → List Job → Type 0
-  Begun s o a jobs = Lists a × All (CodedJob p.program) jobs
+  Begun s o a jobs = Lists Fine a × All (CodedJob p.program) jobs
 
   -- the arguments of what is spawned fit scalar types, and those of a section are no codes of cps functions
   abbrev pub AskedWell : Store → Stack P → Asked → List Value → Type 0
@@ -110,43 +99,22 @@ module _ {P : Type 0} (p : Form P) where
   AskedWell s k (Section f) vs = All (IsCode p.program) vs × IsCodeStore p.program s
   AskedWell s k asked vs = Unit {0}
 
-  ok_only : (r : Result (Agenda (Thread P)) Fault) (b : Agenda (Thread P)) → r ≡ Ok b → Only Lists (of_result r) → Lists b
-  ok_only r b e h = subst (λ r. Only Lists (of_result r)) e h
-
-  shuffled_lists : (a b : Agenda (Thread P)) → Shuffled a b → Lists a → Lists b
-  shuffled_lists _ _ (MadeCondition a) h = A.other_conditions Fine Any tt _ _ a h
-  shuffled_lists _ _ (FreedCondition c a b e) h = ok_only _ b e (A.cond_free_so Fine Any tt c a h)
-  shuffled_lists _ _ (Signalled c a b e) h = ok_only _ b e (A.signal_so Fine Any tt c a h)
-  shuffled_lists _ _ (SignalledAll c a b e) h = ok_only _ b e (A.signal_all_so Fine Any tt c a h)
-  shuffled_lists _ _ (BeganRound a none) h = A.begin_round_so Fine Any tt a h
-  shuffled_lists _ _ (WasPolled told vs a none) h = A.begin_round_so Fine Any tt (poll told vs a) (A.poll_so Fine Any tt told vs a (any_values vs) h)
-
-  added_lists : (item : Thread P) (a b : Agenda (Thread P)) → Fine item → Added item a b → Lists a → Lists b
-  added_lists item _ _ i (IsReady a) h = A.ready_one_so Fine Any tt item a i h
-  added_lists item _ _ i (Sleeps z a b e) h = ok_only _ b e (A.sleep_so Fine Any tt z item a i h)
-  added_lists item _ _ i (AwaitsIo fd way a) h = A.io_so Fine Any tt fd way item a i h
-  added_lists item _ _ i (WaitsOn c a b e) h = ok_only _ b e (A.wait_so Fine Any tt c item a i h)
-  added_lists item _ _ i (AwaitsSection a b e) h = ok_only _ b e (A.section_so Fine Any tt item a i h)
-
-  later : (d : Due (Thread P)) (ds : List (Due (Thread P))) (a : Agenda (Thread P)) → a.round ≡ d ∷ ds → Lists a → Lists (record a { round = ds })
-  later d ds a e h = A.later_round Fine Any tt ds a (All-tail (A.DueSo Fine Any tt) d ds (subst (All (A.DueSo Fine Any tt)) e h.round)) h
-
-  begun_kept : IsKept p Begun AskedWell
+  begun_kept : IsKept p Begun AskedWell AnyValue
   begun_kept = record {
     went = λ s t k j a jobs e h. h;
     returned = λ s t k v a jobs e h. h;
     answered = λ s t k j v a jobs e h. h;
     stores = λ s t o a jobs e h. h;
-    shuffled = λ s o a b jobs move h. (shuffled_lists a b move h.0, h.1);
-    spawned = λ s k a jobs f vs asks h. (A.ready_one_so Fine Any tt (Pending f vs) a asks h.0, h.1);
-    suspended = λ s k j a b jobs e add h. (added_lists (Suspended j) a b tt add h.0, h.1);
-    submitted = λ s k j a b jobs f g vs cells e add asks copy h. (
-      added_lists (Suspended j) a b tt add h.0,
+    shuffled = λ s o a b jobs move h. (shuffled_lists Fine a b move h.0, h.1);
+    spawned = λ s k a jobs f vs asks h. (added_lists Fine (Pending f vs) a _ asks (IsReady a) h.0, h.1);
+    suspended = λ s k j a b jobs prim vs gives asks e add h. (added_lists Fine (Suspended j) a b tt add h.0, h.1);
+    submitted = λ s k j a b jobs f g vs cells e add is asks copy h. (
+      added_lists Fine (Suspended j) a b tt add h.0,
       All-push (CodedJob p.program) jobs _ h.1
           (record { arguments = rest_code p.program vs asks.0; cells = subst (Only (All (IsCode p.program))) copy (copy_code p.program g (first_or Unset vs) s asks.1); pointer = first_code p.program vs asks.0 }),
     );
-    begun = λ s t a jobs f g vs v ds frame e is made h. (later _ ds a e h.0, h.1);
-    resumed = λ s k v a jobs ds e h. (later _ ds a e h.0, h.1);
+    begun = λ s t a jobs f g vs v ds frame e is made h. (later_lists Fine _ ds a e h.0, h.1);
+    resumed = λ s k v a jobs ds e due h. (later_lists Fine _ ds a e h.0, h.1);
   }
 
   -- ---- runs
@@ -169,14 +137,8 @@ module _ {P : Type 0} (p : Form P) where
       BegunState s = Begun s.store s.running s.agenda s.jobs
 
       opening_begun : BegunState (thread_system p h).opening
-      opening_begun = (A.ready_one_so Fine Any tt (Pending main_name []) new_agenda main (A.nothing_there Fine Any tt), All-nil (CodedJob p.program))
-
-      stays : (s : State P (Thread P)) (o : Option (State P (Thread P))) → BegunState s → Next p Begun AskedWell begun_kept o → BegunState (or_stay s o)
-      stays s None k i = k
-      stays s (Some t) k i = i
+      opening_begun = (added_lists Fine (Pending main_name []) new_agenda _ main (IsReady new_agenda) (A.nothing_there Fine AnyValue tt), All-nil (CodedJob p.program))
 
       pub run_begun : (n : ℕ) → BegunState (run (thread_system p h) n)
       run_begun zero = opening_begun
-      run_begun (suc n) =
-          let s = run (thread_system p h) n in
-          stays s (next (threads_of p) s) (run_begun n) (next_so p Begun AskedWell begun_kept s (asks_well s (holds n)) (run_begun n))
+      run_begun (suc n) = let s = run (thread_system p h) n in step_so p Begun AskedWell AnyValue begun_kept s (asks_well s (holds n)) (λ d ds e. tt) (run_begun n)

@@ -55,7 +55,8 @@ use Rattle.cpc_convert_laws.specs.Accepted.Known.{AreScalar, Stays, HoldsOfNativ
 use Rattle.cpc_convert_laws.specs.Accepted.Lifted.{kept_of, lifted_after}
 use Rattle.cpc_convert_laws.specs.Accepted.Functions.{HasMain}
 use Rattle.cpc_convert_laws.specs.Accepted.Points.{PositionsKnown}
-use Rattle.cpc_convert_laws.proofs.Accepted.Begins.{CodedJob, Begun, SpawnsScalars, run_begun, Any}
+use Rattle.cpc_convert_laws.specs.Arrival.Arrivals.{AnyValue}
+use Rattle.cpc_convert_laws.proofs.Accepted.Begins.{CodedJob, Begun, SpawnsScalars, run_begun}
 use Rattle.cpc_convert_laws.proofs.Accepted.Functions.{accepted_has_main}
 use Rattle.cpc_convert_laws.proofs.Accepted.Lifted.{programs_are_closed}
 use Rattle.cpc_convert_laws.proofs.Accepted.Names.{accepted_has_names}
@@ -74,10 +75,10 @@ all_beside U V W f _ _ B.Ends h k = All-nil W
 all_beside U V W f _ _ (B.Goes x y xs ys r b) h k = All-cons W y ys (f x y r (All-head U x xs h) (All-head V x xs k)) (all_beside U V W f xs ys b (All-tail U x xs h) (All-tail V x xs k))
 
 -- what holds of all items of an agenda, and what else does
-both_hold : {T : Type 0} (F G : T → Type 0) (a : Agenda T) → KeptAgenda F Any a → KeptAgenda G Any a → KeptAgenda (λ x. F x × G x) Any a
+both_hold : {T : Type 0} (F G : T → Type 0) (a : Agenda T) → KeptAgenda F AnyValue a → KeptAgenda G AnyValue a → KeptAgenda (λ x. F x × G x) AnyValue a
 both_hold {T = T} F G a h l = record {
-  ready = all_with (λ (d : Due T). F d.item × Any d.result) (λ (d : Due T). G d.item × Any d.result) (λ (d : Due T). (F d.item × G d.item) × Any d.result) (λ d u v. ((u.0, v.0), tt)) a.ready h.ready l.ready;
-  round = all_with (λ (d : Due T). F d.item × Any d.result) (λ (d : Due T). G d.item × Any d.result) (λ (d : Due T). (F d.item × G d.item) × Any d.result) (λ d u v. ((u.0, v.0), tt)) a.round h.round l.round;
+  ready = all_with (λ (d : Due T). F d.item × AnyValue d.result) (λ (d : Due T). G d.item × AnyValue d.result) (λ (d : Due T). (F d.item × G d.item) × AnyValue d.result) (λ d u v. ((u.0, v.0), tt)) a.ready h.ready l.ready;
+  round = all_with (λ (d : Due T). F d.item × AnyValue d.result) (λ (d : Due T). G d.item × AnyValue d.result) (λ (d : Due T). (F d.item × G d.item) × AnyValue d.result) (λ d u v. ((u.0, v.0), tt)) a.round h.round l.round;
   waiters = all_with (λ (w : OnCondition T). F w.item) (λ (w : OnCondition T). G w.item) (λ (w : OnCondition T). F w.item × G w.item) (λ w u v. (u, v)) a.waiters h.waiters l.waiters;
   descriptors = all_with (λ (w : OnDescriptor T). F w.item) (λ (w : OnDescriptor T). G w.item) (λ (w : OnDescriptor T). F w.item × G w.item) (λ w u v. (u, v)) a.descriptors h.descriptors l.descriptors;
   timers = all_with (λ (w : Timer T). F w.item) (λ (w : Timer T). G w.item) (λ (w : Timer T). F w.item × G w.item) (λ w u v. (u, v)) a.timers h.timers l.timers;
@@ -202,10 +203,10 @@ module _ (p : Program) (C : Text → Type 0) (natives : HoldsOfNatives p C) wher
     fine_thread _ _ (PendingBoth f vs) h l = (l.1, held_values vs h.0 h.1, l.0)
     fine_thread _ _ (SuspendedBoth _ _ (StackAgrees us ws o rs)) h l = all_cps us ws rs l.0
 
-    fine_due : (d e : Due (Thread Position)) → SameDue (ThreadsMeet StacksMeet) d e → KeptThread p s d.item × IsInt d.result → (IsLayeredThread p d.item × BeginsWell p d.item) × Any d.result → FineThread p C e.item × IsInt e.result
+    fine_due : (d e : Due (Thread Position)) → SameDue (ThreadsMeet StacksMeet) d e → KeptThread p s d.item × IsInt d.result → (IsLayeredThread p d.item × BeginsWell p d.item) × AnyValue d.result → FineThread p C e.item × IsInt e.result
     fine_due d e r h l = (fine_thread d.item e.item r.item h.0 l.0, subst IsInt r.result h.1)
 
-    fine_agenda : (a b : Agenda (Thread Position)) → SameAgenda (ThreadsMeet StacksMeet) a b → KeptAgenda (KeptThread p s) IsInt a → KeptAgenda (λ x. IsLayeredThread p x × BeginsWell p x) Any a → KeptAgenda (FineThread p C) IsInt b
+    fine_agenda : (a b : Agenda (Thread Position)) → SameAgenda (ThreadsMeet StacksMeet) a b → KeptAgenda (KeptThread p s) IsInt a → KeptAgenda (λ x. IsLayeredThread p x × BeginsWell p x) AnyValue a → KeptAgenda (FineThread p C) IsInt b
     fine_agenda a b r h l = record {
       ready = all_beside _ _ _ fine_due a.ready b.ready r.ready h.ready l.ready;
       round = all_beside _ _ _ fine_due a.round b.round r.round h.round l.round;

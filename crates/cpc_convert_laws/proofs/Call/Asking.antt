@@ -57,7 +57,7 @@ use Rattle.cpc_convert_laws.specs.Native.Instance.{StaysAs}
 use Rattle.cpc_convert_laws.specs.Piece.Known.{CpsKnown, ProgramKnown}
 use Rattle.cpc_convert_laws.specs.Piece.Rows.{RowAt, row_index}
 use Rattle.cpc_convert_laws.specs.Piece.Stood.{NodeAt, LocalsStand}
-use Rattle.cpc_convert_laws.proofs.Piece.Acting.{given_only, found_known, kept_here, source_act, lines_are}
+use Rattle.cpc_convert_laws.proofs.Piece.Acting.{given_only, found_known, kept_here, source_act, lines_are, found_typed}
 use Rattle.cpc_convert_laws.proofs.Piece.Environment.{InLocal, Used, names_mean, scope_is, changed_stand}
 use Rattle.cpc_convert_laws.proofs.Piece.Frames.{same_registers, Target, code, body, scope, is_code}
 use Rattle.cpc_convert_laws.proofs.Piece.Onwards.{z}
@@ -150,9 +150,7 @@ module _ (p : Program) (facts : ProgramKnown p) (h : Convertible p) (fine : Call
     known_here = found_known p facts f known l owner n at slots slots' lower stands (Simple s) stood
 
     typed : IsTyped D.Cpc p f sc s
-    typed =
-        subst (λ sc. IsTyped D.Cpc p f sc s) (scope_is p f known l owner n at slots slots' lower stands)
-        (facts.positions.typed f.called f (InGraph l n) (Simple s) known.found.named (stood_is p f known l owner n at slots slots' lower stands ∙ stood))
+    typed = found_typed p facts f known l owner n at slots slots' lower stands (Simple s) stood
 
     kept : (j : ℕ) → holds_number (used_if sc to ++ (used_in sc g ++ used_among sc es)) j ≡ true → Kept j
     kept = kept_here p facts f known l owner n at slots slots' lower stands (AtStatement (Simple s)) stood

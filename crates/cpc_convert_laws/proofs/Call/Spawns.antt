@@ -51,7 +51,7 @@ use Rattle.cpc_convert_event.specs.Pieces.{parameter_of, spawner_function}
 use Rattle.cpc_convert_event.specs.Routines.{Routine, routine_of, passed, readings_of}
 use Rattle.cpc_convert_event.specs.Rows.{has_row, Plain}
 use Rattle.cpc_convert_event.proofs.Lookups.{functions_found}
-use Rattle.cpc_convert_laws.specs.Accepted.Known.{Stays}
+use Rattle.cpc_convert_laws.specs.Accepted.Known.{Stays, AreScalar}
 use Rattle.cpc_convert_laws.specs.Accepted.Points.{UsedName, StatementKnown}
 use Rattle.cpc_convert_laws.specs.Related.Bounds.{Bounds}
 use Rattle.cpc_convert_laws.proofs.Related.Inside.{Sticks, Breaks, SpawnsOne, with_spawned}
@@ -59,13 +59,13 @@ use Rattle.cpc_convert_laws.proofs.Related.Relation.{Shared, world_of}
 use Rattle.cpc_convert_laws.proofs.Related.Spawning.{SpawnerRuns}
 use Rattle.cpc_convert_laws.specs.Native.Convertible.{Convertible}
 use Rattle.cpc_convert_laws.specs.Native.Instance.{StaysAs}
-use Rattle.cpc_convert_laws.proofs.Native.SpawnerCall.{AllScalar, get_scalar, passed_types, spawner_takes, passed_few, fit_all}
+use Rattle.cpc_convert_laws.proofs.Native.SpawnerCall.{get_scalar, passed_types, spawner_takes, passed_few, fit_all}
 use Rattle.cpc_convert_laws.proofs.Native.Spawners.{spawner_runs, cps_mode, asked_same}
 use Rattle.cpc_convert_laws.specs.Piece.Known.{CpsKnown, ProgramKnown}
 use Rattle.cpc_convert_laws.specs.Piece.Rows.{RowAt, row_index}
 use Rattle.cpc_convert_laws.specs.Piece.Stood.{NodeAt, LocalsStand, Stood}
-use Rattle.cpc_convert_laws.proofs.Piece.Acting.{found_known, kept_here, source_act, lines_are}
-use Rattle.cpc_convert_laws.proofs.Piece.Environment.{InLocal, Used, names_mean, scope_is}
+use Rattle.cpc_convert_laws.proofs.Piece.Acting.{found_known, kept_here, source_act, lines_are, found_typed}
+use Rattle.cpc_convert_laws.proofs.Piece.Environment.{InLocal, Used, names_mean}
 use Rattle.cpc_convert_laws.proofs.Piece.Frames.{Target, code, body, scope, is_code}
 use Rattle.cpc_convert_laws.proofs.Piece.Onwards.{z}
 use Rattle.cpc_convert_laws.proofs.Piece.Places.{FirstLine}
@@ -154,11 +154,9 @@ module _ (p : Program) (facts : ProgramKnown p) (h : Convertible p) (fine : Call
         (kept_here p facts f known l owner n at slots slots' lower stands (AtStatement (Simple s)) stood)
 
     typed : IsTyped D.Cpc p f sc s
-    typed =
-        subst (λ sc. IsTyped D.Cpc p f sc s) (scope_is p f known l owner n at slots slots' lower stands)
-        (facts.positions.typed f.called f (InGraph l n) (Simple s) known.found.named (stood_is p f known l owner n at slots slots' lower stands ∙ stood))
+    typed = found_typed p facts f known l owner n at slots slots' lower stands (Simple s) stood
 
-    all_scalar : AllScalar (parameter_types g)
+    all_scalar : AreScalar (parameter_types g)
     all_scalar =
         let i : Some typed.1.0 ≡ Some g = sym typed.1.1 ∙ named_g in
         let j : typed.1.0 ≡ g = cc in
@@ -281,7 +279,7 @@ module _ (p : Program) (facts : ProgramKnown p) (h : Convertible p) (fine : Call
   -- a spawn
   pub spawns_there : (g : Text) (es : Exprs) → at.node.stood ≡ AtStatement (Simple (Spawn g es)) → (result' : Ty) → Doing (act (context (split_form p) w.store (frame_of f.called (InGraph l n) slots)) result' o ((split_form p).code.stood f.called (InGraph l n)))
   spawns_there g es stood result' =
-      let typed = (facts.positions.typed f.called f (InGraph l n) (Simple (Spawn g es)) known.found.named (stood_is p f known l owner n at slots slots' lower stands ∙ stood)).1 in
+      let typed = (found_typed p facts f known l owner n at slots slots' lower stands (Simple (Spawn g es)) stood).1 in
       let there_is = h.names.there g typed.0 typed.1 in
       let same : g ≡ typed.0.called = sym there_is.1 in
       spawn_here typed.0 (ap (function_named p) there_is.1 ∙ typed.1) (record { has = there_is.0; mode = cps_mode typed.0.mode typed.3 }) es (stood ∙ ap (λ y. AtStatement (Simple (Spawn y es))) same) result'

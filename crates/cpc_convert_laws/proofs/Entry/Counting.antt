@@ -1,6 +1,7 @@
 -- How many statements the start of a function has before its rows, by the number of the function's variables.
 use Rattle.std.proofs.Common.{◌≡◌, ℕ, zero, suc, ◌+◌, ◌*◌, ◌≤◌, Bool, true, false, not, ◌&&◌, cond, List, [], ◌∷◌, length, refl, sym, ◌∙◌, ap, arith}
 use Rattle.cpc_base.specs.Bytes.{Text}
+use Rattle.cpc_base.proofs.Truth.{and_first, and_with_false}
 use Rattle.cpc_base.proofs.Lists.{length_of_map, length_of_append}
 use Rattle.cpc_tree.specs.Lists.{holds_number}
 use Rattle.cpc_tree.specs.Registers.{variables}
@@ -56,23 +57,15 @@ module _ (p : Program) (ok : IsNamed p) (f : Function) (cps : IsCps p f) where
   abbrev begins : ℕ → Bool
   begins k = not (is_parameter f k) && is_plain r k
 
-  and_false : (b d : Bool) → d ≡ false → (b && d) ≡ false
-  and_false true d e = e
-  and_false false d e = refl
-
   not_boxed : (k : ℕ) → is_box p f.called k ≡ true → (passes k ≡ false) × (begins k ≡ false)
   not_boxed k e =
       let boxed : is_plain r k ≡ false = ap not ((boxes_exact p f.called k).1 e) in
-      (and_false (is_parameter f k) (is_plain r k) boxed, and_false (not (is_parameter f k)) (is_plain r k) boxed)
-
-  one_way : (b d : Bool) → (b && d) ≡ true → (not b && d) ≡ false
-  one_way true d e = refl
-  one_way false d e = absurd (cc)
+      (ap (λ b. is_parameter f k && b) boxed ∙ and_with_false (is_parameter f k), ap (λ b. not (is_parameter f k) && b) boxed ∙ and_with_false (not (is_parameter f k)))
 
   -- the variables that the start loads, those that it begins, and its boxes
   pub variables_shared : (length (loaded r Start) + length (chosen begins (closure_of r Start))) + length r.boxes ≤ length (variables f)
   variables_shared =
-      let all = shared p f.called r.ways r.uses (owner_number (keeper r.split Start)) passes begins not_boxed (λ k. one_way (is_parameter f k) (is_plain r k)) 0 (length (variables f)) in
+      let all = shared p f.called r.ways r.uses (owner_number (keeper r.split Start)) passes begins not_boxed (λ k e. ap (λ b. not b && is_plain r k) (and_first (is_parameter f k) (is_plain r k) e)) 0 (length (variables f)) in
       let same : length r.boxes ≡ length (boxes_from p f.called 0 (length (variables f))) = ap (λ n. length (boxes_from p f.called 0 n)) (counted p ok f cps) in
       omega (arith, all, same)
 

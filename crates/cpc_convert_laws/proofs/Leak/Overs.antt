@@ -26,18 +26,11 @@ use Rattle.cpc_convert_chain_laws.specs.Chains.{Owns}
 use Rattle.cpc_convert_laws.specs.Related.Fresh.{AllFresh}
 use Rattle.cpc_convert_laws.specs.Related.Items.{Tagged, ItemFor, IsUntagged, owned_in}
 use Rattle.cpc_convert_laws.proofs.Related.Idle.{fine_slots}
-use Rattle.cpc_convert_laws.proofs.Related.Relation.{Source, Target, Shared, AgendaFor, source_state, target_state, Related, MainIsReady, MainIsNext, Goes, IsOver}
-use Rattle.cpc_convert_laws.proofs.Related.Rows.{Shows}
+use Rattle.cpc_convert_laws.proofs.Related.Pass.{related_shows}
+use Rattle.cpc_convert_laws.proofs.Related.Relation.{Source, Target, Shared, AgendaFor, source_state, target_state, Related, IsOver}
 use Rattle.cpc_convert_laws.proofs.Related.Setting.{Setting, from_form, NativeFacts, Known}
 use Rattle.cpc_convert_laws.proofs.Related.Turns.{turns_meet}
 use Rattle.cpc_convert_laws.proofs.Leak.Ended.{KeptIfOver, IsKept, turns_kept}
-
--- states that stand for each other show the same
-pub stand_shows : (z : Setting) (x : Source) (y : Target) → Related z.codes z.cut z.there x y → Shows x y
-stand_shows z _ _ (MainIsReady w) = record { trace = refl; outcome = refl }
-stand_shows z _ _ (MainIsNext w) = record { trace = refl; outcome = refl }
-stand_shows z _ _ (Goes w bs k j owned a tags b runs g owns fresh) = record { trace = refl; outcome = refl }
-stand_shows z x y (IsOver _ _ over trace outcome) = record { trace = sym trace; outcome = sym outcome }
 
 -- an item that is taken runs
 module _ (z : Setting) (w : Shared) (a : Agenda (Thread Position)) (s : Source) (none : s.running ≡ None) where
@@ -107,7 +100,7 @@ module _ (z : Setting) (native : NativeFacts z) (w : Shared) (bs : Blocks) (a : 
       let same : s' ≡ s = cc in
       let over' : is_over s'.outcome ≡ true = ap (λ (u : Source). is_over u.outcome) same ∙ over in
       let kx : IsKept x s' = subst (Only (KeptIfOver x)) i (turns_kept (threads_of (from_form z)) x refl) over' in
-      let ky : IsKept y t = subst (Only (KeptIfOver y)) j (turns_kept (callbacks z.target) y refl) (ap is_over (sym (stand_shows z s' t r).outcome) ∙ over') in
+      let ky : IsKept y t = subst (Only (KeptIfOver y)) j (turns_kept (callbacks z.target) y refl) (ap is_over (sym (related_shows z s' t r).outcome) ∙ over') in
       subst EndsBoth same (record { last = t; steps = e; stand = r; agenda = kx.agenda; source = kx.store; store = ky.store; rests = ky.running })
   turned s _ _ i j (BothFault fault) e f over =
       let s' : Source = ends (Failed fault (shown_in z.source [])) x in

@@ -1,7 +1,8 @@
 -- Where nothing runs in a state of the lifted run, nothing runs in the state that stands for it, and its frame blocks are those of the threads' frames.
-use Rattle.std.proofs.Common.{◌≡◌, ℕ, ◌+◌, ◌≤◌, Bool, true, false, not, List, ◌++◌, length, slice_get, Option, None, is_some, refl, sym, ◌∙◌, ap, arith, Some}
+use Rattle.std.proofs.Common.{◌≡◌, ℕ, ◌+◌, ◌≤◌, true, false, not, List, ◌++◌, length, slice_get, Option, None, is_some, refl, sym, ◌∙◌, ap, arith, Some}
 use Rattle.std.proofs.lemmas.List.{length-map}
 use Rattle.cpc_base.specs.Bytes.{Text}
+use Rattle.cpc_base.proofs.Truth.{not_holds}
 use Rattle.cpc_store.specs.Store.{Value, Unset, Blocks, Store, block_cells, cells_in, store_cells}
 use Rattle.cpc_tree.specs.Points.{Point}
 use Rattle.cpc_tree.specs.Syntax.{Function, Program}
@@ -129,11 +130,7 @@ module _ (p : Program) where
 
       whole_native : (o : Option Function) → stays_whole o ≡ true → is_cps o ≡ false
       whole_native None e = absurd (cc)
-      whole_native (Some f) e = go (is_cps_mode f.mode) e
-        where
-          go : (b : Bool) → not b ≡ true → b ≡ false
-          go true e = absurd (cc)
-          go false e = refl
+      whole_native (Some f) e = not_holds (is_cps_mode f.mode) e
 
       native_thin : (owned : List ℕ) (xs : List (Frame Position)) (ys : List (Frame Point)) → Native C (SamePoint (cut_of p)) (Under C (cut_of p) There bs owned) xs ys → frames_registers ys ≤ sum (native_registers p) xs + wide p
       native_thin owned _ _ (NoMore xs ys under) = let h = under_thin xs ys owned under in omega (arith, h)

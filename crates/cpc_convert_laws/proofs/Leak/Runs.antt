@@ -2,15 +2,13 @@
 use Rattle.std.proofs.Common.{◌≡◌, ◌⊎◌, inl, inr, ⊎_elim, ℕ, zero, suc, ◌+◌, ◌≤◌, Bool, true, false, List, [], ◌++◌, length, Option, Some, None, option_map, is_some, refl, sym, ◌∙◌, ap, subst, arith}
 use Rattle.std.specs.List.{All}
 use Rattle.std.proofs.lemmas.List.Elements.{All-head}
-use Rattle.cpc_base.specs.Bytes.{Text}
 use Rattle.cpc_store.specs.Store.{Store, Blocks, empty_store, cells_in}
 use Rattle.cpc_tree.specs.declared.program.Mode.TheVariants.{Native, Cps}
-use Rattle.cpc_tree.specs.Syntax.{Function, Program}
+use Rattle.cpc_tree.specs.Syntax.{Program}
 use Rattle.cpc_tree.specs.Points.{Point}
 use Rattle.cpc_tree.specs.Trace.{Mark, Outcome, Going, Ended, Exited, Failed, HistoryEnded, BadHistory, is_over}
 use Rattle.cpc_tree.specs.Typing.{function_named}
 use Rattle.cpc_meaning_matching.specs.Simulation.{Rows, Path, Last, More, one}
-use Rattle.cpc_meaning_matching.specs.Steps.{or_stay}
 use Rattle.cpc_meaning_matching.specs.Systems.{System, run, Alike, Goes as Moves, NeverStuck}
 use Rattle.cpc_meaning_matching.proofs.Paths.{path_map, path_wider, rows_of_paths}
 use Rattle.cpc_meaning_matching.proofs.Systems.{over_stays}
@@ -25,7 +23,6 @@ use Rattle.cpc_meaning.specs.Plain.{Stack}
 use Rattle.cpc_meaning.specs.Events.{Callback, CallMain, callbacks, callbacks_of}
 use Rattle.cpc_meaning.specs.Trees.{trees}
 use Rattle.cpc_meaning.proofs.Connect.{machine_ends}
-use Rattle.cpc_check_rules.specs.Operators.{is_cps}
 use Rattle.cpc_forms.specs.Split.{Position, split_form}
 use Rattle.cpc_lift_laws.specs.Lifted.{tidy, tidy_running}
 use Rattle.cpc_lift_laws.proofs.Lifting.{lifted_ends}
@@ -45,12 +42,11 @@ use Rattle.cpc_convert_laws.proofs.Related.Rows.{Shows, Near, Midway, AtFirst, A
 use Rattle.cpc_convert_laws.proofs.Related.Setting.{Setting, from_form, Known}
 use Rattle.cpc_convert_laws.specs.Accepted.Functions.{HasMain}
 use Rattle.cpc_convert_laws.specs.Accepted.Lifted.{kept_of, lifted_threads, lifted_after}
-use Rattle.cpc_convert_laws.proofs.Accepted.Counts.{cps_same}
 use Rattle.cpc_convert_laws.specs.Native.Instance.{StaysAs}
 use Rattle.cpc_convert_laws.proofs.Native.Wholes.{kept_there, kept_named}
 use Rattle.cpc_convert_laws.specs.Arrival.Taken.{IsFine}
 use Rattle.cpc_convert_laws.specs.Runs.Bounds.{bounds_of}
-use Rattle.cpc_convert_laws.specs.Runs.Runs.{CallsCps, NamesCps}
+use Rattle.cpc_convert_laws.specs.Runs.Runs.{CallsCps}
 use Rattle.cpc_convert_laws.proofs.Runs.Bounds.{bounds_enough}
 use Rattle.cpc_convert_laws.proofs.Runs.Called.{cps_from_then, OfCps, AllCpsIn}
 use Rattle.cpc_convert_laws.proofs.Runs.Had.{Had}
@@ -59,13 +55,16 @@ use Rattle.cpc_convert_laws.proofs.Runs.Known.{state_known}
 use Rattle.cpc_convert_laws.proofs.Runs.Locals.{ArePlacesThin, stood_thin}
 use Rattle.cpc_convert_laws.specs.Leak.Need.{thread_weight}
 use Rattle.cpc_convert_laws.specs.Leak.Held.{live_blocks}
+use Rattle.cpc_convert_laws.proofs.Related.Pass.{related_shows}
+use Rattle.cpc_convert_laws.proofs.Runs.Pass.{next_along}
+use Rattle.cpc_convert_laws.proofs.Runs.Theorem.{cps_known}
 use Rattle.cpc_convert_laws.proofs.Leak.Ended.{thread_idle, callback_idle, idle_rests}
-use Rattle.cpc_convert_laws.proofs.Leak.Overs.{stand_shows, round_over, ends_both}
+use Rattle.cpc_convert_laws.proofs.Leak.Overs.{round_over, ends_both}
 use Rattle.cpc_convert_laws.proofs.Leak.Related.{Bounded, wide, split_measure, bounded_live, going_bounded, main_bounded, related_bounded}
 use Rattle.cpc_convert_laws.proofs.Leak.Threads.{split_count, split_need}
 
 -- an outcome of a run that is not over
-going_of : (o : Outcome) → is_over o ≡ false → o ≡ Going
+pub going_of : (o : Outcome) → is_over o ≡ false → o ≡ Going
 going_of Going e = refl
 going_of (Ended n) e = absurd (cc)
 going_of (Exited n) e = absurd (cc)
@@ -84,7 +83,7 @@ module _ (p : Program) (had : Had p) where
   thin : ArePlacesThin p z.there
   thin = stood_thin p had.convertible.named had.cps
 
-  main : HasMain p
+  abbrev main : HasMain p
   main = had.convertible.main
 
   says : FineSays p had.known (IsFine p) (CallsCps p)
@@ -122,13 +121,10 @@ module _ (p : Program) (had : Had p) where
       R x y = (n : ℕ) × (x ≡ run A n) × Stage n x y
 
       alike_at : (x : Source) (y : Target) → R x y → Alike A B x y
-      alike_at x y r = let k = stand_shows z x y (holds r.0 x y r.1 r.2).stands in record { trace = k.trace; outcome = k.outcome }
-
-      next_along : (x x' : Source) (n : ℕ) → A.next x ≡ Some x' → x ≡ run A n → x' ≡ run A (suc n)
-      next_along x x' n e i = sym (ap (or_stay x) e) ∙ ap (λ s. or_stay s (A.next s)) i
+      alike_at x y r = let k = related_shows z x y (holds r.0 x y r.1 r.2).stands in record { trace = k.trace; outcome = k.outcome }
 
       along : (x x' : Source) (y : Target) → A.next x ≡ Some x' → R x y → Path B.next one (R x') (λ t. Inside x t ⊎ Inside x' t) (cost p) y
-      along x x' y e r = let i = next_along x x' r.0 e r.1 in path_map (λ t s. (suc r.0, i, s)) (λ t s. s) (paths r.0 x x' y e r.1 i r.2)
+      along x x' y e r = let i = next_along A x x' r.0 e r.1 in path_map (λ t s. (suc r.0, i, s)) (λ t s. s) (paths r.0 x x' y e r.1 i r.2)
 
       staged : RunsStand
       staged =
@@ -142,7 +138,7 @@ module _ (p : Program) (had : Had p) where
     holds_inside x y held = record { alike = record { trace = k.trace; outcome = k.outcome }; bounded = λ none. held.bounded (held.rests none); few = λ calm. go calm (is_over y.outcome) refl }
       where
         k : Shows x y
-        k = stand_shows z x y held.stands
+        k = related_shows z x y held.stands
 
         go : (is_over y.outcome ≡ true → y.running ≡ None) → (b : Bool) → is_over y.outcome ≡ b → live_cells y ≤ split_measure p x + cost p
         go calm true over = let b = bounded_live p x y (held.bounded (held.rests (calm over))) in omega (arith, b)
@@ -246,7 +242,7 @@ module _ (p : Program) (had : Had p) where
           go None i = absurd (let l = ap is_some i in cc)
           go (Some j) i =
               let goes = callback_idle (trees z.target) t u j i (next_going t u q) (step j i) none in
-              let shown = (stand_shows z x' u end).outcome in
+              let shown = (related_shows z x' u end).outcome in
               absurd (let l = ap is_over (shown ∙ goes) in cc)
 
       past : (n : ℕ) (t : Target) → is_some t.running ≡ true → Path B.next one (Stand x') (Midway z (bounds_of p).rise x x' y) n t → Path B.next one (Holds x') (λ t. Inside x t ⊎ Inside x' t) n t
@@ -279,7 +275,7 @@ module _ (p : Program) (had : Had p) where
     idle_ends w bs _ _ _ a tags b NothingRuns g owns fresh known s e none over =
         let r = ends_both z facts.native w bs a tags b g owns fresh known s e none over in
         let stands = related_tidied z facts.native facts.keeps s r.last r.stand in
-        let shown = stand_shows z (tidy z.kept s) r.last stands in
+        let shown = related_shows z (tidy z.kept s) r.last stands in
         let base = going_bounded p z.codes z.there thin w bs None None [] a tags b NothingRuns g owns in
         let blocks = ap (λ (store : Store). live_blocks store.frames) r.store in
         let cells = ap (λ (store : Store). cells_in store.frames) r.store in
@@ -333,21 +329,10 @@ module _ (p : Program) (had : Had p) where
 
     -- ---- a cps `main`
 
-    -- then each call that is to begin is of a cps function
-    item_cps : is_cps_mode main.function.mode ≡ true → (f : Text) → (f ≡ main_name) ⊎ ((g : Function) → function_named p f ≡ Some g → is_cps g.mode ≡ true) → NamesCps p f
-    item_cps mode f (inl is) g named =
-        let same : main.function ≡ g = let i : Some main.function ≡ Some g = sym main.named ∙ (ap (function_named p) (sym is) ∙ named) in cc in
-        subst (λ (k : Function). is_cps_mode k.mode ≡ true) same mode
-    item_cps mode f (inr cps) g named = cps_same g.mode ∙ cps g named
-
-    cps_known : is_cps_mode main.function.mode ≡ true → (n : ℕ) → Known z (run A n)
-    cps_known mode n =
-        state_known p (bounds_of p) had.sections h n (had.fine h n) (had.well h n) (λ f vs v ds e. item_cps mode f ((had.well h n).begins f vs v ds e))
-
     cps_main : is_cps_mode main.function.mode ≡ true → NeverStuck is_over A → RunsStand
     cps_main mode live =
         staged live (λ n. Holds) (subst (λ y. Holds A.opening y) (sym first) main_ready) (λ n x y i s. s)
-        (λ n x x' y e i i' s. row_path x x' y e (subst (Known z) (sym i) (cps_known mode n)) (subst (Known z) (sym i') (cps_known mode (suc n))) s.stands)
+        (λ n x x' y e i i' s. row_path x x' y e (subst (Known z) (sym i) (cps_known p had mode h n)) (subst (Known z) (sym i') (cps_known p had mode h (suc n))) s.stands)
 
     -- ---- a native `main`
 

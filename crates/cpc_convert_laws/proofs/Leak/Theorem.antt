@@ -6,7 +6,7 @@ use Rattle.cpc_base.specs.Bytes.{Text}
 use Rattle.cpc_tree.specs.Points.{Point}
 use Rattle.cpc_tree.specs.Syntax.{Function, Program}
 use Rattle.cpc_tree.specs.Typing.{function_named}
-use Rattle.cpc_tree.specs.Trace.{Outcome, Going, Ended, Exited, Failed, HistoryEnded, BadHistory, is_over}
+use Rattle.cpc_tree.specs.Trace.{Going, is_over}
 use Rattle.cpc_meaning_matching.specs.Steps.{or_stay}
 use Rattle.cpc_meaning_matching.specs.Systems.{run, NeverStuck}
 use Rattle.cpc_meaning_matching.proofs.Laws.{near_row, spent-one, spent-within, place_ge, place_cost, row_at}
@@ -45,7 +45,7 @@ use Rattle.cpc_convert_laws.proofs.Runs.Locals.{stood_thin}
 use Rattle.cpc_convert_laws.proofs.Leak.Plain.{plain_same}
 use Rattle.cpc_convert_laws.proofs.Leak.Related.{Bounded, split_measure, related_bounded}
 use Rattle.cpc_convert_laws.proofs.Leak.Ending.{step_ends}
-use Rattle.cpc_convert_laws.proofs.Leak.Runs.{z, RunsStand, runs_stand, holds_inside}
+use Rattle.cpc_convert_laws.proofs.Leak.Runs.{z, RunsStand, runs_stand, holds_inside, going_of}
 use Rattle.cpc_convert_laws.proofs.Leak.Threads.{lifted_rest, lifted_count, lifted_needs, lifted_registers}
 
 -- what is bounded by the lifted run is bounded by the threads
@@ -162,19 +162,11 @@ module _ (p : Program) (had : Had p) (does : PiecesDo p had.known (IsFine p) (Ca
     cps_few zero = calm_few zero (λ over. refl)
     cps_few (suc n) = go (cps_few n) (is_over (states n).outcome) refl
       where
-        going : (o : Outcome) → is_over o ≡ false → o ≡ Going
-        going Going e = refl
-        going (Ended k) e = absurd (cc)
-        going (Exited k) e = absurd (cc)
-        going (Failed fault f) e = absurd (cc)
-        going HistoryEnded e = absurd (cc)
-        going (BadHistory k) e = absurd (cc)
-
         go : Few n (states n) → (b : Bool) → is_over (states n).outcome ≡ b → Few (suc n) (states (suc n))
         go few true over =
             let same = sym (ap (or_stay (states n)) ((machine_ends (callbacks_of (trees (converted p))) CallMain h).none (states n) over)) in
             later_few n (states (suc n)) (subst (λ (u : Target). is_over u.outcome ≡ true) same over) (subst (Few n) same few)
-        go few false i = next_few n (going (states n).outcome i) few (next (callbacks (converted p)) (states n)) refl
+        go few false i = next_few n (going_of (states n).outcome i) few (next (callbacks (converted p)) (states n)) refl
 
     cps_comes_to : (m : ℕ) → GoesOrRests (threaded p h m) → (n : ℕ) × (m ≤ n) × (n ≤ cost p * (m + 1)) × FramesHeld p (threaded p h m) (event (converted p) h n)
     cps_comes_to m fine =

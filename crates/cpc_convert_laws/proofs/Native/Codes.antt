@@ -1,5 +1,5 @@
 -- A name that stays finds a function in both programs, the one that stands for it, or none in either.
-use Rattle.std.proofs.Common.{◌≡◌, Bool, true, false, cond, List, [], ◌∷◌, ◌++◌, map, Option, Some, None, bytes_eq, refl, sym, ◌∙◌, ap, subst, codes}
+use Rattle.std.proofs.Common.{◌≡◌, Bool, true, false, cond, List, [], ◌∷◌, ◌++◌, map, Option, Some, None, bytes_eq, refl, sym, ◌∙◌, ap, subst}
 use Rattle.cpc_base.specs.Bytes.{Text}
 use Rattle.cpc_base.proofs.Lists.{append_empty}
 use Rattle.cpc_tree.specs.Syntax.{Ty, Function, Item, StructItem, GlobalItem, PrototypeItem, FunctionItem, Program}
@@ -10,19 +10,20 @@ use Rattle.cpc_meaning.specs.Start.{main_name}
 use Rattle.cpc_meaning.specs.Threads.{is_cps_mode, is_cps}
 use Rattle.cpc_meaning.proofs.Functions.{texts_differ}
 use Rattle.cpc_convert.specs.Marks.{has_marks}
-use Rattle.cpc_convert.specs.Converted.{function_item, prototype}
+use Rattle.cpc_convert.specs.Converted.{prototype}
 use Rattle.cpc_convert.specs.Members.{Has}
 use Rattle.cpc_convert.proofs.Listed.{skip_prototypes, pass_functions}
-use Rattle.cpc_convert.proofs.Marks.{marked_differs}
 use Rattle.cpc_convert_chain_laws.specs.Driver.{drive_name, drive_function}
 use Rattle.cpc_convert_image_laws.specs.InPlace as I
 use Rattle.cpc_convert_image_laws.specs.Relations.{Found, BothFound, NoneFound}
 use Rattle.cpc_convert_event.specs.Converted.{kept_function, item_unless, kept_items, routines, all_structs, all_boxes, all_made, main_function, main_if, converted_with, converted}
 use Rattle.cpc_convert_event.specs.NameLaws.{IsNamed}
 use Rattle.cpc_convert_event.specs.Routines.{Routine}
-use Rattle.cpc_convert_event.proofs.Apart.{driver_is}
+use Rattle.cpc_convert_event.proofs.Apart.{unlike_driver}
 use Rattle.cpc_convert_event.proofs.Made.{made_marked}
 use Rattle.cpc_convert_event.proofs.Structs.{skip_functions, all_structs_are, all_boxes_are}
+use Rattle.cpc_convert_event.proofs.StructsThere.{behind_boxes}
+use Rattle.cpc_convert_event.proofs.Lookups.{behind_driver}
 use Rattle.cpc_convert_laws.specs.Accepted.Known.{Stays}
 use Rattle.cpc_convert_laws.specs.Accepted.Names.{HasNames}
 use Rattle.cpc_convert_laws.specs.Native.Instance.{StaysAs}
@@ -51,13 +52,6 @@ pass_none (FunctionItem f ∷ its) items x e = go (bytes_eq f.called x) refl (is
 no_function : {A : Type 0} (f : Function) → Some f ≡ None → A
 no_function f e = absurd (cc)
 
--- what is made, and all that stands behind the driver
-abbrev made_items : Program → List Routine → List Item
-made_items p rs = map function_item (all_made p rs) ++ main_if (is_cps (function_named p main_name))
-
-abbrev behind : Program → List Routine → List Item
-behind p rs = kept_items p ++ (all_boxes rs ++ made_items p rs)
-
 module _ (p : Program) (x : Text) (none : function_named p x ≡ None) where
   -- `main` is called so, where it is cps
   no_main : function_named (main_if (is_cps (function_named p main_name))) x ≡ None
@@ -78,16 +72,16 @@ module _ (p : Program) (x : Text) (none : function_named p x ≡ None) where
   none_among : (rs : List Routine) → ((g : Function) → Has g (all_made p rs) → bytes_eq g.called x ≡ false) → bytes_eq drive_name x ≡ false → function_named (converted_with p rs) x ≡ None
   none_among [] made e = ap (λ ys. function_named ys x) (sym (append_empty (kept_items p))) ∙ pass_none p [] x none
   none_among (r ∷ rs) made e =
-      skip_functions (all_structs p (r ∷ rs)) (map prototype (all_made p (r ∷ rs)) ++ FunctionItem drive_function ∷ behind p (r ∷ rs)) x (all_structs_are p (r ∷ rs))
-      ∙ (skip_prototypes (all_made p (r ∷ rs)) (FunctionItem drive_function ∷ behind p (r ∷ rs)) x
-      ∙ (no_driver e (behind p (r ∷ rs))
-      ∙ (pass_none p (all_boxes (r ∷ rs) ++ made_items p (r ∷ rs)) x none
-      ∙ (skip_functions (all_boxes (r ∷ rs)) (made_items p (r ∷ rs)) x (all_boxes_are (r ∷ rs))
+      skip_functions (all_structs p (r ∷ rs)) (map prototype (all_made p (r ∷ rs)) ++ FunctionItem drive_function ∷ behind_driver p (r ∷ rs)) x (all_structs_are p (r ∷ rs))
+      ∙ (skip_prototypes (all_made p (r ∷ rs)) (FunctionItem drive_function ∷ behind_driver p (r ∷ rs)) x
+      ∙ (no_driver e (behind_driver p (r ∷ rs))
+      ∙ (pass_none p (all_boxes (r ∷ rs) ++ behind_boxes p (r ∷ rs)) x none
+      ∙ (skip_functions (all_boxes (r ∷ rs)) (behind_boxes p (r ∷ rs)) x (all_boxes_are (r ∷ rs))
       ∙ (pass_functions (all_made p (r ∷ rs)) (main_if (is_cps (function_named p main_name))) x made
       ∙ no_main)))))
 
   none_made : IsNamed p → has_marks x ≡ false → function_named (converted p) x ≡ None
-  none_made ok h = none_among (routines p) (made_marked p ok x h) (ap (λ y. bytes_eq y x) driver_is ∙ marked_differs (codes "drive") (codes "") x h)
+  none_made ok h = none_among (routines p) (made_marked p ok x h) (unlike_driver x h)
 
 -- ---- names that stay
 

@@ -7,7 +7,7 @@ use Rattle.cpc_store.specs.Store.{Value, Unset, Store}
 use Rattle.cpc_tree.specs.Points.{locals_in, declared}
 use Rattle.cpc_tree.specs.Registers.{as_variable, variables, addresses_in, addressed, parameter_scope, or_empty}
 use Rattle.cpc_tree.specs.Syntax.{Ty, TyPointer, TyStruct, Expr, ENamed, Exprs, NoExpr, AndExpr, Stmts, NoStmt, AndStmt, Variable, Parameter, Function, Program}
-use Rattle.cpc_tree.specs.Typing.{Local, Scope, ALocal, named, field, is_scalar, parameter_type, parameter_types}
+use Rattle.cpc_tree.specs.Typing.{Local, Scope, ALocal, named, field, parameter_type, parameter_types}
 use Rattle.cpc_meaning.specs.Answer.{Gives}
 use Rattle.cpc_meaning.specs.Eval.{Slot, Register, assigned}
 use Rattle.cpc_meaning.specs.Requests.{arguments}
@@ -28,30 +28,26 @@ use Rattle.cpc_convert_event.specs.Pieces.{parameter_of, spawner_function}
 use Rattle.cpc_convert_event.specs.Routines.{variable_if, passed_from, passed}
 use Rattle.cpc_convert_event.proofs.Fields.{Rising, NoneRises, OneRises, passed_length}
 use Rattle.cpc_convert_event.proofs.Filling.{saving_from}
+use Rattle.cpc_convert_laws.specs.Accepted.Known.{AreScalar}
 use Rattle.cpc_convert_laws.proofs.Accepted.Pieces.{converts_scalar}
 use Rattle.cpc_convert_laws.proofs.Native.SpawnerScope.{past}
 
 -- ---- what is passed
 
--- all of these are scalar
-abbrev pub AllScalar : List Ty → Type 0
-AllScalar [] = Unit {0}
-AllScalar (t ∷ ts) = (is_scalar t ≡ true) × AllScalar ts
-
 -- where all have arguments they are
-pub get_scalar : (p : Program) (scope : Scope) (ts : List Ty) (es : Exprs) → AllGet p scope ts es → AllScalar ts
+pub get_scalar : (p : Program) (scope : Scope) (ts : List Ty) (es : Exprs) → AllGet p scope ts es → AreScalar ts
 get_scalar p scope [] NoExpr h = tt
 get_scalar p scope (t ∷ ts) (AndExpr e es) h = (converts_scalar t h.0.type h.0.converts, get_scalar p scope ts es h.1)
 get_scalar p scope [] (AndExpr e es) h = absurd h
 get_scalar p scope (t ∷ ts) NoExpr h = absurd h
 
 -- then all are passed
-types_passed : (k : ℕ) (ps : List Parameter) (rest : List Variable) → AllScalar (map parameter_type ps) → map type_of (passed_from k (length ps) (map as_variable ps ++ rest)) ≡ map parameter_type ps
+types_passed : (k : ℕ) (ps : List Parameter) (rest : List Variable) → AreScalar (map parameter_type ps) → map type_of (passed_from k (length ps) (map as_variable ps ++ rest)) ≡ map parameter_type ps
 types_passed k [] rest h = refl
 types_passed k (x ∷ ps) rest h =
     ap (λ b. map type_of (variable_if b (record { called = variable_name k (or_empty x.called); type = x.type }) (passed_from (suc k) (length ps) (map as_variable ps ++ rest)))) h.0 ∙ ap (λ ts. x.type ∷ ts) (types_passed (suc k) ps rest h.1)
 
-pub passed_types : (f : Function) → AllScalar (parameter_types f) → map type_of (passed f) ≡ parameter_types f
+pub passed_types : (f : Function) → AreScalar (parameter_types f) → map type_of (passed f) ≡ parameter_types f
 passed_types f h = types_passed 0 f.parameters _ h
 
 types_taken : (xs : List Variable) → map parameter_type (map parameter_of xs) ≡ map type_of xs
@@ -59,7 +55,7 @@ types_taken [] = refl
 types_taken (x ∷ xs) = ap (λ ts. x.type ∷ ts) (types_taken xs)
 
 -- the spawner takes what the function does
-pub spawner_takes : (f : Function) → AllScalar (parameter_types f) → parameter_types f ≡ parameter_types (spawner_function f)
+pub spawner_takes : (f : Function) → AreScalar (parameter_types f) → parameter_types f ≡ parameter_types (spawner_function f)
 spawner_takes f h = sym (types_taken (passed f) ∙ passed_types f h)
 
 -- no more are passed than there are variables

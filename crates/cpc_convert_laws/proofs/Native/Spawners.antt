@@ -60,7 +60,7 @@ use Rattle.cpc_convert_event.proofs.BoxesThere.{structs_there}
 use Rattle.cpc_convert_event.proofs.Fields.{Rising, frame_fields, fields_behind, passed_rise}
 use Rattle.cpc_convert_event.proofs.Lookups.{functions_found}
 use Rattle.cpc_convert_event.proofs.Meanings.{items_meant}
-use Rattle.cpc_convert_laws.specs.Accepted.Known.{Stays}
+use Rattle.cpc_convert_laws.specs.Accepted.Known.{Stays, AreScalar}
 use Rattle.cpc_convert_laws.specs.Accepted.Points.{UsedName}
 use Rattle.cpc_convert_laws.proofs.Accepted.Functions.{scopes_mean_variables}
 use Rattle.cpc_convert_laws.specs.Related.Bounds.{Bounds}
@@ -76,7 +76,7 @@ use Rattle.cpc_convert_laws.proofs.Native.Instance.{setting_of}
 use Rattle.cpc_convert_laws.proofs.Native.Names.{used_kept}
 use Rattle.cpc_convert_laws.proofs.Native.Natives.{AllSpawn}
 use Rattle.cpc_convert_laws.proofs.Native.Respawned.{same_next, same_scope_from}
-use Rattle.cpc_convert_laws.proofs.Native.SpawnerCall.{AllScalar, get_scalar, passed_types, spawner_takes, passed_few, fit_all, same_number, all_registers, flat_saves, spawner_called, holds_all, saves_all}
+use Rattle.cpc_convert_laws.proofs.Native.SpawnerCall.{get_scalar, passed_types, spawner_takes, passed_few, fit_all, same_number, all_registers, flat_saves, spawner_called, holds_all, saves_all}
 use Rattle.cpc_convert_laws.proofs.Native.SpawnerScope.{no_plain, no_frame, no_driver, no_piece, frame_piece, past_both, unhidden}
 use Rattle.cpc_convert_laws.proofs.Native.Wholes.{kept_named}
 
@@ -257,7 +257,7 @@ module _ (p : Program) (h : Convertible p) (there : Places) (fine : CallFrame Po
     typed : (t : Function) × (function_named p k.called ≡ Some t) × AllGet p scope_here (parameter_types t) es × (O.is_cps t.mode ≡ true)
     typed = (h.positions.typed f fn (InTree (Here path)) (Simple (Spawn k.called es)) is stood).1
 
-    all_scalar : AllScalar (parameter_types k)
+    all_scalar : AreScalar (parameter_types k)
     all_scalar =
         let i : Some typed.0 ≡ Some k = sym typed.1 ∙ is_k in
         let j : typed.0 ≡ k = cc in

@@ -1,5 +1,6 @@
 -- What is known where a piece stands before the row of a node: what the source does there, and the images of what occurs there.
 use Rattle.std.proofs.Common.{◌≡◌, ℕ, true, List, Option, ◌∙◌, ap, subst}
+use Rattle.cpc_base.specs.declared.stop.Dialect.TheVariants as D
 use Rattle.cpc_tree.specs.Lists.{holds_number}
 use Rattle.cpc_tree.specs.Points.{Found}
 use Rattle.cpc_tree.specs.Syntax.{Ty, Expr, Function, Program}
@@ -9,6 +10,7 @@ use Rattle.cpc_meaning.specs.Answer.{Answer, Gives, Faults, NoAnswer, ◌>>=◌}
 use Rattle.cpc_meaning.specs.Eval.{Slot, Context, value}
 use Rattle.cpc_meaning.specs.Plain.{context}
 use Rattle.cpc_meaning.specs.Ways.{Manner}
+use Rattle.cpc_check_laws.specs.Sound.Typed.{FoundTyped}
 use Rattle.cpc_convert_image_laws.specs.Stacks.{frame_of}
 use Rattle.cpc_forms.specs.Flow.{Place}
 use Rattle.cpc_forms.specs.Split.{InGraph, split_form}
@@ -44,7 +46,13 @@ module _ (p : Program) (facts : ProgramKnown p) (f : Function) (known : CpsKnown
   abbrev r : Routine
   r = routine_of p f
 
-  -- what stands there is known
+  -- what stands there is typed
+  pub found_typed : (s : Found) → at.node.stood ≡ AtStatement s → FoundTyped D.Cpc p f at.node.scope s
+  found_typed s e =
+      subst (λ sc. FoundTyped D.Cpc p f sc s) (scope_is p f known l owner n at slots slots' lower stands)
+      (facts.positions.typed f.called f (InGraph l n) s known.found.named (stood_is p f known l owner n at slots slots' lower stands ∙ e))
+
+  -- and known
   pub found_known : (s : Found) → at.node.stood ≡ AtStatement s → FoundKnown p at.node.scope s
   found_known s e =
       subst (λ sc. FoundKnown p sc s) (scope_is p f known l owner n at slots slots' lower stands)

@@ -19,10 +19,10 @@ same_next (r ∷ rs) = refl
 
 module _ (p : Program) (r : Routine) (l : Place) where
   -- rows of these numbers
-  abbrev rows : List ℕ → List PutRow
+  abbrev pub rows : List ℕ → List PutRow
   rows ns = put_rows (map (row_of p r l) ns)
 
-  rows_numbers : (ns : List ℕ) → numbers (rows ns) ≡ ns
+  pub rows_numbers : (ns : List ℕ) → numbers (rows ns) ≡ ns
   rows_numbers [] = refl
   rows_numbers (n ∷ ns) = ap (λ ms. n ∷ ms) (rows_numbers ns)
 

@@ -1,6 +1,6 @@
 -- A piece goes to another leader: its row makes the leader's frame, and gives it to the driver.
 use Rattle.std.proofs.Common.{◌≡◌, ℕ, suc, ◌+◌, Bool, true, false, not, ◌&&◌, ◌||◌, List, [], ◌∷◌, ◌++◌, map, length, slice_get, Some, None, refl, sym, ◌∙◌, ap, subst, codes}
-use Rattle.cpc_base.proofs.Truth.{and_both}
+use Rattle.cpc_base.proofs.Truth.{not_holds, and_second}
 use Rattle.cpc_tree.specs.Lists.{holds_number, is_empty}
 use Rattle.cpc_tree.specs.Syntax.{Ty, ENamed, Stmt, Stmts, NoStmt, AndStmt, Function, Program}
 use Rattle.cpc_store.specs.declared.values.Class.TheVariants.{Frame}
@@ -68,11 +68,7 @@ module _ (p : Program) (f : Function) (known : CpsKnown p f) (l : Place) (owner 
     listed = chosen_is (λ n. holds_number (reached r l) n && not (is_own r.split l n)) r.split.leaders m h
 
     other : is_own r.split l m ≡ false
-    other = go (is_own r.split l m) (and_both (holds_number (reached r l) m) (not (is_own r.split l m)) listed.1).1
-      where
-        go : (b : Bool) → not b ≡ true → b ≡ false
-        go true e = absurd (cc)
-        go false e = refl
+    other = not_holds (is_own r.split l m) (and_second (holds_number (reached r l) m) (not (is_own r.split l m)) listed.1)
 
     pub leads : Has m (routine_of p f).split.leaders
     leads = held_has r.split.leaders m listed.0

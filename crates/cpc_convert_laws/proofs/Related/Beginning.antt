@@ -34,6 +34,10 @@ pub first_row : {k : ℕ} (z : Setting) → NativeFacts z → KeepsFacts z → (
 first_row z native keeps w x' e =
     one_step z native keeps (source_state w None (with_main (Pending main_name []))) x' (target_state w [] None (with_main CallMain)) _ _ (BothTo _ _ (MainIsNext w)) e refl
 
+-- the first frame, once its variables are made
+abbrev pub framed : {P : Type 0} → Text → P → List Slot × Store → Answer (CallFrame P × Store)
+framed f point r = Gives (frame_of f point r.0, r.1)
+
 module _ (z : Setting) (native : NativeFacts z) (keeps : KeepsFacts z) (w : Shared) (source : IsHeldStore z.codes w.store) where
   abbrev Steps : Answer Source → Answer Target → Type 0
   Steps = Meets (Related z.codes z.cut z.there)
@@ -46,10 +50,6 @@ module _ (z : Setting) (native : NativeFacts z) (keeps : KeepsFacts z) (w : Shar
 
   nothing_owned : Owns [] []
   nothing_owned = record { each = λ b. refl }
-
-  -- the first frame, once its variables are made
-  abbrev framed : {P : Type 0} → Text → P → List Slot × Store → Answer (CallFrame P × Store)
-  framed f point r = Gives (frame_of f point r.0, r.1)
 
   abbrev runs_here : CallFrame Position × Store → Answer Source
   runs_here r = Gives (source_state (record w { store = r.1 }) (Some (record { frames = r.0 ∷ []; arriving = None })) new_agenda)

@@ -22,7 +22,7 @@ use Rattle.cpc_convert_laws.proofs.Related.Rows.{Near, midway_near, Shows}
 use Rattle.cpc_convert_laws.proofs.Related.Setting.{Setting, from_form, to_form, Known}
 
 -- states that stand for each other show the same
-related_shows : (z : Setting) (x : Source) (y : Target) → Related z.codes z.cut z.there x y → Shows x y
+pub related_shows : (z : Setting) (x : Source) (y : Target) → Related z.codes z.cut z.there x y → Shows x y
 related_shows z _ _ (MainIsReady w) = record { trace = refl; outcome = refl }
 related_shows z _ _ (MainIsNext w) = record { trace = refl; outcome = refl }
 related_shows z _ _ (Goes w bs k j owned a tags b runs g owns fresh) = record { trace = refl; outcome = refl }

@@ -13,7 +13,7 @@ use Rattle.cpc_tree.specs.Points.{Point, Found}
 use Rattle.cpc_tree.specs.Registers.{variables}
 use Rattle.cpc_tree.specs.Syntax.{Function}
 use Rattle.cpc_tree.specs.Typing.{function_named}
-use Rattle.cpc_meaning.specs.Answer.{Answer, Gives, ◌>>=◌, of_result}
+use Rattle.cpc_meaning.specs.Answer.{Answer, ◌>>=◌, of_result}
 use Rattle.cpc_meaning.specs.Copies.{Collected, and_value, write_back, write_to, written, collected, collect_one, collect, job_numbered}
 use Rattle.cpc_meaning.specs.Eval.{Slot}
 use Rattle.cpc_meaning.specs.Plain.{Frame as CallFrame, Stack, Done, make_frame, asking, context, answered, plain}
@@ -33,6 +33,7 @@ use Rattle.cpc_convert_image_laws.proofs.Entering.{slots_beside}
 use Rattle.cpc_convert_image_laws.proofs.Stacks.{native_step, native_answered}
 use Rattle.cpc_convert_image_laws.proofs.Stores.{cells_none, cells_more, alloc_holds}
 use Rattle.cpc_convert_image_laws.proofs.Example.{empty_held}
+use Rattle.cpc_convert_laws.proofs.Related.Beginning.{framed}
 use Rattle.cpc_convert_laws.proofs.Related.Setting.{Setting, from_form, to_form, CollectedAlike, BothGave, BothFailed, SourceStuck, HeldJob}
 
 -- a point of a function that sections run, which is the same in both
@@ -192,10 +193,6 @@ module _ (z : Setting) (pairs : Function → Function → Type 0) (facts : Secti
 
   abbrev Ended : Job → ℕ → Answer (CallFrame Position × Store) → Answer (CallFrame Point × Store) → Type 0
   Ended job bound m n = EndsAlike z (section_from (from_form z) job bound m) (section_from (to_form z) job bound n)
-
-  -- a frame with its variables
-  abbrev framed : {P : Type 0} → Text → P → List Slot × Store → Answer (CallFrame P × Store)
-  framed f point r = Gives (frame_of f point r.0, r.1)
 
   from_alike : (job : Job) (bound : ℕ) → before_underscores job.function ≡ shown_in z.source job.function → (f : Text) (a : Position) (b : Point) → InSection z f a b → (m n : Answer (List Slot × Store)) → Meets (Entered z.sections []) m n → Ended job bound (m >>= framed f a) (n >>= framed f b)
   from_alike job bound shown f a b same _ _ (BothGive _ _ (SlotsMade t slots h l)) = run_alike job.function shown (is_empty job.cells) bound t (frame_of f a slots ∷ []) (frame_of f b slots ∷ []) None h tt (OneMore f a b slots [] [] same l (NoMore [] [] BareEnds))

@@ -1,5 +1,5 @@
 -- Each goto of a piece leads to the label of a row: where a node goes a row stands, which has a line before which the label can stand.
-use Rattle.std.proofs.Common.{◌≡◌, ℕ, Bool, true, false, ◌||◌, ◌==◌, List, [], ◌∷◌, ◌++◌, map, slice_get, Option, Some, None, refl, sym, ◌∙◌, ap, subst}
+use Rattle.std.proofs.Common.{◌≡◌, ℕ, Bool, true, false, ◌||◌, ◌==◌, List, [], ◌∷◌, ◌++◌, map, Option, Some, None, refl, sym, ◌∙◌, ap, subst, append_assoc}
 use Rattle.cpc_base.specs.Bytes.{Text}
 use Rattle.cpc_base.proofs.Truth.{eq_reflexive, or_by_second}
 use Rattle.cpc_base.proofs.Lists.{found_within}
@@ -10,26 +10,24 @@ use Rattle.cpc_meaning.specs.Act.{AtStatement}
 use Rattle.cpc_meaning.specs.Ways.{ByFrame}
 use Rattle.cpc_meaning.proofs.Functions.{text_same}
 use Rattle.cpc_convert_laws.specs.Complete.Flat.{OneOf, IsFirst, IsLater, AllOf, NoneAsked, AndKnown, line_labels, labels_of, line_gotos, gotos_of}
-use Rattle.cpc_forms.specs.Flow.{Place, Start, At, Flow, is_leader, owner_of, owner_by, goes_to, Owns, Itself, Onwards, as_list}
+use Rattle.cpc_forms.specs.Flow.{Place, Flow, owner_of, as_list}
 use Rattle.cpc_forms.specs.Graph.{graph_of, way, at_node}
-use Rattle.cpc_forms.specs.Split.{owner_or}
 use Rattle.cpc_graph_laws.specs.Laws.{flow_in}
 use Rattle.cpc_graph_laws.proofs.Formed.{in_right, that_is}
-use Rattle.cpc_graph_laws.proofs.MoreFacts.{entries_are_first}
-use Rattle.cpc_graph_laws.proofs.Owners.{owner_owns}
 use Rattle.cpc_graph_laws.proofs.Splits.{owner_there}
 use Rattle.cpc_convert_event.specs.Lines.{behind_arrival, node_lines}
 use Rattle.cpc_convert_event.specs.LabelLaws.{put_in}
 use Rattle.cpc_convert_event.specs.NameLaws.{IsOwner}
 use Rattle.cpc_convert_event.specs.Names.{node_label}
-use Rattle.cpc_convert_event.specs.Routines.{Routine, routine_of, keeper, readings_of}
-use Rattle.cpc_convert_event.specs.Rows.{is_own, has_row, behind_call, onwards, lines_by, row_of, numbers_of, first_number, Put, Plain, Jump, JumpIf, put_lines, PutRow, put_rows, put_statement, leads, any_leads, is_wanted, label_if, row_statements, rows_statements, piece_statements}
+use Rattle.cpc_convert_event.specs.Routines.{Routine, routine_of, readings_of}
+use Rattle.cpc_convert_event.specs.Rows.{is_own, has_row, behind_call, onwards, lines_by, row_of, numbers_of, first_number, Put, Plain, Jump, JumpIf, put_lines, PutRow, put_rows, put_statement, any_leads, is_wanted, label_if, row_statements, rows_statements, piece_statements}
 use Rattle.cpc_convert_laws.specs.Piece.Rows.{put_row, RowAt}
 use Rattle.cpc_convert_laws.specs.Piece.Stood.{NodeAt}
 use Rattle.cpc_convert_laws.proofs.Piece.Filled.{row_filled}
 use Rattle.cpc_convert_laws.proofs.Piece.Places.{IsFilled, wanted_in}
 use Rattle.cpc_convert_laws.proofs.Piece.Ways.{Next, way_next, onwards_way, owner_is, row_for}
 use Rattle.cpc_convert_laws.proofs.Call.Framed.{framed_calls_arrive}
+use Rattle.cpc_convert_laws.proofs.Shape.Declared.{keeps}
 use Rattle.cpc_convert_laws.proofs.Shape.Numbers.{own_row, owned_below}
 use Rattle.cpc_convert_laws.specs.RowBodies.Laws.{GotosLead}
 use Rattle.cpc_convert_laws.proofs.RowBodies.Labels.{labels_append}
@@ -51,11 +49,7 @@ all_both known _ ys (AndKnown x xs o a) h = AndKnown x (xs ++ ys) o (all_both kn
 
 gotos_append : (xs ys : List Stmt) → gotos_of (xs ++ ys) ≡ gotos_of xs ++ gotos_of ys
 gotos_append [] ys = refl
-gotos_append (x ∷ xs) ys = ap (λ ls. line_gotos x ++ ls) (gotos_append xs ys) ∙ sym (assoc (line_gotos x) (gotos_of xs) (gotos_of ys))
-  where
-    assoc : (us vs ws : List Text) → (us ++ vs) ++ ws ≡ us ++ (vs ++ ws)
-    assoc [] vs ws = refl
-    assoc (u ∷ us) vs ws = ap (λ xs. u ∷ xs) (assoc us vs ws)
+gotos_append (x ∷ xs) ys = ap (λ ls. line_gotos x ++ ls) (gotos_append xs ys) ∙ sym (append_assoc (line_gotos x) (gotos_of xs) (gotos_of ys))
 
 -- a label stands where its number was met
 gotos_labelled : (b : Bool) (l : Text) (ss : List Stmt) → gotos_of (label_if b l ss) ≡ gotos_of ss
@@ -85,31 +79,11 @@ module _ (p : Program) (f : Function) (l : Place) (owner : IsOwner (routine_of p
   abbrev all : List PutRow
   all = put_in p r l
 
-  -- ---- owners keep their own closures
-
-  -- where the start owns anything, it owns the first node
-  first_step : (a : Place) (j : ℕ) → goes_to flow a j ≡ true → is_leader flow j ≡ false → ((i : ℕ) → a ≡ At i → is_leader flow 0 ≡ false) → is_leader flow 0 ≡ false
-  first_step Start j goes leads deeper = subst (λ m. is_leader flow m ≡ false) ((entries_are_first p f).2 j goes) leads
-  first_step (At i) j goes leads deeper = deeper i refl
-
-  first_stays : (d : ℕ) (a : Place) → Owns flow Start d a → (m : ℕ) → a ≡ At m → is_leader flow 0 ≡ false
-  first_stays _ _ (Itself i) m e = absurd (cc)
-  first_stays _ _ (Onwards d a j owns goes leads) m e = first_step a j goes leads (λ i h. first_stays d a owns i h)
-
-  pub keeps : (k : Place) (n : ℕ) → owner_of flow n ≡ Some k → keeper r.split k ≡ k
-  keeps (At m) n e = refl
-  keeps Start n e =
-      let first = entries_are_first p f in
-      let w = owner_owns flow Start n e in
-      let stays = first_stays w.0 (At n) w.1 n refl in
-      let node = found_within (graph_of p f).nodes 0 first.1 in
-      ap (owner_or Start) (ap (slice_get r.split.owners) first.0 ∙ (owner_there (graph_of p f) 0 node.0 node.1 ∙ ap (λ o. Some o) (first.3 ∙ ap (λ b. Some (owner_by b Start 0)) stays)))
-
   -- a node that the owner owns
   pub node_at : (n : ℕ) → owner_of flow n ≡ Some l → NodeAt p f l n
   node_at n e =
       let node = found_within (graph_of p f).nodes n (owned_below p f l n l e) in
-      record { owner = owner; keeps = keeps l n e; owned = owner_there (graph_of p f) n node.0 node.1 ∙ ap (λ o. Some o) e; node = node.0; is_node = node.1 }
+      record { owner = owner; keeps = keeps p f l n e; owned = owner_there (graph_of p f) n node.0 node.1 ∙ ap (λ o. Some o) e; node = node.0; is_node = node.1 }
 
   -- ---- where rows go
 

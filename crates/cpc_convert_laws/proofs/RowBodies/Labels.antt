@@ -1,5 +1,5 @@
 -- No two rows of a piece have one label, and each goto leads to the label of a row.
-use Rattle.std.proofs.Common.{◌≡◌, ◌⊎◌, inl, inr, ⊎_elim, ℕ, ◌+◌, ◌<◌, ◌^◌, Bool, true, false, ◌==◌, List, [], ◌∷◌, ◌++◌, map, length, refl, sym, ◌∙◌, ap, subst, arith}
+use Rattle.std.proofs.Common.{◌≡◌, ◌⊎◌, inl, inr, ⊎_elim, ℕ, ◌+◌, ◌<◌, ◌^◌, Bool, true, false, ◌==◌, List, [], ◌∷◌, ◌++◌, map, length, refl, sym, ◌∙◌, ap, subst, arith, append_assoc}
 use Rattle.cpc_base.specs.Bytes.{Text}
 use Rattle.cpc_base.proofs.Truth.{eq_reflexive, or_neither}
 use Rattle.cpc_tree.specs.Lists.{holds_number}
@@ -11,22 +11,19 @@ use Rattle.cpc_forms.specs.Pieces as P
 use Rattle.cpc_forms.proofs.Owners.{owners_long}
 use Rattle.cpc_convert_event.specs.Names.{node_label}
 use Rattle.cpc_convert_event.specs.Routines.{Routine, routine_of}
-use Rattle.cpc_convert_event.specs.Rows.{is_own, row_of, PutRow, numbers_of, first_number, put_rows, put_statement, is_wanted, label_if, row_statements, rows_statements, piece_statements}
+use Rattle.cpc_convert_event.specs.Rows.{is_own, row_of, PutRow, numbers_of, first_number, put_statement, is_wanted, label_if, row_statements, rows_statements, piece_statements}
 use Rattle.cpc_convert_event.proofs.Lines.{is_bare, AreBare, lines_done, puts_done}
 use Rattle.cpc_convert_event.proofs.Labels.{leaders_rise, rows_stand_once, numbers, labels_apart}
 use Rattle.cpc_convert_event.proofs.Numbers.{AllBelow, NoneBelow, OneBelow, Rises, rises_below}
 use Rattle.cpc_convert_laws.proofs.Accepted.Below.{below_numbers}
+use Rattle.cpc_convert_laws.proofs.Piece.Rows.{rows, rows_numbers}
 use Rattle.cpc_convert_laws.specs.RowBodies.Laws.{LabelsStandOnce}
 
 -- ---- labels of statements
 
 pub labels_append : (xs ys : List Stmt) → labels_of (xs ++ ys) ≡ labels_of xs ++ labels_of ys
 labels_append [] ys = refl
-labels_append (x ∷ xs) ys = ap (λ ls. line_labels x ++ ls) (labels_append xs ys) ∙ sym (assoc (line_labels x) (labels_of xs) (labels_of ys))
-  where
-    assoc : (us vs ws : List Text) → (us ++ vs) ++ ws ≡ us ++ (vs ++ ws)
-    assoc [] vs ws = refl
-    assoc (u ∷ us) vs ws = ap (λ xs. u ∷ xs) (assoc us vs ws)
+labels_append (x ∷ xs) ys = ap (λ ls. line_labels x ++ ls) (labels_append xs ys) ∙ sym (append_assoc (line_labels x) (labels_of xs) (labels_of ys))
 
 bare_has : (s : Stmt) → is_bare s ≡ true → line_labels s ≡ []
 bare_has (Label m s) e = absurd (cc)
@@ -83,20 +80,13 @@ module _ (p : Program) (f : Function) (l : Place) (few : length (graph_of p f).n
       let e = owners_long (flow_of (graph_of p f)) 0 size in
       below_numbers p r l size (omega (arith, e)) (rises_below size 0 r.split.leaders (subst (λ k. Rises k 0 r.split.leaders) (let z : 0 + size ≡ size = omega arith in z) (leaders_rise (flow_of (graph_of p f)) 0 size)))
 
-  abbrev rows : List ℕ → List PutRow
-  rows ns = put_rows (map (row_of p r l) ns)
-
-  rows_numbers : (ns : List ℕ) → numbers (rows ns) ≡ ns
-  rows_numbers [] = refl
-  rows_numbers (n ∷ ns) = ap (λ ms. n ∷ ms) (rows_numbers ns)
-
-  plainly : (ns : List ℕ) → AllBelow size ns → Plainly (rows ns)
+  plainly : (ns : List ℕ) → AllBelow size ns → Plainly (rows p r l ns)
   plainly _ NoneBelow = tt
   plainly _ (OneBelow n ns less more) =
       (puts_done (first_number (map (row_of p r l) ns)) (row_of p r l n).lines (lines_done (is_own r.split l n) p r n), ((let z : n < 2 ^ 63 = omega (arith, less, few) in z), plainly ns more))
 
   stand_once : Distinct (labels_of (piece_statements p r l))
-  stand_once = distinct (rows (numbers_of p r l)) (rows (numbers_of p r l)) (subst P.Once (sym (rows_numbers (numbers_of p r l))) (rows_stand_once p f l).once) (plainly (numbers_of p r l) numbers_below)
+  stand_once = distinct (rows p r l (numbers_of p r l)) (rows p r l (numbers_of p r l)) (subst P.Once (sym (rows_numbers p r l (numbers_of p r l))) (rows_stand_once p f l).once) (plainly (numbers_of p r l) numbers_below)
 
 pub labels_stand_once : LabelsStandOnce
 labels_stand_once p f l few = stand_once p f l few

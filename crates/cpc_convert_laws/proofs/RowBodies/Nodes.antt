@@ -1,16 +1,16 @@
 -- How the names in scope at a point of a cps function are read in the piece of an owner: as in the piece where the owner keeps the variable. Of the
 -- others nothing is asked; they are read as the frame, so that each name in scope has a reading.
-use Rattle.std.proofs.Common.{◌≡◌, ℕ, Bool, true, false, not, ◌||◌, cond, if◌then◌else◌, List, [], ◌∷◌, ◌++◌, reverse, slice_get, bytes_eq, Option, Some, None, refl, sym, ◌∙◌, ap, subst}
+use Rattle.std.proofs.Common.{◌≡◌, ℕ, Bool, true, false, ◌||◌, cond, if◌then◌else◌, List, [], ◌∷◌, ◌++◌, reverse, slice_get, bytes_eq, Option, Some, None, refl, sym, ◌∙◌, ap, subst}
 use Rattle.cpc_base.specs.Bytes.{Text}
 use Rattle.cpc_base.specs.declared.stop.Dialect.TheVariants as D
-use Rattle.cpc_base.proofs.Truth.{eq_reflexive}
+use Rattle.cpc_base.proofs.Truth.{eq_reflexive, true_not_false, not_fails}
 use Rattle.cpc_tree.specs.declared.program.Mode.{Mode}
 use Rattle.cpc_tree.specs.declared.program.Mode.TheVariants.{Extern, Native, Cps, Detached}
 use Rattle.cpc_tree.specs.ItemGrammar.{all_named}
 use Rattle.cpc_tree.specs.Lists.{holds_number}
 use Rattle.cpc_tree.specs.Points.{Path, found}
 use Rattle.cpc_tree.specs.Registers.{variables, slot_of, scope_in_function}
-use Rattle.cpc_tree.specs.Syntax.{Ty, TyPointer, TyStruct, Stmts, Block, Variable, Parameter, Function, Item, StructItem, GlobalItem, PrototypeItem, FunctionItem, Program}
+use Rattle.cpc_tree.specs.Syntax.{Ty, TyPointer, TyStruct, Stmts, Block, Variable, Parameter, Function, Item, FunctionItem, Program}
 use Rattle.cpc_tree.specs.Typing as T
 use Rattle.cpc_tree.specs.Typing.{Meant, ALocal, NotMeant, named, field}
 use Rattle.cpc_check_rules.specs.Scopes as S
@@ -19,7 +19,6 @@ use Rattle.cpc_check_rules.specs.Operators.{Where, is_detached}
 use Rattle.cpc_check_rules.specs.FunctionRules.{is_kept}
 use Rattle.cpc_check_laws.proofs.Native.NativeValues.{cpc}
 use Rattle.cpc_meaning.specs.Threads.{is_cps_mode}
-use Rattle.cpc_meaning.proofs.Functions.{same_text}
 use Rattle.cpc_convert_laws.specs.Complete.Kept.{KeptName, KeptNothing, KeepsItems}
 use Rattle.cpc_convert_laws.specs.Complete.Reads.{Reads, ReadsLocal, ReadsField, Carries}
 use Rattle.cpc_convert_laws.specs.Complete.Standing.{local_named, local_or, Tells, Standing}
@@ -45,7 +44,7 @@ use Rattle.cpc_convert_laws.proofs.Accepted.Used.{primitive_unmarked}
 use Rattle.cpc_convert_laws.specs.Piece.Known.{CpsKnown}
 use Rattle.cpc_convert_laws.proofs.Piece.Scopes as scopes
 use Rattle.cpc_convert_laws.specs.Rules.Laws.{Knows}
-use Rattle.cpc_convert_laws.proofs.Rules.Items.{Declares}
+use Rattle.cpc_convert_laws.proofs.Rules.Parts.{declares_plain}
 use Rattle.cpc_convert_laws.proofs.Rules.KeptRows.{Source}
 use Rattle.cpc_convert_laws.proofs.Rules.Meant.{nothing_meant}
 use Rattle.cpc_convert_laws.proofs.RowBodies.Inside.{blocks, inside, local, plain}
@@ -194,30 +193,15 @@ module _ (p : Program) (source : Source p) (f : Function) (known : CpsKnown p f)
   pub standing : (path : Path) → Standing source_at (scope_in_function f path) (found f.body path)
   standing path = point_standing D.Cpc row.front f row.row formed.statements formed.is_block formed.named (source.steps f known.found.cps.has) path
 
-  marked_nothing : (x : Text) → has_marks x ≡ true → in_items (reverse before) x ≡ NotMeant
-  marked_nothing x e = nothing_meant x before (λ i h d. go i (subst (Has i) (sym is_part) (has_left i before row.rest h)) d)
-    where
-      unmarked : (y : Text) → has_marks y ≡ false → bytes_eq y x ≡ true → ⊥
-      unmarked y u d = let z : true ≡ false = sym e ∙ sym (ap has_marks (same_text y x d)) ∙ u in absurd (cc)
+  in_p : (i : Item) → Has i before → Has i p
+  in_p i h = subst (Has i) (sym is_part) (has_left i before row.rest h)
 
-      go : (i : Item) → Has i p → Declares x i → ⊥
-      go (StructItem tag fs) h d = d
-      go (GlobalItem g t s) h d = unmarked g (source.names.items (GlobalItem g t s) h).unmarked d
-      go (PrototypeItem m g u ps) h d = unmarked g (source.names.items (PrototypeItem m g u ps) h).unmarked d
-      go (FunctionItem g) h d = unmarked g.called (source.names.items (FunctionItem g) h).unmarked d
+  marked_nothing : (x : Text) → has_marks x ≡ true → in_items (reverse before) x ≡ NotMeant
+  marked_nothing x e = nothing_meant x before (λ i h d. true_not_false (sym e ∙ (declares_plain p source.names source.named x i (in_p i h) d).0))
 
   -- a name that the language keeps is that of no item
   pub kept_nothing : (x : Text) → is_kept x ≡ true → in_items (reverse before) x ≡ NotMeant
-  kept_nothing x e = nothing_meant x before (λ i h d. go i (subst (Has i) (sym is_part) (has_left i before row.rest h)) d)
-    where
-      unkept : (y : Text) → is_kept y ≡ false → bytes_eq y x ≡ true → ⊥
-      unkept y u d = let z : true ≡ false = sym e ∙ sym (ap is_kept (same_text y x d)) ∙ u in absurd (cc)
-
-      go : (i : Item) → Has i p → Declares x i → ⊥
-      go (StructItem tag fs) h d = d
-      go (GlobalItem g t s) h d = unkept g (source.names.items (GlobalItem g t s) h).unkept d
-      go (PrototypeItem m g u ps) h d = unkept g (source.names.items (PrototypeItem m g u ps) h).unkept d
-      go (FunctionItem g) h d = unkept g.called (source.names.items (FunctionItem g) h).unkept d
+  kept_nothing x e = nothing_meant x before (λ i h d. true_not_false (sym e ∙ (declares_plain p source.names source.named x i (in_p i h) d).1))
 
   pub kept_item : (x : Text) → KeptName x (in_items (reverse before) x) (meant (inside p f known l owner all k).scope x)
   kept_item x = go (has_marks x) refl
@@ -250,14 +234,10 @@ module _ (p : Program) (source : Source p) (f : Function) (known : CpsKnown p f)
         at : meant (inside p f known l owner all k).scope (variable_name j x) ≡ ALocal 0 (local_type (is_plain r j) t (box_tag f.called j))
         at = subst (λ o. meant (inside p f known l owner all k).scope (stood_variable r j (variable_or o)).called ≡ ALocal 0 (stood_variable r j (variable_or o)).type) e (local p f known l owner all k (local_of r j) ((scopes.meant p f known l owner).kept j h))
 
-        boxed : (b : Bool) → not b ≡ false → b ≡ true
-        boxed true i = refl
-        boxed false i = absurd (cc)
-
         its_field : is_plain r j ≡ false → field all (box_tag f.called j) x ≡ Some (0, t)
         its_field i =
             subst (λ (w : Variable). field all (box_tag f.called j) w.called ≡ Some (0, w.type)) (ap variable_or e)
-            (box_field p f known all k (box_tag f.called j) (variable_of r j) ((structs_there p known.names).box f known.found.cps j (held_has r.boxes j (boxed (holds_number r.boxes j) i))))
+            (box_field p f known all k (box_tag f.called j) (variable_of r j) ((structs_there p known.names).box f known.found.cps j (held_has r.boxes j (not_fails (holds_number r.boxes j) i))))
 
         go : (b : Bool) → is_plain r j ≡ b → meant (inside p f known l owner all k).scope (variable_name j x) ≡ ALocal 0 (local_type b t (box_tag f.called j))
             → Reads (inside p f known l owner all k).scope x (Some (reading_of b (variable_name j x) x)) (ALocal 0 t)

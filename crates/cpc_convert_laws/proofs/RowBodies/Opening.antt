@@ -40,7 +40,7 @@ use Rattle.cpc_convert_event.specs.Routines.{Routine, routine_of, closure_of, is
 use Rattle.cpc_convert_event.specs.StructLaws.{IsBox}
 use Rattle.cpc_convert_event.proofs.BoxesThere.{structs_there}
 use Rattle.cpc_convert_event.proofs.Fields.{frame_fields, passed_rise, kept_rises, plain_scalar}
-use Rattle.cpc_convert_event.proofs.Locals.{locals_meant, in_locals}
+use Rattle.cpc_convert_event.proofs.Locals.{locals_meant, in_locals, below_scalar}
 use Rattle.cpc_convert_event.proofs.Numbers.{chosen_is}
 use Rattle.cpc_convert_event.proofs.StructsThere.{arriving_scalar}
 use Rattle.cpc_convert_event.proofs.Boxing.{held_has}
@@ -183,17 +183,13 @@ module _ (p : Program) (f : Function) (known : CpsKnown p f) (all : Program) (k 
   kept Start = passed f
   kept (At n) = locals_of r (closure_of r (At n))
 
-  pub arriving_fine : (l : Place) → is_scalar (arriving_type p r l) ≡ true
-  arriving_fine Start = refl
-  arriving_fine (At n) = arriving_scalar p r n
-
   -- the struct of the frames of an owner
   pub struct : (l : Place) → IsOwner r l → IsStruct all (piece_name f.called l) (head_fields (arriving_type p r l) (kept l))
   struct _ TheStart =
       struct_there p all k (piece_name f.called Start) (head_fields (TyInt Int) (passed f)) (frame_fields (TyInt Int) 0 (passed f) refl (passed_rise p known.names f known.found.cps)) ((structs_there p known.names).start f known.found.cps)
   struct _ (ALeader n has) =
       struct_there p all k (piece_name f.called (At n)) (head_fields (arriving_type p r (At n)) (locals_of r (closure_of r (At n))))
-      (frame_fields (arriving_type p r (At n)) 0 (locals_of r (closure_of r (At n))) (arriving_scalar p r n) (kept_rises p known.names f known.found.cps (At n))) ((structs_there p known.names).leader f known.found.cps n has)
+      (frame_fields (arriving_type p r (At n)) 0 (locals_of r (closure_of r (At n))) (arriving_scalar p r (At n)) (kept_rises p known.names f known.found.cps (At n))) ((structs_there p known.names).leader f known.found.cps n has)
 
   -- ---- what is loaded
 
@@ -273,21 +269,17 @@ module _ (p : Program) (f : Function) (known : CpsKnown p f) (all : Program) (k 
         go (AndDistinct _ _ _ (AndDistinct _ _ n d)) = none_left frame_name (map loaded (loads_of p r l)) (declares_of p r l) n
 
     next_fine : LoadFine all (piece_name f.called l) (next_load f)
-    next_fine = record { index = 1; type = any_pointer; there = (struct l owner).field 1 (called_so next_field any_pointer) refl; scalar = refl; takes = takes (is_scalar f.result); own = own (is_scalar f.result) }
+    next_fine = record { index = 1; type = any_pointer; there = (struct l owner).field 1 (called_so next_field any_pointer) refl; scalar = refl; takes = takes (is_scalar f.result); own = below_scalar f.called (is_scalar f.result) }
       where
         takes : (b : Bool) → S.takes_value (below_if b f.called) false any_pointer ≡ true
         takes true = refl
         takes false = refl
 
-        own : (b : Bool) → is_scalar (below_if b f.called) ≡ true
-        own true = refl
-        own false = refl
-
     value_fine : AllLoad all (piece_name f.called l) (value_load p r l)
     value_fine = go (takes_value r l)
       where
         one : LoadFine all (piece_name f.called l) (record { variable = value_name; type = arriving_type p r l; field = value_field })
-        one = record { index = 2; type = arriving_type p r l; there = (struct l owner).field 2 (called_so value_field (arriving_type p r l)) refl; scalar = arriving_fine l; takes = takes_itself (arriving_type p r l) (arriving_fine l); own = arriving_fine l }
+        one = record { index = 2; type = arriving_type p r l; there = (struct l owner).field 2 (called_so value_field (arriving_type p r l)) refl; scalar = arriving_scalar p r l; takes = takes_itself (arriving_type p r l) (arriving_scalar p r l); own = arriving_scalar p r l }
 
         go : (b : Bool) → AllLoad all (piece_name f.called l) (cond b (record { variable = value_name; type = arriving_type p r l; field = value_field } ∷ []) [])
         go true = (one, tt)

@@ -46,9 +46,9 @@ use Rattle.cpc_convert_laws.proofs.Call.Framed.{framed_calls_arrive}
 use Rattle.cpc_convert_laws.specs.Rules.Laws.{Knows}
 use Rattle.cpc_convert_laws.proofs.Rules.KeptRows.{Source}
 use Rattle.cpc_convert_laws.proofs.Shape.Calls.{CpsTyped}
+use Rattle.cpc_convert_event.proofs.Framed.{held}
 use Rattle.cpc_convert_laws.proofs.Shape.Numbers.{own_row, owned_below, from_is}
 use Rattle.cpc_convert_laws.proofs.Shape.Rows.{own_point}
-use Rattle.cpc_convert_laws.proofs.Shape.Shape.{has_held}
 use Rattle.cpc_convert_laws.proofs.RowBodies.Framing.{stub_run}
 use Rattle.cpc_convert_laws.proofs.RowBodies.Gotos.{node_at}
 use Rattle.cpc_convert_laws.proofs.RowBodies.Nodes.{IsFormed}
@@ -157,7 +157,7 @@ module _ (p : Program) (f : Function) (known : CpsKnown p f) (l : Place) (owner 
             ap (λ c. holds_number (closure_of r c) j) (sym e) ∙ (ap (λ c. holds_number (closure r.ways r.uses (length (variables f)) (owner_number c)) j) keeper_is ∙ h)
     first_keeps _ (ALeader m has) e i =
         let same = eq_means m n i in
-        let leads : is_leader flow m ≡ true = sym (leaders_are_listed flow (flow_inside p f) m) ∙ has_held r.split.leaders m has in
+        let leads : is_leader flow m ≡ true = sym (leaders_are_listed flow (flow_inside p f) m) ∙ held m r.split.leaders has in
         let own : owner_of flow m ≡ Some l = ap (λ b. owner_step flow (owner_within flow flow.size) b (At m)) leads ∙ ap (λ c. Some c) e in
         by_true_false (is_own r.split l n) (own_true n (subst (λ c. owner_of flow c ≡ Some l) same own)) other
 

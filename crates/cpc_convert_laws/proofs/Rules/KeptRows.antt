@@ -1,7 +1,7 @@
 -- Items that stay of a program that breaks no rule of the dialect Cpc break none of the dialect Event.
 use Rattle.std.proofs.Common.{◌≡◌, inl, ℕ, suc, Bool, true, false, List, [], ◌∷◌, ◌++◌, map, reverse, length, bytes_eq, refl, sym, ◌∙◌, ap, subst}
 use Rattle.cpc_base.specs.Bytes.{Text}
-use Rattle.cpc_base.proofs.Truth.{false_unless_true, and_both}
+use Rattle.cpc_base.proofs.Truth.{false_unless_true, and_both, true_not_false}
 use Rattle.cpc_base.specs.declared.stop.Dialect.TheVariants as D
 use Rattle.cpc_tree.specs.declared.program.Mode.{Mode}
 use Rattle.cpc_tree.specs.declared.program.Mode.TheVariants.{Extern, Native, Cps, Detached}
@@ -12,7 +12,7 @@ use Rattle.cpc_tree.specs.Points.{locals}
 use Rattle.cpc_check_rules.specs.Scopes.{in_items}
 use Rattle.cpc_check_rules.specs.ItemRules.{Signature, is_function}
 use Rattle.cpc_meaning.specs.Threads.{is_cps_mode}
-use Rattle.cpc_meaning.proofs.Functions.{same_text, text_same}
+use Rattle.cpc_meaning.proofs.Functions.{text_same}
 use Rattle.cpc_check_laws.specs.Sound.Typed.{is_own}
 use Rattle.cpc_check_laws.proofs.Sound.Agreement.{Grows}
 use Rattle.cpc_check_laws.proofs.Sound.Items.{named_more, is_defined, function_there}
@@ -35,7 +35,7 @@ use Rattle.cpc_convert_laws.specs.Accepted.Names.{HasNames}
 use Rattle.cpc_convert_laws.proofs.Rules.Items.{Declares, Beside}
 use Rattle.cpc_convert_laws.proofs.Rules.Kept.{KeptItem, KeepStruct, KeepGlobal, KeepPrototype, KeepFunction, stays_meant}
 use Rattle.cpc_convert_laws.proofs.Rules.Meant.{nothing_meant}
-use Rattle.cpc_convert_laws.proofs.Rules.Parts.{Parts, both_parts, kept_parts, kept_nothing, made_meant}
+use Rattle.cpc_convert_laws.proofs.Rules.Parts.{Parts, both_parts, kept_parts, kept_nothing, made_meant, declares_plain}
 use Rattle.cpc_convert_laws.proofs.Rules.Rows.{rows}
 use Rattle.cpc_convert_laws.proofs.Rules.Source.{known_at, known_whole}
 use Rattle.cpc_convert_laws.proofs.Rules.Types.{grows_of, beyond_none, beyond_kept}
@@ -121,16 +121,7 @@ module _ (p front : Program) (source : Source p) (ahead : Front p front) where
   in_p xs part x h = subst (Has x) (sym part.1) (has_left x xs part.0 h)
 
   pub marked_nothing : (xs : Program) → PartOf xs → (x : Text) → has_marks x ≡ true → in_items (reverse xs) x ≡ NotMeant
-  marked_nothing xs part x e = nothing_meant x xs (λ i h d. go i (in_p xs part i h) d)
-    where
-      no : (y : Text) → has_marks y ≡ false → bytes_eq y x ≡ true → ⊥
-      no y u d = let z : true ≡ false = sym e ∙ sym (ap has_marks (same_text y x d)) ∙ u in absurd (cc)
-
-      go : (i : Item) → Has i p → Declares x i → ⊥
-      go (StructItem tag fs) h d = d
-      go (GlobalItem g t s) h d = no g (source.names.items (GlobalItem g t s) h).unmarked d
-      go (PrototypeItem m f r ps) h d = no f (source.names.items (PrototypeItem m f r ps) h).unmarked d
-      go (FunctionItem f) h d = no f.called (source.names.items (FunctionItem f) h).unmarked d
+  marked_nothing xs part x e = nothing_meant x xs (λ i h d. true_not_false (sym e ∙ (declares_plain p source.names source.named x i (in_p xs part i h) d).0))
 
   abbrev pub after : Program → Program
   after xs = front ++ kept_items xs

@@ -7,7 +7,6 @@ use Rattle.cpc_tree.specs.Lists.{holds_number}
 use Rattle.cpc_tree.specs.Syntax.{Function, StructItem, GlobalItem, PrototypeItem, FunctionItem, Program}
 use Rattle.cpc_meaning.specs.Threads.{is_cps_mode}
 use Rattle.cpc_meaning.proofs.Functions.{text_same}
-use Rattle.cpc_convert.specs.Marks.{has_marks}
 use Rattle.cpc_convert.specs.Converted.{marked, spawner_name}
 use Rattle.cpc_convert.specs.Members.{Has, OnTop, Below}
 use Rattle.cpc_convert.proofs.Members.{has_right}
@@ -19,12 +18,12 @@ use Rattle.cpc_convert_event.specs.Names.{piece_name}
 use Rattle.cpc_convert_event.specs.Routines.{Routine, routine_of}
 use Rattle.cpc_convert_event.specs.Pieces.{piece_function, leader_function, spawner_function, made_of}
 use Rattle.cpc_convert_event.specs.Converted.{routine_if, routines_in, routines, all_made}
-use Rattle.cpc_convert_event.specs.NameLaws.{IsNamed, IsCps}
-use Rattle.cpc_convert_event.proofs.Apart.{behind, piece_is, spawner_is, no_underscore_behind, piece_spawn, Small, StartIsSmall, NumberIsSmall, behind_is}
+use Rattle.cpc_convert_event.specs.NameLaws.{IsNamed, IsCps, ALeader}
+use Rattle.cpc_convert_event.proofs.Apart.{behind, piece_is, spawner_is, no_underscore_behind, piece_spawn, StartIsSmall}
 use Rattle.cpc_convert_event.proofs.Labels.{leaders_rise}
-use Rattle.cpc_convert_event.proofs.Made.{Made, MadeSpawner, MadePiece, Mapped, OfNumber, map_has, made_is}
+use Rattle.cpc_convert_event.proofs.Made.{Made, MadeSpawner, MadePiece, Mapped, OfNumber, map_has, made_is, unmarked, small}
 use Rattle.cpc_convert_event.proofs.Numbers.{rises_once}
-use Rattle.cpc_convert_event.proofs.Framed.{held}
+use Rattle.cpc_convert_event.proofs.Framed.{held, pieces_same}
 use Rattle.cpc_convert_laws.proofs.Rules.Items.{Beside, beside_each}
 use Rattle.cpc_convert_laws.proofs.Rules.Rows.{rows, Once, NoneOnce, AndOnce, once_both, has_at}
 use Rattle.cpc_convert_laws.proofs.Rules.Source.{signature, defined_once}
@@ -86,18 +85,12 @@ abbrev pub called : Function → Text
 called f = f.called
 
 module _ (p : Program) (ok : IsNamed p) (fine : rows D.Cpc p [] p ≡ []) where
-  plain : (f : Function) → Has (FunctionItem f) p → has_marks f.called ≡ false
-  plain f h = ok.unmarked (FunctionItem f) h
-
-  small : (f : Function) → IsCps p f → (n : ℕ) → Has n (routine_of p f).split.leaders → Small (At n)
-  small f c n h = NumberIsSmall n (ok.small f c n h)
-
   -- names of two functions are apart
   pub apart_of : (front : Program) (f : Function) (back : Program) → p ≡ front ++ FunctionItem f ∷ back → (x y rest : Text) → x ≡ marked f.called rest → NoUnderscore rest → MadeOf back y → x ≡ y → ⊥
   apart_of front f back e x y rest i n m k =
       let in_p : Has (FunctionItem m.function) p = subst (Has (FunctionItem m.function)) (sym e) (has_right _ front (FunctionItem f ∷ back) (Below _ _ _ m.has)) in
       let f_in : Has (FunctionItem f) p = subst (Has (FunctionItem f)) (sym e) (has_at front back (FunctionItem f)) in
-      functions_apart p fine front f back e m.function m.has (marked_is f.called m.function.called rest m.rest (plain f f_in) (plain m.function in_p) n m.underscore (sym i ∙ k ∙ m.is)).0
+      functions_apart p fine front f back e m.function m.has (marked_is f.called m.function.called rest m.rest (unmarked ok f f_in) (unmarked ok m.function in_p) n m.underscore (sym i ∙ k ∙ m.is)).0
 
   -- what is made of one function
   module _ (f : Function) (c : IsCps p f) where
@@ -105,20 +98,14 @@ module _ (p : Program) (ok : IsNamed p) (fine : rows D.Cpc p [] p ≡ []) where
     r = routine_of p f
 
     pub leaders_told : (m n : ℕ) → Has m r.split.leaders → Has n r.split.leaders → piece_name f.called (At m) ≡ piece_name f.called (At n) → m ≡ n
-    leaders_told m n h g k =
-        let i = marked_is f.called f.called (behind (At m)) (behind (At n)) (plain f c.has) (plain f c.has) (no_underscore_behind (At m)) (no_underscore_behind (At n)) (sym (piece_is f.called (At m)) ∙ k ∙ piece_is f.called (At n)) in
-        let e = behind_is (At m) (At n) (small f c m h) (small f c n g) i.1 in
-        (cc)
+    leaders_told m n h g k = let e = (pieces_same p ok f f (At m) (At n) c.has c.has (small ok f c (At m) (ALeader m h)) (small ok f c (At n) (ALeader n g)) k).1 in (cc)
 
     pub start_told : (n : ℕ) → Has n r.split.leaders → piece_name f.called Start ≡ piece_name f.called (At n) → ⊥
-    start_told n h k =
-        let i = marked_is f.called f.called (behind Start) (behind (At n)) (plain f c.has) (plain f c.has) (no_underscore_behind Start) (no_underscore_behind (At n)) (sym (piece_is f.called Start) ∙ k ∙ piece_is f.called (At n)) in
-        let e = behind_is Start (At n) StartIsSmall (small f c n h) i.1 in
-        absurd (cc)
+    start_told n h k = let e = (pieces_same p ok f f Start (At n) c.has c.has StartIsSmall (small ok f c (At n) (ALeader n h)) k).1 in absurd (cc)
 
     spawner_told : (l : Place) → spawner_name f.called ≡ piece_name f.called l → ⊥
     spawner_told l k =
-        piece_spawn l (sym (marked_is f.called f.called (codes "spawn") (behind l) (plain f c.has) (plain f c.has) no_bar_spawn (no_underscore_behind l) (sym (spawner_is f.called) ∙ k ∙ piece_is f.called l)).1)
+        piece_spawn l (sym (marked_is f.called f.called (codes "spawn") (behind l) (unmarked ok f c.has) (unmarked ok f c.has) no_bar_spawn (no_underscore_behind l) (sym (spawner_is f.called) ∙ k ∙ piece_is f.called l)).1)
 
     no_leader : (x : Text) → ((n : ℕ) → Has n r.split.leaders → x ≡ piece_name f.called (At n) → ⊥) → (y : Function) → Mapped (leader_function p r) r.split.leaders y → x ≡ y.called → ⊥
     no_leader x h _ (OfNumber n k) e = h n k e

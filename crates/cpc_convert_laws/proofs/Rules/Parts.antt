@@ -189,11 +189,18 @@ module _ (p : Program) (names : HasNames p) (ok : IsNamed p) where
   not_both : (x y : Text) → bytes_eq x y ≡ true → (b : Text → Bool) → b x ≡ true → b y ≡ false → ⊥
   not_both x y e b i j = let z : true ≡ false = sym i ∙ ap b (same_text x y e) ∙ j in absurd (cc)
 
+  -- an item declares no name that is marked, and none that is kept
+  pub declares_plain : (z : Text) (x : Item) → Has x p → Declares z x → (has_marks z ≡ false) × (is_kept z ≡ false)
+  declares_plain z (StructItem tag fs) h d = absurd d
+  declares_plain z (GlobalItem x t s) h d = let i = names.items (GlobalItem x t s) h in (sym (ap has_marks (same_text x z d)) ∙ i.unmarked, sym (ap is_kept (same_text x z d)) ∙ i.unkept)
+  declares_plain z (PrototypeItem m f r ps) h d = let i = names.items (PrototypeItem m f r ps) h in (sym (ap has_marks (same_text f z d)) ∙ i.unmarked, sym (ap is_kept (same_text f z d)) ∙ i.unkept)
+  declares_plain z (FunctionItem f) h d = let i = names.items (FunctionItem f) h in (sym (ap has_marks (same_text f.called z d)) ∙ i.unmarked, sym (ap is_kept (same_text f.called z d)) ∙ i.unkept)
+
   pub kept_name : (x y : Item) (z : Text) → Has x p → KeptItem x y → Declares z y → (has_marks z ≡ false) × (is_kept z ≡ false)
   kept_name _ _ z h (KeepStruct tag fs) d = absurd d
-  kept_name _ _ z h (KeepGlobal x t s) d = let i = names.items (GlobalItem x t s) h in (sym (ap has_marks (same_text x z d)) ∙ i.unmarked, sym (ap is_kept (same_text x z d)) ∙ i.unkept)
-  kept_name _ _ z h (KeepPrototype m f r ps e) d = let i = names.items (PrototypeItem m f r ps) h in (sym (ap has_marks (same_text f z d)) ∙ i.unmarked, sym (ap is_kept (same_text f z d)) ∙ i.unkept)
-  kept_name _ _ z h (KeepFunction f e) d = let i = names.items (FunctionItem f) h in (sym (ap has_marks (same_text f.called z d)) ∙ i.unmarked, sym (ap is_kept (same_text f.called z d)) ∙ i.unkept)
+  kept_name _ _ z h (KeepGlobal x t s) d = declares_plain z (GlobalItem x t s) h d
+  kept_name _ _ z h (KeepPrototype m f r ps e) d = declares_plain z (PrototypeItem m f r ps) h d
+  kept_name _ _ z h (KeepFunction f e) d = declares_plain z (FunctionItem f) h d
 
   -- no part declares a name that is kept
   pub none_kept : (z : Text) → is_kept z ≡ true → (i : Item) → Part p i → Declares z i → ⊥

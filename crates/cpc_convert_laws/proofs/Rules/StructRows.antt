@@ -118,7 +118,7 @@ module _ (p : Program) (source : Source p) where
     leader_fine : (x : Item) → Mapped (leader_struct p (routine_of p f)) (routine_of p f).split.leaders x → FrameFine x
     leader_fine _ (OfNumber n h) =
         let l = kept_length f cps (At n) in
-        IsFine _ _ (frame_fields (arriving_type p (routine_of p f) (At n)) 0 _ (arriving_scalar p (routine_of p f) n) (kept_rises p source.named f cps (At n))) (omega (arith, l))
+        IsFine _ _ (frame_fields (arriving_type p (routine_of p f) (At n)) 0 _ (arriving_scalar p (routine_of p f) (At n)) (kept_rises p source.named f cps (At n))) (omega (arith, l))
         (ap is_kept (piece_is f.called (At n)) ∙ made_unkept f.called (behind (At n)) (free f cps))
 
     piece_fine : (x : Item) → Has x (start_struct f ∷ map (leader_struct p (routine_of p f)) (routine_of p f).split.leaders) → FrameFine x

@@ -1,21 +1,18 @@
 -- The tags of the structs that are made: of frames and of boxes, each once.
-use Rattle.std.proofs.Common.{◌≡◌, ⊎_elim, ℕ, ◌+◌, ◌<◌, ◌^◌, Bool, true, false, [], ◌∷◌, ◌++◌, map, get_or, decimal, refl, sym, ◌∙◌, ap, subst, append_assoc, codes, arith}
+use Rattle.std.proofs.Common.{◌≡◌, ⊎_elim, ℕ, ◌+◌, Bool, true, false, [], ◌∷◌, ◌++◌, map, get_or, decimal, refl, sym, ◌∙◌, ap, subst, append_assoc, codes, arith}
 use Rattle.cpc_base.specs.Bytes.{Text}
 use Rattle.cpc_base.specs.declared.stop.Dialect.TheVariants as D
 use Rattle.cpc_tree.specs.Syntax.{Ty, Function, Item, StructItem, GlobalItem, PrototypeItem, FunctionItem, Program}
 use Rattle.cpc_tree.specs.Typing.{is_scalar}
 use Rattle.cpc_meaning.specs.Threads.{is_cps_mode}
-use Rattle.cpc_convert.specs.Marks.{has_marks}
 use Rattle.cpc_convert.specs.Converted.{marked}
 use Rattle.cpc_convert.specs.Members.{Has, OnTop, Below}
 use Rattle.cpc_convert.proofs.Members.{has_either}
-use Rattle.cpc_convert.proofs.Marks.{NoUnderscore, marked_is, decimal_is, no_bar_of}
+use Rattle.cpc_convert.proofs.Marks.{NoUnderscore, marked_is, no_bar_of}
 use Rattle.cpc_forms.specs.Flow.{Place, Start, At}
 use Rattle.cpc_forms.specs.Pieces as P
 use Rattle.cpc_lift_laws.specs.Boxes.{is_box}
 use Rattle.cpc_lift_laws.specs.Lift.{boxes, variable_count}
-use Rattle.cpc_lift_laws.proofs.Lift.{boxes_exact}
-use Rattle.cpc_lift_laws.proofs.Boxes.{boxes_are_below}
 use Rattle.cpc_convert_chain_laws.specs.Driver.{frame_tag}
 use Rattle.cpc_convert_event.specs.Names.{piece_name, value_tag, box_tag}
 use Rattle.cpc_convert_event.specs.Routines.{routine_of}
@@ -23,8 +20,8 @@ use Rattle.cpc_convert_event.specs.Frames.{any_frame, value_struct_if, start_str
 use Rattle.cpc_convert_event.specs.Converted.{routine_if, routines_in, routines, all_structs, all_boxes}
 use Rattle.cpc_convert_event.specs.NameLaws.{IsNamed, IsCps}
 use Rattle.cpc_convert_event.proofs.Apart.{behind, piece_is, value_is, box_is, frame_is, differ_at, no_underscore_behind, no_bar_nothing}
-use Rattle.cpc_convert_event.proofs.Framed.{tag_of, held, no_bar_box, value_piece}
-use Rattle.cpc_convert_event.proofs.Made.{Mapped, OfNumber, map_has}
+use Rattle.cpc_convert_event.proofs.Framed.{tag_of, no_bar_box, value_piece, box_small, boxes_same}
+use Rattle.cpc_convert_event.proofs.Made.{Mapped, OfNumber, map_has, unmarked}
 use Rattle.cpc_convert_event.proofs.Numbers.{rises_once}
 use Rattle.cpc_convert_event.proofs.Locals.{boxes_rise}
 use Rattle.cpc_convert_laws.proofs.Rules.Made.{once_map, leaders_once, MadeOf, apart_of, leaders_told, start_told}
@@ -117,16 +114,18 @@ module _ (p : Program) where
 pub boxes_once : (p : Program) (f : Function) → P.Once (routine_of p f).boxes
 boxes_once p f = rises_once (0 + variable_count p f.called) 0 (boxes p f.called) (boxes_rise p f.called 0 (variable_count p f.called))
 
-module _ (p : Program) (ok : IsNamed p) (fine : rows D.Cpc p [] p ≡ []) where
-  plain : (f : Function) → Has (FunctionItem f) p → has_marks f.called ≡ false
-  plain f h = ok.unmarked (FunctionItem f) h
+-- what is in a row of one function is it
+only : (f g : Function) → Has (FunctionItem g) (FunctionItem f ∷ []) → g ≡ f
+only f _ (OnTop _ _) = refl
+only f g (Below _ _ _ h) = elim h [ ]
 
+module _ (p : Program) (ok : IsNamed p) (fine : rows D.Cpc p [] p ≡ []) where
   module _ (f : Function) (c : IsCps p f) where
     value_first : (x y : Item) → Has x (value_struct_if (is_scalar f.result) f.called f.result) → Has y (start_struct f ∷ map (leader_struct p (routine_of p f)) (routine_of p f).split.leaders) → tag_of x ≡ tag_of y → ⊥
     value_first x y h g e =
         let k = piece_tag p f [] c.mode y g in
         let i = sym (value_is f.called) ∙ sym (value_tagged p (is_scalar f.result) f.called f.result x h) ∙ e ∙ k.1 ∙ piece_is f.called k.0 in
-        value_piece k.0 (marked_is f.called f.called (codes "value") (behind k.0) (plain f c.has) (plain f c.has) value_end.underscore (no_underscore_behind k.0) i).1
+        value_piece k.0 (marked_is f.called f.called (codes "value") (behind k.0) (unmarked ok f c.has) (unmarked ok f c.has) value_end.underscore (no_underscore_behind k.0) i).1
 
     value_once : (b : Bool) (g : Text) (t : Ty) → Once tag_of (value_struct_if b g t)
     value_once true g t = AndOnce _ [] (λ y h e. elim h [ ]) NoneOnce
@@ -143,17 +142,8 @@ module _ (p : Program) (ok : IsNamed p) (fine : rows D.Cpc p [] p ≡ []) where
         once_both tag_of (value_struct_if (is_scalar f.result) f.called f.result) _ (value_once (is_scalar f.result) f.called f.result)
         (AndOnce (start_struct f) _ start_first (once_map tag_of (leader_struct p (routine_of p f)) (routine_of p f).split.leaders (leaders_once p f) (leaders_told p ok fine f c))) value_first
 
-    box_small : (k : ℕ) → Has k (routine_of p f).boxes → k < 2 ^ 63
-    box_small k b =
-        let below = boxes_are_below p f.called f (ok.found f c.has) k ((boxes_exact p f.called k).0 (held k (boxes p f.called) b)) in
-        let few = ok.few f c.has in
-        omega (arith, below, few)
-
     boxes_told : (j k : ℕ) → Has j (routine_of p f).boxes → Has k (routine_of p f).boxes → box_tag f.called j ≡ box_tag f.called k → j ≡ k
-    boxes_told j k h g e =
-        let m = marked_is f.called f.called (codes "box" ++ decimal j) (codes "box" ++ decimal k) (plain f c.has) (plain f c.has) (no_bar_box j) (no_bar_box k) (sym (box_is f.called j) ∙ e ∙ box_is f.called k) in
-        let numbers : decimal j ≡ decimal k = let z = m.1 in cc in
-        decimal_is j k (box_small j h) (box_small k g) numbers
+    boxes_told j k h g e = (boxes_same p ok f f j k c.has c.has (box_small p ok f c.has j h) (box_small p ok f c.has k g) e).1
 
     boxes_apart : Once tag_of (boxes_of (routine_of p f))
     boxes_apart = once_map tag_of (box_of (routine_of p f)) (routine_of p f).boxes (boxes_once p f) boxes_told
@@ -173,10 +163,6 @@ module _ (p : Program) (ok : IsNamed p) (fine : rows D.Cpc p [] p ≡ []) where
           let w = (frame_one p f [] c x h).made in
           let same = only f w.function w.has in
           apart_of p ok fine front f items e (tag_of x) (tag_of y) w.rest (w.is ∙ ap (λ (g : Function). marked g.called w.rest) same) w.underscore (frame_in p items y k).made i
-        where
-          only : (f g : Function) → Has (FunctionItem g) (FunctionItem f ∷ []) → g ≡ f
-          only f _ (OnTop _ _) = refl
-          only f g (Below _ _ _ h) = elim h [ ]
 
       go : (b : Bool) → is_cps_mode f.mode ≡ b → Once tag_of (all_structs p (routines_in p items)) → Once tag_of (all_structs p (routine_if b p f (routines_in p items)))
       go false c o = o
@@ -189,10 +175,6 @@ module _ (p : Program) (ok : IsNamed p) (fine : rows D.Cpc p [] p ≡ []) where
   boxes_from_items front (PrototypeItem m x r ps ∷ items) e = boxes_from_items (front ++ PrototypeItem m x r ps ∷ []) items (e ∙ sym (append_assoc front _ items))
   boxes_from_items front (FunctionItem f ∷ items) e = go (is_cps_mode f.mode) refl (boxes_from_items (front ++ FunctionItem f ∷ []) items (e ∙ sym (append_assoc front _ items)))
     where
-      only : (f g : Function) → Has (FunctionItem g) (FunctionItem f ∷ []) → g ≡ f
-      only f _ (OnTop _ _) = refl
-      only f g (Below _ _ _ h) = elim h [ ]
-
       apart : is_cps_mode f.mode ≡ true → (x y : Item) → Has x (boxes_of (routine_of p f)) → Has y (all_boxes (routines_in p items)) → tag_of x ≡ tag_of y → ⊥
       apart c x y h k i =
           let w = (box_one p f [] c x (map_has (box_of (routine_of p f)) x (routine_of p f).boxes h)).made in
@@ -206,7 +188,7 @@ module _ (p : Program) (ok : IsNamed p) (fine : rows D.Cpc p [] p ≡ []) where
   any_first : (y : Item) → Has y (all_structs p (routines p)) → frame_tag ≡ tag_of y → ⊥
   any_first y h e =
       let t = frame_in p p y h in
-      t.end.some (sym (marked_is (codes "frame") t.made.function.called (codes "") t.made.rest refl (plain t.made.function t.made.has) no_bar_nothing t.made.underscore (sym frame_is ∙ e ∙ t.made.is)).1)
+      t.end.some (sym (marked_is (codes "frame") t.made.function.called (codes "") t.made.rest refl (unmarked ok t.made.function t.made.has) no_bar_nothing t.made.underscore (sym frame_is ∙ e ∙ t.made.is)).1)
 
   -- the structs of frames
   pub frames_once : Once tag_of (any_frame ∷ all_structs p (routines p))
@@ -220,10 +202,10 @@ module _ (p : Program) (ok : IsNamed p) (fine : rows D.Cpc p [] p ≡ []) where
   pub box_frame : (x y : Item) → Has x (any_frame ∷ all_structs p (routines p)) → Has y (all_boxes (routines p)) → tag_of x ≡ tag_of y → ⊥
   box_frame _ y (OnTop _ _) h e =
       let t = box_in p p y h in
-      let i = (marked_is (codes "frame") t.made.function.called (codes "") t.made.rest refl (plain t.made.function t.made.has) no_bar_nothing t.made.underscore (sym frame_is ∙ e ∙ t.made.is)).1 in
+      let i = (marked_is (codes "frame") t.made.function.called (codes "") t.made.rest refl (unmarked ok t.made.function t.made.has) no_bar_nothing t.made.underscore (sym frame_is ∙ e ∙ t.made.is)).1 in
       differ_at 0 (codes "") t.made.rest (λ k. absurd (let z = t.is_box in omega (arith, z, k))) i
   box_frame x y (Below _ _ _ g) h e =
       let t = box_in p p y h in
       let u = frame_in p p x g in
-      let i = (marked_is u.made.function.called t.made.function.called u.made.rest t.made.rest (plain u.made.function u.made.has) (plain t.made.function t.made.has) u.made.underscore t.made.underscore (sym u.made.is ∙ e ∙ t.made.is)).1 in
+      let i = (marked_is u.made.function.called t.made.function.called u.made.rest t.made.rest (unmarked ok u.made.function u.made.has) (unmarked ok t.made.function t.made.has) u.made.underscore t.made.underscore (sym u.made.is ∙ e ∙ t.made.is)).1 in
       u.end.no_box (ap (λ z. get_or z 0 0) i ∙ t.is_box)

@@ -1,16 +1,13 @@
 -- Once a native `main` has begun, each call that is to begin is one of a cps function.
-use Rattle.std.proofs.Common.{◌≡◌, ◌⊎◌, inl, inr, ℕ, zero, suc, true, List, [], ◌∷◌, Option, Some, None, option_map, Result, Ok, refl, sym, ◌∙◌, ap, subst}
-use Rattle.std.specs.List.{All}
-use Rattle.std.proofs.lemmas.List.Elements.{All-tail}
-use Rattle.cpc_num.specs.declared.kinds.Fault.{Fault}
+use Rattle.std.proofs.Common.{◌≡◌, ◌⊎◌, inl, inr, ℕ, zero, suc, true, List, [], Option, Some, None, option_map, refl, sym, ◌∙◌, ap, subst}
 use Rattle.cpc_store.specs.Store.{Value, Store}
 use Rattle.cpc_tree.specs.Syntax.{Program}
 use Rattle.cpc_tree.specs.Trace.{is_over}
 use Rattle.cpc_tree.specs.Typing.{function_named}
 use Rattle.cpc_meaning_matching.specs.Steps.{or_stay}
 use Rattle.cpc_meaning_matching.specs.Systems.{NeverStuck}
-use Rattle.cpc_meaning.specs.Agenda.{Due, Agenda, poll}
-use Rattle.cpc_meaning.specs.Answer.{Answer, Gives, Faults, NoAnswer, of_result, needed}
+use Rattle.cpc_meaning.specs.Agenda.{Agenda}
+use Rattle.cpc_meaning.specs.Answer.{Answer, Gives, Faults, NoAnswer, needed}
 use Rattle.cpc_meaning.specs.History.{History}
 use Rattle.cpc_meaning.specs.Machine.{State, next, schedules, settled}
 use Rattle.cpc_meaning.specs.Plain.{Stack, Asks, make_frame, plain}
@@ -19,18 +16,18 @@ use Rattle.cpc_meaning.specs.Section.{Job}
 use Rattle.cpc_meaning.specs.Start.{main_name}
 use Rattle.cpc_meaning.specs.Threads.{Thread, Pending, Suspended, threads_of}
 use Rattle.cpc_meaning_laws.proofs.Pointer.Blocks.{Only, any_then}
-use Rattle.cpc_check_laws.specs.Kept.Kept.{KeptAgenda}
 use Rattle.cpc_check_laws.specs.Kept.Layers.{KeepsModes}
 use Rattle.cpc_check_laws.proofs.Kept.Agendas as A
 use Rattle.cpc_forms.specs.Split.{Position, split_form}
 use Rattle.cpc_lift_laws.specs.Lifted.{tidy}
 use Rattle.cpc_convert_laws.specs.Accepted.Lifted.{kept_of, lifted_threads, lifted_after}
-use Rattle.cpc_convert_laws.specs.Accepted.Moves.{Shuffled, MadeCondition, FreedCondition, Signalled, SignalledAll, BeganRound, WasPolled, Added, IsReady, Sleeps, AwaitsIo, WaitsOn, AwaitsSection, IsKept}
+use Rattle.cpc_convert_laws.specs.Accepted.Moves.{IsReady, IsKept}
 use Rattle.cpc_convert_laws.proofs.Accepted.Spawns.{step_spawns}
-use Rattle.cpc_convert_laws.proofs.Accepted.Walk.{Next, next_so}
+use Rattle.cpc_convert_laws.proofs.Accepted.Walk.{tidied_so}
 use Rattle.cpc_convert_laws.proofs.Accepted.Counts.{cps_same}
 use Rattle.cpc_convert_laws.specs.Runs.Runs.{NamesCps}
-use Rattle.cpc_convert_laws.proofs.Accepted.Begins.{Any, any_values}
+use Rattle.cpc_convert_laws.specs.Arrival.Arrivals.{AnyValue}
+use Rattle.cpc_convert_laws.proofs.Accepted.Agendas.{Lists, shuffled_lists, added_lists, later_lists}
 
 module _ (p : Program) where
   abbrev pub OfCps : Thread Position → Type 0
@@ -39,7 +36,7 @@ module _ (p : Program) where
 
   -- all calls that are to begin
   abbrev pub AllOfCps : Agenda (Thread Position) → Type 0
-  AllOfCps a = KeptAgenda OfCps Any a
+  AllOfCps a = Lists OfCps a
 
   abbrev Kept : Store → Option (Stack Position) → Agenda (Thread Position) → List Job → Type 0
   Kept s o a jobs = AllOfCps a
@@ -48,39 +45,18 @@ module _ (p : Program) where
   AskedCps s k (ToSpawn f) vs = NamesCps p f
   AskedCps s k asked vs = Unit {0}
 
-  ok_only : (r : Result (Agenda (Thread Position)) Fault) (b : Agenda (Thread Position)) → r ≡ Ok b → Only AllOfCps (of_result r) → AllOfCps b
-  ok_only r b e h = subst (λ r. Only AllOfCps (of_result r)) e h
-
-  shuffled : (a b : Agenda (Thread Position)) → Shuffled a b → AllOfCps a → AllOfCps b
-  shuffled _ _ (MadeCondition a) h = A.other_conditions OfCps Any tt _ _ a h
-  shuffled _ _ (FreedCondition c a b e) h = ok_only _ b e (A.cond_free_so OfCps Any tt c a h)
-  shuffled _ _ (Signalled c a b e) h = ok_only _ b e (A.signal_so OfCps Any tt c a h)
-  shuffled _ _ (SignalledAll c a b e) h = ok_only _ b e (A.signal_all_so OfCps Any tt c a h)
-  shuffled _ _ (BeganRound a none) h = A.begin_round_so OfCps Any tt a h
-  shuffled _ _ (WasPolled told vs a none) h = A.begin_round_so OfCps Any tt (poll told vs a) (A.poll_so OfCps Any tt told vs a (any_values vs) h)
-
-  added : (item : Thread Position) (a b : Agenda (Thread Position)) → OfCps item → Added item a b → AllOfCps a → AllOfCps b
-  added item _ _ i (IsReady a) h = A.ready_one_so OfCps Any tt item a i h
-  added item _ _ i (Sleeps z a b e) h = ok_only _ b e (A.sleep_so OfCps Any tt z item a i h)
-  added item _ _ i (AwaitsIo fd way a) h = A.io_so OfCps Any tt fd way item a i h
-  added item _ _ i (WaitsOn c a b e) h = ok_only _ b e (A.wait_so OfCps Any tt c item a i h)
-  added item _ _ i (AwaitsSection a b e) h = ok_only _ b e (A.section_so OfCps Any tt item a i h)
-
-  later : (d : Due (Thread Position)) (ds : List (Due (Thread Position))) (a : Agenda (Thread Position)) → a.round ≡ d ∷ ds → AllOfCps a → AllOfCps (record a { round = ds })
-  later d ds a e h = A.later_round OfCps Any tt ds a (All-tail (A.DueSo OfCps Any tt) d ds (subst (All (A.DueSo OfCps Any tt)) e h.round)) h
-
-  kept : IsKept (split_form p) Kept AskedCps
+  kept : IsKept (split_form p) Kept AskedCps AnyValue
   kept = record {
     went = λ s t k j a jobs e h. h;
     returned = λ s t k v a jobs e h. h;
     answered = λ s t k j v a jobs e h. h;
     stores = λ s t o a jobs e h. h;
-    shuffled = λ s o a b jobs move h. shuffled a b move h;
-    spawned = λ s k a jobs f vs asks h. A.ready_one_so OfCps Any tt (Pending f vs) a asks h;
-    suspended = λ s k j a b jobs e add h. added (Suspended j) a b tt add h;
-    submitted = λ s k j a b jobs f g vs cells e add asks copy h. added (Suspended j) a b tt add h;
-    begun = λ s t a jobs f g vs v ds frame e is made h. later _ ds a e h;
-    resumed = λ s k v a jobs ds e h. later _ ds a e h;
+    shuffled = λ s o a b jobs move h. shuffled_lists OfCps a b move h;
+    spawned = λ s k a jobs f vs asks h. added_lists OfCps (Pending f vs) a _ asks (IsReady a) h;
+    suspended = λ s k j a b jobs prim vs gives asks e add h. added_lists OfCps (Suspended j) a b tt add h;
+    submitted = λ s k j a b jobs f g vs cells e add is asks copy h. added_lists OfCps (Suspended j) a b tt add h;
+    begun = λ s t a jobs f g vs v ds frame e is made h. later_lists OfCps _ ds a e h;
+    resumed = λ s k v a jobs ds e due h. later_lists OfCps _ ds a e h;
   }
 
   -- ---- runs
@@ -98,14 +74,8 @@ module _ (p : Program) where
     AllCpsIn s = AllOfCps s.agenda
 
     -- a step keeps it
-    stays : (s : State Position (Thread Position)) (o : Option (State Position (Thread Position))) → AllCpsIn s → Next (split_form p) Kept AskedCps kept o → AllCpsIn (or_stay s (option_map (tidy (kept_of p)) o))
-    stays s None k i = k
-    stays s (Some t) k i = i
-
     pub next_cps : (h : History) (n : ℕ) → AllCpsIn (lifted_after p h n) → AllCpsIn (lifted_after p h (suc n))
-    next_cps h n all =
-        let s = lifted_after p h n in
-        stays s (next (threads_of (split_form p)) s) all (next_so (split_form p) Kept AskedCps kept s (asks_cps s) all)
+    next_cps h n all = let s = lifted_after p h n in tidied_so (split_form p) Kept AskedCps AnyValue kept (kept_of p) (λ s h. h) s (asks_cps s) (λ d ds e. tt) all
 
     -- ---- the first two steps
 
@@ -117,7 +87,7 @@ module _ (p : Program) where
       main_called : Only AllCpsIn calls_main
       main_called =
           any_then AllCpsIn (needed (function_named p main_name)) _ λ g.
-          any_then AllCpsIn (make_frame (split_form p) g [] (lifted_after p h 1).store) _ λ r. A.nothing_there OfCps Any tt
+          any_then AllCpsIn (make_frame (split_form p) g [] (lifted_after p h 1).store) _ λ r. A.nothing_there OfCps AnyValue tt
 
       second : (u : Answer (State Position (Thread Position))) → calls_main ≡ u → Only AllCpsIn u → (is_over (lifted_after p h 2).outcome ≡ true) ⊎ AllCpsIn (lifted_after p h 2)
       second (Gives t) e only = inr (subst (λ v. AllCpsIn (or_stay (lifted_after p h 1) (option_map (tidy (kept_of p)) (settled (threads_of (split_form p)) (lifted_after p h 1) v)))) (sym e) only)

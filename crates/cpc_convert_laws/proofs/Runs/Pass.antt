@@ -23,9 +23,14 @@ use Rattle.cpc_convert_image_laws.specs.Relations.{Found}
 use Rattle.cpc_convert_laws.specs.Related.Bounds.{Bounds, Enough}
 use Rattle.cpc_convert_laws.proofs.Related.Beginning.{main_row}
 use Rattle.cpc_convert_laws.proofs.Related.Joined.{RowFacts, row}
-use Rattle.cpc_convert_laws.proofs.Related.Relation.{Source, Target, Shared, going, source_state, target_state, with_main, Related, MainIsReady, MainIsNext, Goes, IsOver}
-use Rattle.cpc_convert_laws.proofs.Related.Rows.{Near, midway_near, Shows, RowFor}
+use Rattle.cpc_convert_laws.proofs.Related.Pass.{related_shows}
+use Rattle.cpc_convert_laws.proofs.Related.Relation.{Source, Target, Shared, going, source_state, target_state, with_main, Related}
+use Rattle.cpc_convert_laws.proofs.Related.Rows.{Near, midway_near, RowFor}
 use Rattle.cpc_convert_laws.proofs.Related.Setting.{Setting, from_form, to_form, Known}
+
+-- where a run comes to by a step
+pub next_along : {S M O : Type 0} (A : System S M O) (x x' : S) (n : ℕ) → A.next x ≡ Some x' → x ≡ run A n → x' ≡ run A (suc n)
+next_along A x x' n e i = sym (ap (or_stay x) e) ∙ ap (λ s. or_stay s (A.next s)) i
 
 module _ (z : Setting) (bounds : Bounds) (facts : RowFacts z bounds) (most : ℕ) (enough : Enough bounds most) (found : Found z.pairs (function_named z.source main_name) (function_named z.target main_name)) (h : History) where
   abbrev pub A : System Source Mark Outcome
@@ -62,22 +67,13 @@ module _ (z : Setting) (bounds : Bounds) (facts : RowFacts z bounds) (most : ℕ
     opens : R A.opening B.opening
     opens = (0, refl, ap (λ (s : Store). going w0 s None (with_main CallMain)) facts.globals)
 
-    shows : (x : Source) (y : Target) → Related z.codes z.cut z.there x y → Shows x y
-    shows _ _ (MainIsReady w) = record { trace = refl; outcome = refl }
-    shows _ _ (MainIsNext w) = record { trace = refl; outcome = refl }
-    shows _ _ (Goes w bs k j owned a tags b runs g owns fresh) = record { trace = refl; outcome = refl }
-    shows x y (IsOver _ _ over trace outcome) = record { trace = sym trace; outcome = sym outcome }
-
     alike_at : (n : ℕ) (x : Source) (y : Target) → x ≡ run A n → Stage n x y → Alike A B x y
     alike_at zero x y e s = record { trace = ap (λ (x : Source). x.trace) e ∙ ap (λ (y : Target). y.trace) (sym s); outcome = ap (λ (x : Source). x.outcome) e ∙ ap (λ (y : Target). y.outcome) (sym s) }
     alike_at (suc zero) x y e s = record { trace = ap (λ (x : Source). x.trace) e ∙ ap (λ (y : Target). y.trace) (sym s); outcome = ap (λ (x : Source). x.outcome) e ∙ ap (λ (y : Target). y.outcome) (sym s) }
-    alike_at (suc (suc n)) x y e s = let k = shows x y s in record { trace = k.trace; outcome = k.outcome }
+    alike_at (suc (suc n)) x y e s = let k = related_shows z x y s in record { trace = k.trace; outcome = k.outcome }
 
     abbrev PathTo : Source → Source → Target → Type 0
     PathTo x x' y = Path B.next one (R x') (λ t. Alike A B x t ⊎ Alike A B x' t) most y
-
-    next_along : (x x' : Source) (n : ℕ) → A.next x ≡ Some x' → x ≡ run A n → x' ≡ run A (suc n)
-    next_along x x' n e i = sym (ap (or_stay x) e) ∙ ap (λ s. or_stay s (A.next s)) i
 
     -- a row of states that stand for each other
     as_path : (x x' : Source) (y : Target) (n : ℕ) → x' ≡ run A (suc (suc n)) → RowFor z bounds.rise x x' most y → PathTo x x' y
@@ -94,17 +90,17 @@ module _ (z : Setting) (bounds : Bounds) (facts : RowFacts z bounds) (most : ℕ
 
     path_at : (n : ℕ) (x x' : Source) (y : Target) → A.next x ≡ Some x' → x ≡ run A n → Stage n x y → PathTo x x' y
     path_at zero x x' y e i s =
-        let i' = next_along x x' 0 e i in
+        let i' = next_along A x x' 0 e i in
         subst (PathTo x x') (sym s) (Last most (ready' w0) (begins' w0) refl (let k = enough.goes in omega arith) (1, i', refl))
     path_at (suc zero) x x' y e i s =
         subst (PathTo x x') (sym s)
         (subst (λ x. PathTo x x' (begins' w0)) (sym i)
-        (as_path (run A 1) x' (begins' w0) 0 (next_along x x' 1 e i)
+        (as_path (run A 1) x' (begins' w0) 0 (next_along A x x' 1 e i)
         (path_wider most (let k = enough.goes in omega arith) (main_row z facts.native facts.keeps w0 store found x' (ap A.next (sym i) ∙ e)))))
     path_at (suc (suc n)) x x' y e i s =
         ⊎_elim (λ over. no_step x x' n over e i)
         (λ (k : (n : ℕ) → Known z (run A (suc (suc n)))).
-        let i' = next_along x x' (suc (suc n)) e i in
+        let i' = next_along A x x' (suc (suc n)) e i in
         as_path x x' y (suc n) i' (row z bounds facts most enough x x' y e (subst (Known z) (sym i) (k n)) (subst (Known z) (sym i') (k (suc n))) s)) known
 
     pub matches_native : Matches A B (λ (x : Source). most) one

@@ -48,31 +48,31 @@ module _ (p : Program) (had : Had p) where
   abbrev pub Do : Type 0
   Do = PiecesDo p had.known (IsFine p) (CallsCps p)
 
-  abbrev z : Setting
+  abbrev pub z : Setting
   z = setting p had.known (IsFine p) (CallsCps p)
 
-  main : HasMain p
+  abbrev main : HasMain p
   main = had.convertible.main
 
   says : FineSays p had.known (IsFine p) (CallsCps p)
   says = record { stands = λ frame o fine. fine.may; held = λ frame o fine. fine.variables.held }
+
+  -- then each call that is to begin is of a cps function
+  item_cps : is_cps_mode main.function.mode ≡ true → (f : Text) → (f ≡ main_name) ⊎ ((g : Function) → function_named p f ≡ Some g → is_cps g.mode ≡ true) → NamesCps p f
+  item_cps mode f (inl is) g named =
+      let same : main.function ≡ g = let i : Some main.function ≡ Some g = sym main.named ∙ (ap (function_named p) (sym is) ∙ named) in cc in
+      subst (λ (k : Function). is_cps_mode k.mode ≡ true) same mode
+  item_cps mode f (inr cps) g named = cps_same g.mode ∙ cps g named
+
+  pub cps_known : is_cps_mode main.function.mode ≡ true → (h : History) (n : ℕ) → Known z (lifted_after p h n)
+  cps_known mode h n =
+      state_known p (bounds_of p) had.sections h n (had.fine h n) (had.well h n) (λ f vs v ds e. item_cps mode f ((had.well h n).begins f vs v ds e))
 
   module _ (does : Do) where
     facts : RowFacts z (bounds_of p)
     facts = rows p had.known (IsFine p) (CallsCps p) had.cps says does had.convertible
 
     -- ---- a cps `main`
-
-    -- then each call that is to begin is of a cps function
-    item_cps : is_cps_mode main.function.mode ≡ true → (f : Text) → (f ≡ main_name) ⊎ ((g : Function) → function_named p f ≡ Some g → is_cps g.mode ≡ true) → NamesCps p f
-    item_cps mode f (inl is) g named =
-        let same : main.function ≡ g = let i : Some main.function ≡ Some g = sym main.named ∙ (ap (function_named p) (sym is) ∙ named) in cc in
-        subst (λ (k : Function). is_cps_mode k.mode ≡ true) same mode
-    item_cps mode f (inr cps) g named = cps_same g.mode ∙ cps g named
-
-    cps_known : is_cps_mode main.function.mode ≡ true → (h : History) (n : ℕ) → Known z (lifted_after p h n)
-    cps_known mode h n =
-        state_known p (bounds_of p) had.sections h n (had.fine h n) (had.well h n) (λ f vs v ds e. item_cps mode f ((had.well h n).begins f vs v ds e))
 
     cps_main : is_cps_mode main.function.mode ≡ true → Follows is_over (lifted_threads p) (event_system (trees (converted p))) (λ s. cost p) one
     cps_main mode = follows_lifted z (bounds_of p) facts (cost p) (bounds_enough p) (λ h n live. cps_known mode h n)

@@ -37,6 +37,29 @@ use Rattle.cpc_convert_laws.specs.Shape.Shape.{HasLocals}
 use Rattle.cpc_convert_laws.proofs.Shape.Calls.{CpsTyped}
 use Rattle.cpc_convert_laws.proofs.Shape.Owned.{got_has}
 
+-- ---- owners keep their own closures
+
+module _ (p : Program) (f : Function) where
+  -- where the start owns anything, it owns the first node
+  first_step : (a : Place) (j : ℕ) → goes_to (flow_in p f) a j ≡ true → is_leader (flow_in p f) j ≡ false → ((i : ℕ) → a ≡ At i → is_leader (flow_in p f) 0 ≡ false) → is_leader (flow_in p f) 0 ≡ false
+  first_step Start j goes leads deeper = subst (λ m. is_leader (flow_in p f) m ≡ false) ((entries_are_first p f).2 j goes) leads
+  first_step (At i) j goes leads deeper = deeper i refl
+
+  first_stays : (d : ℕ) (a : Place) → Owns (flow_in p f) Start d a → (m : ℕ) → a ≡ At m → is_leader (flow_in p f) 0 ≡ false
+  first_stays _ _ (Itself i) m e = absurd (cc)
+  first_stays _ _ (Onwards d a j owns goes leads) m e = first_step a j goes leads (λ i h. first_stays d a owns i h)
+
+  pub keeps : (l : Place) (n : ℕ) → owner_of (flow_in p f) n ≡ Some l → keeper (routine_of p f).split l ≡ l
+  keeps (At m) n e = refl
+  keeps Start n e =
+      let first = entries_are_first p f in
+      let w = owner_owns (flow_in p f) Start n e in
+      let stays = first_stays w.0 (At n) w.1 n refl in
+      let node = found_within (graph_of p f).nodes 0 first.1 in
+      ap (owner_or Start) (ap (slice_get (routine_of p f).split.owners) first.0 ∙ (owner_there (graph_of p f) 0 node.0 node.1 ∙ ap (λ o. Some o) (first.3 ∙ ap (λ b. Some (owner_by b Start 0)) stays)))
+
+-- ---- variables
+
 module _ (p : Program) (f : Function) (known : CpsTyped p f) where
   abbrev r : Routine
   r = routine_of p f
@@ -53,24 +76,6 @@ module _ (p : Program) (f : Function) (known : CpsTyped p f) where
       ap (λ o. cond (not (is_some o)) true (holds_number (closure_in (split_form p) (lifting p) f.called (owner_number l)) k)) is_split
       ∙ (ap (λ m. holds_number (closure_in (split_form p) (lifting p) f.called (owner_number m)) k) (sym own) ∙ ap (λ ks. holds_number ks k) (sym (closures_lifted p known.named f known.cps l)))
 
-  -- where the start owns anything, it owns the first node
-  first_step : (a : Place) (j : ℕ) → goes_to flow a j ≡ true → is_leader flow j ≡ false → ((i : ℕ) → a ≡ At i → is_leader flow 0 ≡ false) → is_leader flow 0 ≡ false
-  first_step Start j goes leads deeper = subst (λ m. is_leader flow m ≡ false) ((entries_are_first p f).2 j goes) leads
-  first_step (At i) j goes leads deeper = deeper i refl
-
-  first_stays : (d : ℕ) (a : Place) → Owns flow Start d a → (m : ℕ) → a ≡ At m → is_leader flow 0 ≡ false
-  first_stays _ _ (Itself i) m e = absurd (cc)
-  first_stays _ _ (Onwards d a j owns goes leads) m e = first_step a j goes leads (λ i h. first_stays d a owns i h)
-
-  keeps : (l : Place) (n : ℕ) → owner_of flow n ≡ Some l → keeper r.split l ≡ l
-  keeps (At m) n e = refl
-  keeps Start n e =
-      let first = entries_are_first p f in
-      let w = owner_owns flow Start n e in
-      let stays = first_stays w.0 (At n) w.1 n refl in
-      let node = found_within (graph_of p f).nodes 0 first.1 in
-      ap (owner_or Start) (ap (slice_get r.split.owners) first.0 ∙ (owner_there (graph_of p f) 0 node.0 node.1 ∙ ap (λ o. Some o) (first.3 ∙ ap (λ b. Some (owner_by b Start 0)) stays)))
-
   module _ (l : Place) (n : ℕ) (node : Node) (there : slice_get (graph_of p f).nodes n ≡ Some node) (owned : owner_of flow n ≡ Some l) where
     stands : (lifting p).there f.called (InGraph l n) ≡ true
     stands = ap (λ o. may_stand o (InGraph l n)) is_split ∙ (ap (λ o. is_owned_by l (owner_at o)) (owner_there (graph_of p f) n node there ∙ ap (λ o. Some o) owned) ∙ place_self l)
@@ -84,7 +89,7 @@ module _ (p : Program) (f : Function) (known : CpsTyped p f) where
     -- what is used at a node is kept
     used_kept : (k : ℕ) → holds_number (used_at node.scope node.stood) k ≡ true → holds_number (closure_of r l) k ≡ true
     used_kept k h =
-        sym (kept_is l (keeps l n owned) n k)
+        sym (kept_is l (keeps p f l n owned) n k)
         ∙ ((programs_are_closed p).inside f.called).used (InGraph l n) k stands
         (ap (λ s. holds_number (used_at s ((split_form p).code.stood f.called (InGraph l n))) k) scope_is ∙ (ap (λ s. holds_number (used_at node.scope s) k) stood_is ∙ h))
 

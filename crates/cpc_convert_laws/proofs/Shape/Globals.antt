@@ -12,6 +12,8 @@ use Rattle.cpc_convert_event.specs.Converted.{kept_function, item_unless, kept_i
 use Rattle.cpc_convert_event.specs.Pieces.{leader_function}
 use Rattle.cpc_convert_event.specs.Routines.{Routine}
 use Rattle.cpc_convert_event.proofs.Structs.{AreStructs, NoneAre, OneIs, all_structs_are, all_boxes_are}
+use Rattle.cpc_convert_event.proofs.StructsThere.{behind_boxes}
+use Rattle.cpc_convert_event.proofs.Lookups.{behind_driver}
 use Rattle.cpc_convert_laws.specs.Shape.Shape.{globals, externs}
 
 -- functions as items
@@ -70,15 +72,9 @@ kept_externs (FunctionItem f ∷ items) rest e = go (is_cps_mode f.mode) (kept_e
     go false i = i
 
 module _ (p : Program) where
-  abbrev behind_boxes : List Routine → List Item
-  behind_boxes rs = map function_item (all_made p rs) ++ main_if (is_cps (function_named p main_name))
-
-  abbrev behind_driver : List Routine → List Item
-  behind_driver rs = kept_items p ++ (all_boxes rs ++ behind_boxes rs)
-
-  made_have : (rs : List Routine) → Alike (all_boxes rs ++ behind_boxes rs) []
+  made_have : (rs : List Routine) → Alike (all_boxes rs ++ behind_boxes p rs) []
   made_have rs =
-      let a = structs_have (all_boxes rs) (behind_boxes rs) (all_boxes_are rs) in
+      let a = structs_have (all_boxes rs) (behind_boxes p rs) (all_boxes_are rs) in
       let b = functions_have (all_made p rs) (main_if (is_cps (function_named p main_name))) in
       let c = main_has (is_cps (function_named p main_name)) in
       (a.0 ∙ (b.0 ∙ c.0), a.1 ∙ (b.1 ∙ c.1))
@@ -86,11 +82,11 @@ module _ (p : Program) where
   with_have : (rs : List Routine) → Alike (converted_with p rs) p
   with_have [] = (ap globals (sym (append_empty (kept_items p))) ∙ kept_globals p [] refl, ap externs (sym (append_empty (kept_items p))) ∙ kept_externs p [] refl)
   with_have (r ∷ rs) =
-      let rest = FunctionItem drive_function ∷ behind_driver (r ∷ rs) in
+      let rest = FunctionItem drive_function ∷ behind_driver p (r ∷ rs) in
       let a = structs_have (all_structs p (r ∷ rs)) (map prototype (all_made p (r ∷ rs)) ++ rest) (all_structs_are p (r ∷ rs)) in
       let b = prototypes_have p (r ∷ rs) rest in
       let c = made_have (r ∷ rs) in
-      (a.0 ∙ (b.0 ∙ kept_globals p (all_boxes (r ∷ rs) ++ behind_boxes (r ∷ rs)) c.0), a.1 ∙ (b.1 ∙ kept_externs p (all_boxes (r ∷ rs) ++ behind_boxes (r ∷ rs)) c.1))
+      (a.0 ∙ (b.0 ∙ kept_globals p (all_boxes (r ∷ rs) ++ behind_boxes p (r ∷ rs)) c.0), a.1 ∙ (b.1 ∙ kept_externs p (all_boxes (r ∷ rs) ++ behind_boxes p (r ∷ rs)) c.1))
 
   pub same_globals : globals (converted p) ≡ globals p
   same_globals = (with_have (routines p)).0

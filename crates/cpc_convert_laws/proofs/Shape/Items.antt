@@ -14,6 +14,8 @@ use Rattle.cpc_convert_event.specs.NameLaws.{IsCps, IsKept}
 use Rattle.cpc_convert_event.specs.Routines.{Routine}
 use Rattle.cpc_convert_event.proofs.Made.{Made, made_is}
 use Rattle.cpc_convert_event.proofs.Structs.{AreStructs, NoneAre, OneIs, all_structs_are, all_boxes_are}
+use Rattle.cpc_convert_event.proofs.StructsThere.{behind_boxes}
+use Rattle.cpc_convert_event.proofs.Lookups.{behind_driver}
 use Rattle.cpc_convert_laws.specs.Accepted.Names.{HasNames}
 
 -- ---- functions
@@ -98,13 +100,7 @@ module _ (p : Program) (names : HasNames p) where
   main_from g true e (Below _ _ _ h) = elim h [ ]
   main_from g false e h = elim h [ ]
 
-  abbrev behind_boxes : List Routine → List Item
-  behind_boxes rs = map function_item (all_made p rs) ++ main_if (is_cps (function_named p main_name))
-
-  abbrev behind_driver : List Routine → List Item
-  behind_driver rs = kept_items p ++ (all_boxes rs ++ behind_boxes rs)
-
-  with_from : (r : Routine) (rs : List Routine) → routines p ≡ r ∷ rs → (g : Function) → Has (FunctionItem g) (behind_driver (r ∷ rs)) → From p g
+  with_from : (r : Routine) (rs : List Routine) → routines p ≡ r ∷ rs → (g : Function) → Has (FunctionItem g) (behind_driver p (r ∷ rs)) → From p g
   with_from r rs e g h = ⊎_elim
       (λ a. kept_from g (kept_is p g a))
       (λ b. ⊎_elim
@@ -113,10 +109,10 @@ module _ (p : Program) (names : HasNames p) where
       (λ d. FromMade g (made_is p p g (subst (λ ks. Has g (all_made p ks)) (sym e) (function_has (all_made p (r ∷ rs)) g d))))
       (λ d. main_from g (is_cps (function_named p main_name)) refl d)
       (has_either (FunctionItem g) (map function_item (all_made p (r ∷ rs))) (main_if (is_cps (function_named p main_name))) c))
-      (has_either (FunctionItem g) (all_boxes (r ∷ rs)) (behind_boxes (r ∷ rs)) b))
-      (has_either (FunctionItem g) (kept_items p) (all_boxes (r ∷ rs) ++ behind_boxes (r ∷ rs)) h)
+      (has_either (FunctionItem g) (all_boxes (r ∷ rs)) (behind_boxes p (r ∷ rs)) b))
+      (has_either (FunctionItem g) (kept_items p) (all_boxes (r ∷ rs) ++ behind_boxes p (r ∷ rs)) h)
 
-  driver_from : (r : Routine) (rs : List Routine) → routines p ≡ r ∷ rs → (g : Function) → Has (FunctionItem g) (FunctionItem drive_function ∷ behind_driver (r ∷ rs)) → From p g
+  driver_from : (r : Routine) (rs : List Routine) → routines p ≡ r ∷ rs → (g : Function) → Has (FunctionItem g) (FunctionItem drive_function ∷ behind_driver p (r ∷ rs)) → From p g
   driver_from r rs e _ (OnTop _ _) = let d = routine_is p p r (subst (Has r) (sym e) (OnTop r rs)) in FromDriver d.0 (record { has = d.1; mode = d.2 })
   driver_from r rs e g (Below _ _ _ h) = with_from r rs e g h
 
@@ -125,8 +121,8 @@ module _ (p : Program) (names : HasNames p) where
   all_from (r ∷ rs) e g (Below _ _ _ h) = ⊎_elim
       (λ a. absurd (no_struct (all_structs p (r ∷ rs)) g (all_structs_are p (r ∷ rs)) a))
       (λ b. ⊎_elim (λ c. absurd (no_prototype (all_made p (r ∷ rs)) g c)) (λ c. driver_from r rs e g c)
-      (has_either (FunctionItem g) (map prototype (all_made p (r ∷ rs))) (FunctionItem drive_function ∷ behind_driver (r ∷ rs)) b))
-      (has_either (FunctionItem g) (all_structs p (r ∷ rs)) (map prototype (all_made p (r ∷ rs)) ++ FunctionItem drive_function ∷ behind_driver (r ∷ rs)) h)
+      (has_either (FunctionItem g) (map prototype (all_made p (r ∷ rs))) (FunctionItem drive_function ∷ behind_driver p (r ∷ rs)) b))
+      (has_either (FunctionItem g) (all_structs p (r ∷ rs)) (map prototype (all_made p (r ∷ rs)) ++ FunctionItem drive_function ∷ behind_driver p (r ∷ rs)) h)
 
   -- of each function of the event program
   pub comes_from : (g : Function) → Has (FunctionItem g) (converted p) → From p g

@@ -2,7 +2,7 @@
 use Rattle.std.proofs.Common.{◌≡◌, ℕ, ◌<◌, ◌^◌, Bool, true, false, not, ◌==◌, ◌&&◌, ◌||◌, List, [], ◌++◌, length, slice_get, bytes_eq, codes, Option, Some, None, refl, sym, ◌∙◌, ap, subst, arith, ⊎_elim}
 use Rattle.std.proofs.lemmas.Option.{slice_get_within}
 use Rattle.cpc_base.specs.Bytes.{Text}
-use Rattle.cpc_base.proofs.Truth.{eq_reflexive, eq_means, or_by_second}
+use Rattle.cpc_base.proofs.Truth.{eq_reflexive, eq_means}
 use Rattle.cpc_base.proofs.Lists.{found_within}
 use Rattle.cpc_tree.specs.Lists.{holds_number}
 use Rattle.cpc_tree.specs.Registers.{variables}
@@ -24,6 +24,7 @@ use Rattle.cpc_convert_event.specs.Pieces.{loaded, begun, called_so, takes_value
 use Rattle.cpc_convert_event.specs.Routines.{Routine, routine_of, closure_of, is_plain, is_parameter, variable_if, variable_or, local_of, locals_of, chosen}
 use Rattle.cpc_convert_event.proofs.Fields.{variables_apart, word_apart}
 use Rattle.cpc_convert_event.proofs.Locals.{closure_rise, locals_meant}
+use Rattle.cpc_convert_event.proofs.Framed.{held}
 use Rattle.cpc_convert_event.proofs.Made.{Mapped, OfNumber, map_has}
 use Rattle.cpc_convert_event.proofs.Numbers.{held_either, chosen_is, AllBelow, NoneBelow, OneBelow, rises_below}
 use Rattle.cpc_convert_laws.specs.Shape.Help.{words}
@@ -113,15 +114,11 @@ module _ (p : Program) (f : Function) (known : CpsTyped p f) where
       (λ i. closure_there Start j (chosen_is (λ k. not (is_parameter f k) && is_plain r k) (closure_of r Start) j i).0) (λ i. boxes_there j i)
   begun_there (At n) j h = absurd (cc)
 
-  has_held : (ns : List ℕ) (n : ℕ) → Has n ns → holds_number ns n ≡ true
-  has_held _ n (OnTop _ ns) = ap (λ b. b || holds_number ns n) (eq_reflexive n)
-  has_held _ n (Below _ m ns h) = or_by_second (m == n) (holds_number ns n) (has_held ns n h)
-
   local_known : (ns : List ℕ) → AreThere ns → (v : Variable) → Has v (locals_of r ns) → IsKnown v
   local_known ns there v h = go v (map_has (local_of r) v ns h)
     where
       go : (v : Variable) → Mapped (local_of r) ns v → IsKnown v
-      go _ (OfNumber n k) = let y = there n (has_held ns n k) in AVariable n y.0 y.1 refl
+      go _ (OfNumber n k) = let y = there n (held n ns k) in AVariable n y.0 y.1 refl
 
   if_known : (b : Bool) (x : Variable) (xs : List Variable) → IsKnown x → ((v : Variable) → Has v xs → IsKnown v) → (v : Variable) → Has v (variable_if b x xs) → IsKnown v
   if_known true x xs k rest _ (OnTop _ _) = k

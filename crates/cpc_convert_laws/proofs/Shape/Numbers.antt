@@ -1,6 +1,5 @@
 -- Which numbers have rows in a piece: those of the nodes that its owner owns and that have a row, and leaders that are not its own.
-use Rattle.std.proofs.Common.{◌≡◌, ◌⊎◌, inl, inr, ⊎_elim, ℕ, ◌<◌, Bool, true, false, not, ◌&&◌, ◌||◌, ◌==◌, List, [], ◌∷◌, ◌++◌, length, Option, Some, None, refl, ◌∙◌, ap, subst}
-use Rattle.cpc_base.proofs.Truth.{eq_means}
+use Rattle.std.proofs.Common.{◌≡◌, ◌⊎◌, inl, inr, ⊎_elim, ℕ, ◌<◌, Bool, true, false, not, ◌&&◌, ◌||◌, ◌==◌, List, [], ◌∷◌, ◌++◌, length, Some, refl, ◌∙◌, ap, subst}
 use Rattle.cpc_base.proofs.Lists.{found_within}
 use Rattle.cpc_tree.specs.Lists.{holds_number}
 use Rattle.cpc_tree.specs.Syntax.{Function, Program}
@@ -13,25 +12,10 @@ use Rattle.cpc_graph_laws.proofs.Owners.{owner_owns}
 use Rattle.cpc_graph_laws.proofs.Owning.{pieces_hold_theirs, place_self}
 use Rattle.cpc_graph_laws.proofs.Splits.{owner_there}
 use Rattle.cpc_convert_event.specs.Routines.{Routine, routine_of, chosen}
-use Rattle.cpc_convert_event.specs.Rows.{owner_at, is_own, has_row, rows_nodes, reached, stubs_of, row_of, falls, number_where, stub_behind, numbers_from, numbers_of}
-use Rattle.cpc_convert_event.proofs.Labels.{rows_stand_once, turned_is}
+use Rattle.cpc_convert_event.specs.Rows.{owner_at, is_own, has_row, rows_nodes, reached, stubs_of, row_of, falls, stub_behind, numbers_from, numbers_of}
+use Rattle.cpc_convert_event.proofs.Labels.{rows_stand_once, turned_is, behind_is}
 use Rattle.cpc_convert_event.proofs.Numbers.{held_either, chosen_is}
 use Rattle.cpc_convert_laws.proofs.Piece.Ways.{listed}
-
--- a number that is listed where both tests hold
-where_is : (a b : Bool) (n m : ℕ) → holds_number (number_where (a && b) n) m ≡ true → (a ≡ true) × (n ≡ m)
-where_is true true n m h = (refl, one (n == m) refl h)
-  where
-    one : (c : Bool) → (n == m) ≡ c → (c || false) ≡ true → n ≡ m
-    one true e i = eq_means n m e
-    one false e i = absurd (cc)
-where_is true false n m h = absurd (cc)
-where_is false b n m h = absurd (cc)
-
--- a stub behind a row is a stub
-behind_is : (stubs placed : List ℕ) (o : Option ℕ) (m : ℕ) → holds_number (stub_behind stubs placed o) m ≡ true → holds_number stubs m ≡ true
-behind_is stubs placed None m h = absurd (cc)
-behind_is stubs placed (Some n) m h = let w = where_is (holds_number stubs n) (not (holds_number placed n)) n m h in subst (λ k. holds_number stubs k ≡ true) w.1 w.0
 
 -- what is listed is a node or a leader that is not the piece's own
 pub from_is : (p : Program) (r : Routine) (l : Place) (stubs placed ns : List ℕ) (m : ℕ) → holds_number (numbers_from p r l stubs placed ns) m ≡ true → (holds_number ns m ≡ true) ⊎ (holds_number stubs m ≡ true)
@@ -46,7 +30,7 @@ from_is p r l stubs placed (n ∷ ns) m h = go (n == m) refl h (λ i. from_is p 
     go true e i deeper = inl refl
     go false e i deeper =
         held_either b (numbers_from p r l stubs (b ++ placed) ns) m ((holds_number ns m ≡ true) ⊎ (holds_number stubs m ≡ true)) i
-        (λ j. inr (behind_is stubs placed (falls (row_of p r l n).lines) m j)) (λ j. deeper j)
+        (λ j. inr (behind_is stubs placed (falls (row_of p r l n).lines) m j).0) (λ j. deeper j)
 
 not_own : (a b : Bool) → (a && not b) ≡ true → b ≡ true → ⊥
 not_own true true e h = absurd (cc)

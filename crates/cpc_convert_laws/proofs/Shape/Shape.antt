@@ -1,13 +1,10 @@
 -- An accepted program of threads is converted to an event program of its shape.
-use Rattle.std.proofs.Common.{◌≡◌, ℕ, true, ◌==◌, ◌||◌, List, Some, refl, sym, ◌∙◌, ap, subst}
+use Rattle.std.proofs.Common.{◌≡◌, true, ◌==◌, ◌||◌, Some, refl, sym, ◌∙◌, ap, subst}
 use Rattle.cpc_base.specs.declared.stop.Dialect.TheVariants as D
-use Rattle.cpc_base.proofs.Truth.{eq_reflexive, or_by_second}
 use Rattle.cpc_base.proofs.Lists.{found_within}
-use Rattle.cpc_tree.specs.Lists.{holds_number}
 use Rattle.cpc_tree.specs.Located.{bare}
 use Rattle.cpc_tree.specs.Syntax.{Function, FunctionItem, Program}
 use Rattle.cpc_tree.specs.Typing.{function_named}
-use Rattle.cpc_convert.specs.Members.{Has, OnTop, Below}
 use Rattle.cpc_convert.proofs.Marks.{marked_is}
 use Rattle.cpc_check_laws.specs.Sound.Typed.{TypedProgram}
 use Rattle.cpc_check_laws.proofs.Sound.Accepted.{accepted_is_typed}
@@ -28,6 +25,7 @@ use Rattle.cpc_convert_event.specs.Pieces.{piece_function}
 use Rattle.cpc_convert_event.specs.Routines.{routine_of}
 use Rattle.cpc_convert_event.proofs.Apart.{behind, piece_is, no_underscore_behind, Small, StartIsSmall, NumberIsSmall, behind_is}
 use Rattle.cpc_convert_event.proofs.Lookups.{functions_found}
+use Rattle.cpc_convert_event.proofs.Framed.{held}
 use Rattle.cpc_convert_event.proofs.Made.{Made, MadeSpawner, MadePiece}
 use Rattle.cpc_convert_event.proofs.Boxing.{held_has}
 use Rattle.cpc_convert_laws.specs.Accepted.Names.{HasNames}
@@ -39,11 +37,6 @@ use Rattle.cpc_convert_laws.proofs.Shape.Globals.{same_globals, same_externs}
 use Rattle.cpc_convert_laws.proofs.Shape.Items.{found_has, From, FromKept, FromMade, FromDriver, FromMain, comes_from}
 use Rattle.cpc_convert_laws.proofs.Shape.Piece.{is_piece}
 use Rattle.cpc_convert_laws.proofs.Shape.Points.{made_in}
-
--- a number of a row is held by it
-pub has_held : (ns : List ℕ) (n : ℕ) → Has n ns → holds_number ns n ≡ true
-has_held _ n (OnTop _ ns) = ap (λ b. b || holds_number ns n) (eq_reflexive n)
-has_held _ n (Below _ m ns h) = or_by_second (m == n) (holds_number ns n) (has_held ns n h)
 
 module _ (p : Program) (named : IsNamed p) (names : HasNames p) (typed : TypedProgram D.Cpc p) where
   known : (f : Function) → IsCps p f → CpsTyped p f
@@ -74,7 +67,7 @@ module _ (p : Program) (named : IsNamed p) (names : HasNames p) (typed : TypedPr
   owner_at : (f : Function) (l : Place) → IsOwner (routine_of p f) l → OwnerAt f l
   owner_at f _ TheStart = record { node = C.Entry; owner = C.TheEntry; place = refl }
   owner_at f _ (ALeader n h) =
-      let leads = sym (leaders_are_listed (flow_in p f) (inside p f) n) ∙ has_held _ n h in
+      let leads = sym (leaders_are_listed (flow_in p f) (inside p f) n) ∙ held n _ h in
       let node = found_within (graph_of p f).nodes n (leader_place p f n leads) in
       let from = node_comes p f n node.0 node.1 in
       let is = point_stands f.body n from.0 from.1 in

@@ -1,9 +1,7 @@
 -- What a piece does before the row of a cps statement: it waits, submits a section, or enters a cps function, as the source does.
-use Rattle.std.proofs.Common.{◌≡◌, ℕ, ◌+◌, ◌<◌, ◌≤◌, true, List, length, Option, ◌∙◌, subst}
+use Rattle.std.proofs.Common.{◌≡◌, ℕ, ◌+◌, ◌<◌, ◌≤◌, true, List, length, Option}
 use Rattle.std.specs.List.{All}
 use Rattle.cpc_base.specs.Bytes.{Text}
-use Rattle.cpc_base.specs.declared.stop.Dialect.TheVariants as D
-use Rattle.cpc_check_laws.specs.Sound.Typed.{FoundTyped}
 use Rattle.cpc_tree.specs.Points.{Simple}
 use Rattle.cpc_tree.specs.Registers.{variables}
 use Rattle.cpc_tree.specs.Syntax.{Ty, Stmt, Function, Program}
@@ -16,7 +14,7 @@ use Rattle.cpc_meaning.specs.Plain.{Frame as CallFrame}
 use Rattle.cpc_meaning.specs.Ways.{AsCps}
 use Rattle.cpc_convert_image_laws.specs.Held.{IsHeldSlot, IsHeldStore, BoxesLive}
 use Rattle.cpc_forms.specs.Flow.{Place}
-use Rattle.cpc_forms.specs.Split.{Position, InGraph}
+use Rattle.cpc_forms.specs.Split.{Position}
 use Rattle.cpc_convert_event.specs.NameLaws.{IsOwner}
 use Rattle.cpc_convert_event.specs.Routines.{routine_of}
 use Rattle.cpc_convert_event.specs.Rows.{has_row}
@@ -27,9 +25,8 @@ use Rattle.cpc_convert_laws.proofs.Related.Relation.{Shared}
 use Rattle.cpc_convert_laws.specs.Piece.Known.{CpsKnown, ProgramKnown}
 use Rattle.cpc_convert_laws.specs.Piece.Rows.{RowAt}
 use Rattle.cpc_convert_laws.specs.Piece.Stood.{NodeAt, LocalsStand, Arrives}
-use Rattle.cpc_convert_laws.proofs.Piece.Environment.{scope_is}
+use Rattle.cpc_convert_laws.proofs.Piece.Acting.{found_typed}
 use Rattle.cpc_convert_laws.proofs.Piece.Nodes.{There, piece_shown}
-use Rattle.cpc_convert_laws.proofs.Piece.Uses.{stood_is}
 use Rattle.cpc_convert_laws.specs.Wait.Asked.{GivenWhereFit, IsWide}
 use Rattle.cpc_convert_laws.specs.Wait.Waiting.{Waiting, CallsCps, CallsWait, Submits}
 use Rattle.cpc_convert_laws.proofs.Wait.Behind.{cps_statements}
@@ -45,11 +42,6 @@ module _ (p : Program) (facts : ProgramKnown p) (names : HasNames p) (fine : Cal
   abbrev pub Here : Ty → Type 0
   Here result' = There p facts fine given bounds f known enough begins l owner lower pointer result frame n at has row w bs c slots slots' stands o arrives store held live result'
 
-  typed_here : (s : Stmt) → at.node.stood ≡ AtStatement (Simple s) → FoundTyped D.Cpc p f at.node.scope (Simple s)
-  typed_here s stood =
-      subst (λ sc. FoundTyped D.Cpc p f sc (Simple s)) (scope_is p f known l owner n at slots slots' lower stands)
-      (facts.positions.typed f.called f (InGraph l n) (Simple s) known.found.named (stood_is p f known l owner n at slots slots' lower stands ∙ stood))
-
   by_kind : (s : Stmt) → Waiting p at.node.scope s → at.node.manner ≡ AsCps → at.node.stood ≡ AtStatement (Simple s) → (result' : Ty) → Here result'
   by_kind _ (CallsCps to x es r ps g meant is_g cps gets) manner stood result' =
       enters_there p facts names fine given fit bounds wide f known enough begins l owner (piece_shown p facts f known l) lower pointer result frame n at has row w bs c slots slots' stands o store held live to x es r ps g meant is_g cps gets stood manner result'
@@ -60,4 +52,4 @@ module _ (p : Program) (facts : ProgramKnown p) (names : HasNames p) (fine : Cal
 
   -- a cps statement
   pub waits : (result' : Ty) (s : Stmt) → at.node.manner ≡ AsCps → at.node.stood ≡ AtStatement (Simple s) → Here result'
-  waits result' s manner stood = by_kind s (cps_statements p names f n at.node s at.is_node stood manner (typed_here s stood)) manner stood result'
+  waits result' s manner stood = by_kind s (cps_statements p names f n at.node s at.is_node stood manner (found_typed p facts f known l owner n at slots slots' lower stands (Simple s) stood)) manner stood result'

@@ -19,6 +19,7 @@ use Rattle.cpc_forms.specs.Split.{Position, split_form}
 use Rattle.cpc_convert_image_laws.specs.InPlace.{is_cps, IsWritten, IsWrittenIf}
 use Rattle.cpc_meaning.specs.Names.{AllNamesIf, AllNamesAmong, AllNamesOf}
 use Rattle.cpc_convert_image_laws.specs.Native.{IsNative}
+pub use Rattle.cpc_convert_chain_laws.specs.Frames.{at as in_scope}
 use Rattle.cpc_convert_laws.specs.Accepted.Accepted.{OfAccepted}
 use Rattle.cpc_convert_laws.specs.Accepted.Known.{Stays}
 
@@ -52,10 +53,6 @@ IsWrittenBy c (Detach to f es) = IsWrittenIf c to
 IsWrittenBy c s = Unit {0}
 
 -- ---- statements
-
--- what expressions are evaluated in, of which only the program and the scope matter here
-abbrev pub in_scope : Program → Scope → List Slot → Store → Context
-in_scope p scope slots s = record { program = p; scope = scope; slots = slots; store = s }
 
 pub record StatementKnown (p : Program) (scope : Scope) (s : Stmt) : Type 0 where
   pub beside : AllNamesBeside (UsedName p scope) s
