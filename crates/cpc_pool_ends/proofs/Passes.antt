@@ -5,14 +5,15 @@ use mathlib.Core.Option.{some, none, some-injective, some-ne-none}
 use lib.ListN.{get_elem?}
 use Rattle.crossbeam_queue.specs.Fifo.{Forks, Merges, Learns}
 use Rattle.crossbeam_queue.proofs.Lists.{at_set}
-use Rattle.cpc_pool_jobs.proofs.Passes.{stays_gone}
+use Rattle.cpc_pool_jobs.proofs.Lists.{differ_kept, each_of, each_weaker, at_end, All, all_set}
+use Rattle.cpc_pool_jobs.proofs.Seats.{seat_old, stays_gone}
 use Rattle.cpc_pool_jobs.proofs.Steps.{never}
 use Rattle.cpc_pool_ends.specs.declared.done.Done.{Done}
 use Rattle.cpc_pool_ends.specs.declared.views.DoneKept.{DoneKept}
 use Rattle.cpc_pool_ends.specs.declared.views.DoneView.{DoneView}
 use Rattle.cpc_pool_ends.specs.Views.{spent, kept_of, hiring, hired, keeping, by, Settled}
 use Rattle.cpc_pool_ends.specs.Rule.{State, Contains, IsKept, Fits, Ruled}
-use Rattle.cpc_pool_ends.proofs.Lists.{differ_kept, each_of, each_weaker, by_none, at_end, All, all_set}
+use Rattle.cpc_pool_ends.proofs.Lists.{by_none}
 use Rattle.cpc_pool_ends.proofs.Steps.{fits_spent}
 
 module _ {J E : Type 0} where
@@ -20,11 +21,8 @@ module _ {J E : Type 0} where
   abbrev with_worker : State J E → ℕ → State J E
   with_worker s q = record { chief = s.chief; popped = s.popped; all = s.all; workers = s.workers + 1; seat = λ k. cond (eqb k s.workers) (some q) (s.seat k) }
 
-  seat_old : (s : State J E) (q k : ℕ) → k < s.workers → (with_worker s q).seat k ≡ s.seat k
-  seat_old s q k lt = ap (λ (b : Bool). cond b (some q) (s.seat k)) (ne_eqb k s.workers (λ e. omega arith))
-
   kept_on : (s : State J E) (q : ℕ) (k : DoneKept J E) → IsKept s k → IsKept (with_worker s q) k
-  kept_on s q k is = (let a = is.0 in omega arith, seat_old s q k.worker is.0 ∙ is.1, is.2)
+  kept_on s q k is = (let a = is.0 in omega arith, seat_old s.seat s.workers q k.worker is.0 ∙ is.1, is.2)
 
   -- one worker less
   abbrev without : State J E → ℕ → State J E
@@ -51,7 +49,7 @@ module _ {J E : Type 0} (ends : J → E → Type 0) where
       ((λ _. (mine.0, mine.1, ap (λ (k : ℕ). k + 1) mine.2, each_weaker (IsKept s) (IsKept t) (kept_on s q) v.kept mine.3, mine.4)), λ e. never e)
       (λ j u other e. let f = h.2 j u e in (
         (λ a. absurd (other ((f.0 a).0 ∙ sym mine.0))),
-        λ a. let g = f.1 a in (let lt = g.0 in omega arith, seat_old s q u.number g.0 ∙ g.1, g.2),
+        λ a. let g = f.1 a in (let lt = g.0 in omega arith, seat_old s.seat s.workers q u.number g.0 ∙ g.1, g.2),
       )) in
       let new : Fits t q (hired v) = (
         (λ e. never e),
@@ -82,7 +80,7 @@ module _ {J E : Type 0} (ends : J → E → Type 0) where
       each_weaker (IsKept s) (λ (k : DoneKept J E). k.worker ≢ u.number) (λ k is e. some-ne-none other (sym theirs.1 ∙ ap s.seat (sym e) ∙ is.1)) v.kept mine.3 in
       let Now : ℕ → DoneView J E → Type 0 = λ j y. j ≢ other → Fits t j y in
       let now : All Now vs = all_set Now views pass (keeping v u)
-      (λ _. ((λ _. (mine.0, mine.1, mine.2, each_of (IsKept t) v.kept (kept_of u.number u.pushed ∷ []) (each_weaker (IsKept s) (IsKept t) (kept_still s u.number) v.kept mine.3) (now_kept, tt), differ_kept v.kept (kept_of u.number u.pushed) mine.4 others_differ)), λ e. never e))
+      (λ _. ((λ _. (mine.0, mine.1, mine.2, each_of (IsKept t) v.kept (kept_of u.number u.pushed ∷ []) (each_weaker (IsKept s) (IsKept t) (kept_still s u.number) v.kept mine.3) (now_kept, tt), differ_kept (λ (k : DoneKept J E). k.worker) v.kept (kept_of u.number u.pushed) mine.4 others_differ)), λ e. never e))
       (λ j y far e away. let f = h.2 j y e in (
         (λ a. absurd (far ((f.0 a).0 ∙ sym mine.0))),
         λ a. let g = f.1 a in (

@@ -1,16 +1,18 @@
 -- The first pass, a push and a pop keep the rule.
 use Rattle.std.proofs.Common.{◌≡◌, ◌≢◌, ℕ, zero, suc, ◌<◌, true, List, [], ◌∷◌, ◌++◌, sym, refl, ap, ◌∙◌, subst, append_assoc}
 use Rattle.std.specs.List.{AllByRecursion}
-use mathlib.Core.Option.{some, none, some-injective, some-ne-none}
+use mathlib.Core.Option.{some, none, some-ne-none}
 use lib.ListN.{get_elem?}
 use Rattle.crossbeam_queue.specs.Fifo.{Pushes, Pops}
+use Rattle.cpc_pool_jobs.proofs.Lists.{each_of, each_at, each_weaker, all_set}
+use Rattle.cpc_pool_jobs.proofs.Seats.{apart, gone}
 use Rattle.cpc_pool_jobs.proofs.Steps.{never}
 use Rattle.cpc_pool_ends.specs.declared.done.Done.{Done}
 use Rattle.cpc_pool_ends.specs.declared.views.DoneKept.{DoneKept}
 use Rattle.cpc_pool_ends.specs.declared.views.DoneView.{DoneView}
 use Rattle.cpc_pool_ends.specs.Views.{loops, worker, spent, after_push, Arrives}
 use Rattle.cpc_pool_ends.specs.Rule.{State, Contains, IsKept, Fits, Ruled}
-use Rattle.cpc_pool_ends.proofs.Lists.{each_of, each_at, each_weaker, by_mine, by_other, all_set}
+use Rattle.cpc_pool_ends.proofs.Lists.{by_mine, by_other}
 
 module _ {J E : Type 0} where
   pub fits_spent : (s : State J E) (q : ℕ) → Fits s q spent
@@ -24,20 +26,13 @@ module _ {J E : Type 0} where
   abbrev longer : State J E → Done J E → State J E
   longer s d = record { chief = s.chief; popped = s.popped; all = s.all ++ d ∷ []; workers = s.workers; seat = s.seat }
 
-  -- whose pass is another, or none, is another worker
-  apart : (s : State J E) (k w q j : ℕ) → s.seat k ≡ some j → s.seat w ≡ some q → j ≢ q → w ≢ k
-  apart s k w q j at_k at_w other e = other (some-injective j q (sym at_k ∙ ap s.seat (sym e) ∙ at_w))
-
-  gone : (s : State J E) (k w q : ℕ) → s.seat k ≡ none → s.seat w ≡ some q → w ≢ k
-  gone s k w q at_k at_w e = some-ne-none q (sym at_w ∙ ap s.seat e ∙ at_k)
-
   kept_stays : (s : State J E) (d : Done J E) (q : ℕ) → s.seat d.worker ≡ some q → (k : DoneKept J E) → IsKept s k → IsKept (longer s d) k
-  kept_stays s d q at k is = (is.0, is.1, is.2 ∙ sym (by_other k.worker s.all d (gone s k.worker d.worker q is.1 at)))
+  kept_stays s d q at k is = (is.0, is.1, is.2 ∙ sym (by_other k.worker s.all d (gone s.seat k.worker d.worker q is.1 at)))
 
   others : (s : State J E) (d : Done J E) (q : ℕ) → s.seat d.worker ≡ some q → (j : ℕ) (u : DoneView J E) → j ≢ q → Fits s j u → Fits (longer s d) j u
   others s d q at j u other f = (
     (λ a. let g = f.0 a in (g.0, g.1, g.2, each_weaker (IsKept s) (IsKept (longer s d)) (kept_stays s d q at) u.kept g.3, g.4)),
-    λ a. let g = f.1 a in (g.0, g.1, g.2 ∙ sym (by_other u.number s.all d (apart s u.number d.worker q j g.1 at other))),
+    λ a. let g = f.1 a in (g.0, g.1, g.2 ∙ sym (by_other u.number s.all d (apart s.seat u.number d.worker q j g.1 at other))),
   )
 
 module _ {J E : Type 0} (ends : J → E → Type 0) where

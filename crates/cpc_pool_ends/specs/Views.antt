@@ -1,7 +1,7 @@
 -- What each pass knows, before and after each kind of step.
-use Rattle.std.specs.Prelude.{◌≡◌, ℕ, ◌+◌, ◌<◌, true, false, cond, eqb, List, [], ◌∷◌, ◌++◌, map}
+use Rattle.std.specs.Prelude.{◌≡◌, ℕ, ◌+◌, ◌<◌, true, false, List, [], ◌∷◌, ◌++◌, map}
 use Rattle.std.specs.List.{AllByRecursion}
-use Rattle.cpc_pool_jobs.specs.Views.{Differ}
+use Rattle.cpc_pool_jobs.specs.Views.{Differ, had_by}
 use Rattle.cpc_pool_ends.specs.declared.done.Done.{Done}
 use Rattle.cpc_pool_ends.specs.declared.views.DoneKept.{DoneKept}
 use Rattle.cpc_pool_ends.specs.declared.views.DoneView.{DoneView}
@@ -40,8 +40,7 @@ module _ {J E : Type 0} where
 
   -- the completions of one worker
   abbrev pub by : ℕ → List (Done J E) → List (Done J E)
-  by w [] = []
-  by w (d ∷ ds) = cond (eqb d.worker w) (d ∷ by w ds) (by w ds)
+  by w ds = had_by (λ (d : Done J E). d.worker) (λ (d : Done J E). d) w ds
 
   -- the workers that have ended, in the order in which they did
   abbrev pub ended : List (DoneKept J E) → List ℕ

@@ -1,4 +1,5 @@
 pub mod Lists
+pub mod Seats
 pub mod Steps
 pub mod Takes
 pub mod Passes

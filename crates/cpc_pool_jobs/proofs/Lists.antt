@@ -1,4 +1,4 @@
--- Lists that rise, what one worker has of a log, and what stands where in a list that was changed.
+-- Lists that rise, what one worker has of a list, and what stands where in a list that was changed.
 use Rattle.std.proofs.Common.{◌≡◌, ◌≢◌, ◌⊎◌, ℕ, zero, suc, ◌<◌, Bool, true, false, cond, eqb, List, [], ◌∷◌, ◌++◌, map, length, set, replicate, sym, refl, ap, ◌∙◌, subst, inl, inr, ⊎_elim, append-nil, eq-eqb, ne_eqb, arith}
 use Rattle.std.specs.List.{AllByRecursion}
 use Rattle.std.proofs.lemmas.List.{map-append}
@@ -8,9 +8,8 @@ use lib.ListN.{get_elem?}
 use Rattle.crossbeam_queue.proofs.Lists.{at_set}
 use Rattle.cpc_pool_jobs.specs.declared.message.Message.{Message}
 use Rattle.cpc_pool_jobs.specs.declared.message.Message.TheVariants as M
-use Rattle.cpc_pool_jobs.specs.declared.views.Kept.{Kept}
 use Rattle.cpc_pool_jobs.specs.declared.views.Taken.{Taken}
-use Rattle.cpc_pool_jobs.specs.Views.{Rises, Differ, ended, numbers, of, taken_by, jobs_in}
+use Rattle.cpc_pool_jobs.specs.Views.{Rises, Differ, had_by, numbers, of, taken_by, jobs_in}
 
 module _ {X : Type 0} (P : X → Type 0) where
   pub each_of : (xs ys : List X) → AllByRecursion P xs → AllByRecursion P ys → AllByRecursion P (xs ++ ys)
@@ -21,18 +20,23 @@ module _ {X : Type 0} (P : X → Type 0) where
   each_first [] ys a = tt
   each_first (x ∷ xs) ys a = (a.0, each_first xs ys a.1)
 
+  pub each_at : (xs : List X) (x : X) (ys : List X) → AllByRecursion P (xs ++ x ∷ ys) → P x
+  each_at [] x ys a = a.0
+  each_at (y ∷ xs) x ys a = each_at xs x ys a.1
+
   pub each_weaker : (Q : X → Type 0) → ((x : X) → P x → Q x) → (xs : List X) → AllByRecursion P xs → AllByRecursion Q xs
   each_weaker Q f [] a = tt
   each_weaker Q f (x ∷ xs) a = (f x a.0, each_weaker Q f xs a.1)
 
 -- one worker more has ended, who is none of those before
-kept_more : (P : ℕ → Type 0) (ks : List Kept) (k : Kept) → AllByRecursion P (ended ks) → P k.worker → AllByRecursion P (ended (ks ++ k ∷ []))
-kept_more P [] k a p = (p, tt)
-kept_more P (j ∷ ks) k a p = (a.0, kept_more P ks k a.1 p)
+module _ {K : Type 0} (whose : K → ℕ) where
+  kept_more : (P : ℕ → Type 0) (ks : List K) (k : K) → AllByRecursion P (map whose ks) → P (whose k) → AllByRecursion P (map whose (ks ++ k ∷ []))
+  kept_more P [] k a p = (p, tt)
+  kept_more P (j ∷ ks) k a p = (a.0, kept_more P ks k a.1 p)
 
-pub differ_kept : (ks : List Kept) (k : Kept) → Differ (ended ks) → AllByRecursion (λ (j : Kept). j.worker ≢ k.worker) ks → Differ (ended (ks ++ k ∷ []))
-differ_kept [] k d a = (tt, tt)
-differ_kept (j ∷ ks) k d a = (kept_more (λ m. j.worker ≢ m) ks k d.0 a.0, differ_kept ks k d.1 a.1)
+  pub differ_kept : (ks : List K) (k : K) → Differ (map whose ks) → AllByRecursion (λ j. whose j ≢ whose k) ks → Differ (map whose (ks ++ k ∷ []))
+  differ_kept [] k d a = (tt, tt)
+  differ_kept (j ∷ ks) k d a = (kept_more (λ m. whose j ≢ m) ks k d.0 a.0, differ_kept ks k d.1 a.1)
 
 pub rises_more : (ns : List ℕ) (n : ℕ) → Rises ns → AllByRecursion (λ m. m < n) ns → Rises (ns ++ n ∷ [])
 rises_more [] n r b = (tt, tt)
@@ -42,23 +46,35 @@ pub rises_first : (ns ms : List ℕ) → Rises (ns ++ ms) → Rises ns
 rises_first [] ms r = tt
 rises_first (n ∷ ns) ms r = (each_first (λ k. n < k) ns ms r.0, rises_first ns ms r.1)
 
-joined : (b : Bool) (n : ℕ) (xs ys : List ℕ) → cond b (n ∷ (xs ++ ys)) (xs ++ ys) ≡ cond b (n ∷ xs) xs ++ ys
-joined true n xs ys = refl
-joined false n xs ys = refl
+-- what one worker has of a list, where an item comes at its end
+module _ {X Y : Type 0} (whose : X → ℕ) (told : X → Y) where
+  abbrev had : ℕ → List X → List Y
+  had w xs = had_by whose told w xs
 
-pub of_append : (w : ℕ) (xs ys : List Taken) → of w (xs ++ ys) ≡ of w xs ++ of w ys
-of_append w [] ys = refl
-of_append w (t ∷ ts) ys = ap (λ (l : List ℕ). cond (eqb t.worker w) (t.number ∷ l) l) (of_append w ts ys) ∙ joined (eqb t.worker w) t.number (of w ts) (of w ys)
+  joined : (b : Bool) (y : Y) (xs ys : List Y) → cond b (y ∷ (xs ++ ys)) (xs ++ ys) ≡ cond b (y ∷ xs) xs ++ ys
+  joined true y xs ys = refl
+  joined false y xs ys = refl
 
+  had_append : (w : ℕ) (xs ys : List X) → had w (xs ++ ys) ≡ had w xs ++ had w ys
+  had_append w [] ys = refl
+  had_append w (x ∷ xs) ys = ap (λ (l : List Y). cond (eqb (whose x) w) (told x ∷ l) l) (had_append w xs ys) ∙ joined (eqb (whose x) w) (told x) (had w xs) (had w ys)
+
+  pub had_mine : (w : ℕ) (xs : List X) (x : X) → whose x ≡ w → had w (xs ++ x ∷ []) ≡ had w xs ++ told x ∷ []
+  had_mine w xs x is = had_append w xs (x ∷ []) ∙ ap (λ (b : Bool). had w xs ++ cond b (told x ∷ []) []) (eq-eqb (whose x) w is)
+
+  pub had_other : (w : ℕ) (xs : List X) (x : X) → whose x ≢ w → had w (xs ++ x ∷ []) ≡ had w xs
+  had_other w xs x other = had_append w xs (x ∷ []) ∙ ap (λ (b : Bool). had w xs ++ cond b (told x ∷ []) []) (ne_eqb (whose x) w other) ∙ append-nil (had w xs)
+
+  pub had_none : (w : ℕ) (xs : List X) → AllByRecursion (λ x. whose x < w) xs → had w xs ≡ []
+  had_none w [] a = refl
+  had_none w (x ∷ xs) a = let lt = a.0 in ap (λ (b : Bool). cond b (told x ∷ had w xs) (had w xs)) (ne_eqb (whose x) w (λ e. omega arith)) ∙ had_none w xs a.1
+
+-- of a log
 pub of_mine : (w n : ℕ) (ts : List Taken) → of w (ts ++ taken_by w n ∷ []) ≡ of w ts ++ n ∷ []
-of_mine w n ts = of_append w ts (taken_by w n ∷ []) ∙ ap (λ (b : Bool). of w ts ++ cond b (n ∷ []) []) (eq-eqb w w refl)
+of_mine w n ts = had_mine (λ (t : Taken). t.worker) (λ (t : Taken). t.number) w ts (taken_by w n) refl
 
 pub of_other : (w u n : ℕ) (ts : List Taken) → u ≢ w → of w (ts ++ taken_by u n ∷ []) ≡ of w ts
-of_other w u n ts other = of_append w ts (taken_by u n ∷ []) ∙ ap (λ (b : Bool). of w ts ++ cond b (n ∷ []) []) (ne_eqb u w other) ∙ append-nil (of w ts)
-
-pub of_none : (w : ℕ) (ts : List Taken) → AllByRecursion (λ (t : Taken). t.worker < w) ts → of w ts ≡ []
-of_none w [] a = refl
-of_none w (t ∷ ts) a = let lt = a.0 in ap (λ (b : Bool). cond b (t.number ∷ of w ts) (of w ts)) (ne_eqb t.worker w (λ e. omega arith)) ∙ of_none w ts a.1
+of_other w u n ts other = had_other (λ (t : Taken). t.worker) (λ (t : Taken). t.number) w ts (taken_by u n) other
 
 pub numbers_more : (ts : List Taken) (w n : ℕ) → numbers (ts ++ taken_by w n ∷ []) ≡ numbers ts ++ n ∷ []
 numbers_more ts w n = map-append (λ (t : Taken). t.number) ts (taken_by w n ∷ [])

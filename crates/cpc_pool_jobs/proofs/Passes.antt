@@ -1,7 +1,7 @@
 -- A pass that is split off, a pass that is joined, and what the submitter learns.
-use Rattle.std.proofs.Common.{◌≡◌, ◌≢◌, ℕ, ◌+◌, ◌<◌, Bool, true, false, cond, eqb, List, [], ◌∷◌, ◌++◌, length, map, set, sym, refl, ap, ◌∙◌, subst, ⊎_elim, eq-eqb, ne_eqb, arith}
+use Rattle.std.proofs.Common.{◌≡◌, ◌≢◌, ℕ, ◌+◌, ◌<◌, Bool, true, cond, eqb, List, [], ◌∷◌, ◌++◌, length, map, set, sym, refl, ap, ◌∙◌, subst, ⊎_elim, eq-eqb, ne_eqb, arith}
 use Rattle.std.specs.List.{AllByRecursion}
-use mathlib.Core.Option.{Option, some, none, some-injective, some-ne-none}
+use mathlib.Core.Option.{some, none, some-injective, some-ne-none}
 use lib.ListN.{get_elem?}
 use Rattle.crossbeam_channel.specs.Fifo.{Forks, Merges, Learns}
 use Rattle.crossbeam_queue.proofs.Lists.{at_set}
@@ -10,18 +10,16 @@ use Rattle.cpc_pool_jobs.specs.declared.views.Taken.{Taken}
 use Rattle.cpc_pool_jobs.specs.declared.views.View.{View}
 use Rattle.cpc_pool_jobs.specs.Views.{spent, kept_of, hiring, hired, keeping, Rises, numbers, of, jobs_in, Sees, Settled}
 use Rattle.cpc_pool_jobs.specs.Rule.{State, Contains, IsKept, Fits, Ruled}
-use Rattle.cpc_pool_jobs.proofs.Lists.{differ_kept, each_of, each_weaker, of_none, jobs_are, at_end, All, all_set}
+use Rattle.cpc_pool_jobs.proofs.Lists.{differ_kept, each_of, each_weaker, had_none, jobs_are, at_end, All, all_set}
+use Rattle.cpc_pool_jobs.proofs.Seats.{seat_old, stays_gone}
 use Rattle.cpc_pool_jobs.proofs.Steps.{never, fits_spent}
 
 -- one worker more, with the pass q
 abbrev with_worker : State → ℕ → State
 with_worker s q = record { chief = s.chief; sent = s.sent; log = s.log; stops = s.stops; workers = s.workers + 1; seat = λ k. cond (eqb k s.workers) (some q) (s.seat k) }
 
-seat_old : (s : State) (q k : ℕ) → k < s.workers → (with_worker s q).seat k ≡ s.seat k
-seat_old s q k lt = ap (λ (b : Bool). cond b (some q) (s.seat k)) (ne_eqb k s.workers (λ e. omega arith))
-
 kept_on : (s : State) (q : ℕ) (k : Kept) → IsKept s k → IsKept (with_worker s q) k
-kept_on s q k is = (let a = is.0 in omega arith, seat_old s q k.worker is.0 ∙ is.1, is.2)
+kept_on s q k is = (let a = is.0 in omega arith, seat_old s.seat s.workers q k.worker is.0 ∙ is.1, is.2)
 
 module _ {J : Type 0} (number : J → ℕ) (meets : J → Type 0) where
   pub forks : (pass : ℕ) (v : View) → v.submits ≡ true → Forks (Ruled number meets) pass v (hiring v) (hired v)
@@ -46,14 +44,14 @@ module _ {J : Type 0} (number : J → ℕ) (meets : J → Type 0) where
       ((λ _. (mine.0, mine.1, mine.2, ap (λ (k : ℕ). k + 1) mine.3, each_weaker (IsKept s) (IsKept t) (kept_on s q) v.kept mine.4, mine.5)), λ e. never e)
       (λ j u other e. let f = h.2 j u e in (
         (λ a. absurd (other ((f.0 a).0 ∙ sym mine.0))),
-        λ a. let g = f.1 a in (let lt = g.0 in omega arith, seat_old s q u.number g.0 ∙ g.1, g.2, g.3),
+        λ a. let g = f.1 a in (let lt = g.0 in omega arith, seat_old s.seat s.workers q u.number g.0 ∙ g.1, g.2, g.3),
       )) in
       let new : Fits t q (hired v) = (
         (λ e. never e),
         λ _. (
           let a = mine.3 in omega arith,
           ap (λ (b : Bool). cond b (some q) (s.seat v.workers)) (eq-eqb v.workers s.workers mine.3),
-          sym (ap (λ (k : ℕ). of k s.log) mine.3 ∙ of_none s.workers s.log c.known),
+          sym (ap (λ (k : ℕ). of k s.log) mine.3 ∙ had_none (λ (k : Taken). k.worker) (λ (k : Taken). k.number) s.workers s.log c.known),
           (s.log, refl),
         ),
       ) in (
@@ -66,10 +64,6 @@ module _ {J : Type 0} (number : J → ℕ) (meets : J → Type 0) where
 -- one worker less
 abbrev without : State → ℕ → State
 without s w = record { chief = s.chief; sent = s.sent; log = s.log; stops = s.stops; workers = s.workers; seat = λ k. cond (eqb k w) none (s.seat k) }
-
-pub stays_gone : (b : Bool) (o : Option ℕ) → o ≡ none → cond b none o ≡ none
-stays_gone true o e = refl
-stays_gone false o e = e
 
 kept_still : (s : State) (w : ℕ) (k : Kept) → IsKept s k → IsKept (without s w) k
 kept_still s w k is = (is.0, stays_gone (eqb k.worker w) (s.seat k.worker) is.1, is.2)
@@ -90,7 +84,7 @@ module _ {J : Type 0} (number : J → ℕ) (meets : J → Type 0) where
       each_weaker (IsKept s) (λ (k : Kept). k.worker ≢ u.number) (λ k is e. some-ne-none other (sym theirs.1 ∙ ap s.seat (sym e) ∙ is.1)) v.kept mine.4 in
       let Now : ℕ → View → Type 0 = λ j y. j ≢ other → Fits t j y in
       let now : All Now vs = all_set Now views pass (keeping v u)
-      (λ _. ((λ _. (mine.0, mine.1, mine.2, mine.3, each_of (IsKept t) v.kept (kept_of u.number u.taken ∷ []) (each_weaker (IsKept s) (IsKept t) (kept_still s u.number) v.kept mine.4) (now_kept, tt), differ_kept v.kept (kept_of u.number u.taken) mine.5 others_differ)), λ e. never e))
+      (λ _. ((λ _. (mine.0, mine.1, mine.2, mine.3, each_of (IsKept t) v.kept (kept_of u.number u.taken ∷ []) (each_weaker (IsKept s) (IsKept t) (kept_still s u.number) v.kept mine.4) (now_kept, tt), differ_kept (λ (k : Kept). k.worker) v.kept (kept_of u.number u.taken) mine.5 others_differ)), λ e. never e))
       (λ j y far e away. let f = h.2 j y e in (
         (λ a. absurd (far ((f.0 a).0 ∙ sym mine.0))),
         λ a. let g = f.1 a in (

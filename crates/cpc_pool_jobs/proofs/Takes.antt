@@ -1,7 +1,7 @@
 -- A receive keeps the rule, and tells the worker that the job is the next one.
 use Rattle.std.proofs.Common.{◌≡◌, ◌≢◌, ℕ, suc, ◌<◌, ◌≤◌, true, List, [], ◌∷◌, ◌++◌, map, set, replicate, sym, refl, ap, ◌∙◌, subst, ⊎_elim, append_assoc, append-nil, arith}
 use Rattle.std.specs.List.{AllByRecursion}
-use mathlib.Core.Option.{some, none, some-injective, some-ne-none}
+use mathlib.Core.Option.{some}
 use lib.ListN.{get_elem?}
 use Rattle.crossbeam_channel.specs.Fifo.{Pops}
 use Rattle.cpc_pool_jobs.specs.declared.message.Message.{Message}
@@ -12,21 +12,15 @@ use Rattle.cpc_pool_jobs.specs.declared.views.View.{View}
 use Rattle.cpc_pool_jobs.specs.Views.{worker, taken_by, Rises, numbers, of, StartsWith, TakesJob, Takes}
 use Rattle.cpc_pool_jobs.specs.Rule.{State, Contains, IsKept, Fits, Ruled}
 use Rattle.cpc_pool_jobs.proofs.Lists.{each_of, each_weaker, rises_first, of_mine, of_other, numbers_more, front, All, all_set}
+use Rattle.cpc_pool_jobs.proofs.Seats.{apart, gone}
 use Rattle.cpc_pool_jobs.proofs.Steps.{never}
 
 -- the log, longer by a job of the worker w
 abbrev after : State → ℕ → ℕ → State
 after s w n = record { chief = s.chief; sent = s.sent; log = s.log ++ taken_by w n ∷ []; stops = s.stops; workers = s.workers; seat = s.seat }
 
--- two workers with different passes have different numbers
-apart : (s : State) (k w q j : ℕ) → s.seat k ≡ some j → s.seat w ≡ some q → j ≢ q → w ≢ k
-apart s k w q j at_k at_w other e = other (some-injective j q (sym at_k ∙ ap s.seat (sym e) ∙ at_w))
-
-gone : (s : State) (k w q : ℕ) → s.seat k ≡ none → s.seat w ≡ some q → w ≢ k
-gone s k w q at_k at_w e = some-ne-none q (sym at_w ∙ ap s.seat e ∙ at_k)
-
 kept_stays : (s : State) (w n q : ℕ) → s.seat w ≡ some q → (k : Kept) → IsKept s k → IsKept (after s w n) k
-kept_stays s w n q at k is = (is.0, is.1, is.2 ∙ sym (of_other k.worker w n s.log (gone s k.worker w q is.1 at)))
+kept_stays s w n q at k is = (is.0, is.1, is.2 ∙ sym (of_other k.worker w n s.log (gone s.seat k.worker w q is.1 at)))
 
 begins_more : (log seen : List Taken) (t : Taken) → StartsWith log seen → StartsWith (log ++ t ∷ []) seen
 begins_more log seen t h = (h.0 ++ t ∷ [], ap (λ (l : List Taken). l ++ t ∷ []) h.1 ∙ append_assoc seen h.0 (t ∷ []))
@@ -35,7 +29,7 @@ others : (s : State) (w n q : ℕ) → s.seat w ≡ some q → (j : ℕ) (u : Vi
 others s w n q at j u other f = (
   (λ a. let g = f.0 a in (g.0, g.1, g.2, g.3, each_weaker (IsKept s) (IsKept (after s w n)) (kept_stays s w n q at) u.kept g.4, g.5)),
   λ a. let g = f.1 a in
-      (g.0, g.1, g.2 ∙ sym (of_other u.number w n s.log (apart s u.number w q j g.1 at other)), begins_more s.log u.seen (taken_by w n) g.3),
+      (g.0, g.1, g.2 ∙ sym (of_other u.number w n s.log (apart s.seat u.number w q j g.1 at other)), begins_more s.log u.seen (taken_by w n) g.3),
 )
 
 module _ {J : Type 0} (number : J → ℕ) (meets : J → Type 0) where

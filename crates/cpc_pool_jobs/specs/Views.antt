@@ -47,10 +47,14 @@ Rises (n ∷ ns) = AllByRecursion (λ m. n < m) ns × Rises ns
 abbrev pub numbers : List Taken → List ℕ
 numbers log = map (λ (t : Taken). t.number) log
 
+-- what one worker has of a list, by the worker of each item and what is told of it
+abbrev pub had_by : {X Y : Type 0} → (X → ℕ) → (X → Y) → ℕ → List X → List Y
+had_by whose told w [] = []
+had_by whose told w (x ∷ xs) = cond (eqb (whose x) w) (told x ∷ had_by whose told w xs) (had_by whose told w xs)
+
 -- what one worker took
 abbrev pub of : ℕ → List Taken → List ℕ
-of w [] = []
-of w (t ∷ ts) = cond (eqb t.worker w) (t.number ∷ of w ts) (of w ts)
+of w ts = had_by (λ (t : Taken). t.worker) (λ (t : Taken). t.number) w ts
 
 -- no two are the same
 abbrev pub Differ : List ℕ → Type 0
