@@ -9,6 +9,7 @@ use Rattle.cpc_meaning.specs.Section as M
 use Rattle.cpc_sections.specs.Backs.{CollectsAs}
 use Rattle.cpc_sections.specs.Jobs.{end_of, EndsAs}
 use Rattle.cpc_sections.specs.declared.job.SectionEnd.{SectionEnd}
+use Rattle.cpc_sections.proofs.Telling.{and_told}
 use Rattle.cpc_run_jobs.specs.Telling.{behind}
 
 -- what is the same stands for it
@@ -22,15 +23,10 @@ collects_through c d (C.AllGave vs s) h k = subst (CollectsAs c) k h
 collects_through c d (C.OneFailed fault f) h k = subst (CollectsAs c) k h
 collects_through c d C.NotClear h k = tt
 
-value_before : (v : Value) (c d : C.Collected) → CollectsAs c d → CollectsAs (C.and_value v c) (C.and_value v d)
-value_before v c (C.AllGave vs s) h = ap (C.and_value v) h
-value_before v c (C.OneFailed fault f) h = ap (C.and_value v) h
-value_before v c C.NotClear h = tt
-
 -- behind the same values
 pub behind_both : (vs : List Value) (c d : C.Collected) → CollectsAs c d → CollectsAs (behind vs c) (behind vs d)
 behind_both [] c d h = h
-behind_both (v ∷ vs) c d h = value_before v (behind vs c) (behind vs d) (behind_both vs c d h)
+behind_both (v ∷ vs) c d h = and_told v (behind vs c) (behind vs d) (behind_both vs c d h)
 
 pub behind_more : (vs : List Value) (v : Value) (c : C.Collected) → behind (vs ++ v ∷ []) c ≡ behind vs (C.and_value v c)
 behind_more [] v c = refl

@@ -5,6 +5,7 @@ use Rattle.std.specs.Option.{option_map}
 use Rattle.std.proofs.lemmas.List.{map-append, take_all}
 use Rattle.std.proofs.Math.Seq.{take-suc}
 use Rattle.cpc_base.specs.declared.names.Name.{Name}
+use Rattle.cpc_base.proofs.Truth.{and_with_false}
 use Rattle.cpc_num.specs.declared.kinds.Kind.{Kind}
 use Rattle.cpc_num.specs.declared.kinds.Kind.TheVariants as K
 use Rattle.cpc_num.specs.declared.kinds.Fault.TheVariants as F
@@ -75,11 +76,7 @@ both (x ∷ xs) v h k = go (is_integer x) (λ e. both xs v e k) h
 pub no_integer : {C : Type 0} (cells : List (ValueOf C)) (k : ℕ) (d : ValueOf C) → k < length cells → is_integer (get_or cells k d) ≡ false → are_integers cells ≡ false
 no_integer [] k d lt e = absurd (omega arith)
 no_integer (v ∷ vs) zero d lt e = ap (λ b. b && are_integers vs) e
-no_integer (v ∷ vs) (suc k) d lt e = go (is_integer v) (no_integer vs k d (omega arith) e)
-  where
-    go : (b : Bool) → are_integers vs ≡ false → (b && are_integers vs) ≡ false
-    go true more = more
-    go false more = refl
+no_integer (v ∷ vs) (suc k) d lt e = ap (λ b. is_integer v && b) (no_integer vs k d (omega arith) e) ∙ and_with_false (is_integer v)
 
 pub read_next : (read new : List V.Value) (v : V.Value) (cells : List (ValueOf Name)) (k : ℕ) → k < length cells → new ≡ read ++ v ∷ [] → map seen read ≡ take k cells → are_integers (take k cells) ≡ true
     → seen v ≡ get_or cells k Unset → is_integer (get_or cells k Unset) ≡ true → (map seen new ≡ take (k + 1) cells) × (are_integers (take (k + 1) cells) ≡ true)

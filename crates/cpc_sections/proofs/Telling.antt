@@ -12,7 +12,8 @@ use Rattle.cpc_sections.specs.Jobs.{job_of, end_of, EndsAs}
 use Rattle.cpc_sections.specs.declared.collected.Finished.{Finished}
 use Rattle.cpc_sections.specs.declared.job.SectionEnd.{SectionEnd}
 
-and_told : (v : Value) (c d : C.Collected) → CollectsAs c d → CollectsAs (C.and_value v c) (C.and_value v d)
+-- behind the same value
+pub and_told : (v : Value) (c d : C.Collected) → CollectsAs c d → CollectsAs (C.and_value v c) (C.and_value v d)
 and_told v c (C.AllGave vs s) h = ap (C.and_value v) h
 and_told v c (C.OneFailed fault f) h = ap (C.and_value v) h
 and_told v c C.NotClear h = tt
