@@ -1,10 +1,10 @@
 -- A call that breaks no rule is well typed.
-use Rattle.std.proofs.Common.{◌≡◌, ◌&&◌, ◌==◌, ◌-◌, not, ℕ, suc, Bool, true, false, cond, List, [], ◌∷◌, ◌++◌, map, length, Option, Some, None, refl, sym, ◌∙◌, ap, subst, arith, max, replicate}
+use Rattle.std.proofs.Common.{◌≡◌, ◌&&◌, ◌==◌, ◌-◌, not, ℕ, suc, true, false, cond, List, [], ◌∷◌, ◌++◌, map, length, Option, Some, None, refl, sym, ◌∙◌, ap, subst, arith, max, replicate}
 use Rattle.cpc_base.specs.Bytes.{Text}
 use Rattle.cpc_base.specs.declared.stop.Place.{Place}
 use Rattle.cpc_base.specs.declared.stop.Dialect.{Dialect}
 use Rattle.cpc_base.specs.declared.stop.Dialect.TheVariants as D
-use Rattle.cpc_base.proofs.Truth.{by_false_true, eq_means, and_fails_second, not_fails}
+use Rattle.cpc_base.proofs.Truth.{by_false_true, eq_means, and_with_true, and_not_fails}
 use Rattle.cpc_base.proofs.Lists.{some_is}
 use Rattle.cpc_num.specs.declared.kinds.Kind.TheVariants.{Int}
 use Rattle.cpc_tree.specs.declared.program.Mode.{Mode}
@@ -120,17 +120,9 @@ module _ (d : Dialect) (p : Program) (facts : Facts p) (f : Function) (w : Where
   number_here (Takes us u) ws r es q e h = eq_means (length (count es)) (length us) (holds_then (length (count es) == length us) q WrongNumber h) ∙ ap (λ c. length (wanted c)) e
   number_here NoCallee ws r es q e h = absurd (cc)
 
-  for_cpc : (a b : Bool) → (a && true) ≡ false → not a ≡ true
-  for_cpc true b h = by_false_true (sym h)
-  for_cpc false b h = refl
-
   primitive_for : (e : Dialect) (prim : Primitive) (q : Place) → (at_if (is_rt prim && not (is_event e)) q RtCall ++ at_if (gives_up prim && is_event e) q CpsForm) ≡ [] → is_for e prim ≡ true
-  primitive_for D.Cpc prim q h = for_cpc (is_rt prim) true (unbroken (is_rt prim && true) q RtCall (split (at_if (is_rt prim && true) q RtCall) (at_if (gives_up prim && false) q CpsForm) h).0)
-  primitive_for D.Event prim q h = for_cpc (gives_up prim) true (unbroken (gives_up prim && true) q CpsForm (split (at_if (is_rt prim && false) q RtCall) (at_if (gives_up prim && true) q CpsForm) h).1)
-
-  -- a detached function calls what is closed
-  closes : (a b : Bool) → (a && not b) ≡ false → a ≡ true → b ≡ true
-  closes a b h e = not_fails b (and_fails_second a (not b) h e)
+  primitive_for D.Cpc prim q h = ap not (sym (and_with_true (is_rt prim)) ∙ unbroken (is_rt prim && true) q RtCall (split (at_if (is_rt prim && true) q RtCall) (at_if (gives_up prim && false) q CpsForm) h).0)
+  primitive_for D.Event prim q h = ap not (sym (and_with_true (gives_up prim)) ∙ unbroken (gives_up prim && true) q CpsForm (split (at_if (is_rt prim && false) q RtCall) (at_if (gives_up prim && true) q CpsForm) h).1)
 
   -- what a call is
   abbrev CallOk : Callee → Expr → LExprs → Type 0
@@ -153,20 +145,16 @@ module _ (d : Dialect) (p : Program) (facts : Facts p) (f : Function) (w : Where
       subst (Calls d p f.mode scope (ENamed x) (bare_exprs es)) g.3
       (CallsFunction x mode r ps g.0 (bare_exprs es) own is_m g.1 (λ k. ap is_detached g.2 ∙ closed (around ∙ k)) (λ k. ap is_cps (sym at.mode) ∙ cps (ap is_cps (sym g.2) ∙ k)) (subst (λ us. AllGet p scope us (bare_exprs es)) (sym g.4) gets))
 
-  no_detached : (a : Bool) → (a && true) ≡ false → a ≡ false
-  no_detached true h = by_false_true (sym h)
-  no_detached false h = refl
-
   function_call : (x : Text) (q : Place) (mode : Mode) (r : Ty) (ps : List Ty) (es : LExprs) → meant w.scope x ≡ AFunction mode r ps → function_breaks w q mode ≡ [] → AllGet p scope ps (bare_exprs es)
       → Calls d p f.mode scope (ENamed x) (bare_exprs es) r
   function_call x q mode r ps es e h gets =
       let k = split (at_if (is_cps mode && not (is_cps w.mode)) q CpsInNative) (at_if (is_detached w.mode && not (is_detached mode)) q NotClosed) h in
-      go mode e (unbroken (is_detached w.mode && not (is_detached mode)) q NotClosed k.1) (closes (is_cps mode) (is_cps w.mode) (unbroken (is_cps mode && not (is_cps w.mode)) q CpsInNative k.0))
+      go mode e (unbroken (is_detached w.mode && not (is_detached mode)) q NotClosed k.1) (and_not_fails (is_cps mode) (is_cps w.mode) (unbroken (is_cps mode && not (is_cps w.mode)) q CpsInNative k.0))
     where
       go : (mode : Mode) → meant w.scope x ≡ AFunction mode r ps → (is_detached w.mode && not (is_detached mode)) ≡ false → (is_cps mode ≡ true → is_cps w.mode ≡ true) → Calls d p f.mode scope (ENamed x) (bare_exprs es) r
-      go Extern e i cps = host_call x r ps es e (no_detached (is_detached w.mode) i) gets
-      go Native e i cps = own_call x Native r ps es refl e (closes (is_detached w.mode) false i) cps gets
-      go Cps e i cps = own_call x Cps r ps es refl e (closes (is_detached w.mode) false i) cps gets
+      go Extern e i cps = host_call x r ps es e (sym (and_with_true (is_detached w.mode)) ∙ i) gets
+      go Native e i cps = own_call x Native r ps es refl e (and_not_fails (is_detached w.mode) false i) cps gets
+      go Cps e i cps = own_call x Cps r ps es refl e (and_not_fails (is_detached w.mode) false i) cps gets
       go Detached e i cps = own_call x Detached r ps es refl e (λ k. refl) cps gets
 
   primitive_call : (x : Text) (q : Place) (prim : Primitive) (es : LExprs) → meant w.scope x ≡ NotMeant → primitive_named x ≡ Some prim → primitive_breaks w q prim ≡ [] → TakesArguments p scope prim (bare_exprs es)
@@ -176,8 +164,8 @@ module _ (d : Dialect) (p : Program) (facts : Facts p) (f : Function) (w : Where
       let h1 = split (at_if (gives_up prim && not (is_cps w.mode)) q CpsInNative) _ h in
       let h2 = split (at_if (is_detached w.mode && not (is_closed prim)) q NotClosed) _ h1.1 in
       CallsPrimitive x prim (bare_exprs es) is_m is_prim (subst (λ d. is_for d prim ≡ true) at.dialect (primitive_for w.dialect prim q h2.1))
-      (λ k. closes (is_detached w.mode) (is_closed prim) (unbroken (is_detached w.mode && not (is_closed prim)) q NotClosed h2.0) (around ∙ k))
-      (λ k. ap is_cps (sym at.mode) ∙ closes (gives_up prim) (is_cps w.mode) (unbroken (gives_up prim && not (is_cps w.mode)) q CpsInNative h1.0) k) gets
+      (λ k. and_not_fails (is_detached w.mode) (is_closed prim) (unbroken (is_detached w.mode && not (is_closed prim)) q NotClosed h2.0) (around ∙ k))
+      (λ k. ap is_cps (sym at.mode) ∙ and_not_fails (gives_up prim) (is_cps w.mode) (unbroken (gives_up prim && not (is_cps w.mode)) q CpsInNative h1.0) k) gets
 
   code_of : (o : Option Ty) → is_code o ≡ true → (r : Ty) × (ps : Tys) × (o ≡ Some (TyCode r ps))
   code_of (Some (TyCode r ps)) h = (r, ps, refl)

@@ -2,7 +2,8 @@
 use Rattle.std.proofs.Common.{◌≡◌, ℕ, zero, suc, Bool, true, false, cond, [], ◌∷◌, Option, Some, None, bytes_eq, refl, sym, ap, subst}
 use Rattle.cpc_base.specs.Bytes.{Text}
 use Rattle.cpc_tree.specs.Syntax.{Expr, Stmt, Block, Empty, Declare, Assign, Call, Detach, Spawn, If, While, DoWhile, For, Goto, Label, Break, Continue, Return, Stmts, NoStmt, AndStmt, MaybeStmt, Absent, Present}
-use Rattle.cpc_tree.specs.Points.{Part, Nth, TheTest, TheYes, TheNo, TheStep, TheBody, Path, Here, End, Found, Nothing, found, found_in, found_arm, enter, Move, Into, Out, ToLabel, Broken, Continued, NoMove, under, later, or_out, loop_out, if_holds, enter_rest, enter_arm, enter_step, after, after_all, after_arm, labelled, labelled_in, labelled_arm, path_under, path_later, or_else, begin, at_label, arrived, next_point}
+use Rattle.cpc_tree.specs.Points.{Part, Nth, TheTest, TheYes, TheNo, TheStep, TheBody, Path, Here, End, Found, found, found_in, found_arm, enter, Move, Into, Out, ToLabel, Broken, Continued, NoMove, under, later, or_out, loop_out, if_holds, enter_rest, enter_arm, enter_step, after, after_all, after_arm, labelled, labelled_in, labelled_arm, path_under, path_later, or_else, begin, at_label, arrived, next_point}
+use Rattle.cpc_meaning.proofs.Standing.{in_block as in_row}
 use Rattle.cpc_check_laws.specs.Sound.Promises.{ControlStays}
 use Rattle.cpc_check_laws.specs.Sound.Control.{Controlled, AllControlled, ArmControlled, IsLabel, StaysIn, Stands, GoesOnward, IsPoint, HasNext}
 
@@ -29,11 +30,6 @@ stands_enter Continue = tt
 stands_enter (Return v) = tt
 
 -- ---- moves, by what stands at a path
-
--- what stands at a path of a row of statements
-abbrev in_row : Stmts → Path → Found
-in_row ss (Nth n ∷ p) = found_in ss n p
-in_row ss _ = Nothing
 
 module _ (L : Text → Type 0) where
   -- a move to something that stands there, to a label, or out of a loop where one is around

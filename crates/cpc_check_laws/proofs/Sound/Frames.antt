@@ -1,8 +1,8 @@
 -- Frames of typed functions: the slots that a call makes, and a step of the innermost frame.
-use Rattle.std.proofs.Common.{◌≡◌, ◌==◌, ◌||◌, not, ℕ, zero, suc, ◌+◌, Bool, true, false, List, [], ◌∷◌, ◌++◌, map, slice_get, Option, Some, None, refl, sym, ◌∙◌, ap, subst, arith}
+use Rattle.std.proofs.Common.{◌≡◌, ◌==◌, not, ℕ, zero, suc, ◌+◌, Bool, true, false, List, [], ◌∷◌, ◌++◌, map, slice_get, Option, Some, None, refl, sym, ◌∙◌, ap, subst, arith}
 use Rattle.cpc_base.specs.Bytes.{Text}
 use Rattle.cpc_base.specs.declared.stop.Dialect.{Dialect}
-use Rattle.cpc_base.proofs.Truth.{by_false_true, and_both, eq_reflexive}
+use Rattle.cpc_base.proofs.Truth.{by_false_true, and_both, eq_reflexive, or_by_first, or_by_second, not_holds}
 use Rattle.cpc_tree.specs.Syntax.{Ty, Variable, Parameter, Function, Program}
 use Rattle.cpc_tree.specs.Lists.{first_or, rest_of, holds_number}
 use Rattle.cpc_tree.specs.Typing.{is_scalar, size, function_named, parameter_types, parameter_type}
@@ -74,28 +74,16 @@ none_boxed f n (suc k) (Boxed m ∷ slots) h e = none_boxed f (suc n) k slots h 
 all_within : (f : Function) (slots : List Slot) (ks : List ℕ) → NoneTaken f 0 slots → ((k : ℕ) → holds_number ks k ≡ true → holds_number (addressed f) k ≡ true) → AllBoxed slots ks
 all_within f slots [] h w = tt
 all_within f slots (k ∷ ks) h w = (
-  none_boxed f 0 k slots h (subst (λ m. holds_number (addressed f) m ≡ true) (let i : k ≡ 0 + k = omega arith in i) (w k (first_holds (k == k) (eq_reflexive k)))),
-  all_within f slots ks h (λ j e. w j (later_holds (k == j) e)),
+  none_boxed f 0 k slots h (subst (λ m. holds_number (addressed f) m ≡ true) (let i : k ≡ 0 + k = omega arith in i) (w k (or_by_first (k == k) (holds_number ks k) (eq_reflexive k)))),
+  all_within f slots ks h (λ j e. w j (or_by_second (k == j) (holds_number ks j) e)),
 )
-  where
-    first_holds : (b : Bool) → b ≡ true → (b || holds_number ks k) ≡ true
-    first_holds true e = refl
-    first_holds false e = by_false_true e
-
-    later_holds : {b : Bool} (a : Bool) → b ≡ true → (a || b) ≡ true
-    later_holds true e = refl
-    later_holds false e = e
 
 -- the slots of variables from the n-th on
 abbrev Made : Function → ℕ → List Variable → Store → List Slot × Store → Type 0
 Made f n xs s r = SuitSlots (map (λ (x : Variable). x.type) xs) r.0 × NoneTaken f n r.0 × CopyStays s r.1
 
 register_is : (f : Function) (n : ℕ) (x : Variable) → is_register f n x ≡ true → (is_scalar x.type ≡ true) × (holds_number (addressed f) n ≡ false)
-register_is f n x e = let h = and_both (is_scalar x.type) (not (holds_number (addressed f) n)) e in (h.0, go (holds_number (addressed f) n) h.1)
-  where
-    go : (b : Bool) → not b ≡ true → b ≡ false
-    go true i = by_false_true i
-    go false i = refl
+register_is f n x e = let h = and_both (is_scalar x.type) (not (holds_number (addressed f) n)) e in (h.0, not_holds (holds_number (addressed f) n) h.1)
 
 made_come : (p : Program) (f : Function) (n : ℕ) (xs : List Variable) (vs : List Value) (s : Store) → AllSized p xs → Given xs vs → Comes (Made f n xs s) (make_slots p f n xs vs s)
 made_come p f n [] vs s z g = (tt, tt, λ h. h)

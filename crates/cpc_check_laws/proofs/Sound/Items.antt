@@ -2,7 +2,7 @@
 use Rattle.std.proofs.Common.{◌≡◌, ◌⊎◌, inl, inr, ◌&&◌, ◌||◌, not, ℕ, suc, Bool, true, false, cond, List, [], ◌∷◌, ◌++◌, map, reverse, Option, Some, None, bytes_eq, refl, sym, ◌∙◌, ap, subst}
 use Rattle.std.proofs.lemmas.List.{reverse-append}
 use Rattle.cpc_base.specs.Bytes.{Text}
-use Rattle.cpc_base.proofs.Truth.{by_false_true, and_both, or_neither, and_fails_second}
+use Rattle.cpc_base.proofs.Truth.{by_false_true, and_both, or_neither, and_fails_second, and_not_fails, or_by_second}
 use Rattle.cpc_tree.specs.declared.program.Mode.{Mode}
 use Rattle.cpc_tree.specs.Syntax.{Ty, Function, Item, StructItem, GlobalItem, PrototypeItem, FunctionItem, Program}
 use Rattle.cpc_tree.specs.Typing.{Meant, ALocal, AGlobal, AFunction, NotMeant, item_named, function_named, parameter_type, same_type}
@@ -70,12 +70,7 @@ agrees_is new mode r ps e =
 
 -- neither a clash nor a disagreement
 pub settled : (new : Signature) (mode : Mode) (is_defined : Bool) (r : Ty) (ps : List Ty) → clashes new mode is_defined ≡ false → disagrees new mode is_defined r ps ≡ false → AFunction mode r ps ≡ signed new
-settled new mode is_defined r ps c e = agrees_is new mode r ps (go (clashes new mode is_defined) (agrees new mode r ps) c e)
-  where
-    go : (a b : Bool) → a ≡ false → (not a && not b) ≡ false → b ≡ true
-    go true b h e = by_false_true (sym h)
-    go false true h e = refl
-    go false false h e = by_false_true (sym e)
+settled new mode is_defined r ps c e = agrees_is new mode r ps (and_not_fails (not (clashes new mode is_defined)) (agrees new mode r ps) e (ap not c))
 
 -- what was declared of a name before is what is declared now
 abbrev pub Agreed : Signature → Meant → Type 0
@@ -152,8 +147,4 @@ function_there [] rest f x e = ap (λ b. b || is_function x rest) e
 function_there (StructItem tag fs ∷ before) rest f x e = function_there before rest f x e
 function_there (GlobalItem y t start ∷ before) rest f x e = function_there before rest f x e
 function_there (PrototypeItem mode g r ps ∷ before) rest f x e = function_there before rest f x e
-function_there (FunctionItem g ∷ before) rest f x e = go (bytes_eq g.called x) (function_there before rest f x e)
-  where
-    go : (b : Bool) → is_function x (before ++ FunctionItem f ∷ rest) ≡ true → (b || is_function x (before ++ FunctionItem f ∷ rest)) ≡ true
-    go true h = refl
-    go false h = h
+function_there (FunctionItem g ∷ before) rest f x e = or_by_second (bytes_eq g.called x) (is_function x (before ++ FunctionItem f ∷ rest)) (function_there before rest f x e)

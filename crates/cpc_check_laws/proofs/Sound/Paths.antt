@@ -7,6 +7,7 @@ use Rattle.cpc_tree.specs.Points.{Nth, TheTest, TheYes, TheNo, TheStep, TheBody,
 use Rattle.cpc_tree.specs.Registers.{addresses, addresses_all, addresses_if, addresses_by, addresses_in, addresses_arm, as_variable, or_empty, variables, parameter_scope, outer_scope, scope_in_function, addressed}
 use Rattle.cpc_meaning.specs.Eval.{Slot}
 use Rattle.cpc_check_laws.specs.Sound.Suits.{ScopeOf, AllBoxed}
+pub use Rattle.cpc_check_laws.specs.Kept.Fits.{types_of}
 use Rattle.cpc_check_laws.specs.Sound.Typed.{FoundTyped, BodyTyped, AllTyped, ArmTyped, StepTyped}
 use Rattle.cpc_check_laws.proofs.Sound.Lookups.{boxed_left, boxed_right}
 
@@ -224,10 +225,6 @@ module _ (slots : List Slot) (d : Dialect) (p : Program) (f : Function) where
     found_boxed_arm scope n (Present s) q t h = found_boxed scope n s q t h
 
 -- ---- functions
-
--- the types of a function's variables
-abbrev pub types_of : Function → List Ty
-types_of f = map (λ (x : Variable). x.type) (variables f)
 
 located_under : (ts : List Ty) (t : Ty) (n : ℕ) (xs : List Variable) → Located ts n xs → Located (t ∷ ts) (suc n) xs
 located_under ts t n [] h = tt

@@ -11,7 +11,7 @@ use Rattle.cpc_tree.specs.declared.program.UnaryOp.TheVariants.{Dereference, Add
 use Rattle.cpc_tree.specs.declared.program.Mode.{Mode}
 use Rattle.cpc_tree.specs.declared.program.Mode.TheVariants.{Extern, Native, Cps, Detached}
 use Rattle.cpc_tree.specs.Syntax.{Ty, TyVoid, TyInt, TyPointer, TyCode, TyStruct, AndTy, NoTy}
-use Rattle.cpc_tree.specs.Located.{Ident, LExpr, LNamed, LInteger, LUnary, LBinary, LMember, LArrow, LExprs, NoLExpr, AndLExpr, LStmt, Block, Declare, Assign, Call, Detach, Spawn, If, While, For, Goto, Break, Return, NoLStmt, NoneLStmt, SomeLStmt, LParameter, LItem, LStruct, LGlobal, LPrototype, LFunctionItem, LProgram, bare}
+use Rattle.cpc_tree.specs.Located.{LExpr, LNamed, LInteger, LUnary, LBinary, LMember, LArrow, LExprs, NoLExpr, AndLExpr, LStmt, Block, Declare, Assign, Call, Detach, Spawn, If, While, For, Goto, Break, Return, NoLStmt, NoneLStmt, SomeLStmt, LParameter, LItem, LStruct, LGlobal, LPrototype, LFunctionItem, LProgram, bare}
 use Rattle.cpc_tree.specs.StmtGrammar.{stmts}
 use Rattle.cpc_check_rules.specs.declared.rule.Rule.{Rule}
 use Rattle.cpc_check_rules.specs.declared.rule.Rule.TheVariants as R
@@ -21,12 +21,9 @@ use Rattle.cpc_meaning.specs.Machine.{IsStuck}
 use Rattle.cpc_meaning.specs.Threads.{threads, threaded}
 use Rattle.cpc_meaning.specs.Events.{callbacks, event}
 use Rattle.cpc_check_laws.specs.Sound.Typed.{TypedProgram}
-use Rattle.cpc_check_laws.specs.Run.Refusals.{here}
+use Rattle.cpc_check_laws.specs.Run.Refusals.{here, name as called}
 
 -- ---- trees, all of whose parts stand at one place
-
-abbrev called : Text → Ident
-called x = record { place = here; text = x }
 
 abbrev name : Text → LExpr
 name x = LNamed (called x)
