@@ -18,7 +18,7 @@ use Rattle.cpc_check_rules.proofs.Scopes.{meant_before}
 use Rattle.cpc_check_laws.proofs.Sound.Items.{last_first}
 use Rattle.cpc_check_laws.proofs.Sound.Unbroken.{split}
 use Rattle.cpc_check_laws.proofs.Native.NativeValues.{unbroken}
-use Rattle.cpc_check_laws.proofs.Run.Names.{other_name}
+use Rattle.cpc_check_laws.proofs.Run.Names.{NoneDeclared, other_name}
 
 -- ---- names that are not kept
 
@@ -42,18 +42,14 @@ last_free (x ∷ xs) ys h = last_free xs ys h.1
 
 -- ---- items
 
--- no kept name stands for one of these items
-abbrev pub ItemsFree : Program → Type 0
-ItemsFree before = (x : Text) → is_kept x ≡ true → in_items (reverse before) x ≡ NotMeant
-
 passed : (b : Bool) (m n : Meant) → b ≡ false → n ≡ NotMeant → cond b m n ≡ NotMeant
 passed true m n e h = absurd cc
 passed false m n e h = h
 
-one_more : (before : Program) (i : Item) → ((x : Text) → is_kept x ≡ true → in_items (i ∷ reverse before) x ≡ NotMeant) → ItemsFree (before ++ i ∷ [])
+one_more : (before : Program) (i : Item) → ((x : Text) → is_kept x ≡ true → in_items (i ∷ reverse before) x ≡ NotMeant) → NoneDeclared (before ++ i ∷ [])
 one_more before i h x kept = ap (λ q. in_items q x) (last_first before i) ∙ h x kept
 
-pub item_free : (program before : Program) (x : LItem) → ItemsFree before → item_breaks D.Event program before x ≡ [] → ItemsFree (before ++ bare_item x ∷ [])
+pub item_free : (program before : Program) (x : LItem) → NoneDeclared before → item_breaks D.Event program before x ≡ [] → NoneDeclared (before ++ bare_item x ∷ [])
 item_free program before (LStruct tag fs) free h = one_more before (bare_item (LStruct tag fs)) free
 item_free program before (LGlobal y t start) free h =
     let own = (free_names (y ∷ []) (split (reserved_breaks D.Event (y ∷ [])) _ h).0).0 in

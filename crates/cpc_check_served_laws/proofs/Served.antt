@@ -1,9 +1,9 @@
 -- Event programs that break no rule ask only for what the loop answers.
-use Rattle.std.proofs.Common.{◌≡◌, ◌∙◌, ◌&&◌, Bool, true, false, List, [], ◌∷◌, ◌++◌, map, not, Option, Some, None, refl, subst}
+use Rattle.std.proofs.Common.{◌≡◌, ◌∙◌, ◌&&◌, true, false, List, [], ◌∷◌, ◌++◌, map, not, Option, Some, None, refl, subst, sym, ap}
 use Rattle.cpc_base.specs.Bytes.{Text}
 use Rattle.cpc_base.specs.declared.stop.Dialect.TheVariants as D
 use Rattle.cpc_base.specs.declared.stop.Place.{Place}
-use Rattle.cpc_base.proofs.Truth.{and_holds, by_true_false}
+use Rattle.cpc_base.proofs.Truth.{and_holds, by_true_false, and_with_true}
 use Rattle.cpc_num.specs.declared.kinds.Kind.TheVariants.{Int}
 use Rattle.cpc_tree.specs.Syntax.{TyInt, Program}
 use Rattle.cpc_tree.specs.Located.{Ident, LExpr, LNamed, LInteger, LCharacter, LText, LUnary, LBinary, LAnd, LOr, LChoose, LCast, LSizeOf, LIndex, LMember, LArrow, LCall, LExprs, LStmt, Block, Empty, Declare, Assign, Call, Detach, Spawn, If, While, DoWhile, For, Goto, Label, Break, Continue, Return, LStmts, NoLStmt, AndLStmt, MaybeLStmt, NoneLStmt, SomeLStmt, LFunction, LItem, LStruct, LGlobal, LPrototype, LFunctionItem, bare, bare_expr, bare_item, bare_maybe, bare_stmt, bare_stmts}
@@ -22,11 +22,11 @@ use Rattle.cpc_check_laws.proofs.Sound.Grammar.{items_shape}
 use Rattle.cpc_check_laws.proofs.Sound.Programs.{BodyShape, ItemShape}
 use Rattle.cpc_check_laws.proofs.Sound.Shapes.{AllWritten, MaybeWritten, StepWritten, Written, all_first_written}
 use Rattle.cpc_check_laws.proofs.Sound.Unbroken.{split}
-use Rattle.cpc_check_laws.proofs.Run.Names.{primitive_kept}
+use Rattle.cpc_check_laws.proofs.Run.Names.{NoneDeclared, primitive_kept}
 use Rattle.cpc_check_laws.proofs.Native.NativeValues.{unbroken}
 use Rattle.cpc_native_builtins.specs.Served.{are_served, calls_served, is_served, is_served_arm, is_served_item, is_served_program, is_served_stmt, serves}
 use Rattle.cpc_check_served_laws.specs.Laws.{AcceptedAreServed}
-use Rattle.cpc_check_served_laws.proofs.Scopes.{AreFree, Inside, ItemsFree, block_passed, first_free, free_names, inside_all_behind, inside_behind, inside_inner, item_free, last_free, parameters_free}
+use Rattle.cpc_check_served_laws.proofs.Scopes.{AreFree, Inside, block_passed, first_free, free_names, inside_all_behind, inside_behind, inside_inner, item_free, last_free, parameters_free}
 
 -- ---- calls
 
@@ -54,16 +54,12 @@ unless_waits RtIo h = refl
 unless_waits RtDetach h = refl
 unless_waits _ h = absurd cc
 
-alone : (a b : Bool) → b ≡ true → (a && b) ≡ false → a ≡ false
-alone true b e h = by_true_false b e h
-alone false b e h = refl
-
 primitive_served : (w : Where) (q : Place) (prim : Primitive) → is_event w.dialect ≡ true → primitive_breaks w q prim ≡ [] → is_served prim ≡ true
 primitive_served w q prim event h =
     let k = split (at_if (gives_up prim && not (is_cps w.mode)) q CpsInNative) _ h in
     let l = split (at_if (is_detached w.mode && not (is_closed prim)) q NotClosed) _ k.1 in
     let m = split (at_if (is_rt prim && not (is_event w.dialect)) q RtCall) (at_if (gives_up prim && is_event w.dialect) q CpsForm) l.1 in
-    unless_waits prim (alone (gives_up prim) (is_event w.dialect) event (unbroken (gives_up prim && is_event w.dialect) q CpsForm m.1))
+    unless_waits prim (sym (ap (λ b. gives_up prim && b) event ∙ and_with_true (gives_up prim)) ∙ unbroken (gives_up prim && is_event w.dialect) q CpsForm m.1)
 
 name_served : (w : Where) → Inside w → (f : LExpr) (q : Place) (parts : Broken) (x : Text) → named_breaks w f q parts (meant w.scope x) (primitive_named x) ≡ []
     → serves (primitive_named x) ≡ true
@@ -155,13 +151,13 @@ body_served : (w : Where) → Inside w → (body : LStmt) → BodyShape body →
 body_served w i (Block q ss) s own h = stmts_served w i ss s own h
 body_served w i _ s own h = absurd s
 
-in_body_inside : (before : Program) (f : LFunction) → ItemsFree (before ++ bare_item (LFunctionItem f) ∷ []) → AreFree (parameter_names f.parameters) → Inside (in_body D.Event before f)
+in_body_inside : (before : Program) (f : LFunction) → NoneDeclared (before ++ bare_item (LFunctionItem f) ∷ []) → AreFree (parameter_names f.parameters) → Inside (in_body D.Event before f)
 in_body_inside before f free own = record {
   free = λ x kept. block_passed (before ++ bare_item (LFunctionItem f) ∷ []) (parameter_block [] f.parameters) x (parameters_free [] f.parameters (λ y e. refl) own x kept) ∙ free x kept;
   event = refl;
 }
 
-function_served : (program before : Program) (f : LFunction) → ItemsFree (before ++ bare_item (LFunctionItem f) ∷ []) → ItemShape (LFunctionItem f) → function_breaks D.Event before f ≡ []
+function_served : (program before : Program) (f : LFunction) → NoneDeclared (before ++ bare_item (LFunctionItem f) ∷ []) → ItemShape (LFunctionItem f) → function_breaks D.Event before f ≡ []
     → is_served_stmt (bare_stmt f.body) ≡ true
 function_served program before f free shape h =
     let w = in_body D.Event before f in
@@ -176,13 +172,13 @@ function_served program before f free shape h =
     let own = first_free (locals f.body) (labels f.body) (free_names (locals f.body ++ labels f.body) h7.0) in
     body_served w (in_body_inside before f free parameters) f.body shape.2 own h6.0
 
-item_served : (program before : Program) (x : LItem) → ItemsFree (before ++ bare_item x ∷ []) → ItemShape x → item_breaks D.Event program before x ≡ [] → is_served_item (bare_item x) ≡ true
+item_served : (program before : Program) (x : LItem) → NoneDeclared (before ++ bare_item x ∷ []) → ItemShape x → item_breaks D.Event program before x ≡ [] → is_served_item (bare_item x) ≡ true
 item_served program before (LStruct tag fs) free s h = refl
 item_served program before (LGlobal x t start) free s h = refl
 item_served program before (LPrototype q mode x r ps) free s h = refl
 item_served program before (LFunctionItem f) free s h = function_served program before f free s h
 
-items_served : (program before : Program) (xs : List LItem) → ItemsFree before → Each ItemShape xs → items_breaks D.Event program before xs ≡ [] → is_served_program (map bare_item xs) ≡ true
+items_served : (program before : Program) (xs : List LItem) → NoneDeclared before → Each ItemShape xs → items_breaks D.Event program before xs ≡ [] → is_served_program (map bare_item xs) ≡ true
 items_served program before [] free s h = refl
 items_served program before (x ∷ xs) free s h =
     let k = split (item_breaks D.Event program before x) _ h in
