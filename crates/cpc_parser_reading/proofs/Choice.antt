@@ -3,7 +3,7 @@ use Rattle.std.proofs.Common.{◌≡◌, ℕ, ◌≤◌, ◌<◌, Bool, true, fa
 use Rattle.cpc_parser_reading.specs.Reading.{Read, Fault, Deep, Reader, headed, either, one_of, by_class, optional, after}
 use Rattle.cpc_parser_reading.specs.Phrase.{Headed, Either, OneOf, Mapped, Optional, After}
 use Rattle.cpc_parser_reading.specs.Exact.{SameHead, Stops, Opens, Good, Keeps, ExactAt, ExactOn, Exact, Starts, Branch, Absent, Sample}
-use Rattle.cpc_parser_reading.proofs.Heads.{stops_same}
+use Rattle.cpc_parser_reading.proofs.Heads.{stops_same, opens_as}
 use Rattle.cpc_parser_reading.proofs.Behind.{along}
 use Rattle.cpc_parser_reading.proofs.Values.{exact_as, exact_mapped}
 use Rattle.cpc_parser_reading.proofs.Starts.{starts_mapped, starts_after}
@@ -160,12 +160,6 @@ module _ {T K A : Type 0} (kind : T → K) (p : K → Bool) (low d : ℕ) (F : R
   abbrev picked : Reader T A
   picked = either (λ t. p (kind t)) low d F G
 
-  left_opens : (m : ℕ) (front : List T) → Opens R m front → Opens (Either R S) m front
-  left_opens m front o = record { rest = o.rest; value = o.value; nest = o.nest; reads = inl o.reads; fits = o.fits }
-
-  right_opens : (m : ℕ) (front : List T) → Opens S m front → Opens (Either R S) m front
-  right_opens m front o = record { rest = o.rest; value = o.value; nest = o.nest; reads = inr o.reads; fits = o.fits }
-
   goes_left : (t : T) (rest other : List T) → p (kind t) ≡ true → low ≤ d → SameHead kind (t ∷ rest) other → picked other ≡ F other
   goes_left t rest [] e le s = absurd s
   goes_left t rest (u ∷ us) e le s = let e' : p (kind u) ≡ true = subst (λ k. p k ≡ true) s e in rw (e', not_less d low le) refl
@@ -179,7 +173,7 @@ module _ {T K A : Type 0} (kind : T → K) (p : K → Bool) (low d : ℕ) (F : R
   goes_right (t ∷ ts) s = rw s refl
 
   right_good : (ts : List T) → Stops kind (λ k. p k ≡ false) ts → Good kind picked (Either R S) Q d ts (G ts)
-  right_good ts e = along kind picked (Either R S) Q d G S Q [] ts (λ other s. goes_right other (stops_same kind (λ k. p k ≡ false) ts other s e)) (λ m g o. right_opens m g o)
+  right_good ts e = along kind picked (Either R S) Q d G S Q [] ts (λ other s. goes_right other (stops_same kind (λ k. p k ≡ false) ts other s e)) (λ m g o. opens_as (λ f v h r. inr r) o)
       (λ z k. record { front = k.front; whole = k.whole; reads = inr k.reads; fits = k.fits; stops = k.stops }) (G ts) (good ts e)
 
   first_good : (t : T) (rest : List T) (b : Bool) → p (kind t) ≡ b → (l : Bool) → nat_lt d low ≡ l
@@ -187,12 +181,12 @@ module _ {T K A : Type 0} (kind : T → K) (p : K → Bool) (low d : ℕ) (F : R
   first_good t rest false e l i = right_good (t ∷ rest) e
   first_good t rest true e false i =
       let le : low ≤ d = grind arith in
-      along kind picked (Either R S) Q d F R Q [] (t ∷ rest) (λ other s. goes_left t rest other e le s) (λ m g o. left_opens m g o)
+      along kind picked (Either R S) Q d F R Q [] (t ∷ rest) (λ other s. goes_left t rest other e le s) (λ m g o. opens_as (λ f v h r. inl r) o)
       (λ z k. record { front = k.front; whole = k.whole; reads = inl k.reads; fits = k.fits; stops = k.stops }) (F (t ∷ rest)) ((x le).good t rest e)
   first_good t rest true e true i =
       let l : d < low = grind arith in
       let k = each t e l in
-      record { front = []; next = t; after = rest; is = refl; whole = refl; opens = right_opens d [] sample; most = k.0; deeper = left_opens k.0 (t ∷ []) k.1; local = λ other s. goes_deep t rest other e i s }
+      record { front = []; next = t; after = rest; is = refl; whole = refl; opens = opens_as (λ f v h r. inr r) sample; most = k.0; deeper = opens_as (λ f v h r. inl r) k.1; local = λ other s. goes_deep t rest other e i s }
 
   either_good : (ts : List T) → Good kind picked (Either R S) Q d ts (picked ts)
   either_good [] = right_good [] tt
@@ -208,7 +202,7 @@ module _ {T K A : Type 0} (kind : T → K) (p : K → Bool) (low d : ℕ) (F : R
 
   -- the choice is read exactly in this room
   pub either_at : ExactAt kind d picked (Either R S) Q
-  either_at = record { sample = right_opens d [] sample; good = either_good; complete = either_complete }
+  either_at = record { sample = opens_as (λ f v h r. inr r) sample; good = either_good; complete = either_complete }
 
 module _ {T A : Type 0} (p : T → Bool) (low d e : ℕ) (F F' G G' : Reader T A) (le : d ≤ e)
     (f : (t : T) (rest : List T) → p t ≡ true → low ≤ d → Keeps (F (t ∷ rest)) (F' (t ∷ rest))) (g : (ts : List T) → Keeps (G ts) (G' ts)) where

@@ -30,6 +30,7 @@
 --   after p F                  After p R          exact_after
 --   bind F G, pair F G         Bound R S, Both    exact_bind, _pair G begins where F may stop (`joins`)
 --   mapped f F                 Mapped f R         exact_mapped      what may stand behind f v is what may behind v
+--                                                 exact_seen        the same, of values that are read
 --   made f F                   Made f R           exact_made        the same; one room more, one nesting more
 --   only ok F                  Only ok R          exact_only        what is begun can become one of these within the room
 --   headed F                   Headed             headed_branch     exact behind each first token
@@ -59,7 +60,7 @@
 pub use Rattle.cpc_parser_reading.proofs.Heads.{stops_same, stops_all, stops_as, same_self, opens_as}
 pub use Rattle.cpc_parser_reading.proofs.Tokens.{any_stops, exact_nothing, exact_one, exact_expect}
 pub use Rattle.cpc_parser_reading.proofs.Sequence.{exact_before, exact_after, exact_bind, exact_pair}
-pub use Rattle.cpc_parser_reading.proofs.Values.{exact_mapped, exact_made, exact_only, exact_as, exact_stop, exact_start}
+pub use Rattle.cpc_parser_reading.proofs.Values.{exact_mapped, exact_seen, exact_made, exact_only, exact_as, exact_stop, exact_start}
 pub use Rattle.cpc_parser_reading.proofs.Choice.{branch, after_branch, headed_branch, exact_one_of, starts_one_of, exact_either, exact_optional}
 pub use Rattle.cpc_parser_reading.proofs.Two.{Apart, exact_two}
 pub use Rattle.cpc_parser_reading.proofs.Chain.{links_end, links_stop, links_deep, links_fault, links_deeper}

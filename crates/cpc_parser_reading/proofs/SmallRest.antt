@@ -1,9 +1,10 @@
 -- Further uses: a part that depends on the one before, a choice by a test, and tokens alone.
-use Rattle.std.proofs.Common.{◌≡◌, ℕ, suc, Bool, true, false, List, ◌++◌, Option, Some, None, refl, sym, subst, arith, nat_eq, if◌then◌else◌}
+use Rattle.std.proofs.Common.{◌≡◌, ℕ, suc, false, List, ◌++◌, Option, Some, None, refl, sym, subst, arith, nat_eq, if◌then◌else◌}
 use Rattle.cpc_parser_reading.specs.Reading.{expect, one, before, after, bind, made, either, below}
 use Rattle.cpc_parser_reading.specs.Phrase.{Expect, One, Before, After, Bound, Made, Either}
 use Rattle.cpc_parser_reading.specs.Exact.{Stops, Any, Exact, Sample}
 use Rattle.cpc_parser_reading.specs.SmallExpressions.{Kind, name, opening, Token, kind_of, Expr, named, is_closing, is_comma, text, whole, Reads, read}
+use Rattle.cpc_parser_reading.specs.SmallStatements.{is_opening}
 use Rattle.cpc_parser_reading.proofs.Readers.{any_stops, branch, exact_after, exact_before, exact_bind, exact_either, exact_expect, exact_made, exact_one, starts_after, starts_made}
 use Rattle.cpc_parser_reading.proofs.SmallExpressions.{closer, closes_whole, exact_read, field_exact, divider}
 
@@ -21,10 +22,6 @@ pub exact_two_names : (n : ℕ) → Exact kind_of n 0 (λ d. bind (one (λ (t : 
 exact_two_names n = exact_bind (field_exact n)
     (λ m. exact_one n (λ (t : Token). unless m (text t.kind)) (record { place = 0; kind = name (suc m) }) (suc m) (other_name m) (λ t u e i. subst (λ k. unless m (text k) ≡ None) e i))
     (λ u g v h rest r s. any_stops kind_of u (g ++ rest))
-
-abbrev is_opening : Kind → Bool
-is_opening opening = true
-is_opening k = false
 
 opener : Sample kind_of is_opening
 opener = record { token = record { place = 0; kind = opening }; holds = refl }

@@ -41,19 +41,13 @@ Going (place v) = Unit {0}
 Going (calls v vs) = Unit {0}
 Going (sets v w) = ⊥
 
--- whether it is a call
-abbrev was_call : Simple → Bool
-was_call (place v) = false
-was_call (calls v vs) = true
-was_call (sets v w) = true
-
 -- what a call has less, as a statement
 abbrev extra : Simple → ℕ
 extra (place v) = 0
 extra (calls v vs) = 1
 extra (sets v w) = 1
 
--- the class of the next token, and back
+-- the class of the next token, and back: what goes on and is complete is a call
 args_is : (s : Simple) (k : Kind) (b : Bool) → next_class s k ≡ Some (Args b) → (k ≡ opening) × (next_left (Args b) ≡ extra s) × Going s
 args_is (place v) opening true e = absurd cc
 args_is (place v) opening false e = (refl, refl, tt)
@@ -75,17 +69,17 @@ set_is (calls v vs) equals true e = (refl, refl, tt)
 set_is (calls v vs) equals false e = absurd cc
 set_is s k b e = absurd cc
 
-class_opening : (s : Simple) → Going s → (next_class s opening ≡ Some (Args (was_call s))) × (next_left (Args (was_call s)) ≡ extra s)
+class_opening : (s : Simple) → Going s → (next_class s opening ≡ Some (Args (complete s))) × (next_left (Args (complete s)) ≡ extra s)
 class_opening (place v) g = (refl, refl)
 class_opening (calls v vs) g = (refl, refl)
 class_opening (sets v w) g = absurd g
 
-class_dot : (s : Simple) → Going s → (next_class s dot ≡ Some (Field (was_call s))) × (next_left (Field (was_call s)) ≡ extra s + 1)
+class_dot : (s : Simple) → Going s → (next_class s dot ≡ Some (Field (complete s))) × (next_left (Field (complete s)) ≡ extra s + 1)
 class_dot (place v) g = (refl, refl)
 class_dot (calls v vs) g = (refl, refl)
 class_dot (sets v w) g = absurd g
 
-class_equals : (s : Simple) (k : Kind) → is_equals k ≡ true → Going s → (next_class s k ≡ Some (Set (was_call s))) × (next_left (Set (was_call s)) ≡ extra s)
+class_equals : (s : Simple) (k : Kind) → is_equals k ≡ true → Going s → (next_class s k ≡ Some (Set (complete s))) × (next_left (Set (complete s)) ≡ extra s)
 class_equals (place v) equals e g = (refl, refl)
 class_equals (calls v vs) equals e g = (refl, refl)
 class_equals (sets v w) k e g = absurd g
@@ -133,23 +127,23 @@ record Begun (f : List Token) (v : Expr) (i : ℕ) : Type 0 where
 called_row : (g k : List Token) (t u : Token) (w : Expr) (vs : Exprs) (i j : ℕ) → Begun g w i → t.kind ≡ opening → ReadsArgs k vs j → is_closing u.kind ≡ true → Trail (g ++ t ∷ (k ++ u ∷ [])) (calls w vs) (max i j + 1)
 called_row g k t u w vs i j b o q c =
     let a = class_opening b.shape b.going in
-    let e : next_class b.shape t.kind ≡ Some (Args (was_call b.shape)) = rw o a.0 in
-    let m : grown (Args (was_call b.shape)) b.height j ≡ max i j + 1 = let h = b.high in omega (arith, a.1, h) in
-    rw (← m, ← b.is) (further g (k ++ u ∷ []) t (Args (was_call b.shape)) b.shape (args vs) b.height j b.row e tt
+    let e : next_class b.shape t.kind ≡ Some (Args (complete b.shape)) = rw o a.0 in
+    let m : grown (Args (complete b.shape)) b.height j ≡ max i j + 1 = let h = b.high in omega (arith, a.1, h) in
+    rw (← m, ← b.is) (further g (k ++ u ∷ []) t (Args (complete b.shape)) b.shape (args vs) b.height j b.row e tt
     (t, k ++ u ∷ [], refl, (b.shape, e), (vs, refl, to_args k u vs j q c)))
 
 set_row : (g k : List Token) (t : Token) (v w : Expr) (i j : ℕ) → Begun g v i → is_equals t.kind ≡ true → Reads whole k w j → Trail (g ++ t ∷ k) (sets v w) (max i j + 1)
 set_row g k t v w i j b o q =
     let a = class_equals b.shape t.kind o b.going in
-    let m : grown (Set (was_call b.shape)) b.height j ≡ max i j + 1 = let h = b.high in omega (arith, a.1, h) in
-    rw (← m, ← b.is) (further g k t (Set (was_call b.shape)) b.shape (value w) b.height j b.row a.0 tt (t, k, refl, (b.shape, a.0), (w, refl, q)))
+    let m : grown (Set (complete b.shape)) b.height j ≡ max i j + 1 = let h = b.high in omega (arith, a.1, h) in
+    rw (← m, ← b.is) (further g k t (Set (complete b.shape)) b.shape (value w) b.height j b.row a.0 tt (t, k, refl, (b.shape, a.0), (w, refl, q)))
 
 field_row : (g : List Token) (t u : Token) (w : Expr) (n i : ℕ) → Begun g w i → t.kind ≡ dot → text u.kind ≡ Some n → Trail (g ++ t ∷ u ∷ []) (place (member w n)) ((i + 1) + 1)
 field_row g t u w n i b o q =
     let a = class_dot b.shape b.going in
-    let e : next_class b.shape t.kind ≡ Some (Field (was_call b.shape)) = rw o a.0 in
-    let m : grown (Field (was_call b.shape)) b.height 0 ≡ (i + 1) + 1 = let h = b.high in omega (arith, a.1, h) in
-    rw (← m, ← b.is) (further g (u ∷ []) t (Field (was_call b.shape)) b.shape (field n) b.height 0 b.row e tt (t, u ∷ [], refl, (b.shape, e), (n, refl, (u, refl, q, refl))))
+    let e : next_class b.shape t.kind ≡ Some (Field (complete b.shape)) = rw o a.0 in
+    let m : grown (Field (complete b.shape)) b.height 0 ≡ (i + 1) + 1 = let h = b.high in omega (arith, a.1, h) in
+    rw (← m, ← b.is) (further g (u ∷ []) t (Field (complete b.shape)) b.shape (field n) b.height 0 b.row e tt (t, u ∷ [], refl, (b.shape, e), (n, refl, (u, refl, q, refl))))
 
 begun : (f : List Token) (v : Expr) (i : ℕ) → Reads postfix f v i → Begun f v i
 begun f v i (a_primary _ _ _ r) = record { shape = place v; height = i + 1; going = tt; is = refl; high = omega arith; row = first f (place v) (i + 1) (v, i, refl, refl, r) }

@@ -4,7 +4,7 @@ use Rattle.std.proofs.lemmas.List.{append-nil}
 use Rattle.cpc_parser_reading.specs.Reading.{Reading, Read, Fault, Deep, Reader, either, either_two, by_second}
 use Rattle.cpc_parser_reading.specs.Phrase.{Either}
 use Rattle.cpc_parser_reading.specs.Exact.{SameHead, Stops, Opens, Took, Faulty, TooDeep, Good, Keeps, ExactAt, Exact}
-use Rattle.cpc_parser_reading.proofs.Heads.{stops_same}
+use Rattle.cpc_parser_reading.proofs.Heads.{stops_same, opens_as}
 use Rattle.cpc_parser_reading.proofs.Behind.{along}
 use Rattle.cpc_parser_reading.proofs.Choice.{either_at, not_less}
 use Rattle.cpc_parser_reading.proofs.Values.{as_at}
@@ -99,12 +99,6 @@ module _ {T K A : Type 0} (kind : T → K) (p : K → Bool) (q : K → K → Boo
   abbrev chosen : Reader T A
   chosen = either_two (λ t. p (kind t)) (λ t u. q (kind t) (kind u)) low d F G
 
-  left_opens : (m : ℕ) (front : List T) → Opens R m front → Opens (Either R S) m front
-  left_opens m front o = record { rest = o.rest; value = o.value; nest = o.nest; reads = inl o.reads; fits = o.fits }
-
-  right_opens : (m : ℕ) (front : List T) → Opens S m front → Opens (Either R S) m front
-  right_opens m front o = record { rest = o.rest; value = o.value; nest = o.nest; reads = inr o.reads; fits = o.fits }
-
   more_room : (B : List T → A → ℕ → Type 0) (front : List T) → low ≤ d → Opens B low front → Opens B d front
   more_room B front le o = record { rest = o.rest; value = o.value; nest = o.nest; reads = o.reads; fits = omega (arith, o.fits) }
 
@@ -149,10 +143,10 @@ module _ {T K A : Type 0} (kind : T → K) (p : K → Bool) (q : K → K → Boo
 
   first_good : (t : T) (rest : List T) (b : Bool) → p (kind t) ≡ b → (l : Bool) → nat_lt d low ≡ l → Good kind chosen (Either R S) Q d (t ∷ rest) (cond b (cond l (Deep (t ∷ rest)) (then t rest)) (G (t ∷ rest)))
   first_good t rest false e l i =
-      along kind chosen (Either R S) Q d G S Q [] (t ∷ rest) (λ other s. goes_other other (stops_same kind (λ k. p k ≡ false) (t ∷ rest) other s e)) (λ m g o. right_opens m g o)
+      along kind chosen (Either R S) Q d G S Q [] (t ∷ rest) (λ other s. goes_other other (stops_same kind (λ k. p k ≡ false) (t ∷ rest) other s e)) (λ m g o. opens_as (λ f v h r. inr r) o)
       (λ z k. record { front = k.front; whole = k.whole; reads = inr k.reads; fits = k.fits; stops = k.stops }) (G (t ∷ rest)) (y.good (t ∷ rest))
   first_good t rest true e true i =
-      record { front = []; next = t; after = rest; is = refl; whole = refl; opens = right_opens d [] y.sample; most = low; deeper = left_opens low (t ∷ []) (first t e); local = λ other s. goes_deep t rest other e i s }
+      record { front = []; next = t; after = rest; is = refl; whole = refl; opens = opens_as (λ f v h r. inr r) y.sample; most = low; deeper = opens_as (λ f v h r. inl r) (first t e); local = λ other s. goes_deep t rest other e i s }
   first_good t rest true e false i =
       let le : low ≤ d = grind arith in
       along kind chosen (Either R S) Q d (then t) (Either (λ f. R (t ∷ f)) (λ f. S (t ∷ f))) Q (t ∷ []) rest (λ other s. goes_on t other e le)
@@ -161,7 +155,7 @@ module _ {T K A : Type 0} (kind : T → K) (p : K → Bool) (q : K → K → Boo
 
   two_good : (ts : List T) → Good kind chosen (Either R S) Q d ts (chosen ts)
   two_good [] =
-      along kind chosen (Either R S) Q d G S Q [] [] (λ other s. goes_other other (stops_same kind (λ k. p k ≡ false) [] other s tt)) (λ m g o. right_opens m g o)
+      along kind chosen (Either R S) Q d G S Q [] [] (λ other s. goes_other other (stops_same kind (λ k. p k ≡ false) [] other s tt)) (λ m g o. opens_as (λ f v h r. inr r) o)
       (λ z k. record { front = k.front; whole = k.whole; reads = inr k.reads; fits = k.fits; stops = k.stops }) (G []) (y.good [])
   two_good (t ∷ rest) = first_good t rest (p (kind t)) refl (nat_lt d low) refl
 
@@ -191,7 +185,7 @@ module _ {T K A : Type 0} (kind : T → K) (p : K → Bool) (q : K → K → Boo
 
   -- the choice is read exactly in this room
   pub two_at : ExactAt kind d chosen (Either R S) Q
-  two_at = record { sample = right_opens d [] y.sample; good = two_good; complete = two_complete }
+  two_at = record { sample = opens_as (λ f v h r. inr r) y.sample; good = two_good; complete = two_complete }
 
 module _ {T A : Type 0} (p : T → Bool) (q : T → T → Bool) (low d e : ℕ) (F F' G G' : Reader T A) (le : d ≤ e) (f : low ≤ d → (ts : List T) → Keeps (F ts) (F' ts)) (g : (ts : List T) → Keeps (G ts) (G' ts)) where
   keeps_cond : (b : Bool) (r s r' s' : Reading T A) → Keeps r r' → Keeps s s' → Keeps (cond b r s) (cond b r' s')

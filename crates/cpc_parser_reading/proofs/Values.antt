@@ -9,36 +9,42 @@ use Rattle.cpc_parser_reading.proofs.Behind.{behind, along}
 use Rattle.cpc_parser_reading.proofs.Keeps.{keeps_on}
 use Rattle.cpc_parser_reading.proofs.Sequence.{taken_again}
 
--- A part, seen as another value.
+-- A part, seen as another value. What may stand behind it is told where the old value is read.
 module _ {T K A B : Type 0} (kind : T → K) (make : A → B) (d : ℕ) (F : Reader T A) (R : List T → A → ℕ → Type 0) (Q : A → K → Type 0) (x : ExactAt kind d F R Q)
-    (P : B → K → Type 0) (to : (w : A) (k : K) → Q w k → P (make w) k) (of : (w : A) (k : K) → P (make w) k → Q w k) where
-  mapped_opens : (m : ℕ) (front : List T) → Opens R m front → Opens (Mapped make R) m front
-  mapped_opens m front o = record { rest = o.rest; value = make o.value; nest = o.nest; reads = (o.value, refl, o.reads); fits = o.fits }
+    (P : B → K → Type 0) (to : (f : List T) (w : A) (h : ℕ) → R f w h → (k : K) → Q w k → P (make w) k) (of : (f : List T) (w : A) (h : ℕ) → R f w h → (k : K) → P (make w) k → Q w k) where
+  seen_opens : (m : ℕ) (front : List T) → Opens R m front → Opens (Mapped make R) m front
+  seen_opens m front o = record { rest = o.rest; value = make o.value; nest = o.nest; reads = (o.value, refl, o.reads); fits = o.fits }
 
-  mapped_complete : (f : List T) (v : B) (h : ℕ) (rest : List T) → Mapped make R f v h → h ≤ d → Stops kind (P v) rest → mapped make F (f ++ rest) ≡ Read (v, h, rest)
-  mapped_complete f v h rest (w, e, r) fits s =
-      let here : F (f ++ rest) ≡ Read (w, h, rest) = x.complete f w h rest r fits (stops_as kind (P (make w)) (Q w) (of w) rest (subst (λ u. Stops kind (P u) rest) e s)) in
+  seen_complete : (f : List T) (v : B) (h : ℕ) (rest : List T) → Mapped make R f v h → h ≤ d → Stops kind (P v) rest → mapped make F (f ++ rest) ≡ Read (v, h, rest)
+  seen_complete f v h rest (w, e, r) fits s =
+      let here : F (f ++ rest) ≡ Read (w, h, rest) = x.complete f w h rest r fits (stops_as kind (P (make w)) (Q w) (of f w h r) rest (subst (λ u. Stops kind (P u) rest) e s)) in
       rw (here, e) refl
 
-  mapped_at : ExactAt kind d (mapped make F) (Mapped make R) P
-  mapped_at = record {
-    sample = mapped_opens d [] x.sample;
-    good = λ ts. behind kind (mapped make F) (Mapped make R) P d F R Q d (λ z. Read (make z.0, z.1, z.2)) [] ts (λ other s. refl) (λ g l e o. mapped_opens d g o) (λ m g l e o. (m, mapped_opens m g o))
-        (λ z t. record { front = t.front; whole = t.whole; reads = (z.0, refl, t.reads); fits = t.fits; stops = stops_as kind (Q z.0) (P (make z.0)) (to z.0) z.2 t.stops })
+  seen_at : ExactAt kind d (mapped make F) (Mapped make R) P
+  seen_at = record {
+    sample = seen_opens d [] x.sample;
+    good = λ ts. behind kind (mapped make F) (Mapped make R) P d F R Q d (λ z. Read (make z.0, z.1, z.2)) [] ts (λ other s. refl) (λ g l e o. seen_opens d g o) (λ m g l e o. (m, seen_opens m g o))
+        (λ z t. record { front = t.front; whole = t.whole; reads = (z.0, refl, t.reads); fits = t.fits; stops = stops_as kind (Q z.0) (P (make z.0)) (to t.front z.0 z.1 t.reads) z.2 t.stops })
         (F ts) (x.good ts);
-    complete = mapped_complete;
+    complete = seen_complete;
   }
+
+-- Behind what is read the new value may be followed by what the old one may.
+pub exact_seen : {T K A B : Type 0} {kind : T → K} {n low : ℕ} {F : ℕ → Reader T A} {R : List T → A → ℕ → Type 0} {Q : A → K → Type 0}
+    (make : A → B) (P : B → K → Type 0) → Exact kind n low F R Q → ((f : List T) (w : A) (h : ℕ) → R f w h → (k : K) → Q w k → P (make w) k)
+    → ((f : List T) (w : A) (h : ℕ) → R f w h → (k : K) → P (make w) k → Q w k) → Exact kind n low (λ d. mapped make (F d)) (Mapped make R) P
+exact_seen {kind = kind} {F = F} {R = R} {Q = Q} make P x to of = record {
+  sample = let o = x.sample in record { rest = o.rest; value = make o.value; nest = o.nest; reads = (o.value, refl, o.reads); fits = o.fits };
+  least = λ f v h r. x.least f r.0 h r.2;
+  at = λ d a b. seen_at kind make d (F d) R Q (x.at d a b) P to of;
+  keeps = λ d e a b l ts. keeps_on (F d ts) (F e ts) _ (x.keeps d e a b l ts);
+}
 
 -- The new value may be followed by what the old one may.
 pub exact_mapped : {T K A B : Type 0} {kind : T → K} {n low : ℕ} {F : ℕ → Reader T A} {R : List T → A → ℕ → Type 0} {Q : A → K → Type 0}
     (make : A → B) (P : B → K → Type 0) → Exact kind n low F R Q → ((w : A) (k : K) → Q w k → P (make w) k) → ((w : A) (k : K) → P (make w) k → Q w k)
     → Exact kind n low (λ d. mapped make (F d)) (Mapped make R) P
-exact_mapped {kind = kind} {F = F} {R = R} {Q = Q} make P x to of = record {
-  sample = let o = x.sample in record { rest = o.rest; value = make o.value; nest = o.nest; reads = (o.value, refl, o.reads); fits = o.fits };
-  least = λ f v h r. x.least f r.0 h r.2;
-  at = λ d a b. mapped_at kind make d (F d) R Q (x.at d a b) P to of;
-  keeps = λ d e a b l ts. keeps_on (F d ts) (F e ts) _ (x.keeps d e a b l ts);
-}
+exact_mapped make P x to of = exact_seen make P x (λ f w h r. to w) (λ f w h r. of w)
 
 -- A node round a part.
 module _ {T K A B : Type 0} (kind : T → K) (make : A → B) (d : ℕ) (F : Reader T A) (R : List T → A → ℕ → Type 0) (Q : A → K → Type 0) (x : ExactAt kind d F R Q)

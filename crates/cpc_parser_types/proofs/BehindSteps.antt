@@ -91,6 +91,7 @@ bracket_list d p h (Read y) =
 bracket_list d p h (Fault left) = refl
 bracket_list d p h (Deep left) = refl
 
+-- the mark that the test tells
 pub bracket_class : (k : Lexeme) → is_bracket k ≡ true → k ≡ Mark P.LeftBracket
 bracket_class (Mark P.LeftBracket) e = refl
 bracket_class k e = absurd cc

@@ -13,7 +13,7 @@ use Rattle.cpc_parser_reading.specs.Reading.{nothing, one, before, after, headed
 use Rattle.cpc_parser_reading.specs.Phrase.{Nothing, One, Before, After, Both, Bound, Mapped, Headed, Optional, OneOf}
 use Rattle.cpc_parser_reading.specs.Chain.{Chained, first, further, Joint}
 use Rattle.cpc_parser_reading.specs.Exact.{Any, Absent, Stops, Exact, Branch, Sample, Opens}
-use Rattle.cpc_parser_reading.proofs.Readers.{exact_after, exact_as, exact_before, exact_bind, exact_chain, exact_mapped, exact_nothing, exact_one, exact_one_of, exact_optional, exact_pair, exact_stop, headed_branch, starts_after}
+use Rattle.cpc_parser_reading.proofs.Readers.{exact_after, exact_as, exact_before, exact_bind, exact_chain, exact_mapped, exact_nothing, exact_one, exact_one_of, exact_optional, exact_pair, exact_seen, exact_stop, headed_branch, starts_after}
 use Rattle.cpc_parser_reading.proofs.Tokens.{any_stops}
 use Rattle.cpc_parser_reading.proofs.Levels.{Always}
 use Rattle.cpc_parser_types.specs.Views.{lexeme}
@@ -24,7 +24,6 @@ use Rattle.cpc_parser_types.proofs.BaseWords.{at, named_is, star_is}
 use Rattle.cpc_parser_types.proofs.Params.{Listed, stars, unbrackets, closed_exact}
 use Rattle.cpc_parser_types.proofs.ParamWords.{right_is, left_is, star_mark, unbracket_is}
 use Rattle.cpc_parser_types.proofs.Lists.{lists_exact}
-use Rattle.cpc_parser_types.proofs.Restricted.{exact_seen}
 use Rattle.cpc_parser_types.proofs.BehindSteps.{bracket_class}
 
 -- stars behind a type, in the readers' words

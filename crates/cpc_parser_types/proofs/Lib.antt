@@ -4,7 +4,6 @@ pub mod Params
 pub mod ParamWords
 pub mod Lists
 pub mod TypeNames
-pub mod Restricted
 pub mod Declarators
 pub mod SameMarks
 pub mod BaseSteps
