@@ -24,6 +24,7 @@ use Rattle.cpc_convert_event.specs.Lines.{save_of}
 use Rattle.cpc_convert_event.specs.Rows.{numbers_of, piece_statements}
 use Rattle.cpc_convert_event.specs.Pieces.{parameter_of, load_of, below_if, takes_value, value_load, loaded, loads_of, called_so, to_frame, words_if, words_of, begun, declares_of, fills_if, boxing_lines, boxing_of, piece_body, piece_function, spawner_function, leader_function, made_of}
 use Rattle.cpc_convert_event.proofs.Numbers.{AllBelow}
+use Rattle.cpc_printer_laws.proofs.LeastTypes.{starred_variable}
 use Rattle.cpc_convert_print_laws.proofs.Names as N
 use Rattle.cpc_convert_print_laws.proofs.Names.{IsSmall, name_widened, spawner_is_name, start_is_name, value_is_name, box_is_name, piece_is_name, variable_is_name}
 use Rattle.cpc_convert_print_laws.proofs.Images.{row_widened}
@@ -33,7 +34,7 @@ use Rattle.cpc_convert_print_laws.proofs.Lines.{AllVariables, EachRow, SavesSpel
 use Rattle.cpc_convert_print_laws.proofs.Made.{named_made, zero_made, arrow_made, size_made, LineMade, line_row, InBody, row_in, EachIn, both_in, BlockMade, nothing_in, and_in, before_in, declare_made, starts_made, call_made, puts_made, assign_made}
 use Rattle.cpc_convert_print_laws.proofs.Rows.{NodePrints, statements_in}
 use Rattle.cpc_convert_print_laws.proofs.Functions.{TypeMade, int_made, any_made, to_struct_made, EachVariable, variable_of_type, struct_made, frame_struct_made, EachParameter, parameter_made, function_made}
-use Rattle.cpc_convert_print_laws.proofs.Types.{starred_variable, starred_deep, starred_rest}
+use Rattle.cpc_convert_print_laws.proofs.Types.{starred_deep, starred_rest}
 
 module _ (tight : Bool) (H : ℕ) (room : 8 ≤ H) where
   both_variables : (xs ys : List Variable) → EachVariable tight H room xs → EachVariable tight H room ys → EachVariable tight H room (xs ++ ys)

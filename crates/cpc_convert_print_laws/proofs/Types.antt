@@ -132,18 +132,7 @@ type_variable (TyCode t ts) p = p
 type_variable (TyStruct tag) p = tt
 type_variable (TyArray t n) p = absurd p
 
--- pointers over a base type can be variables
-pub starred_variable : (t : Ty) → IsStarred t → PrintableVariable t
-unfolding PrintableVariable
-starred_variable TyVoid p = tt
-starred_variable (TyInt kind) p = tt
-starred_variable TyCondvar p = tt
-starred_variable (TyPointer t) p = p
-starred_variable (TyCode t ts) p = absurd p
-starred_variable (TyStruct tag) p = tt
-starred_variable (TyArray t n) p = absurd p
-
--- they nest as their stars do
+-- pointers over a base type nest as their stars do
 pub starred_deep : (t : Ty) → IsStarred t → declarator_depth true t ≡ star_count t
 unfolding declarator_depth
 starred_deep TyVoid p = refl

@@ -121,20 +121,20 @@ unfolding declarator_depth PrintableType
 type_least f t h (code_type a g l base u q n o v w ps i j m b r s) = let (d, k, e) = starred base g u j (base_is a base i b) r in let (x, y) = code_types ps m (list_least l ps m s) in ((d, x), omega arith)
 type_least f t h (plain_type a g base u i j b r) = let (d, k, e) = starred base g t j (base_is a base i b) r in (printable t d, omega (arith, plain_depth t d))
 
--- a variable over stars
-plain_variable : (t : Ty) → IsStarred t → PrintableVariable t
+-- pointers over a base type can be variables
+pub starred_variable : (t : Ty) → IsStarred t → PrintableVariable t
 unfolding PrintableVariable
-plain_variable TyVoid s = tt
-plain_variable (TyInt kind) s = tt
-plain_variable TyCondvar s = tt
-plain_variable (TyPointer t) s = s
-plain_variable (TyCode t ts) s = absurd s
-plain_variable (TyStruct tag) s = tt
-plain_variable (TyArray t n) s = absurd s
+starred_variable TyVoid s = tt
+starred_variable (TyInt kind) s = tt
+starred_variable TyCondvar s = tt
+starred_variable (TyPointer t) s = s
+starred_variable (TyCode t ts) s = absurd s
+starred_variable (TyStruct tag) s = tt
+starred_variable (TyArray t n) s = absurd s
 
 -- a declared variable that is read
 pub declarator_least : (base : Ty) (f : List Placed) (x : LVariable) (h : ℕ) → IsBase base → ReadsDeclarator base f x h → PrintableVariable x.type × (declarator_depth true x.type ≤ h) × (base_of x.type ≡ base)
 unfolding declarator_depth PrintableVariable
-declarator_least base f x h c (plain g t y j r) = let (d, k, e) = starred base g t j c r in (plain_variable t d, omega (arith, plain_depth t d), e)
+declarator_least base f x h c (plain g t y j r) = let (d, k, e) = starred base g t j c r in (starred_variable t d, omega (arith, plain_depth t d), e)
 declarator_least base f x h c (array g t y q r s kind n j b le) = let (d, k, e) = starred base g t j c b in ((d, le), omega arith, e)
 declarator_least base f x h c (code g l t y q n s u v ps j m r z) = let (d, k, e) = starred base g t j c r in let (a, b) = code_types ps m (list_least l ps m z) in ((d, a), omega arith, e)
