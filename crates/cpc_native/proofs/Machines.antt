@@ -188,3 +188,10 @@ faulted_meets names m N.Went fault a n h = absurd cc
 faulted_meets names m (N.Returned w) fault a n h = absurd cc
 faulted_meets names m (N.Asked r) fault a n h = absurd cc
 faulted_meets names m (N.Faulted f x) fault a n h = let i : f ≡ fault = cc in let K : Fault → Type 0 = λ g. Meets (Err g) a in subst K i h
+
+-- and a fault left the store as it was
+pub faulted_store : (old new : Machine) (stepped : Stepped) (fault : Fault) → Some fault ≡ fault_of stepped → Unchanged stepped old new → new.store ≡ old.store
+faulted_store old new N.Went fault n h = absurd cc
+faulted_store old new (N.Returned w) fault n h = absurd cc
+faulted_store old new (N.Asked r) fault n h = h.store
+faulted_store old new (N.Faulted f x) fault n h = h.store

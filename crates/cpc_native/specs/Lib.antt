@@ -6,4 +6,5 @@ pub mod Well
 pub mod Next
 pub use Rattle.cpc_native_acts.specs.Stops
 pub use Rattle.cpc_native_acts.specs.Taken
+pub use Rattle.cpc_native_frames.specs.Back
 pub use Rattle.cpc_native_frames.specs.Frames

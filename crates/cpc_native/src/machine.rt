@@ -394,12 +394,13 @@ impl<'p> Machine<'p> {
     /// The answer to what the innermost call asks, in the step that asked: the value arrives there, and control goes on.
     /// Where it asks nothing, nothing is said. It takes no memory.
     ///
-    /// A fault is that of the place for the value.
+    /// A fault is that of the place for the value. It leaves the store as it was; of the calls nothing is said after it.
     pub fn answer(&mut self, alloc: Global, value: Value) -> Result<(), Fault>
         requires well { IsWell self.old }
         requires value { IsLawful (seen value) }
         ensures meets { (names : Texts) → Runs names self.old.texts.now (items_of names self.old.index)
             → Meets (went names self.new result) (P.answered (trees (items_of names self.old.index)) (store_of names self.old.store) (stack_of names self.old) (value_of names value)) }
+        ensures store { OnErr result (self.new.store ≡ self.old.store) }
         ensures well { IsWell self.new }
         ensures index { self.new.index ≡ self.old.index }
         ensures texts { self.new.texts ≡ self.old.texts }
@@ -452,8 +453,10 @@ impl<'p> Machine<'p> {
     /// How many cells are live once a function of this name is called, where nothing runs; where the program has none, those
     /// that are live now. `u64::MAX` stands for every greater number. No memory is taken.
     pub fn cells_with(&self, function: Name) -> u64
-        ensures { (names : Texts) → AreApart names → (g : X.Function) → function_named (items_of names self.now.index) (names function) ≡ Some g
+        ensures some { (names : Texts) → AreApart names → (g : X.Function) → function_named (items_of names self.now.index) (names function) ≡ Some g
             → result ≡ min (S.store_cells (store_of names self.now.store) + L.frames_registers (stack_of names self.now).frames + call_cells (items_of names self.now.index) g) (2 ^ 64 - 1) }
+        ensures none { (names : Texts) → AreApart names → function_named (items_of names self.now.index) (names function) ≡ None
+            → result ≡ min (S.store_cells (store_of names self.now.store) + L.frames_registers (stack_of names self.now).frames) (2 ^ 64 - 1) }
     {
         let live = self.live_cells();
         match self.index.locals(function) {

@@ -1,5 +1,5 @@
 //! The machine of code by the texts of names: what it runs, its store and its stack.
-ghost use Rattle.std.specs.Prelude.{◌≡◌, ℕ, map, ◌+◌, ◌<◌, ◌≤◌, ◌^◌, ◌-◌, IfOk, OnOk, min, Some};
+ghost use Rattle.std.specs.Prelude.{◌≡◌, ℕ, map, ◌+◌, ◌<◌, ◌≤◌, ◌^◌, ◌-◌, IfOk, OnOk, OnErr, min, Some, None};
 ghost use Rattle.std.specs.List.{All};
 ghost use Rattle.cpc_tree.specs.Erase.{Names as Spelling, item_of};
 ghost use Rattle.cpc_tree.specs.Typing.{function_named};
@@ -16,6 +16,8 @@ ghost use Rattle.cpc_meaning.specs.Trees.{trees};
 ghost use Rattle.cpc_store.specs.Seen.{seen, result_with, IsLawful};
 ghost use Rattle.cpc_store.specs.Store as S;
 ghost use Rattle.cpc_eval_values.specs.Shown.{value_of, values_of, store_of};
+ghost use Rattle.cpc_native.specs.Back.{IsAsBefore};
+ghost use Rattle.cpc_native.specs.Next.{FreesAlone};
 ghost use Rattle.cpc_native.specs.Well.{IsLawfulStep, AsksServed, AsksTaken};
 ghost use Rattle.cpc_eval_index.specs.Indexed.{program_items};
 ghost use Rattle.cpc_run_code.specs.Code.{items_in, store_in, stack_in, IsIdle, IsWell, Runs, StepIs, AnswerIs, AskedIn, EndsIdle, Given};
@@ -48,7 +50,8 @@ impl<'p> Code<'p> {
         Code { machine }
     }
 
-    /// A function is called, at the bottom of the stack. `NoMemory` is want of memory.
+    /// A function is called, at the bottom of the stack. `NoMemory` is want of memory; then nothing runs, and the store is as it was, but
+    /// for the numbers of blocks that were made and freed.
     pub fn call(&mut self, alloc: Global, function: Name, args: &[Value]) -> Result<(), NoMemory>
         requires lawful { All (λ v. IsLawful (seen v)) args.now }
         ensures items { (names : Spelling) → items_in names self.new ≡ items_in names self.old }
@@ -58,6 +61,8 @@ impl<'p> Code<'p> {
             → function_named (items_in names self.old) (names function) ≡ Some g
             → P.make_frame (trees (items_in names self.old)) g (values_of names args.now) (store_in names self.old) ≡ Gives (frame, t)
             → (stack_in names self.new ≡ P.stack_of frame) × (store_in names self.new ≡ t)) }
+        ensures idle { OnErr result (IsIdle self.new) }
+        ensures store { OnErr result ((names : Spelling) → IsAsBefore (store_in names self.old) (store_in names self.new)) }
     {
         self.machine.call(alloc, function, args)
     }
@@ -80,7 +85,7 @@ impl<'p> Code<'p> {
 
     /// The value of a request arrives, in the step that asked. It takes no memory.
     ///
-    /// A fault is that of the place for the value.
+    /// A fault is that of the place for the value. It leaves the store as it was; of the stack nothing is said after it.
     pub fn answer(&mut self, alloc: Global, value: Value) -> Result<(), Fault>
         requires well { IsWell self.old }
         requires lawful { IsLawful (seen value) }
@@ -88,6 +93,7 @@ impl<'p> Code<'p> {
         ensures runs { (names : Spelling) → Runs names self.old → Runs names self.new }
         ensures well { IsWell self.new }
         ensures answered { (names : Spelling) → Runs names self.old → AnswerIs names self.new result (P.answered (trees (items_in names self.old)) (store_in names self.old) (stack_in names self.old) (value_of names value)) }
+        ensures store { OnErr result ((names : Spelling) → store_in names self.new ≡ store_in names self.old) }
     {
         self.machine.answer(alloc, value)
     }
@@ -100,9 +106,12 @@ impl<'p> Code<'p> {
     }
 
     /// How many cells are live once the next step is made, what it asks for included; `u64::MAX` stands for every greater
-    /// number.
+    /// number. It is exact where nothing takes the value of a freed block (`next`), and wherever it is more than is live now (`more`);
+    /// within a cap it is never too small (`within`).
     pub fn next_cells(&self) -> u64
         requires well { IsWell self.now }
+        ensures next { (names : Spelling) (s : State Point Callback) → Runs names self.now → s.store ≡ store_in names self.now → s.running ≡ Some (stack_in names self.now) → IsMadeCode s.store (stack_in names self.now)
+            → live_cells s < 2 ^ 62 → FreesAlone (trees (items_in names self.now)) s.store (stack_in names self.now) → (t : State Point Callback) → try_step (callbacks (items_in names self.now)) s ≡ Some t → result ≡ min (live_cells t) (2 ^ 64 - 1) }
         ensures more { (names : Spelling) (s : State Point Callback) → Runs names self.now → s.store ≡ store_in names self.now → s.running ≡ Some (stack_in names self.now) → IsMadeCode s.store (stack_in names self.now)
             → live_cells s < 2 ^ 62 → live_cells s < result → (t : State Point Callback) → try_step (callbacks (items_in names self.now)) s ≡ Some t → result ≡ min (live_cells t) (2 ^ 64 - 1) }
         ensures within { (names : Spelling) (s : State Point Callback) → Runs names self.now → s.store ≡ store_in names self.now → s.running ≡ Some (stack_in names self.now) → IsMadeCode s.store (stack_in names self.now)
@@ -111,11 +120,13 @@ impl<'p> Code<'p> {
         self.machine.next_cells()
     }
 
-    /// How many cells are live once a function of this name is called, where nothing runs; `u64::MAX` stands for every
-    /// greater number.
+    /// How many cells are live once a function of this name is called, where nothing runs; where the program has none, those
+    /// that are live now. `u64::MAX` stands for every greater number.
     pub fn cells_with(&self, function: Name) -> u64
-        ensures { (names : Spelling) → Runs names self.now → (g : T.Function) → function_named (items_in names self.now) (names function) ≡ Some g
+        ensures some { (names : Spelling) → Runs names self.now → (g : T.Function) → function_named (items_in names self.now) (names function) ≡ Some g
             → result ≡ min (S.store_cells (store_in names self.now) + frames_registers (stack_in names self.now).frames + call_cells (items_in names self.now) g) (2 ^ 64 - 1) }
+        ensures none { (names : Spelling) → Runs names self.now → function_named (items_in names self.now) (names function) ≡ None
+            → result ≡ min (S.store_cells (store_in names self.now) + frames_registers (stack_in names self.now).frames) (2 ^ 64 - 1) }
     {
         self.machine.cells_with(function)
     }
@@ -148,7 +159,7 @@ impl<'p> Code<'p> {
         self.machine.replace_store(store)
     }
 
-    /// Makes the next block of a class, its cells unset. `NoMemory` is want of memory.
+    /// Makes the next block of a class, its cells unset. `NoMemory` is want of memory, and leaves the store as it was.
     pub fn alloc(&mut self, alloc: Global, class: Class, cells: u64) -> Result<Block, NoMemory>
         requires well { IsWell self.old }
         requires live { (names : Spelling) → S.store_cells (store_in names self.old) + cells < 2 ^ 63 }
@@ -159,11 +170,12 @@ impl<'p> Code<'p> {
         ensures well { IsWell self.new }
         ensures block { IfOk result (λ b. (names : Spelling) → b ≡ record { class = class; number = S.next_block class (store_in names self.old) }) }
         ensures ok { OnOk result ((names : Spelling) → store_in names self.new ≡ S.alloc class (S.unset_cells cells) (store_in names self.old)) }
+        ensures err { OnErr result ((names : Spelling) → store_in names self.new ≡ store_in names self.old) }
     {
         self.machine.alloc(alloc, class, cells)
     }
 
-    /// Drops a block of the class.
+    /// Drops a block of the class. A fault leaves the store as it was.
     pub fn free(&mut self, class: Class, what: Value) -> Result<(), Fault>
         requires well { IsWell self.old }
         requires lawful { IsLawful (seen what) }
@@ -172,6 +184,7 @@ impl<'p> Code<'p> {
         ensures stack { (names : Spelling) → stack_in names self.new ≡ stack_in names self.old }
         ensures well { IsWell self.new }
         ensures value { (names : Spelling) → result_with (store_in names self.new) result ≡ S.free class (value_of names what) (store_in names self.old) }
+        ensures err { OnErr result ((names : Spelling) → store_in names self.new ≡ store_in names self.old) }
     {
         self.machine.free(class, what)
     }

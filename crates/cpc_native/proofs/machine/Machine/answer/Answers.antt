@@ -13,10 +13,11 @@ use Rattle.cpc_eval_values.specs.Meets.{Meets}
 use Rattle.cpc_eval_values.specs.Shown.{value_of, store_of}
 use Rattle.cpc_eval_index.specs.Indexed.{items_of}
 use Rattle.cpc_native_frames.specs.Frames.{IsWellFrame}
+use Rattle.cpc_native.specs.declared.machine.Machine.{Machine}
 use Rattle.cpc_native.specs.Stacks.{frames_of, stack_of, done_of}
 use Rattle.cpc_native.proofs.Frames.{well_upon}
 use Rattle.cpc_native.proofs.Putting.{place_kept, well_moved}
-use Rattle.cpc_native.proofs.Machines.{answer_step, went_meets, faulted_meets}
+use Rattle.cpc_native.proofs.Machines.{answer_step, went_meets, faulted_meets, faulted_store}
 use Rattle.cpc_native.proofs.machine.Machine.answer.Goals as goal
 
 pub put_back-requires : goal.put_back-requires
@@ -43,6 +44,12 @@ returns-in-Some-fault_of-clause-meets c = λ names runs.
     answer_step names old.index runs.spells.apart frame well.1.own c.take.new.self.frames.items old.store old.calls.frames.items c.put_back.new.self.frames.items (record frame { point = c.arrive.new.self }) c.args.value
     (done_of names c.step.new.self c.in-Ok.stepped) c.in-Some.ensures.rest c.put_back.ensures.frames refl refl c.arrive.ensures.point (c.in-Ok.ensures.meets names runs) in
     faulted_meets names c.step.new.self c.in-Ok.stepped c.in-Some-fault_of.fault (P.answered (trees (items_of names old.index)) (store_of names old.store) (stack_of names old) (value_of names c.args.value)) c.in-Some-fault_of.ensures m
+
+pub returns-in-Some-fault_of-clause-store : goal.returns-in-Some-fault_of-clause-store
+returns-in-Some-fault_of-clause-store c =
+    let old = c.args.self.now in
+    let mid : Machine = record { index = old.index; texts = old.texts; store = old.store; calls = c.put_back.new.self; arriving = Some c.args.value } in
+    faulted_store mid c.step.new.self c.in-Ok.stepped c.in-Some-fault_of.fault c.in-Some-fault_of.ensures c.in-Ok.ensures.kept
 
 pub returns-in-Ok-clause-meets : goal.returns-in-Ok-clause-meets
 returns-in-Ok-clause-meets c = λ names runs.

@@ -14,10 +14,10 @@ pub returns-in-Some-clause-short : goal.returns-in-Some-clause-short
 returns-in-Some-clause-short c = λ names fits sent s stands.
     let l = c.args.self.now in
     starts_short names l s (names c.args.function) (values_of names c.args.arguments.now) c.cells_with.result c.args.cap c.in-Some.short stands.store
-    (ap frames_registers (idle_frames names l.machine (c.requires.steady.idle c.requires.idle))) c.in-Some.ensures.some (λ g e. c.cells_with.ensures names fits.runs g e)
+    (ap frames_registers (idle_frames names l.machine (c.requires.steady.idle c.requires.idle))) c.in-Some.ensures.some (λ g e. c.cells_with.ensures.some names fits.runs g e)
 
 pub returns-clause-capped : goal.returns-clause-capped
 returns-clause-capped c = λ names fits sent s stands.
     let l = c.args.self.now in
     starts_capped names l s (names c.args.function) (values_of names c.args.arguments.now) c.cells_with.result c.args.cap c.requires.cap c.in_default.ensures.none stands.store
-    (ap frames_registers (idle_frames names l.machine (c.requires.steady.idle c.requires.idle))) (λ g e. c.cells_with.ensures names fits.runs g e)
+    (ap frames_registers (idle_frames names l.machine (c.requires.steady.idle c.requires.idle))) (λ g e. c.cells_with.ensures.some names fits.runs g e)

@@ -1,7 +1,9 @@
 use Rattle.std.proofs.Common.{[], sym, ap, ◌∙◌, arith}
+use Rattle.std.proofs.lemmas.Result.{on_err_weaker}
 use Rattle.cpc_base.proofs.Results.{on_ok}
 use Rattle.cpc_tree.specs.Erase.{Names}
 use Rattle.cpc_eval_index.specs.Indexed.{items_of}
+use Rattle.cpc_eval_values.specs.Shown.{store_of}
 use Rattle.cpc_store.specs.Codes.{map_store}
 use Rattle.cpc_store.specs.Store as S
 use Rattle.cpc_store.proofs.CodeLemmas.{store_cells-map, next_block-map, alloc-map, unset_cells-map}
@@ -45,3 +47,7 @@ returns-clause-block c = if_ok _ _ _ c.alloc.result (λ b h k names. h ∙ ap (�
 pub returns-clause-ok : goal.returns-clause-ok
 unfolding store_in
 returns-clause-ok c = on_ok c.alloc.result (λ h names. ap (map_store names) h ∙ sym (alloc-map names c.args.class (S.unset_cells c.args.cells) c.args.self.now.machine.store) ∙ ap (λ cells. S.alloc c.args.class cells (map_store names c.args.self.now.machine.store)) (unset_cells-map names c.args.cells)) c.alloc.ensures.ok
+
+pub returns-clause-err : goal.returns-clause-err
+unfolding store_in
+returns-clause-err c = on_err_weaker c.alloc.result (λ h names. ap (store_of names) h) c.alloc.ensures.err

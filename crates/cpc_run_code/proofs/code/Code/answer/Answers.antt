@@ -1,8 +1,9 @@
 use Rattle.std.proofs.Common.{ap}
+use Rattle.std.proofs.lemmas.Result.{on_err_weaker}
 use Rattle.cpc_eval_index.specs.Indexed.{items_of}
 use Rattle.cpc_meaning.specs.Plain as P
 use Rattle.cpc_meaning.specs.Trees.{trees}
-use Rattle.cpc_eval_values.specs.Shown.{value_of}
+use Rattle.cpc_eval_values.specs.Shown.{value_of, store_of}
 use Rattle.cpc_native.proofs.Same.{runs_same}
 use Rattle.cpc_run_code.specs.Code.{items_in, store_in, stack_in, IsWell, Runs}
 use Rattle.cpc_run_code.proofs.Coded.{answer_is}
@@ -27,3 +28,7 @@ returns-clause-answered c = λ names runs. answer_is names (record { machine = c
 pub answer-requires-clause-well : goal.answer-requires-clause-well
 unfolding IsWell
 answer-requires-clause-well c = c.requires.well
+
+pub returns-clause-store : goal.returns-clause-store
+unfolding store_in
+returns-clause-store c = on_err_weaker c.answer.result (λ h names. ap (store_of names) h) c.answer.ensures.store

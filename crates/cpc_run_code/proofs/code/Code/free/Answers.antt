@@ -1,5 +1,7 @@
 use Rattle.std.proofs.Common.{sym, ap, ◌∙◌}
+use Rattle.std.proofs.lemmas.Result.{on_err_weaker}
 use Rattle.cpc_eval_index.specs.Indexed.{items_of}
+use Rattle.cpc_eval_values.specs.Shown.{store_of}
 use Rattle.cpc_store.specs.Seen.{seen}
 use Rattle.cpc_store.proofs.CodeLemmas.{free-map}
 use Rattle.cpc_native.proofs.Same.{runs_same, same_stack}
@@ -30,3 +32,7 @@ returns-clause-well c = c.free.ensures.well
 pub returns-clause-value : goal.returns-clause-value
 unfolding store_in
 returns-clause-value c = λ names. result_shown names c.free.new.self.store c.free.result _ c.free.ensures.value ∙ sym (free-map names c.args.class (seen c.args.what) c.args.self.now.machine.store)
+
+pub returns-clause-err : goal.returns-clause-err
+unfolding store_in
+returns-clause-err c = on_err_weaker c.free.result (λ h names. ap (store_of names) h) c.free.ensures.err

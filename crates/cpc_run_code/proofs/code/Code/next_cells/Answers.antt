@@ -15,3 +15,8 @@ pub returns-clause-within : goal.returns-clause-within
 unfolding items_in store_in stack_in Runs
 returns-clause-within c = λ names s runs store running made cap small le told t step.
     c.next_cells.ensures.within names s (record { runs = runs; store = store; running = running; made = made; bounded = omega (arith, le, small) }) cap small le told t step
+
+pub returns-clause-next : goal.returns-clause-next
+unfolding items_in store_in stack_in Runs
+returns-clause-next c = λ names s runs store running made small alone t step.
+    c.next_cells.ensures.next names s (record { runs = runs; store = store; running = running; made = made; bounded = small }) alone t step
