@@ -1,5 +1,6 @@
 -- What the acts of a pool come to.
-use Rattle.std.specs.Prelude.{◌≡◌, ◌⊎◌, ℕ, ◌<◌, ◌+◌, ◌-◌, List, [], ◌∷◌, ◌++◌, suc, length, take, drop, slice_get, slice_index_or, Option, Some, None, MatchOption}
+use Rattle.std.specs.Prelude.{◌≡◌, ◌⊎◌, ℕ, ◌<◌, ◌≤◌, ◌+◌, ◌-◌, List, [], ◌∷◌, ◌++◌, suc, length, take, drop, slice_get, slice_index_or, Option, Some, None, MatchOption}
+use Rattle.std.specs.Option.{IsSome}
 use Rattle.crossbeam_queue.specs.Fifo.{Held}
 use Rattle.cpc_pool_jobs.specs.declared.message.Message.TheVariants as M
 use Rattle.cpc_pool_jobs.specs.declared.views.View.{View}
@@ -11,6 +12,14 @@ use Rattle.cpc_pool_ends.specs.Views.{Arrives, Settled, after_push}
 -- how many jobs are out at most: sent to the workers, with a completion that was not accepted yet
 abbrev pub most_out : ℕ
 most_out = 1024
+
+-- how many workers a pool has at most
+abbrev pub most_workers : ℕ
+most_workers = 64
+
+-- how many messages the channel has room for: the jobs that may be out, and a stop for each worker
+abbrev pub most_messages : ℕ
+most_messages = most_out + most_workers
 
 -- the completion of a job that the pool ran itself
 abbrev pub ran : {J E : Type 0} → J → E → Done J E
@@ -47,8 +56,13 @@ Submitted {J} {E} number ends j own left v w =
     ((w ≡ after_send number v (M.Work j)) × (left ≡ own))
     ⊎ ((w ≡ v) × Ran ends j own left)
 
+-- the job was sent, or there is a cause for which it was not: there is no worker, as many jobs are out as may be, or a send failed, now or before
+abbrev pub SentOrWhy : {J U : Type 0} → (J → ℕ) → J → View → View → (workers out : ℕ) → Option U → Type 0
+SentOrWhy number j v w workers out unsent =
+    (w ≡ after_send number v (M.Work j)) ⊎ (workers ≡ 0) ⊎ (most_out ≤ out) ⊎ IsSome unsent
+
 -- What is accepted is the first of the pool's own list. Where that is empty it is the next of the queue, or nothing, and then the queue
--- was empty at a moment of the call
+-- was empty at a moment of the call, as far as the workers that have ended pushed into it
 abbrev pub Accepted : {J E : Type 0} → (J → E → Type 0) → List (Done J E) → List (Done J E) → DoneView J E → DoneView J E → Option (Done J E) → Type 0
 Accepted ends (d ∷ ds) left v w r = (r ≡ Some d) × (left ≡ ds) × (w ≡ v)
 Accepted ends [] left v w r = (left ≡ []) × MatchOption r ((w ≡ v) × Held 0 (Settled v)) (λ d. Arrives ends v d w)

@@ -1,5 +1,5 @@
 -- What comes while the end of a job is asked for.
-use Rattle.std.specs.Prelude.{◌≡◌, ◌⊎◌, ℕ, ◌+◌, ◌≤◌, List, [], ◌∷◌, ◌++◌, length, All, Some}
+use Rattle.std.specs.Prelude.{◌≡◌, ◌⊎◌, ℕ, ◌+◌, ◌-◌, ◌^◌, ◌<◌, ◌≤◌, List, [], ◌∷◌, ◌++◌, length, All, Some}
 use Rattle.cpc_pool_ends.specs.declared.done.Done.{Done}
 use Rattle.cpc_pool.specs.Acts.{NoneAt, Ran, Taken}
 
@@ -49,9 +49,14 @@ abbrev pub Unfinished : {J E : Type 0} → (J → J → Type 0) → J → Known 
 Unfinished same j old new =
     NoneAt same old.early (length old.early) j × Waits same j old.early new.early old.own new.own old.popped new.popped
 
--- A job was submitted: it was sent, where its number may be, or the pool ran it. The other completions stay
+-- the greatest number of a job: none comes after it, so no job of this number is sent
+abbrev pub last_number : ℕ
+last_number = 2 ^ 64 - 1
+
+-- A job was submitted: it was sent, where its number may be, or the pool ran it. The least number that may be sent is then the next one, and
+-- stays only where the job's number may not be sent. The other completions stay
 abbrev pub Handed : {J E : Type 0} → (J → ℕ) → (J → E → Type 0) → J → Known J E → Known J E → Type 0
 Handed number ends j old new =
     (new.early ≡ old.early) × (new.popped ≡ old.popped)
-    × ((((new.next ≡ old.next) ⊎ ((old.next ≤ number j) × (new.next ≡ number j + 1))) × (new.sent ≡ old.sent) × Ran ends j old.own new.own)
+    × (((((new.next ≡ old.next) × ((number j < old.next) ⊎ (number j ≡ last_number))) ⊎ ((old.next ≤ number j) × (new.next ≡ number j + 1))) × (new.sent ≡ old.sent) × Ran ends j old.own new.own)
     ⊎ ((old.next ≤ number j) × (new.next ≡ number j + 1) × (new.sent ≡ old.sent ++ number j ∷ []) × (new.own ≡ old.own)))

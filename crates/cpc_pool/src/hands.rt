@@ -129,8 +129,8 @@ impl<W: Runner, G: Gate, R: Wait> Hands<W, G, R> {
         }
     }
 
-    /// Submits a job. It is sent where its number is above those of all that were sent; otherwise the pool runs it at once. An error is
-    /// want of memory, and the job comes back.
+    /// Submits a job. One whose number is not above those of all that were sent, or is the greatest there is, is run at once. Any other is
+    /// sent, or run at once as `Pool::submit` says (of which no clause here says why). An error is want of memory, and the job comes back.
     pub fn submit(&mut self, job: W::Job) -> Result<(), (W::Job, AllocError)>
         requires { W.meets job }
         ensures { MatchResult result (λ _. Handed W.number W.ends job self.old self.new) (λ e. (e.0 ≡ job) × (self.new ≡ self.old)) }
@@ -185,7 +185,7 @@ impl<W: Runner, G: Gate, R: Wait> Hands<W, G, R> {
 }
 
 impl<W: Runner, G: Gate, R: Threads + Wait + Drop> Hands<W, G, R> {
-    /// Tells each worker to stop, and waits until all have ended. A job that no worker has begun is not run.
+    /// Tells each worker to stop, and waits until all have ended. A job that no worker has begun is not run. No clause says so.
     pub fn stop(self) {
         let Hands {
             rt,

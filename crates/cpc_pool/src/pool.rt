@@ -1,23 +1,23 @@
 //! The pool: starting workers, submitting, accepting, waiting and stopping.
-ghost use Rattle.std.specs.Prelude.{◌≡◌, ◌<◌, ◌≤◌, ◌+◌, ℕ, List, [], true, All, IfOk, IfSome, MatchResult, length, vec_len};
+ghost use Rattle.std.specs.Prelude.{◌≡◌, ◌<◌, ◌≤◌, ◌+◌, ℕ, List, [], true, All, IfOk, IfSome, OnOk, MatchResult, length, vec_len};
 ghost use Rattle.std.specs.List.{AllByRecursion};
 ghost use Rattle.std.specs.Arc.{arc_value};
 ghost use Rattle.crossbeam_channel.specs.Claims.{view as job_view, IsSeatAt};
-ghost use Rattle.crossbeam_channel.specs.Ends.{sends_on, receives_on};
-ghost use Rattle.crossbeam_queue.specs.Passes.{view as done_view, IsPassOf};
+ghost use Rattle.crossbeam_channel.specs.Ends.{sends_on, receives_on, ruled_capacity as job_room};
+ghost use Rattle.crossbeam_queue.specs.Passes.{view as done_view, IsPassOf, ruled_capacity as done_room};
 ghost use Rattle.cpc_pool_jobs.specs.declared.message.Message.{Message};
 ghost use Rattle.cpc_pool_jobs.specs.Views.{submitter, Settled as JobsSettled};
 ghost use Rattle.cpc_pool_ends.specs.declared.done.Done.{Done};
 ghost use Rattle.cpc_pool_ends.specs.Views.{loops, Settled as DonesSettled};
 ghost use Rattle.cpc_pool.specs.Passes.{Submits, Pops};
-ghost use Rattle.cpc_pool.specs.Acts.{most_out, Ran, Submitted, SubmittedOut, Accepted, AcceptedOut};
+ghost use Rattle.cpc_pool.specs.Acts.{most_out, most_workers, most_messages, Ran, Submitted, SubmittedOut, SentOrWhy, Accepted, AcceptedOut};
 
 use super::completions::Completions;
 use super::gate::Gate;
 use super::staff::{Worker, join_all, start_all};
 use super::worker::Crew;
 use cpc_pool_ends::{Done, DoneOf, DonePass};
-use cpc_pool_jobs::{JobPass, Message, Runner, Sender, send, send_stop};
+use cpc_pool_jobs::{JobPass, Runner, Sender, Unsent, send, send_stop};
 use std::alloc::{AllocError, Global};
 use std::sync::atomic::Ordering;
 use std::sync::{Arc, Wait};
@@ -26,7 +26,7 @@ use std::thread::Threads;
 // `most_out`, as code has it.
 const MOST_OUT: usize = 1024;
 
-// How many messages the channel has room for: the jobs that can be out, and a stop for each worker. So nobody who sends waits.
+// `most_messages`, as code has it: so nobody who sends waits.
 const MESSAGES: usize = 1088;
 
 /// The workers, and the completions of the jobs that none of them ran. It is let go of by `stop` alone.
@@ -39,6 +39,7 @@ pub struct Pool<W: Runner, G: Gate> {
     workers: Vec<Worker<W>>,
     heard: u64,
     out: usize,
+    unsent: Option<Unsent>,
     pub ghost ours: { All (λ h. (receives_on h.promise.jobs.value ≡ sends_on jobs) × (arc_value h.promise.dones.value ≡ arc_value crew.dones)) workers.items },
 }
 
@@ -64,7 +65,7 @@ where
     G: Gate + Send + Sync + 'static,
 {
     /// A pool with up to so many workers, which share the runner and the gate with the caller, and the passes of its submitter and of its
-    /// loop. There are fewer workers where threads cannot be made. An error is want of memory.
+    /// loop. There are fewer workers only where threads cannot be made (no clause says so). An error is want of memory.
     pub fn start<R: Threads + Wait + Copy + Send + 'static>(
         rt: &R,
         alloc: Global,
@@ -72,12 +73,13 @@ where
         workers: u32,
         gate: Arc<G, Global>,
     ) -> Result<(Pool<W, G>, JobPass<W>, DonePass<W>), AllocError>
-        requires few { workers ≤ 64 }
+        requires few { workers ≤ most_workers }
         ensures jobs { IfOk result (λ r. IsSeatAt (sends_on r.0.jobs) r.1 × (job_view r.1 ≡ submitter [] 0 workers [])) }
         ensures dones { IfOk result (λ r. IsPassOf (arc_value r.0.crew.dones) r.2 × (done_view r.2 ≡ loops [] workers [])) }
         ensures none { IfOk result (λ r. (r.0.own.0 ≡ []) × (vec_len r.0.workers ≤ workers)) }
         ensures shared { IfOk result (λ r. (arc_value r.0.crew.runner ≡ arc_value runner) × (arc_value r.0.crew.gate ≡ arc_value gate)) }
         ensures idle { IfOk result (λ r. (r.0.out ≡ 0) × (r.0.heard ≡ 0)) }
+        ensures room { IfOk result (λ r. (done_room (arc_value r.0.crew.dones) ≡ most_out) × (job_room (sends_on r.0.jobs) ≡ most_messages)) }
     {
         let (sender, receiver, mut jobs) = cpc_pool_jobs::begin::<W>(alloc, MESSAGES)?;
         let (queue, mut dones) = cpc_pool_ends::begin::<W>(alloc, MOST_OUT)?;
@@ -92,14 +94,15 @@ where
             workers: started,
             heard: 0,
             out: 0,
+            unsent: None,
         };
         Ok((pool, jobs, dones))
     }
 }
 
 impl<W: Runner, G: Gate> Pool<W, G> {
-    /// Sends a job, whose number is above those that were sent. Where there is no worker, or none that receives, or as many jobs are out
-    /// as the queue has room for, the pool runs it at once and keeps its completion. An error is want of memory: the job comes back, and nothing changed.
+    /// Sends a job, whose number is above those that were sent. Where there is no worker, or as many jobs are out as the queue has room
+    /// for, or the send fails, the pool runs it at once and keeps its completion. An error is want of memory: the job comes back, and nothing changed.
     pub fn submit<R: Wait>(
         &mut self,
         rt: &R,
@@ -115,6 +118,7 @@ impl<W: Runner, G: Gate> Pool<W, G> {
         ensures full { most_out ≤ self.old.out → job_view pass.new ≡ job_view pass.old }
         ensures submitted { MatchResult result (λ _. Submitted W.number W.ends job self.old.own.0 self.new.own.0 (job_view pass.old) (job_view pass.new)) (λ e. (e.0 ≡ job) × (self.new.own.0 ≡ self.old.own.0) × (job_view pass.new ≡ job_view pass.old)) }
         ensures out { MatchResult result (λ _. SubmittedOut W.number job (job_view pass.old) (job_view pass.new) self.old.out self.new.out) (λ _. self.new.out ≡ self.old.out) }
+        ensures why { OnOk result (SentOrWhy W.number job (job_view pass.old) (job_view pass.new) (vec_len self.old.workers) self.old.out self.new.unsent) }
         ensures heard { self.new.heard ≡ self.old.heard }
     {
         if self.own.reserve().is_err() {
@@ -125,12 +129,13 @@ impl<W: Runner, G: Gate> Pool<W, G> {
             return Ok(());
         }
         match send(rt, &self.jobs, pass, job) {
-            Err(Message::Work(job)) => {
-                run_here(&mut self.own, &self.crew.runner, job);
+            Ok(()) => {
+                self.out += 1;
                 Ok(())
             }
-            _ => {
-                self.out += 1;
+            Err((job, unsent)) => {
+                self.unsent = Some(unsent);
+                run_here(&mut self.own, &self.crew.runner, job);
                 Ok(())
             }
         }
@@ -152,7 +157,8 @@ impl<W: Runner, G: Gate> Pool<W, G> {
     }
 
     /// A completion, if there is one: first of the jobs that the pool ran itself, in order of submission, and then as the workers
-    /// bring them. At `None` it had none of its own, and the queue was empty at a moment of the call.
+    /// bring them. At `None` it had none of its own, and the queue was empty at a moment of the call: a clause says that of what the
+    /// workers that have ended pushed, and of no other.
     pub fn accept<R: Wait>(&mut self, rt: &R, pass: &mut DonePass<W>) -> Option<DoneOf<W>>
         requires seat { Pops (arc_value self.old.crew.dones) pass.old }
         ensures seat { Pops (arc_value self.new.crew.dones) pass.new }
@@ -178,7 +184,7 @@ impl<W: Runner, G: Gate> Pool<W, G> {
     }
 
     /// Tells each worker to stop, and waits until all have ended: the list of each that was started is kept. A job that no worker has
-    /// begun is taken and not run, since nobody asks for its end. What they took and pushed is told with the passes.
+    /// begun is taken and not run, since nobody asks for its end (no clause says so). What they took and pushed is told with the passes.
     pub fn stop<R: Threads + Wait>(
         self,
         rt: &R,
@@ -198,6 +204,7 @@ impl<W: Runner, G: Gate> Pool<W, G> {
             workers,
             heard: _,
             out: _,
+            unsent: _,
         } = self;
         crew.over.store(true, Ordering::SeqCst);
         for _ in 0..workers.len() {

@@ -121,7 +121,7 @@ where
     }
 }
 
-/// Starts up to so many workers: fewer where threads cannot be made. An error is want of memory.
+/// Starts up to so many workers: fewer only where threads cannot be made (no clause says so). An error is want of memory.
 pub fn start_all<W, G, R>(
     rt: &R,
     alloc: Global,

@@ -1,7 +1,7 @@
 //! The steps of the queue, for one who makes it, pushes, and pops.
 ghost use Rattle.std.specs.Prelude.{◌≡◌, ◌<◌, ◌+◌, true, [], ◌∷◌, ◌++◌, IfOk, MatchResult, MatchOption, List};
 ghost use Rattle.crossbeam_queue.specs.Fifo.{Held};
-ghost use Rattle.crossbeam_queue.specs.Passes.{view, IsSamePass, IsPassOf};
+ghost use Rattle.crossbeam_queue.specs.Passes.{view, IsSamePass, IsPassOf, ruled_capacity};
 ghost use Rattle.cpc_pool_ends.specs.declared.done.Done.{Done};
 ghost use Rattle.cpc_pool_ends.specs.Views.{loops, after_push, hiring, hired, keeping, Arrives, Settled};
 
@@ -28,12 +28,13 @@ pub type DonePass<W> = Pass<DoneOf<W>, DoneViewOf<W>>;
 /// An empty queue with room for so many completions, and the loop's pass. An error is want of memory.
 pub fn begin<W: Runner>(alloc: Global, room: usize) -> Result<(Dones<W>, DonePass<W>), AllocError>
     requires { 0 < room }
-    ensures { IfOk result (λ r. IsPassOf r.0 r.1 × (view r.1 ≡ loops [] 0 [])) }
+    ensures nothing { IfOk result (λ r. IsPassOf r.0 r.1 × (view r.1 ≡ loops [] 0 [])) }
+    ensures room { IfOk result (λ r. ruled_capacity r.0 ≡ room) }
 {
     Dones::<W>::ruled(alloc, room)
 }
 
-/// Puts a completion last. It comes back only where the queue was full at a moment of the call.
+/// Puts a completion last. Where the queue is full (no clause says so) it comes back.
 pub fn push<W: Runner, R: Wait>(
     rt: &R,
     dones: &Dones<W>,
@@ -49,7 +50,8 @@ pub fn push<W: Runner, R: Wait>(
     dones.push_as::<Pushing<W>, R>(rt, pass, done)
 }
 
-/// The next completion. At `None` the queue was empty at a moment of the call.
+/// The next completion. At `None` the queue was empty at a moment of the call: a clause says that of what the workers that have ended
+/// pushed, and of no other.
 pub fn pop<W: Runner, R: Wait>(
     rt: &R,
     dones: &Dones<W>,

@@ -2,7 +2,7 @@
 ghost use Rattle.std.specs.Prelude.{◌≡◌, ◌<◌, ◌+◌, true, [], ◌∷◌, ◌++◌, IfOk, MatchResult, List};
 ghost use Rattle.std.specs.List.{AllByRecursion};
 ghost use Rattle.crossbeam_channel.specs.Claims.{view, IsSeatAt};
-ghost use Rattle.crossbeam_channel.specs.Ends.{sends_on, receives_on};
+ghost use Rattle.crossbeam_channel.specs.Ends.{sends_on, receives_on, ruled_capacity};
 ghost use Rattle.crossbeam_channel.specs.Fifo.{Held};
 ghost use Rattle.cpc_pool_jobs.specs.declared.message.Message.{Message};
 ghost use Rattle.cpc_pool_jobs.specs.declared.message.Message.TheVariants.{Work, Stop as Stops};
@@ -33,33 +33,41 @@ pub fn begin<W: Runner>(
     requires { 0 < room }
     ensures ends { IfOk result (λ r. (receives_on r.1 ≡ sends_on r.0) × IsSeatAt (sends_on r.0) r.2) }
     ensures nothing { IfOk result (λ r. view r.2 ≡ submitter [] 0 0 []) }
+    ensures room { IfOk result (λ r. ruled_capacity (sends_on r.0) ≡ room) }
 {
     bounded_with(alloc, room)
 }
 
+/// A job could not be sent. It is made by `send` alone, where the channel failed, so that whoever has one has seen that.
+#[derive(Drop)]
+pub struct Unsent(());
+
 /// Sends a job, behind all that were sent: its number is above theirs, and no stop was sent yet. It waits where the channel is full.
-/// At an error there is nobody who receives: the job comes back, and nothing was sent.
+/// At an error nobody receives any more (no clause says so): the job comes back, and nothing was sent.
 pub fn send<W: Runner, R: Wait>(
     rt: &R,
     sender: &Sender<W>,
     pass: &mut JobPass<W>,
     job: W::Job,
-) -> Result<(), Message<W::Job>>
+) -> Result<(), (W::Job, Unsent)>
     requires seat { IsSeatAt (sends_on sender.now) pass.old }
     requires role { ((view pass.old).submits ≡ true) × ((view pass.old).stops ≡ 0) }
     requires number { AllByRecursion (λ n. n < W.number job) (view pass.old).sent }
     requires meets { W.meets job }
     ensures seat { IsSeatAt (sends_on sender.now) pass.new × (pass.new.id ≡ pass.old.id) }
-    ensures sent { MatchResult result (λ _. view pass.new ≡ after_send W.number (view pass.old) (Work job)) (λ m. (view pass.new ≡ view pass.old) × (m ≡ Work job)) }
+    ensures sent { MatchResult result (λ _. view pass.new ≡ after_send W.number (view pass.old) (Work job)) (λ e. (view pass.new ≡ view pass.old) × (e.0 ≡ job)) }
 {
     match sender.send_as::<Sends<W>, R>(rt, pass, Message::Work(job)) {
         Ok(()) => Ok(()),
-        Err(e) => Err(e.into_inner()),
+        Err(e) => match e.into_inner() {
+            Message::Work(job) => Err((job, Unsent(()))),
+            Message::Stop => unreachable!(),
+        },
     }
 }
 
-/// Tells one worker to stop. It waits where the channel is full. At an error, which has the stop, there is nobody who receives, and
-/// nothing was sent.
+/// Tells one worker to stop. It waits where the channel is full. At an error, which has the stop, nobody receives any more (no clause
+/// says so), and nothing was sent.
 pub fn send_stop<W: Runner, R: Wait>(
     rt: &R,
     sender: &Sender<W>,
@@ -80,8 +88,8 @@ pub fn send_stop<W: Runner, R: Wait>(
 #[derive(Drop)]
 pub struct Closed(());
 
-/// Takes the next message, and waits until there is one. At an error nobody sends any more, nothing was taken, and the channel was empty
-/// at a moment of the call.
+/// Takes the next message. Where there is none it waits (no clause says so). At an error nobody sends any more (no clause says so),
+/// nothing was taken, and the channel was empty at a moment of the call.
 pub fn take<W: Runner, R: Wait>(
     rt: &R,
     receiver: &Receiver<W>,

@@ -9,7 +9,7 @@ mod runner;
 mod views;
 
 pub use calls::{
-    Closed, JobPass, Receiver, Sender, begin, hire, retire, send, send_stop, settle, take,
+    Closed, JobPass, Receiver, Sender, Unsent, begin, hire, retire, send, send_stop, settle, take,
 };
 pub use laws::only_one;
 pub use message::Message;
