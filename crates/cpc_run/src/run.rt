@@ -292,13 +292,14 @@ fn run_program<O: Sink, R: HostRule, S: Sections>(
 /// `Ended::NoHost` with the first of these by declaration, and zeros, and nothing is written.
 ///
 /// `Ended::WriteFault` is a failure of the sink, `Ended::Memory` want of memory; then what went out is the first part of
-/// what the run put out. A step that would leave more cells than the cap is told before it is made, so that it takes no
-/// memory, whatever the size of a block or of a call. A poll that is refused is not taken.
+/// what the run put out. A poll that is refused is not taken. A step that would leave more cells than the cap is told in place of
+/// being made; that it is told before anything of it is made, and so takes no memory, is how the code does it, and no clause.
 ///
-/// A section is run by `sections`, on its own copy of the cells, with at most `limits.section_steps` steps, which are none of the
-/// run's. It runs beside the loop, or at any time from the step that submits it to the poll that tells it, where it is waited for;
-/// what it comes to does not depend on when. A fault of one ends the run in its function at that poll, which counts as taken and
-/// shows in a trace, and no cell goes back. `NoMemory` of one ends the run there too, with `Ended::Memory`.
+/// A section comes to what its function does on its own copy of the cells, with at most `limits.section_steps` steps, which are none
+/// of the run's. The code has it run by `sections`, beside the loop, or at any time from the step that submits it to the poll that
+/// tells it, where it is waited for; no clause says by whom or when, and what it comes to does not depend on that. A fault of one
+/// ends the run in its function at that poll, which counts as taken and shows in a trace, and no cell goes back. `NoMemory` of one
+/// ends the run there too, with `Ended::Memory`.
 pub fn run_event<O: Sink, R: HostRule, S: Sections>(
     alloc: Global,
     program: &Checked,
