@@ -215,29 +215,4 @@ impl Out {
             },
         )
     }
-
-    /// A call, whose value goes to a place, made again while a test holds. `NoMemory` is want of memory.
-    pub fn call_while(
-        &mut self,
-        alloc: Global,
-        place: Place,
-        test: Expr,
-        target: Expr,
-        function: Expr,
-        arguments: Vec<Expr>,
-    ) -> Result<(), NoMemory>
-        ensures { OnOk result ((to : E.Names) → written to self.new ≡ puts (written to self.old) (S.While (expr_of to test) (S.Call (Some (expr_of to target)) (expr_of to function) (exprs_of to arguments.items)) ∷ [])) }
-    {
-        let call = Statement::Call {
-            place,
-            operator: place,
-            target: Some(target),
-            function,
-            arguments,
-        };
-        match both(test, boxed(alloc, call)) {
-            Ok((test, body)) => self.put(alloc, Statement::While { place, test, body }),
-            Err(e) => Err(e),
-        }
-    }
 }

@@ -13,10 +13,6 @@ abbrev pub find : Names → List Called → Text → Option Called
 find names [] x = None
 find names (c ∷ cs) x = if bytes_eq (name_in names c.lifted.now) x then Some c else find names cs x
 
--- the names of spawners are those of the names of a table, and one more of the empty name
-abbrev pub spawners_of : Table → List Text
-spawners_of table = map spawner_name table
-
 -- the names of a conversion of a program with this table
 pub record IsBook (source : Table) (to : Names) (b : Book) : Type 0 where
   pub own : AreOwn to b.own
