@@ -1,8 +1,9 @@
 //! The command `cpc`, over the files and streams of the system.
 #![tactic(auto)]
 
-ghost use Rattle.std.specs.Prelude.{◌≡◌, IfOk, OnErr, codes};
+ghost use Rattle.std.specs.Prelude.{◌≡◌, ◌≢◌, [], IfOk, OnErr, codes};
 ghost use Rattle.std.specs.Process.{exit_status};
+ghost use Rattle.std.specs.declared.io.ErrorKind.TheVariants.{OutOfMemory};
 ghost use Rattle.cpc_base.specs.Outside.{Rose};
 ghost use Rattle.cpc_standard.specs.Reports.{Wrote};
 ghost use Rattle.cpc_standard.specs.Answer.{Said};
@@ -10,18 +11,27 @@ ghost use Rattle.cpc_standard.specs.Answer.{Said};
 use cpc_base::{Failed, NoMemory, Sink, write_all};
 use cpc_files::{OpenedShelf, StreamSink, SystemFiles};
 use cpc_standard::{Report, called};
+use std::alloc::Global;
 use std::env;
 use std::io::ErrorKind;
 use std::process::ExitCode;
 
-// The words after the program's name. Where one of them is no text, there are none: no command line has no words.
+// The words where they cannot be read, for this cause. Where one of them is no text, there are none: no command line has no words.
+fn no_words(alloc: Global, cause: ErrorKind) -> Result<Vec<String>, NoMemory>
+    ensures none { IfOk result (λ words. (words.items ≡ []) × (cause ≢ OutOfMemory)) }
+    ensures memory { OnErr result (cause ≡ OutOfMemory) }
+{
+    match cause {
+        ErrorKind::OutOfMemory => Err(NoMemory),
+        _ => Ok(Vec::new(alloc)),
+    }
+}
+
+// The words after the program's name.
 fn words(rt: &HostRuntime) -> Result<Vec<String>, NoMemory> {
     match env::args(rt) {
         Ok(args) => Ok(args.skip(1).collect(rt.alloc())?),
-        Err(error) => match error.kind() {
-            ErrorKind::OutOfMemory => Err(NoMemory),
-            _ => Ok(Vec::new(rt.alloc())),
-        },
+        Err(error) => no_words(rt.alloc(), error.kind()),
     }
 }
 
