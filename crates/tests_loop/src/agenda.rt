@@ -210,6 +210,38 @@ fn polls_wake_sections_then_descriptors_then_timers(rt: HostRuntime) {
     assert_eq!(rt; agenda.now(), 5);
 }
 
+// Whether a poll is asked for what the agenda of the test below waits for.
+fn asks_for_all(alloc: Global, agenda: &Agenda<u32>) -> bool {
+    match agenda.asked(alloc) {
+        Ok(asked) => {
+            asked.now == 2
+                && asked.deadline == Some(3)
+                && matches!(
+                    asked.descriptors.as_slice(),
+                    [(7, Direction::Write), (4, Direction::Read)]
+                )
+                && asked.sections == 1
+        }
+        Err(_) => false,
+    }
+}
+
+#[test]
+fn a_poll_is_asked_for_what_waits(rt: HostRuntime) {
+    let mut agenda = Agenda::new(rt.alloc());
+    for (act, seen) in [
+        (Act::Sleeps(5, 1), Seen::Went),
+        (Act::Sleeps(3, 2), Seen::Went),
+        (Act::Watches(7, Direction::Write, 3), Seen::Went),
+        (Act::Watches(4, Direction::Read, 4), Seen::Went),
+        (Act::Submits(5), Seen::Number(0)),
+        (Act::Polls(2, &[]), Seen::Went),
+    ] {
+        assert!(rt; done(rt.alloc(), &mut agenda, act) == seen);
+    }
+    assert!(rt; asks_for_all(rt.alloc(), &agenda));
+}
+
 #[test]
 fn so_many_sections_are_out_at_most(rt: HostRuntime) {
     let mut agenda = Agenda::new(rt.alloc());
