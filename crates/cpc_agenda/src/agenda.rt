@@ -123,7 +123,7 @@ impl<T: Drop> Agenda<T> {
         self.timers.waiting() > 0 || self.descr.waiting() > 0 || self.sections.waiting() > 0
     }
 
-    /// The clock that was told last, in microseconds, at most 2^53.
+    /// The greatest clock that was told, in microseconds: 0 before the first, and at most 2^53.
     pub fn now(&self) -> u64
         ensures value { (names : Names) → result ≡ (lists_of names self.now).now }
         ensures bounded { result ≤ 2 ^ 53 }

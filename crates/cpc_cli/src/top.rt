@@ -323,9 +323,11 @@ where
 /// Does what a command line asks for. `words` are its words without the program's name; the text and the history are read
 /// from `shelf`, what a command makes goes to `out`, and the line on how the call ended to `err`. A program that is run may
 /// call the functions of `hosts`, whose answers meet its rule; before its history is read, each that it declares is looked for.
-/// Its sections are run by as many workers as the words ask for, or by fewer where threads cannot be made; `sample` has none. What
-/// comes of a call does not depend on their number, nor on what they do when. The gate is called around each section that
-/// a worker runs, with its number. All workers have ended when the call returns.
+/// What comes of a call does not depend on the number of workers, nor on what they do when.
+///
+/// What the workers do is how the code does it, and no clause: the sections of a run are run by as many as the words ask for, or by
+/// fewer where threads cannot be made, or memory for one is wanting; `sample` has none. The gate is called around each section that a worker runs, with
+/// its number. All workers have ended when the call returns.
 ///
 /// The status of the report is 0 where the command did its work, 1 where the program that was run has a fault, 2 where
 /// the words are no command line, 3 where the text has a fault, 4 where a line of the

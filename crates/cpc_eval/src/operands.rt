@@ -80,7 +80,7 @@ fn counted_size(op: Op, left: Given, right: Given, index: &Index) -> Option<u64>
 /// - `Null`, `Freed`, `Bounds`: as of a move of a pointer, or of two pointers that are compared or subtracted.
 /// - `Compare`: two pointers into different blocks are compared by order or subtracted.
 ///
-/// Operands that the operator does not take may give any fault.
+/// Operands that the operator does not take may give any value or any fault.
 pub fn operate_on(op: Op, left: Given, right: Given, around: &Around) -> Result<Value, Fault>
     requires left { IsLawful (seen left.value) }
     requires right { IsLawful (seen right.value) }

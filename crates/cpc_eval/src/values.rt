@@ -33,7 +33,7 @@ use cpc_tree::program::{Expr, UnaryOp};
 /// The value of an expression. It takes no memory.
 ///
 /// `Unset`, `Null`, `Freed`, `Bounds`, `Kind`, `Compare`, `Overflow`, `Divide`, `Shift`: the first fault of its operators,
-/// its operands from left to right. An expression of no type may give any fault.
+/// its operands from left to right. An expression of no type may give any value or any fault.
 pub fn value<'a>(e: &'a Expr, around: &Around<'a>) -> Result<Value, Fault>
     requires { AreLawful around.now.slots.now }
     ensures value { (names : Names) → IsToldIn names around.now → HasNumbers (context_of names around.now).program (expr_of names e.now)

@@ -13,7 +13,8 @@ pub enum Owner {
     Leader(usize),
 }
 
-/// A cps function with the owner of each node, None where control never comes, and the leaders in the order of their numbers.
+/// A cps function with the owner of each node, and the leaders in the order of their numbers. A node without an owner is one to which
+/// control never comes; of those to which it never comes, a leader owns itself and what it alone leads to.
 pub struct SplitFunction<'a> {
     pub graph: &'a GraphFunction<'a>,
     pub owners: Vec<Option<Owner>>,

@@ -434,7 +434,7 @@ impl<'p> Machine<'p> {
     /// faults leaves those that there are. Where nothing runs, those that are live now. `u64::MAX` stands for every greater
     /// number. No memory is taken. The number is exact where nothing takes the value of a freed block, as in every program
     /// that breaks no rule (`next`), and wherever it is more than is live now (`more`); within a cap it is never too small
-    /// (`within`).
+    /// (`within`). That is told of states with fewer than 2^62 live cells.
     pub fn next_cells(&self) -> u64
         requires { IsWell self.now }
         ensures next { (names : Texts) (s : State Point Callback) → IsStateOf names self.now s → FreesAlone (trees (items_of names self.now.index)) s.store (stack_of names self.now) → LeavesSo names self.now s result }

@@ -49,7 +49,7 @@ abbrev pub IsLong : V.Value → Type 0
 IsLong (W.Int kind z) = kind ≡ Long
 IsLong _ = ⊥
 
--- values are those with which a section is asked for: a set callback and its pointer, the code of a function, and what that takes;
+-- values are those with which a section is asked for: a set callback and its pointer, the code of a function, and any behind it;
 -- or there are none, where none are written
 abbrev pub is_detached : List V.Value → Bool
 is_detached [] = true

@@ -34,7 +34,7 @@ fn free_slot(slot: Slot, store: &mut Store) -> Result<(), Fault>
 
 /// Frees the blocks of these slots, in order.
 ///
-/// `BadFree`: one of them is not live; those before it are freed.
+/// `BadFree`: one of them is not live; of the store nothing is said then.
 pub(crate) fn free_slots(slots: &[Slot], store: &mut Store) -> Result<(), Fault>
     ensures { (names : Names) → Meets (result_map_both (λ _. store_of names store.new) (λ fault. fault) result) (M.free_slots (slots_of names slots.now) (store_of names store.old)) }
 {

@@ -17,7 +17,7 @@ use std::alloc::Global;
 pub enum Apart {
     /// None: a call is an expression.
     Never,
-    /// One that is the whole, but for parentheses.
+    /// One that is the whole, and in no parentheses.
     Bare,
     /// One that is the whole, in any parentheses.
     Bracketed,

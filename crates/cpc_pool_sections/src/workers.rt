@@ -14,13 +14,15 @@ use std::thread::Threads;
 
 /// Workers that run the sections of one program. They are let go of by `stop` alone.
 ///
-/// A section whose number is not above those of all that were submitted before it, and each where there is no worker, is run as it is submitted.
+/// A section whose number is not above those of all that were submitted before it, and each where there is no worker, is run as it is submitted
+/// (no clause says so).
 pub struct Workers<B: Assigned, G: Gate, T: Wait> {
     hands: Hands<Sectioner<B>, G, T>,
 }
 
 /// Up to so many workers for the sections of the program, of which each may make at most so many steps. There are fewer where threads
-/// cannot be made. The gate is called around each section that a worker runs, with the section's number.
+/// cannot be made, or memory for one is wanting. The gate is called around each section that a worker runs, with the section's number.
+/// (No clause says so.)
 ///
 /// `NoMemory` is want of memory.
 pub fn start<B, G, T>(
@@ -46,7 +48,7 @@ where
 }
 
 impl<B: Assigned, G: Gate, T: Threads + Wait + Drop> Workers<B, G, T> {
-    /// Tells each worker to stop, and waits until all have ended. A section that no worker has begun is not run.
+    /// Tells each worker to stop, and waits until all have ended. A section that no worker has begun is not run. (No clause says so.)
     pub fn stop(self) {
         let Workers { hands } = self;
         hands.stop();

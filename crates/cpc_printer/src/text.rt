@@ -17,7 +17,7 @@ use std::alloc::Global;
 /// How deep a text may nest that is read again.
 const DEEPEST: u32 = 256;
 
-/// The text of a program, as C that is cut and read as an equal program.
+/// The text of a program as C, which is cut and read as an equal program where some text is read as this one (`back`).
 ///
 /// Each declaration has a line of its own, and blocks are set in by four blanks. No parenthesis in it can be dropped.
 /// Where it would nest too deep to be read, the outermost pointers of parameters are written as arrays.

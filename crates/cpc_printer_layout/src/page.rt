@@ -13,7 +13,7 @@ use cpc_base::{Names, NoMemory};
 use std::alloc::Global;
 
 /// The text of the tokens, each behind the blanks that were asked for, with one more where else two tokens would be
-/// cut as one. It is cut into these tokens.
+/// cut as one. It is cut into these tokens where each of them can be spelled (`cuts`).
 ///
 /// # Errors
 ///

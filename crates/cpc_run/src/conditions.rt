@@ -19,7 +19,7 @@ use cpc_store::Value;
 use std::alloc::Global;
 
 impl<'p> Loop<'p> {
-    /// The clock that was told last.
+    /// The greatest clock that was told.
     pub(crate) fn tells_time(
         &mut self,
         alloc: Global,

@@ -107,7 +107,7 @@ impl<'p> Code<'p> {
 
     /// How many cells are live once the next step is made, what it asks for included; `u64::MAX` stands for every greater
     /// number. It is exact where nothing takes the value of a freed block (`next`), and wherever it is more than is live now (`more`);
-    /// within a cap it is never too small (`within`).
+    /// within a cap it is never too small (`within`). That is told of states with fewer than 2^62 live cells.
     pub fn next_cells(&self) -> u64
         requires well { IsWell self.now }
         ensures next { (names : Spelling) (s : State Point Callback) → Runs names self.now → s.store ≡ store_in names self.now → s.running ≡ Some (stack_in names self.now) → IsMadeCode s.store (stack_in names self.now)

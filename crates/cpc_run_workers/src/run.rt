@@ -84,10 +84,12 @@ where
     }
 }
 
-/// Runs an event program as `run_event` does, with so many workers for its sections: they run beside the loop, each in a store of its own. Where
-/// threads cannot be made there are fewer, and where there is none a section runs as it is submitted. What comes of the run does not
-/// depend on that, nor on when a section runs. All workers have ended when it returns. The gate is called around each section
-/// that a worker runs, with the section's number.
+/// Runs an event program as `run_event` does, with so many workers for its sections. What comes of the run does not depend on their number, nor on
+/// when a section runs.
+///
+/// What the workers do is how the code does it, and no clause: sections run beside the loop, each in a store of its own; where threads
+/// cannot be made, or memory for one is wanting, there are fewer workers, and where there is none a section runs as it is submitted; the gate is called
+/// around each section that a worker runs, with the section's number; and all workers have ended when the call returns.
 ///
 /// `Ended::Memory` is also want of memory before the run begins; then the report has zeros, and nothing is written.
 pub fn run_with_workers<O: Sink, R: HostRule, G, T>(

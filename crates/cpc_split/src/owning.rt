@@ -52,7 +52,8 @@ fn owners(
     Ok(marks.owners)
 }
 
-/// What a function falls into: the owner of each node, None where control never comes, and the leaders in the order of their numbers.
+/// What a function falls into: the owner of each node, and the leaders in the order of their numbers. A node without an owner is one to
+/// which control never comes; of those to which it never comes, a leader owns itself and what it alone leads to.
 #[derive(Drop)]
 pub struct Pieces {
     pub owners: Vec<Option<Owner>>,

@@ -19,7 +19,7 @@ use std::sync::{Arc, Wait};
 use std::thread::Threads;
 
 /// Makes the top call of these words, with the functions of the host that every run has. `threads` is the handle by which workers
-/// are started; the gate is called around each section that a worker runs.
+/// are started; the gate is called around each section that a worker runs (no clause says so).
 ///
 /// # Errors
 ///

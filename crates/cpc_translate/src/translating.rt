@@ -34,7 +34,7 @@ pub struct Translated {
 
 /// The translation of a text of the dialect Cpc: an event program that has the same runs, within the cost, and the shape: native
 /// functions and globals stay, and each cps function becomes its spawner, and one function for its start and for each point where
-/// a thread of it may begin to run again, or to which it comes on two ways. Wherever nothing runs in it, it holds no more frames,
+/// a thread of it may begin to run again, or to which two ways lead in its text. Wherever nothing runs in it, it holds no more frames,
 /// and no more live cells, than the threads need in the state that they are in then, by the cost of their steps.
 ///
 /// # Errors
@@ -43,7 +43,7 @@ pub struct Translated {
 pub fn translate(alloc: Global, text: &[u8]) -> Result<Translated, Stop<TextFault>>
     ensures source { IfOk result (λ t. Accepts D.Cpc text.now (located t.source.program)) }
     ensures printed { IfOk result (λ t. Accepts D.Event t.printed.items (located t.read_back.program)) }
-    // It is a row of the tokens that the printer writes of that program, with blanks or comments between them.
+    // It is a row of the tokens that the printer writes of that program, with nothing but blanks between them.
     ensures print { IfOk result (λ t. IsPrint t.printed.items (program_of t.read_back.program)) }
     ensures dialects { IfOk result (λ t. (t.source.dialect ≡ D.Cpc) × (t.read_back.dialect ≡ D.Event)) }
     ensures equal { IfOk result (λ t. program_of t.read_back.program ≡ converted (program_of t.source.program)) }
