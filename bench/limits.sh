@@ -86,15 +86,15 @@ due 0 4999998 '' run section.c --history back
 due 1 '' 'fault section steps in g' run longer-section.c --history back
 
 # the pointer is a cell too
-room='int main(void){ int *p; p = malloc(%s); p[%s] = 7; cpc_print(7); return 0; }'
+cells='int main(void){ int *p; p = malloc(%s); p[%s] = 7; cpc_print(7); return 0; }'
 # shellcheck disable=SC2059
-printf "$room" 3999999 3999998 >cells.c
+printf "$cells" 3999999 3999998 >cells.c
 # shellcheck disable=SC2059
-printf "$room" 4000000 3999999 >more-cells.c
+printf "$cells" 4000000 3999999 >more-cells.c
 # shellcheck disable=SC2059
-printf "$room" 49999999 49999998 >most-cells.c
+printf "$cells" 49999999 49999998 >most-cells.c
 # shellcheck disable=SC2059
-printf "$room" 50000000 49999999 >too-many-cells.c
+printf "$cells" 50000000 49999999 >too-many-cells.c
 
 due 0 7 '' run cells.c
 due 7 '' 'full: cap 4000000, asked 4000001' run more-cells.c

@@ -3,7 +3,8 @@
 # page. With --unproved it compiles the program without proofs, once, and runs that. Ends with status 1 where something does not hold.
 # In ERRORS.md a text stands in a block, or in the file that a line `The text is [FILE](..)` names; what the page says of it stands
 # below: `LINE`, for the words `run a.c`, or With `WORDS`: `LINE`, or With `WORDS` and the history `POLL`: `LINE`, where the words name it h.
-# In LANGUAGE.md each block with a `main` is to be accepted, and one that begins as a file of crates/examples/data is to be that file.
+# In LANGUAGE.md each block with a `main` is to be accepted, and one that begins as a file of crates/examples/data is to be that file. A
+# block that begins with `cps` and has no `main` is translated with one, and each part of the block below it is to be in what is printed.
 # shellcheck disable=SC2016  # backquotes are those of the page
 set -u
 top=$(cd "$(dirname "${BASH_SOURCE[0]}")/.." && pwd)
@@ -61,8 +62,15 @@ while IFS= read -r line; do
   esac
 done <"$top/docs/ERRORS.md"
 
+# printed_of TEXT PARTS: parts of what is printed of a text, with a blank line between them, in a file beside it
+printed_of() {
+  case_of "$1" 'translate a.c' ''
+  printf %s "$2" >"$room/$(printf 't%03d' "$texts").parts"
+}
+
 # the programs of LANGUAGE.md
 state=outside
+source=
 while IFS= read -r line; do
   case $state in
     outside)
@@ -73,7 +81,11 @@ while IFS= read -r line; do
         continue
       fi
       state=outside
-      case $text in *' main('*) case_of "$text" 'check a.c' accepted ;; esac
+      case $text in
+        *' main('*) case_of "$text" 'check a.c' accepted ;;
+        'cps '*) source=$text$'\nint main(void) { return 0; }' ;;
+        *) [ -z "$source" ] || printed_of "$source" "$text" ;;
+      esac
       for file in "$top"/crates/examples/data/*.c; do
         if [ "$(head -n 1 "$file")" = "${text%%$'\n'*}" ] && [ "$(cat "$file")" != "$text" ]; then
           wrong=$((wrong + 1))
@@ -99,10 +111,25 @@ else
   done
 fi
 
+# lacks TOLD PARTS: whether one of the parts is not in what is told
+lacks() {
+  local part rest=$2$'\n\n'
+  while [ -n "$rest" ]; do
+    part=${rest%%$'\n\n'*}
+    rest=${rest#*$'\n\n'}
+    case $1 in *"$part"*) ;; *) return 0 ;; esac
+  done
+  return 1
+}
+
 for file in "$room"/*.said; do
   name=$(basename "$file" .said)
   said=$(cat "$file")
   told=$(cat "$room/$name.told" 2>/dev/null)
+  if [ -f "$room/$name.parts" ]; then
+    parts=$(cat "$room/$name.parts")
+    if lacks "$told" "$parts"; then said="(some of) $parts"; else said=$told; fi
+  fi
   if [ "$told" != "$said" ]; then
     wrong=$((wrong + 1))
     echo "$(tr '\n' ' ' <"$room/cases/$name.args"): the page says '$said', and the program '$told', of"
