@@ -197,7 +197,9 @@ impl<'p> Index<'p> {
     }
 
     /// The place of a struct that has the cells of the last struct of a tag among the first items, of which there are so many.
-    /// Of structs each of which has no field but the next, the last one is told, so that no chain of these is walked.
+    /// No clause says which of the structs with these cells it is. Where the program's last struct of the tag is among the first items,
+    /// the code goes on from each struct whose only field is a struct, or an array of one, to that struct, and tells the one where this
+    /// ends, so that the caller walks no chain of these. Elsewhere it tells the struct of the tag itself.
     pub fn struct_before(&self, tag: Name, before: usize) -> Option<usize>
         requires { before ≤ length (program_items self.now) }
         ensures earlier { IfSome result (λ place. place < before) }
