@@ -1,5 +1,5 @@
 //! An index of a program by name.
-ghost use Rattle.std.specs.Prelude.{◌≡◌, ◌<◌, ◌≤◌, IfOk, IfSome, Some, length, map, option_map, slice_get};
+ghost use Rattle.std.specs.Prelude.{◌≡◌, ◌<◌, ◌≤◌, IfOk, IfSome, Some, None, length, map, option_map, slice_get};
 ghost use Rattle.cpc_tree.specs.Erase.{Names, type_of, field_of, function_of};
 ghost use Rattle.cpc_check_rules.specs.Apart.{AreApart};
 ghost use Rattle.cpc_tree.specs.Typing as T;
@@ -155,9 +155,10 @@ impl<'p> Index<'p> {
         }
     }
 
-    /// The locals of the function that the item of a number defines, if it defines one.
+    /// The locals of the function that the item of a number defines, if it defines one; behind the last item there are none.
     pub fn locals_of(&self, place: usize) -> Option<Locals<'p>>
-        ensures { (item : Item) → slice_get (program_items self.now) place ≡ Some item → option_map (λ locals. owner_of locals) result ≡ function_defined item }
+        ensures some { (item : Item) → slice_get (program_items self.now) place ≡ Some item → option_map (λ locals. owner_of locals) result ≡ function_defined item }
+        ensures none { length (program_items self.now) ≤ place → result ≡ None }
     {
         match item_at(self.program, place) {
             None => None,

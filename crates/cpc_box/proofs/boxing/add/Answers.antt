@@ -21,11 +21,11 @@ module _ (index : Index) (xs : List Item) (k : ℕ) (x : Item) (f : Function) (o
 pub boxed_function-requires-clause-locals : goal.boxed_function-requires-clause-locals
 boxed_function-requires-clause-locals c =
     let f = c.in-Function.function in
-    let e : Some (owner_of c.in-Some.locals) ≡ Some f = defines c.args.index.now c.args.source.now.items.items c.args.place c.args.item.now f _ c.requires.index c.requires.there c.in-Function.is c.in-Some.ensures in
+    let e : Some (owner_of c.in-Some.locals) ≡ Some f = defines c.args.index.now c.args.source.now.items.items c.args.place c.args.item.now f _ c.requires.index c.requires.there c.in-Function.is c.in-Some.ensures.some in
     cc
 
 pub unreachable-requires : goal.unreachable-requires
 unreachable-requires c =
     let f = c.in-Function.function in
-    let e : None ≡ Some f = defines c.args.index.now c.args.source.now.items.items c.args.place c.args.item.now f _ c.requires.index c.requires.there c.in-Function.is c.in_default-locals_of.ensures in
+    let e : None ≡ Some f = defines c.args.index.now c.args.source.now.items.items c.args.place c.args.item.now f _ c.requires.index c.requires.there c.in-Function.is c.in_default-locals_of.ensures.some in
     cc
