@@ -1,4 +1,3 @@
-pub mod Collecting
 pub mod Leaving
 pub mod Reading
 pub mod Telling

@@ -1,5 +1,5 @@
 //! A section that is to be run, and what it came to.
-use cpc_base::{Name, NoMemory};
+use cpc_base::Name;
 use cpc_num::Fault;
 use cpc_store::Value;
 
@@ -38,11 +38,4 @@ pub enum SectionEnd {
     Gave(Value, Vec<Value>),
     /// A fault in the function of this name.
     Faulted(Fault, Name),
-}
-
-/// A section that is over: its end, or that there was no memory to run it.
-#[derive(Drop)]
-pub struct Done {
-    pub job: Job,
-    pub end: Result<SectionEnd, NoMemory>,
 }

@@ -5,12 +5,10 @@ mod back;
 mod collected;
 mod ending;
 mod job;
-mod laws;
 mod read;
 
 pub use back::write_to;
-pub use collected::{Collected, Finished, collect, collect_one};
+pub use collected::{Collected, Finished, collect_one};
 pub use ending::{COPY, ended};
-pub use job::{Done, Job, SectionEnd};
-pub use laws::collected_as_told;
+pub use job::{Job, SectionEnd};
 pub use read::read_integers;
