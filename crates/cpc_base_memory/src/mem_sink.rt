@@ -77,6 +77,7 @@ impl Sink for MemSink {
     fn put(&mut self, piece: &[u8]) -> Result<usize, Failed>
         ensures size { IfOk result (λ n. n ≡ min (length piece.now) (max self.old.most 1)) }
         ensures fails { IsErr result ↔ (FailsNext self.old.plan ⊎ IsTrue self.new.starved) }
+        ensures planned { FailsNext self.old.plan → self.new.starved ≡ false }
         ensures later { self.old.raised ≤ self.new.raised }
         ensures ok { IfOk result (λ n. self.new ≡ after_put self.old (take n piece.now)) }
         ensures err { OnErr result (self.new ≡ after_refusal self.old self.new.starved) }

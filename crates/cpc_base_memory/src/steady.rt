@@ -61,7 +61,7 @@ impl Shelf for SteadyShelf {
     }
 }
 
-/// Reads a file that the shelf holds, as `read_file` does. The shelf cannot fail at it: the answer is the file, or that it has more than `limit` bytes, or want of memory.
+/// Reads a file that the shelf holds, as `read_file` does. The shelf cannot fail at it: the answer is the file, or that it has more than `limit` bytes, or want of memory. Its files stay as they were.
 pub fn read_held(
     alloc: Global,
     shelf: &mut SteadyShelf,
@@ -73,6 +73,7 @@ pub fn read_held(
     ensures within { IfOk result (λ bytes. length bytes.items ≤ limit) }
     ensures too_long { IsErrOf result (Fault TooLong) → IsLonger (files_of shelf.old.files) name.now limit }
     ensures read { ¬ IsErrOf result (Fault Unread) }
+    ensures stays { files_of shelf.new.files ≡ files_of shelf.old.files }
 {
     read_file(alloc, shelf, name, limit)
 }
