@@ -8,7 +8,7 @@ use std::alloc::{AllocError, Global};
 use std::fs;
 
 /// The files of rows, each with the texts of one subject.
-const FILES: [&str; 29] = [
+const FILES: [&str; 30] = [
     "grammar.rows",
     "printed.rows",
     "rules.rows",
@@ -17,6 +17,7 @@ const FILES: [&str; 29] = [
     "limits.rows",
     "refusals.rows",
     "language.rows",
+    "corners.rows",
     "types.rows",
     "values.rows",
     "bytes.rows",
