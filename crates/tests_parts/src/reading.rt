@@ -6,6 +6,38 @@ ghost use Rattle.cpc_parser_reading.specs.Lists.{Many};
 ghost use Rattle.cpc_parser_reading.specs.Reading.{Read, Fault, Deep};
 ghost use Rattle.cpc_parser_reading.specs.SmallStatements.{Stm, IsStm, starts_stm, program, tokens, assign, perform, label, choice, both, block, no_stm};
 
+use cpc_parser_reading::{Grammar, answers};
+
+// The grammar of programs of the small language: what a grammar states can be met together.
+struct Small;
+
+impl Grammar for Small {
+    ghost use Rattle.std.specs.Prelude.{false, true};
+    ghost use Rattle.cpc_parser_reading.specs.SmallExpressions as E;
+    ghost use Rattle.cpc_parser_reading.specs.SmallStatements.{dangles, is_otherwise};
+    ghost use Rattle.cpc_parser_reading.proofs.Lists.{Over};
+    ghost use Rattle.cpc_parser_reading.proofs.SmallStatements.{exact_program};
+
+    ghost Token = { E.Token };
+
+    ghost Kind = { E.Kind };
+
+    ghost Tree = { List Stm };
+
+    ghost kind = { kind_of };
+
+    ghost reads = { Many IsStm };
+
+    // Behind a program stands no further statement, and no else where its last if has none.
+    ghost follow = { Over starts_stm (λ s k. dangles s ≡ true → is_otherwise k ≡ false) };
+
+    ghost least = { 0 };
+
+    ghost reader = { program };
+
+    ghost exact = { exact_program };
+}
+
 // The small language is read exactly.
 fn small_language()
     ensures { (d : ℕ) (ts : List Token) → Answers kind_of (Many IsStm) d ts (whole (program d ts)) }
@@ -31,6 +63,7 @@ fn worked()
 
 #[test]
 fn the_small_language_has_answers() {
+    answers::<Small>();
     small_language();
     worked();
 }
