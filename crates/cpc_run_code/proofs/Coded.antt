@@ -23,7 +23,7 @@ use Rattle.cpc_native.specs.declared.machine.Stepped.TheVariants as X
 use Rattle.cpc_native.specs.Stacks.{went, done_of as native_done, TellsRunning}
 use Rattle.cpc_native.specs.Well.{Unchanged, EndsEmpty}
 use Rattle.cpc_native.proofs.Same.{runs_same}
-use Rattle.cpc_run_code.specs.Code.{stack_in, store_in, IsIdle, Given, EndsIdle, AskedIn, StepIs, AnswerIs}
+use Rattle.cpc_run_code.specs.Code.{stack_in, store_in, IsIdle, Given, EndsIdle, AskedIn, FaultsIn, StepIs, AnswerIs}
 
 pub idle_frames : (names : Names) (m : Code) → IsIdle m → (stack_in names m).frames ≡ []
 unfolding stack_in IsIdle
@@ -62,6 +62,13 @@ asked_in old new X.Went told kept names = tt
 asked_in old new (X.Returned v) told kept names = tt
 asked_in old new (X.Asked r) told kept names = (kept.stack names, ap (store_of names) kept.store, told names)
 asked_in old new (X.Faulted fault f) told kept names = told names
+
+pub faults_in : (old new : Code) (x : Stepped) → Unchanged x old.machine new.machine → (names : Names) → FaultsIn names old new x
+unfolding stack_in store_in
+faults_in old new X.Went kept names = tt
+faults_in old new (X.Returned v) kept names = tt
+faults_in old new (X.Asked r) kept names = tt
+faults_in old new (X.Faulted fault f) kept names = (kept.stack names, ap (store_of names) kept.store)
 
 pub step_is : (names : Names) (new : Code) (r : Result Stepped NoMemory) (a : Answer (P.Done Point)) → IfOk r (λ x. Meets (native_done names new.machine x) a) → StepIs names new r a
 unfolding stack_in store_in

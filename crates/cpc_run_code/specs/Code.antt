@@ -18,7 +18,7 @@ use Rattle.cpc_native.specs.declared.machine.Stepped.{Stepped}
 use Rattle.cpc_native.specs.declared.machine.Stepped.TheVariants as X
 use Rattle.cpc_native.specs.Runs.{Runs as RunsOf}
 use Rattle.cpc_native.specs.Stacks.{stack_of, request_of}
-use Rattle.cpc_native.specs.Well.{IsWell as IsWellMachine}
+use Rattle.cpc_native.specs.Well.{IsWell as IsWellMachine, StandsAtCall as StandsAtCallMachine}
 use Rattle.cpc_native_laws.specs.Laws.{IsSpelling, AreOthers}
 use Rattle.cpc_run_code.specs.declared.code.Code.{Code}
 
@@ -41,6 +41,10 @@ IsIdle m = m.machine.calls.frames.items ≡ []
 -- what the code keeps
 unfoldable pub IsWell : Code → Type 0
 IsWell m = IsWellMachine m.machine
+
+-- the innermost call stands at a call
+unfoldable pub StandsAtCall : Code → Type 0
+StandsAtCall m = StandsAtCallMachine m.machine
 
 -- what the texts of names and the program of a machine have to be
 unfoldable pub Runs : Names → Code → Type 0
@@ -86,6 +90,11 @@ abbrev pub AskedIn : Names → Code → Code → Stepped → Type 0
 AskedIn names old new (X.Asked r) = (stack_in names new ≡ stack_in names old) × (store_in names new ≡ store_in names old) × (names r.function ≡ P.running_function (stack_in names old))
 AskedIn names old new (X.Faulted fault f) = names f ≡ P.running_function (stack_in names old)
 AskedIn names old new _ = Unit {0}
+
+-- a step that faults leaves stack and store as they were
+abbrev pub FaultsIn : Names → Code → Code → Stepped → Type 0
+FaultsIn names old new (X.Faulted fault f) = (stack_in names new ≡ stack_in names old) × (store_in names new ≡ store_in names old)
+FaultsIn names old new _ = Unit {0}
 
 -- nothing runs once the outermost call was left
 abbrev pub EndsIdle : Stepped → Code → Type 0

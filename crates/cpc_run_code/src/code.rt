@@ -20,7 +20,7 @@ ghost use Rattle.cpc_native.specs.Back.{IsAsBefore};
 ghost use Rattle.cpc_native.specs.Next.{FreesAlone};
 ghost use Rattle.cpc_native.specs.Well.{IsLawfulStep, AsksServed, AsksTaken};
 ghost use Rattle.cpc_eval_index.specs.Indexed.{program_items};
-ghost use Rattle.cpc_run_code.specs.Code.{items_in, store_in, stack_in, IsIdle, IsWell, Runs, StepIs, AnswerIs, AskedIn, EndsIdle, Given};
+ghost use Rattle.cpc_run_code.specs.Code.{items_in, store_in, stack_in, IsIdle, IsWell, Runs, StandsAtCall, StepIs, AnswerIs, AskedIn, FaultsIn, EndsIdle, Given};
 
 use cpc_base::{Name, Names, NoMemory};
 use cpc_eval_index::Index;
@@ -67,7 +67,10 @@ impl<'p> Code<'p> {
         self.machine.call(alloc, function, args)
     }
 
-    /// A step of the running code. `NoMemory` is want of memory.
+    /// A step of the running code. A step that asks or faults leaves stack and store as they were.
+    ///
+    /// `NoMemory` is want of memory, and comes only where a call stands; then the stack is as it was, and so is the store, but for the
+    /// numbers of blocks that were made and freed.
     pub fn step(&mut self, alloc: Global) -> Result<Stepped, NoMemory>
         requires well { IsWell self.old }
         ensures items { (names : Spelling) → items_in names self.new ≡ items_in names self.old }
@@ -76,9 +79,13 @@ impl<'p> Code<'p> {
         ensures lawful { IfOk result (λ stepped. IsLawfulStep stepped) }
         ensures idle { IfOk result (λ stepped. EndsIdle stepped self.new) }
         ensures asked { IfOk result (λ stepped. (names : Spelling) → AskedIn names self.old self.new stepped) }
+        ensures faulted { IfOk result (λ stepped. (names : Spelling) → FaultsIn names self.old self.new stepped) }
         ensures served { IfOk result (λ stepped. (names : Spelling) → Runs names self.old → AsksServed stepped) }
         ensures takes { IfOk result (λ stepped. AsksTaken stepped) }
         ensures did { (names : Spelling) → Runs names self.old → StepIs names self.new result (P.plain (trees (items_in names self.old)) (store_in names self.old) (stack_in names self.old)) }
+        ensures refused { OnErr result (StandsAtCall self.old) }
+        ensures stack { OnErr result ((names : Spelling) → stack_in names self.new ≡ stack_in names self.old) }
+        ensures store { OnErr result ((names : Spelling) → IsAsBefore (store_in names self.old) (store_in names self.new)) }
     {
         self.machine.step(alloc)
     }
