@@ -16,9 +16,6 @@ pub ahead : {X : Type 0} (P : X → Type 0) (r : Option X) (xs ys : List X) (n m
 ahead P None xs ys n m e c l h = nil_from_length ys (l ∙ c.0)
 ahead P (Some x) xs ys n m e c l h = All-head P x xs (subst (All P) e h)
 
-pub carried : {X : Type 0} (xs ys : List X) → ys ≡ xs → (P : X → Type 0) → All P xs → All P ys
-carried xs ys e P h = subst (All P) (sym e) h
-
 -- how many there were before one was taken
 pub counted : {X : Type 0} (r : Option X) (n m : ℕ) → MatchOption r ((n ≡ 0) × (m ≡ 0)) (λ _. m + 1 ≡ n) → MatchOption r (n ≡ 0) (λ _. n ≡ m + 1)
 counted None n m c = c.0

@@ -40,7 +40,7 @@ pub struct Pool<W: Runner, G: Gate> {
     heard: u64,
     out: usize,
     unsent: Option<Unsent>,
-    pub ghost ours: { All (λ h. (receives_on h.promise.jobs.value ≡ sends_on jobs) × (arc_value h.promise.dones.value ≡ arc_value crew.dones)) workers.items },
+    pub ghost ours: { All (λ h. (receives_on h.handle.promise.jobs.value ≡ sends_on jobs) × (arc_value h.handle.promise.dones.value ≡ arc_value crew.dones)) workers.items },
 }
 
 // Runs a job in the caller's own thread.
@@ -65,7 +65,8 @@ where
     G: Gate + Send + Sync + 'static,
 {
     /// A pool with up to so many workers, which share the runner and the gate with the caller, and the passes of its submitter and of its
-    /// loop. There are fewer workers only where threads cannot be made (no clause says so). An error is want of memory.
+    /// loop. There are fewer workers only where threads cannot be made, or memory for one is wanting (no clause says so). An error is want
+    /// of memory, before any worker was started.
     pub fn start<R: Threads + Wait + Copy + Send + 'static>(
         rt: &R,
         alloc: Global,

@@ -19,10 +19,13 @@ use std::sync::Wait;
 use std::thread;
 use std::thread::{PromisedHandle, Threads};
 
-/// A worker that was started.
-pub type Worker<W> = PromisedHandle<Left<W>, Gives<W>>;
+/// A worker that was started. It is let go of by `join_last` alone: it is not `Drop`, though the handle is, whose drop lets the thread
+/// run on.
+pub struct Worker<W: Runner> {
+    handle: PromisedHandle<Left<W>, Gives<W>>,
+}
 
-// Starts one worker. `None` where no thread can be made. An error is want of memory.
+// Starts one worker. `None` where no thread can be made, or memory for it is wanting.
 fn start_one<W, G, R>(
     rt: &R,
     sender: &Sender<W>,
@@ -31,7 +34,7 @@ fn start_one<W, G, R>(
     number: u64,
     jobs: &mut JobPass<W>,
     dones: &mut DonePass<W>,
-) -> Result<Option<Worker<W>>, AllocError>
+) -> Option<Worker<W>>
 where
     W: Runner + Send + Sync + 'static,
     W::Job: Send + 'static,
@@ -43,12 +46,16 @@ where
     requires dones { Pops (arc_value crew.now.dones) dones.old × ((done_view dones.old).workers ≡ number) }
     ensures jobs { IsSeatAt (sends_on sender.now) jobs.new × (job_view jobs.new ≡ job_hiring (job_view jobs.old)) }
     ensures dones { IsPassOf (arc_value crew.now.dones) dones.new × (done_view dones.new ≡ done_hiring (done_view dones.old)) }
-    ensures ours { IfOk result (λ o. IfSome o (λ h. (receives_on h.promise.jobs.value ≡ sends_on sender.now) × (arc_value h.promise.dones.value ≡ arc_value crew.now.dones))) }
+    ensures ours { IfSome result (λ h. (receives_on h.handle.promise.jobs.value ≡ sends_on sender.now) × (arc_value h.handle.promise.dones.value ≡ arc_value crew.now.dones)) }
 {
     let taking = cpc_pool_jobs::hire(sender, jobs);
     let bringing = cpc_pool_ends::hire(&crew.dones, dones);
-    let theirs = receiver.try_clone()?;
-    let crew = crew.again()?;
+    let Ok(theirs) = receiver.try_clone() else {
+        return None;
+    };
+    let Ok(crew) = crew.again() else {
+        return None;
+    };
     let handle = *rt;
     let promise = Gives {
         jobs: Snapshot::of(&theirs),
@@ -64,8 +71,8 @@ where
             ensures { WorksAt (receives_on theirs) result.0 × PushesAt (arc_value crew.dones) number result.1 × OnOk result.2 ((job_view result.0).stopped ≡ true) }
         { work(&handle, &crew, &theirs, number, taking, bringing) },
     ) {
-        Ok(worker) => Ok(Some(worker)),
-        Err(_) => Ok(None),
+        Ok(handle) => Some(Worker { handle }),
+        Err(_) => None,
     }
 }
 
@@ -77,15 +84,16 @@ fn keep<W: Runner, G: Gate>(
     worker: Worker<W>,
 )
     requires room { vec_len started.old < vec_capacity started.old }
-    requires ours { All (λ h. (receives_on h.promise.jobs.value ≡ sends_on sender.now) × (arc_value h.promise.dones.value ≡ arc_value crew.now.dones)) started.old.items }
-    requires new { (receives_on worker.promise.jobs.value ≡ sends_on sender.now) × (arc_value worker.promise.dones.value ≡ arc_value crew.now.dones) }
-    ensures ours { All (λ h. (receives_on h.promise.jobs.value ≡ sends_on sender.now) × (arc_value h.promise.dones.value ≡ arc_value crew.now.dones)) started.new.items }
+    requires ours { All (λ h. (receives_on h.handle.promise.jobs.value ≡ sends_on sender.now) × (arc_value h.handle.promise.dones.value ≡ arc_value crew.now.dones)) started.old.items }
+    requires new { (receives_on worker.handle.promise.jobs.value ≡ sends_on sender.now) × (arc_value worker.handle.promise.dones.value ≡ arc_value crew.now.dones) }
+    ensures ours { All (λ h. (receives_on h.handle.promise.jobs.value ≡ sends_on sender.now) × (arc_value h.handle.promise.dones.value ≡ arc_value crew.now.dones)) started.new.items }
     ensures len { vec_len started.new ≡ vec_len started.old + 1 }
+    ensures room { vec_capacity started.new ≡ vec_capacity started.old }
 {
     started.push_reserved(worker);
 }
 
-// Starts one worker more, if a thread can be made. An error is want of memory.
+// Starts one worker more, if a thread can be made and memory for it is there.
 fn start_next<W, G, R>(
     rt: &R,
     sender: &Sender<W>,
@@ -95,7 +103,7 @@ fn start_next<W, G, R>(
     jobs: &mut JobPass<W>,
     dones: &mut DonePass<W>,
     started: &mut Vec<Worker<W>>,
-) -> Result<(), AllocError>
+)
 where
     W: Runner + Send + Sync + 'static,
     W::Job: Send + 'static,
@@ -105,23 +113,21 @@ where
     requires ends { receives_on receiver.now ≡ sends_on sender.now }
     requires jobs { Submits (sends_on sender.now) jobs.old }
     requires dones { Pops (arc_value crew.now.dones) dones.old × ((done_view dones.old).workers ≡ number) }
-    requires ours { All (λ h. (receives_on h.promise.jobs.value ≡ sends_on sender.now) × (arc_value h.promise.dones.value ≡ arc_value crew.now.dones)) started.old.items }
-    ensures jobs { OnOk result (IsSeatAt (sends_on sender.now) jobs.new × (job_view jobs.new ≡ job_hiring (job_view jobs.old))) }
-    ensures dones { OnOk result (IsPassOf (arc_value crew.now.dones) dones.new × (done_view dones.new ≡ done_hiring (done_view dones.old))) }
-    ensures ours { All (λ h. (receives_on h.promise.jobs.value ≡ sends_on sender.now) × (arc_value h.promise.dones.value ≡ arc_value crew.now.dones)) started.new.items }
+    requires room { vec_len started.old < vec_capacity started.old }
+    requires ours { All (λ h. (receives_on h.handle.promise.jobs.value ≡ sends_on sender.now) × (arc_value h.handle.promise.dones.value ≡ arc_value crew.now.dones)) started.old.items }
+    ensures jobs { IsSeatAt (sends_on sender.now) jobs.new × (job_view jobs.new ≡ job_hiring (job_view jobs.old)) }
+    ensures dones { IsPassOf (arc_value crew.now.dones) dones.new × (done_view dones.new ≡ done_hiring (done_view dones.old)) }
+    ensures ours { All (λ h. (receives_on h.handle.promise.jobs.value ≡ sends_on sender.now) × (arc_value h.handle.promise.dones.value ≡ arc_value crew.now.dones)) started.new.items }
     ensures len { vec_len started.new ≤ vec_len started.old + 1 }
+    ensures room { vec_capacity started.new ≡ vec_capacity started.old }
 {
-    started.reserve(1)?;
-    match start_one(rt, sender, receiver, crew, number, jobs, dones)? {
-        Some(worker) => {
-            keep(sender, crew, started, worker);
-            Ok(())
-        }
-        None => Ok(()),
+    if let Some(worker) = start_one(rt, sender, receiver, crew, number, jobs, dones) {
+        keep(sender, crew, started, worker);
     }
 }
 
-/// Starts up to so many workers: fewer only where threads cannot be made (no clause says so). An error is want of memory.
+/// Starts up to so many workers: fewer only where threads cannot be made, or memory for one is wanting (no clause says so). An error is
+/// want of memory, before any worker was started.
 pub fn start_all<W, G, R>(
     rt: &R,
     alloc: Global,
@@ -143,10 +149,10 @@ where
     requires dones { IsPassOf (arc_value crew.now.dones) dones.old × (done_view dones.old ≡ loops [] 0 []) }
     ensures jobs { OnOk result (IsSeatAt (sends_on sender.now) jobs.new × (job_view jobs.new ≡ submitter [] 0 workers [])) }
     ensures dones { OnOk result (IsPassOf (arc_value crew.now.dones) dones.new × (done_view dones.new ≡ loops [] workers [])) }
-    ensures ours { IfOk result (λ v. All (λ h. (receives_on h.promise.jobs.value ≡ sends_on sender.now) × (arc_value h.promise.dones.value ≡ arc_value crew.now.dones)) v.items) }
+    ensures ours { IfOk result (λ v. All (λ h. (receives_on h.handle.promise.jobs.value ≡ sends_on sender.now) × (arc_value h.handle.promise.dones.value ≡ arc_value crew.now.dones)) v.items) }
     ensures len { IfOk result (λ v. vec_len v ≤ workers) }
 {
-    let mut started = Vec::new(alloc);
+    let mut started = Vec::with_capacity(alloc, workers as usize)?;
     for n in 0..workers {
         start_next(
             rt,
@@ -157,7 +163,7 @@ where
             jobs,
             dones,
             &mut started,
-        )?;
+        );
     }
     Ok(started)
 }
@@ -168,9 +174,9 @@ fn last<W: Runner, G: Gate>(
     crew: &Crew<W, G>,
     started: &mut Vec<Worker<W>>,
 ) -> Option<Worker<W>>
-    requires ours { All (λ h. (receives_on h.promise.jobs.value ≡ sends_on sender.now) × (arc_value h.promise.dones.value ≡ arc_value crew.now.dones)) started.old.items }
-    ensures ours { All (λ h. (receives_on h.promise.jobs.value ≡ sends_on sender.now) × (arc_value h.promise.dones.value ≡ arc_value crew.now.dones)) started.new.items }
-    ensures last { IfSome result (λ h. (receives_on h.promise.jobs.value ≡ sends_on sender.now) × (arc_value h.promise.dones.value ≡ arc_value crew.now.dones)) }
+    requires ours { All (λ h. (receives_on h.handle.promise.jobs.value ≡ sends_on sender.now) × (arc_value h.handle.promise.dones.value ≡ arc_value crew.now.dones)) started.old.items }
+    ensures ours { All (λ h. (receives_on h.handle.promise.jobs.value ≡ sends_on sender.now) × (arc_value h.handle.promise.dones.value ≡ arc_value crew.now.dones)) started.new.items }
+    ensures last { IfSome result (λ h. (receives_on h.handle.promise.jobs.value ≡ sends_on sender.now) × (arc_value h.handle.promise.dones.value ≡ arc_value crew.now.dones)) }
     ensures len { MatchOption result (vec_len started.old ≡ 0) (λ h. vec_len started.old ≡ vec_len started.new + 1) }
 {
     started.pop()
@@ -186,11 +192,11 @@ fn join_last<W: Runner, G: Gate, R: Threads>(
     dones: &mut DonePass<W>,
 )
     requires some { 0 < vec_len started.old }
-    requires ours { All (λ h. (receives_on h.promise.jobs.value ≡ sends_on sender.now) × (arc_value h.promise.dones.value ≡ arc_value crew.now.dones)) started.old.items }
+    requires ours { All (λ h. (receives_on h.handle.promise.jobs.value ≡ sends_on sender.now) × (arc_value h.handle.promise.dones.value ≡ arc_value crew.now.dones)) started.old.items }
     requires jobs { Submits (sends_on sender.now) jobs.old }
     requires dones { Pops (arc_value crew.now.dones) dones.old }
     ensures len { vec_len started.old ≡ vec_len started.new + 1 }
-    ensures ours { All (λ h. (receives_on h.promise.jobs.value ≡ sends_on sender.now) × (arc_value h.promise.dones.value ≡ arc_value crew.now.dones)) started.new.items }
+    ensures ours { All (λ h. (receives_on h.handle.promise.jobs.value ≡ sends_on sender.now) × (arc_value h.handle.promise.dones.value ≡ arc_value crew.now.dones)) started.new.items }
     ensures jobs { Submits (sends_on sender.now) jobs.new × ((job_view jobs.new).sent ≡ (job_view jobs.old).sent) }
     ensures dones { Pops (arc_value crew.now.dones) dones.new × ((done_view dones.new).popped ≡ (done_view dones.old).popped) }
     ensures kept { (length (job_view jobs.new).kept ≡ length (job_view jobs.old).kept + 1) × (length (done_view dones.new).kept ≡ length (done_view dones.old).kept + 1) }
@@ -198,7 +204,8 @@ fn join_last<W: Runner, G: Gate, R: Threads>(
     let Some(worker) = last(sender, crew, started) else {
         unreachable!()
     };
-    let (taking, bringing, _) = worker.join(rt);
+    let Worker { handle } = worker;
+    let (taking, bringing, _) = handle.join(rt);
     cpc_pool_jobs::retire(sender, jobs, taking);
     cpc_pool_ends::retire(&crew.dones, dones, bringing);
 }
@@ -212,7 +219,7 @@ pub fn join_all<W: Runner, G: Gate, R: Threads>(
     jobs: &mut JobPass<W>,
     dones: &mut DonePass<W>,
 )
-    requires ours { All (λ h. (receives_on h.promise.jobs.value ≡ sends_on sender.now) × (arc_value h.promise.dones.value ≡ arc_value crew.now.dones)) started.items }
+    requires ours { All (λ h. (receives_on h.handle.promise.jobs.value ≡ sends_on sender.now) × (arc_value h.handle.promise.dones.value ≡ arc_value crew.now.dones)) started.items }
     requires jobs { Submits (sends_on sender.now) jobs.old }
     requires dones { Pops (arc_value crew.now.dones) dones.old }
     ensures jobs { Submits (sends_on sender.now) jobs.new × ((job_view jobs.new).sent ≡ (job_view jobs.old).sent) }
@@ -223,4 +230,5 @@ pub fn join_all<W: Runner, G: Gate, R: Threads>(
     while !left.is_empty() {
         join_last(rt, sender, crew, &mut left, jobs, dones);
     }
+    left.destroy_empty();
 }

@@ -9,7 +9,7 @@ use Rattle.cpc_pool.proofs.staff.join_all.Given as goal
 
 abbrev pub invariant-loop-left : goal.invariant-loop-left
 invariant-loop-left g l =
-    All (λ h. (receives_on h.promise.jobs.value ≡ sends_on l.sender) × (arc_value h.promise.dones.value ≡ arc_value l.crew.dones)) l.left.items
+    All (λ h. (receives_on h.handle.promise.jobs.value ≡ sends_on l.sender) × (arc_value h.handle.promise.dones.value ≡ arc_value l.crew.dones)) l.left.items
     × (Submits (sends_on l.sender) l.jobs × ((job_view l.jobs).sent ≡ (job_view l.fn.jobs).sent))
     × (Pops (arc_value l.crew.dones) l.dones × ((done_view l.dones).popped ≡ (done_view l.fn.dones).popped))
     × (length (job_view l.jobs).kept + vec_len l.left ≡ length (job_view l.fn.jobs).kept + vec_len l.fn.started)
