@@ -13,6 +13,9 @@ if [ "${1:-}" != --unproved ] && [ ! -x "$cpc" ]; then
   echo 'page.sh: build the program first (./cpc), or give the word --unproved' >&2
   exit 126
 fi
+for page in ERRORS LANGUAGE; do
+  [ -r "$top/docs/$page.md" ] || { echo "page.sh: docs/$page.md cannot be read" >&2; exit 126; }
+done
 room=$(mktemp -d)
 trap 'rm -rf "$room"' EXIT
 mkdir "$room/cases" || exit 126
@@ -57,13 +60,20 @@ while IFS= read -r line; do
       case $before$between in
         'With  and the history ') case_of "$text" "$first" "$third" "$second" ;;
         'With '*) case_of "$text" "$first" "$second" ;;
-        *) case_of "$text" 'run a.c' "$first" ;;
+        *)
+          if [ -z "$first" ]; then
+            wrong=$((wrong + 1))
+            echo "ERRORS.md does not say what is told of: $text"
+          fi
+          case_of "$text" 'run a.c' "$first" ;;
       esac ;;
   esac
 done <"$top/docs/ERRORS.md"
 
 # printed_of TEXT PARTS: parts of what is printed of a text, with a blank line between them, in a file beside it
+shown=0
 printed_of() {
+  shown=$((shown + 1))
   case_of "$1" 'translate a.c' ''
   printf %s "$2" >"$room/$(printf 't%03d' "$texts").parts"
 }
@@ -95,6 +105,11 @@ while IFS= read -r line; do
   esac
 done <"$top/docs/LANGUAGE.md"
 
+if [ "$shown" -eq 0 ]; then
+  wrong=$((wrong + 1))
+  echo 'LANGUAGE.md shows no event program'
+fi
+
 # what the program says of each: all of its output
 if [ "${1:-}" = --unproved ]; then
   (cd "$top/crates/cpc" && rt try "${lent[@]}" --cases "$room/cases" </dev/null) >"$room/all" 2>&1
@@ -107,13 +122,14 @@ else
     name=$(basename "$file" .args)
     mapfile -t words <"$file"
     words=("${words[@]//\{\}/$room/cases/$name}")
-    "$cpc" "${words[@]/#$name.h/$room/$name.h}" >"$room/$name.told" 2>&1
+    timeout 60 "$cpc" "${words[@]/#$name.h/$room/$name.h}" >"$room/$name.told" 2>&1
   done
 fi
 
 # lacks TOLD PARTS: whether one of the parts is not in what is told
 lacks() {
   local part rest=$2$'\n\n'
+  [ -n "$2" ] || return 0
   while [ -n "$rest" ]; do
     part=${rest%%$'\n\n'*}
     rest=${rest#*$'\n\n'}
