@@ -200,6 +200,8 @@ fn join_last<W: Runner, G: Gate, R: Threads>(
     ensures jobs { Submits (sends_on sender.now) jobs.new × ((job_view jobs.new).sent ≡ (job_view jobs.old).sent) }
     ensures dones { Pops (arc_value crew.now.dones) dones.new × ((done_view dones.new).popped ≡ (done_view dones.old).popped) }
     ensures kept { (length (job_view jobs.new).kept ≡ length (job_view jobs.old).kept + 1) × (length (done_view dones.new).kept ≡ length (done_view dones.old).kept + 1) }
+    // No worker was hired, so the passes that were taken in are those of one that has ended.
+    ensures hired { ((job_view jobs.new).workers ≡ (job_view jobs.old).workers) × ((done_view dones.new).workers ≡ (done_view dones.old).workers) }
 {
     let Some(worker) = last(sender, crew, started) else {
         unreachable!()
@@ -225,6 +227,7 @@ pub fn join_all<W: Runner, G: Gate, R: Threads>(
     ensures jobs { Submits (sends_on sender.now) jobs.new × ((job_view jobs.new).sent ≡ (job_view jobs.old).sent) }
     ensures dones { Pops (arc_value crew.now.dones) dones.new × ((done_view dones.new).popped ≡ (done_view dones.old).popped) }
     ensures kept { (length (job_view jobs.new).kept ≡ length (job_view jobs.old).kept + vec_len started) × (length (done_view dones.new).kept ≡ length (done_view dones.old).kept + vec_len started) }
+    ensures hired { ((job_view jobs.new).workers ≡ (job_view jobs.old).workers) × ((done_view dones.new).workers ≡ (done_view dones.old).workers) }
 {
     let mut left = started;
     while !left.is_empty() {
