@@ -39,14 +39,10 @@ const MOST_DIGITS: usize = 18;
 pub(crate) fn read_number(text: &str, most: u64) -> Option<u64>
     ensures { result ≡ number_of most text.now }
 {
-    if !is_numeral(text) {
-        return None;
+    match read_number_up_to(text, most)? {
+        0 => None,
+        number => Some(number),
     }
-    let number: u64 = text.parse().ok()?;
-    if number == 0 || number > most {
-        return None;
-    }
-    Some(number)
 }
 
 /// The number that `text` writes: 1 to 18 decimal digits and nothing else, of a value within 0 to `most`. None where

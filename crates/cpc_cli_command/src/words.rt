@@ -1,13 +1,13 @@
 //! Reads the words of a command line.
-ghost use Rattle.std.specs.Prelude.{◌≡◌, ◌≢◌, IfOk, codes, map, option_and_then, option_map, string_bytes};
+ghost use Rattle.std.specs.Prelude.{◌≡◌, ◌≢◌, IfOk, Some, codes, map, option_and_then, option_map, string_bytes};
+ghost use Rattle.std.specs.Option.{option_map_or};
 ghost use Rattle.clap.specs.Walk.{first_of};
 ghost use Rattle.clap.specs.Words.{found_of, kind_of, rows_of, subcommand_rows_of};
 ghost use Rattle.cpc_cli_command.specs.Commands.{asked, asked_options, command_in, command_named as named_command, command_of};
-ghost use Rattle.cpc_cli_command.specs.Commands.{cells_in as cells_given, is_given as was_given};
+ghost use Rattle.cpc_cli_command.specs.Commands.{is_given as was_given};
 ghost use Rattle.cpc_cli_command.specs.Commands.{exec_in as exec_given, file_command_in, options_in as options_given};
-ghost use Rattle.cpc_cli_command.specs.Commands.{run_in as run_given, sample_in as sample_given, section_steps_in as section_steps_given};
-ghost use Rattle.cpc_cli_command.specs.Commands.{steps_in as steps_given, workers_in as workers_given};
-ghost use Rattle.cpc_cli_command.specs.Number.{workers_of};
+ghost use Rattle.cpc_cli_command.specs.Commands.{run_in as run_given, sample_in as sample_given, workers_in as workers_given};
+ghost use Rattle.cpc_cli_command.specs.Number.{number_of, workers_of};
 ghost use Rattle.cpc_base.specs.declared.stop.Stop.TheVariants.{Fault};
 
 use crate::build;
@@ -169,9 +169,14 @@ fn exec_in<'a>(file: &'a str, values: &ArgMatches<'a>) -> Option<Command<'a>>
 fn options_in<'a>(values: &ArgMatches<'a>) -> Option<Options<'a>>
     ensures { option_map asked_options result ≡ options_given (rows_of (found_of values.now)) }
 {
-    let steps = steps_in(values)?;
-    let cells = cells_in(values)?;
-    let section_steps = section_steps_in(values)?;
+    let steps = number_in("steps", MOST_STEPS, DEFAULT_STEPS, values)?;
+    let cells = number_in("cells", MOST_CELLS, DEFAULT_CELLS, values)?;
+    let section_steps = number_in(
+        "section-steps",
+        MOST_SECTION_STEPS,
+        DEFAULT_SECTION_STEPS,
+        values,
+    )?;
     let workers = workers_in(values)?;
     Some(Options {
         history: history_in(values),
@@ -190,33 +195,13 @@ fn history_in<'a>(values: &ArgMatches<'a>) -> Option<&'a str>
     values.get_str("history")
 }
 
-/// The number of `--steps`, or the default where it was not given.
-fn steps_in(values: &ArgMatches<'_>) -> Option<u64>
-    ensures { result ≡ steps_given (rows_of (found_of values.now)) }
+/// The number of the option `name`, of a value within 1 to `most`, or `default` where it was not given.
+fn number_in(name: &str, most: u64, default: u64, values: &ArgMatches<'_>) -> Option<u64>
+    ensures { result ≡ option_map_or (number_of most) (first_of name.now (rows_of (found_of values.now))) (Some default) }
 {
-    match values.get_str("steps") {
-        Some(text) => read_number(text, MOST_STEPS),
-        None => Some(DEFAULT_STEPS),
-    }
-}
-
-/// The number of `--cells`, or the default where it was not given.
-fn cells_in(values: &ArgMatches<'_>) -> Option<u64>
-    ensures { result ≡ cells_given (rows_of (found_of values.now)) }
-{
-    match values.get_str("cells") {
-        Some(text) => read_number(text, MOST_CELLS),
-        None => Some(DEFAULT_CELLS),
-    }
-}
-
-/// The number of `--section-steps`, or the default where it was not given.
-fn section_steps_in(values: &ArgMatches<'_>) -> Option<u64>
-    ensures { result ≡ section_steps_given (rows_of (found_of values.now)) }
-{
-    match values.get_str("section-steps") {
-        Some(text) => read_number(text, MOST_SECTION_STEPS),
-        None => Some(DEFAULT_SECTION_STEPS),
+    match values.get_str(name) {
+        Some(text) => read_number(text, most),
+        None => Some(default),
     }
 }
 
