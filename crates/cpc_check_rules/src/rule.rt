@@ -12,7 +12,7 @@ pub enum Rule {
     Twice,
     /// An operator, an argument or a declaration whose types do not fit (C11 6.5, 6.7).
     Disagree,
-    /// Something written to that is no place, or a place that is never written whole (C11 6.5.16).
+    /// Something written to, or `&` applied to something, that is no place, or a write to a place that is never written whole (C11 6.5.16, 6.5.3.2).
     NoPlace,
     /// A call with too few or too many arguments (C11 6.5.2.2).
     WrongNumber,

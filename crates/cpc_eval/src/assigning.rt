@@ -13,7 +13,7 @@ use cpc_tree::program::CType;
 
 /// A value converted to the type of a place, as an assignment does. It takes no memory.
 ///
-/// What is no place, or takes no such value, may give any value or any fault; there is no other fault.
+/// What is no place, or takes no such value, may give any value or any fault; elsewhere there is no fault.
 pub fn assigned_at(of: Option<&CType>, value: Value) -> Result<Value, Fault>
     requires { IsLawful (seen value) }
     ensures value { (names : Names) → Meets (shown names result) (assigned_if (option_map (λ t. type_of names t.now) of.entry) (value_of names value)) }

@@ -37,7 +37,7 @@ pub(crate) fn given_name<'a>(name: Name, around: &Around<'a>) -> Result<Given<'a
 
 /// Where the variable of a name is: a register in its slot, another one at the first cell of its block.
 ///
-/// What is no variable, or has no slot, may give any place or any fault; there is no other fault.
+/// What is no variable, or has no slot, may give any place or any fault; elsewhere there is no fault.
 pub fn located_name<'a>(name: Name, around: &Around<'a>) -> Result<Located<'a>, Fault>
     ensures value { (names : Names) → IsToldIn names around.now → Meets (located_shown result) (E.place (context_of names around.now) (ENamed (names name))) }
     ensures typed { (names : Names) → IsToldIn names around.now → IfOk result (λ l. Agrees (types_of names l.typed) (type_in (context_of names around.now) (ENamed (names name)))) }

@@ -78,7 +78,7 @@ fn first_cell(class: Class, number: u64) -> Spot
 
 /// Where the variable is that a name stands for: a register in its slot, another one at the first cell of its block.
 ///
-/// What is no variable, or has no slot, may give any place or any fault; there is no other fault.
+/// What is no variable, or has no slot, may give any place or any fault; elsewhere there is no fault.
 pub(crate) fn spot_named(slots: &[Slot], meant: Option<Meant>) -> Result<Spot, Fault>
     ensures value { (names : Names) → Meets (spot_shown result) (E.spot_named (map (slot_of names) slots.now) (meant_if names meant.entry)) }
     ensures lawful { IfOk result (λ spot. IsLawfulSpot spot) }

@@ -277,55 +277,6 @@ pub enum Punctuator {
 }
 
 impl Punctuator {
-    /// Each punctuator once.
-    pub const ALL: [Punctuator; 45] = [
-        Punctuator::LeftParen,
-        Punctuator::RightParen,
-        Punctuator::LeftBrace,
-        Punctuator::RightBrace,
-        Punctuator::LeftBracket,
-        Punctuator::RightBracket,
-        Punctuator::Semicolon,
-        Punctuator::Comma,
-        Punctuator::Colon,
-        Punctuator::Question,
-        Punctuator::Dot,
-        Punctuator::Arrow,
-        Punctuator::Increment,
-        Punctuator::Decrement,
-        Punctuator::Plus,
-        Punctuator::Minus,
-        Punctuator::Star,
-        Punctuator::Slash,
-        Punctuator::Percent,
-        Punctuator::Ampersand,
-        Punctuator::Bar,
-        Punctuator::Caret,
-        Punctuator::Tilde,
-        Punctuator::Exclamation,
-        Punctuator::Less,
-        Punctuator::Greater,
-        Punctuator::LessEqual,
-        Punctuator::GreaterEqual,
-        Punctuator::EqualEqual,
-        Punctuator::NotEqual,
-        Punctuator::AndAnd,
-        Punctuator::OrOr,
-        Punctuator::ShiftLeft,
-        Punctuator::ShiftRight,
-        Punctuator::Equal,
-        Punctuator::PlusEqual,
-        Punctuator::MinusEqual,
-        Punctuator::StarEqual,
-        Punctuator::SlashEqual,
-        Punctuator::PercentEqual,
-        Punctuator::AmpersandEqual,
-        Punctuator::BarEqual,
-        Punctuator::CaretEqual,
-        Punctuator::ShiftLeftEqual,
-        Punctuator::ShiftRightEqual,
-    ];
-
     /// How the punctuator is spelled.
     pub fn spelling(self) -> &'static [u8]
         ensures { result.now ≡ punctuator_spelling self }
