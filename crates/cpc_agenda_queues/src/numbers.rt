@@ -27,6 +27,7 @@ impl<K: Ord + Copy> Model for Numbers<K> {
 }
 
 impl<K: Ord + Copy> Numbers<K> {
+    /// No queue of any key.
     pub(crate) fn new(alloc: Global) -> Self
         ensures { result ≡ [] }
     {

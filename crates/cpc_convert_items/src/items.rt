@@ -34,7 +34,7 @@ impl Items {
         }
     }
 
-    // One more. `NoMemory` is want of memory.
+    /// One more. `NoMemory` is want of memory.
     pub(crate) fn add(&mut self, item: Item) -> Result<(), NoMemory>
         ensures { OnOk result ((to : E.Names) → listed to self.new ≡ listed to self.old ++ item_of to item ∷ []) }
     {
@@ -42,7 +42,7 @@ impl Items {
         Ok(())
     }
 
-    // A struct. `NoMemory` is want of memory.
+    /// A struct. `NoMemory` is want of memory.
     pub(crate) fn add_struct(
         &mut self,
         place: Place,
@@ -55,7 +55,7 @@ impl Items {
         self.add(Item::Struct { tag, fields })
     }
 
-    // A prototype. `NoMemory` is want of memory.
+    /// A prototype. `NoMemory` is want of memory.
     pub(crate) fn add_prototype(
         &mut self,
         place: Place,
@@ -75,7 +75,7 @@ impl Items {
         })
     }
 
-    // A function. `NoMemory` is want of memory.
+    /// A function. `NoMemory` is want of memory.
     pub(crate) fn add_function(
         &mut self,
         place: Place,

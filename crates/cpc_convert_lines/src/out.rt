@@ -64,7 +64,7 @@ impl Out {
         self.label = label;
     }
 
-    // A statement, behind the label that comes next. `NoMemory` is want of memory.
+    /// A statement, behind the label that comes next. `NoMemory` is want of memory.
     pub(crate) fn put(&mut self, alloc: Global, statement: Statement) -> Result<(), NoMemory>
         ensures { OnOk result ((to : E.Names) → written to self.new ≡ put (written to self.old) (stmt_of to statement)) }
     {

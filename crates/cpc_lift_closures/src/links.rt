@@ -14,7 +14,7 @@ pub struct Link {
     pub to: usize,
 }
 
-// So many empty rows.
+/// So many empty rows. `NoMemory` is want of memory.
 pub(crate) fn empty_rows(alloc: Global, count: usize) -> Result<Vec<Vec<usize>>, NoMemory>
     ensures { IfOk result (λ rows. map (λ row. row.items) rows.items ≡ replicate count []) }
 {

@@ -88,6 +88,7 @@ pub fn is_of(kind: Kind, value: i128) -> bool
     least(kind) <= value && value <= greatest(kind)
 }
 
+/// What a value leaves modulo two to the power of the width of a type.
 // One modulus in each arm, so that the remainder is a mask.
 pub(crate) fn residue(kind: Kind, value: i128) -> i128
     ensures { result ≡ N.residue kind value }

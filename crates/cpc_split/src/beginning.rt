@@ -31,7 +31,7 @@ fn leader_marks(alloc: Global, leads: &[bool]) -> Result<Vec<Option<Owner>>, NoM
     Ok(marks)
 }
 
-// The numbers of leaders.
+/// The numbers of leaders. `NoMemory` is want of memory.
 pub(crate) fn leader_numbers(alloc: Global, leads: &[bool]) -> Result<Vec<usize>, NoMemory>
     ensures { IfOk result (λ numbers. numbers.items ≡ flag_leaders 0 leads.now) }
 {

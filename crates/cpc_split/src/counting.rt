@@ -48,7 +48,7 @@ fn count_step(counts: &mut [usize], step: Step)
     count_one(counts, step.call, call_is_new);
 }
 
-// Where control goes from a node of these.
+/// Where control goes from a node of these.
 #[tactic(auto, using(std::proofs::lemmas::Grind::common_steps, crate::proofs::Once::step_inside))]
 pub(crate) fn step_at(entry: usize, steps: &[Step], node: usize) -> Step
     requires inside { Inside (flow_by entry steps.now) }

@@ -17,7 +17,7 @@ pub(crate) struct Marks {
 }
 
 impl Marks {
-    // An owner is handed on to a node, where none is known of it.
+    /// An owner is handed on to a node, where none is known of it. `NoMemory` is want of memory.
     pub(crate) fn visit(&mut self, node: usize, owner: Owner) -> Result<(), NoMemory>
         requires { node < length self.old.owners.items }
         ensures spread { OnOk result (spread_of self.new ≡ S.visit node (place_of owner) (spread_of self.old)) }

@@ -36,6 +36,7 @@ impl Model for Blocks {
 }
 
 impl Blocks {
+    /// No block.
     pub(crate) fn new(alloc: Global) -> Self
         ensures { result ≡ [] }
     {
@@ -45,6 +46,7 @@ impl Blocks {
         }
     }
 
+    /// How many blocks were ever made.
     pub(crate) fn made(&self) -> u64
         ensures { result ≡ length self.now }
     {

@@ -43,6 +43,7 @@ impl Model for Classes {
 }
 
 impl Classes {
+    /// A store without blocks.
     pub(crate) fn new(alloc: Global) -> Self
         ensures { result ≡ S.empty_store }
     {
