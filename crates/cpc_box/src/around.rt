@@ -103,7 +103,12 @@ pub(crate) fn manner(
         → manner_seen result ≡ W.manner_of (items_of names around.entry.index.now) (scope_seen names variables.now scope) (P.Simple (stmt_of names s.now)) }
 {
     match s {
-        Statement::Call { function, .. } => called_manner(around, variables, scope, function),
+        Statement::Call { function, .. } => called_manner(
+            around,
+            variables,
+            scope,
+            function.expr(),
+        ),
         Statement::Detach { .. } => Manner::AsCps,
         _ => Manner::InPlace,
     }

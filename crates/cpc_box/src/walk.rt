@@ -20,7 +20,7 @@ use crate::around::{Around, manner};
 use cpc_base::{Name, NoMemory, is_none};
 use cpc_eval_locals::Variable as Kept;
 use cpc_forms_code::{BoxedPoint, Manner, Stood, Variable};
-use cpc_tree::program::{CType, Expr, Parameter, Statement, Word};
+use cpc_tree::program::{CType, Expr, Operand, Parameter, Statement, Word};
 use std::alloc::Global;
 
 /// What a walk has met: variables and points.
@@ -95,12 +95,16 @@ impl<'a> Walk<'a> {
     }
 
     // The test of a `for`, which may be absent.
-    fn push_maybe(&mut self, test: &'a Option<Expr>, scope: Option<usize>) -> Result<(), NoMemory>
+    fn push_maybe(
+        &mut self,
+        test: &'a Option<Operand>,
+        scope: Option<usize>,
+    ) -> Result<(), NoMemory>
         ensures { OnOk result ((names : Names) (ms : List K.Variable) (p : S.Program) (sc : T.Scope) → Chain names self.old.variables.items scope sc
             → Walked names ms self.old self.new [] (here p sc (P.Test (option_map (expr_of names) test.now)) ∷ [])) }
     {
         match test {
-            Some(test) => self.push_test(Some(test), scope),
+            Some(test) => self.push_test(Some(test.expr()), scope),
             None => self.push_test(None, scope),
         }
     }
@@ -237,17 +241,17 @@ impl<'a> Walk<'a> {
                 self.push_arrival(s, scope, known)
             }
             Statement::If { test, yes, no, .. } => {
-                self.push_test(Some(test), scope)?;
+                self.push_test(Some(test.expr()), scope)?;
                 self.inside(yes, fixed, scope, known)?;
                 self.arm(no, fixed, scope, known)
             }
             Statement::While { test, body, .. } => {
-                self.push_test(Some(test), scope)?;
+                self.push_test(Some(test.expr()), scope)?;
                 self.inside(body, fixed, scope, known)
             }
             Statement::DoWhile { body, test, .. } => {
                 self.inside(body, fixed, scope, known)?;
-                self.push_test(Some(test), scope)
+                self.push_test(Some(test.expr()), scope)
             }
             Statement::For {
                 first,

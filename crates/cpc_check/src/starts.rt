@@ -15,17 +15,20 @@ use cpc_check_items::string_rules;
 use cpc_check_rules::First;
 use cpc_check_statements::start_rules;
 use cpc_check_values::Where;
-use cpc_tree::program::{CType, Expr, Mode, Word};
+use cpc_tree::program::{CType, Expr, Mode, Operand, Word};
 use cpc_types::Scope;
 use std::alloc::Global;
 
 // A string that is the whole start, with the place of its token.
-fn text_in(start: &Option<Expr>) -> Option<(Place, &[u8])>
+fn text_in(start: &Option<Operand>) -> Option<(Place, &[u8])>
     ensures { (names : Spelling) → option_map (λ t. (t.0, t.1.now)) result ≡ text_in (option_map (located_expr names) start.now) }
 {
     match start {
-        Some(Expr::Text { place, bytes }) => Some((*place, bytes.as_slice())),
-        _ => None,
+        Some(start) => match start.expr() {
+            Expr::Text { place, bytes } => Some((*place, bytes.as_slice())),
+            _ => None,
+        },
+        None => None,
     }
 }
 
@@ -35,7 +38,7 @@ pub(crate) fn global_start(
     first: &mut First,
     word: Word,
     of: &CType,
-    start: &Option<Expr>,
+    start: &Option<Operand>,
     scope: &Scope,
     ground: &Ground,
 ) -> Result<(), NoMemory>

@@ -17,7 +17,7 @@ use cpc_base::{Dialect, NoMemory, Place};
 use cpc_check_rules::{First, Rule};
 use cpc_check_values::{Start, Where, call_rules, is_detached, started_rules};
 use cpc_num::Kind;
-use cpc_tree::program::{CType, Expr, Word};
+use cpc_tree::program::{CType, Expr, Operand, Word};
 use std::alloc::Global;
 
 // Whether a text is in the dialect of the event loop.
@@ -34,7 +34,7 @@ fn is_event(dialect: Dialect) -> bool
 pub(crate) fn performed_rules(
     alloc: Global,
     first: &mut First,
-    target: &Option<Expr>,
+    target: &Option<Operand>,
     place: Place,
     function: &Expr,
     arguments: &[Expr],
@@ -44,7 +44,7 @@ pub(crate) fn performed_rules(
 {
     match target {
         Some(target) => {
-            let to = target_rules(alloc, first, target, w)?;
+            let to = target_rules(alloc, first, target.expr(), w)?;
             let given = call_rules(alloc, first, function, arguments, w)?;
             note_given(first, &to, &given, place);
             Ok(())
@@ -60,7 +60,7 @@ pub(crate) fn performed_rules(
 fn int_rules(
     alloc: Global,
     first: &mut First,
-    target: &Option<Expr>,
+    target: &Option<Operand>,
     place: Place,
     w: &Where,
 ) -> Result<(), NoMemory>
@@ -68,7 +68,7 @@ fn int_rules(
 {
     match target {
         Some(target) => {
-            let to = target_rules(alloc, first, target, w)?;
+            let to = target_rules(alloc, first, target.expr(), w)?;
             note_given(first, &to, &Some(CType::Int(Kind::Int)), place);
             Ok(())
         }
@@ -81,7 +81,7 @@ fn int_rules(
 pub(crate) fn section_rules(
     alloc: Global,
     first: &mut First,
-    target: &Option<Expr>,
+    target: &Option<Operand>,
     places: (Place, Place),
     function: Word,
     arguments: &[Expr],

@@ -17,7 +17,7 @@ use crate::assigned::is_unfit;
 use cpc_base::NoMemory;
 use cpc_check_rules::{First, Rule};
 use cpc_check_values::{Where, value_rules};
-use cpc_tree::program::{CType, Expr, Word};
+use cpc_tree::program::{CType, Operand, Word};
 use cpc_types::{Scope, is_sized};
 use std::alloc::Global;
 
@@ -27,13 +27,14 @@ pub fn start_rules(
     first: &mut First,
     word: Word,
     of: &CType,
-    start: &Option<Expr>,
+    start: &Option<Operand>,
     w: &Where,
 ) -> Result<(), NoMemory>
     ensures { OnOk result ((names : Names) → Spells w.now.names.now names → first_of first.new ≡ noted (first_of first.old) (S.start_breaks (where_of names w.now) (ident names word) (type_of names of.now) (option_map (located_expr names) start.now))) }
 {
     match start {
-        Some(e) => {
+        Some(start) => {
+            let e = start.expr();
             let found = value_rules(alloc, first, e, w)?;
             first.note_if(is_unfit(of, e, found), word.place, Rule::Disagree);
             Ok(())
@@ -56,7 +57,7 @@ pub(crate) fn local_rules(
     first: &mut First,
     word: Word,
     of: &CType,
-    start: &Option<Expr>,
+    start: &Option<Operand>,
     scope: &mut Scope,
     around: &Around,
 ) -> Result<(), NoMemory>
@@ -76,7 +77,7 @@ pub(crate) fn lone_rules(
     first: &mut First,
     word: Word,
     of: &CType,
-    start: &Option<Expr>,
+    start: &Option<Operand>,
     scope: &mut Scope,
     around: &Around,
 ) -> Result<(), NoMemory>

@@ -32,14 +32,22 @@ pub(crate) fn plain_rules(
             op,
             value,
             ..
-        } => assign_rules(alloc, first, target, *op, value, *operator, w),
+        } => assign_rules(alloc, first, target.expr(), *op, value.expr(), *operator, w),
         Statement::Call {
             operator,
             target,
             function,
             arguments,
             ..
-        } => performed_rules(alloc, first, target, *operator, function, arguments, w),
+        } => performed_rules(
+            alloc,
+            first,
+            target,
+            *operator,
+            function.expr(),
+            arguments,
+            w,
+        ),
         Statement::Detach {
             operator,
             keyword,

@@ -13,7 +13,7 @@ use cpc_base::{NoMemory, Place};
 use cpc_check_rules::{First, Rule};
 use cpc_check_values::{Where, value_rules};
 use cpc_shapes::is_void;
-use cpc_tree::program::Expr;
+use cpc_tree::program::{Expr, Operand};
 use cpc_types::TypeFound;
 use std::alloc::Global;
 
@@ -29,13 +29,14 @@ pub(crate) fn return_rules(
     alloc: Global,
     first: &mut First,
     place: Place,
-    value: &Option<Expr>,
+    value: &Option<Operand>,
     w: &Where,
 ) -> Result<(), NoMemory>
     ensures { OnOk result ((names : Names) → Spells w.now.names.now names → first_of first.new ≡ noted (first_of first.old) (S.return_breaks (where_of names w.now) place (option_map (located_expr names) value.now))) }
 {
     match value {
-        Some(e) => {
+        Some(value) => {
+            let e = value.expr();
             let found = value_rules(alloc, first, e, w)?;
             first.note_if(is_unfit_return(e, found, w), place, Rule::BadReturn);
             Ok(())

@@ -44,17 +44,17 @@ fn statement_rules(
             ..
         } => lone_rules(alloc, first, *word, of, start, scope, around),
         Statement::If { test, yes, no, .. } => {
-            test_rules(alloc, first, test, &standing(around, scope))?;
+            test_rules(alloc, first, test.expr(), &standing(around, scope))?;
             statement_rules(alloc, first, yes, scope, around)?;
             maybe_rules(alloc, first, no, scope, around)
         }
         Statement::While { test, body, .. } => {
-            test_rules(alloc, first, test, &standing(around, scope))?;
+            test_rules(alloc, first, test.expr(), &standing(around, scope))?;
             statement_rules(alloc, first, body, scope, around)
         }
         Statement::DoWhile { body, test, .. } => {
             statement_rules(alloc, first, body, scope, around)?;
-            test_rules(alloc, first, test, &standing(around, scope))
+            test_rules(alloc, first, test.expr(), &standing(around, scope))
         }
         Statement::For { .. } => for_rules(alloc, first, s, scope, around),
         Statement::Label { inner, .. } => statement_rules(alloc, first, inner, scope, around),

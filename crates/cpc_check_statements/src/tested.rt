@@ -12,7 +12,7 @@ use cpc_base::{NoMemory, Place};
 use cpc_check_rules::{First, Rule};
 use cpc_check_values::{Where, first_place, value_rules};
 use cpc_shapes::is_testable;
-use cpc_tree::program::Expr;
+use cpc_tree::program::{Expr, Operand};
 use cpc_types::{TypeFound, used};
 use std::alloc::Global;
 
@@ -48,13 +48,13 @@ pub(crate) fn test_rules(
 pub(crate) fn maybe_test_rules(
     alloc: Global,
     first: &mut First,
-    test: &Option<Expr>,
+    test: &Option<Operand>,
     w: &Where,
 ) -> Result<(), NoMemory>
     ensures { OnOk result ((names : Names) → Spells w.now.names.now names → first_of first.new ≡ noted (first_of first.old) (S.maybe_test (where_of names w.now) (option_map (located_expr names) test.now))) }
 {
     match test {
-        Some(test) => test_rules(alloc, first, test, w),
+        Some(test) => test_rules(alloc, first, test.expr(), w),
         None => Ok(()),
     }
 }

@@ -5,7 +5,7 @@ ghost use Rattle.cpc_tree.specs.Erase.{Names, expr_of, exprs_of};
 use crate::imaging::{image, image_if, images};
 use crate::readings::Readings;
 use cpc_base::NoMemory;
-use cpc_tree::program::Expr;
+use cpc_tree::program::{Expr, Operand};
 use std::alloc::Global;
 
 // No variable is in scope.
@@ -36,7 +36,7 @@ pub fn copies(alloc: Global, row: &[Expr]) -> Result<Vec<Expr>, NoMemory>
 }
 
 /// An expression that may be absent once more. `NoMemory` is want of memory.
-pub fn copy_if(alloc: Global, e: &Option<Expr>) -> Result<Option<Expr>, NoMemory>
+pub fn copy_if(alloc: Global, e: &Option<Operand>) -> Result<Option<Operand>, NoMemory>
     ensures { IfOk result (λ x. (names : Names) → option_map (expr_of names) x ≡ option_map (expr_of names) e.now) }
 {
     let made = image_if(alloc, e, unread())?;

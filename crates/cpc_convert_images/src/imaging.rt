@@ -8,7 +8,7 @@ ghost use Rattle.cpc_convert_images.specs.Readings.{Reads, readings_by};
 use crate::readings::{Readings, read_name};
 use cpc_base::NoMemory;
 use cpc_shapes::copy_of;
-use cpc_tree::program::Expr;
+use cpc_tree::program::{Expr, Operand};
 use std::alloc::Global;
 
 /// An expression with each name as it is read. `NoMemory` is want of memory.
@@ -177,16 +177,16 @@ pub fn images(alloc: Global, row: &[Expr], readings: Readings<'_>) -> Result<Vec
 /// The image of an expression that may be absent. `NoMemory` is want of memory.
 pub fn image_if(
     alloc: Global,
-    e: &Option<Expr>,
+    e: &Option<Operand>,
     readings: Readings<'_>,
-) -> Result<Option<Expr>, NoMemory>
+) -> Result<Option<Operand>, NoMemory>
     ensures { IfOk result (λ x. (from to : E.Names) (marks : ℕ → Bool) → Reads from to marks readings.entry → option_map (expr_of from) e.now ≡ option_map (expr_of to) e.now
         → option_map (expr_of to) x ≡ I.image_if (readings_by from marks readings.entry) (option_map (expr_of from) e.now)) }
 {
     match e {
         Some(e) => {
-            let made = image(alloc, e, readings)?;
-            Ok(Some(made))
+            let made = image(alloc, e.expr(), readings)?;
+            Ok(Some(Operand::new(made)))
         }
         None => Ok(None),
     }

@@ -15,7 +15,7 @@ use cpc_base::{NoMemory, Place};
 use cpc_convert_lines::{any_pointer, field, named, to_struct, zero};
 use cpc_convert_names::Book;
 use cpc_num::{Kind, Op};
-use cpc_tree::program::{CType, Expr, Parameter, Statement, Word};
+use cpc_tree::program::{CType, Expr, Operand, Parameter, Statement, Word};
 use std::alloc::Global;
 
 // `f__ != 0`. `NoMemory` is want of memory.
@@ -43,8 +43,8 @@ fn takes_up(alloc: Global, place: Place, book: &Book<'_>) -> Result<Statement, N
     Ok(Statement::Call {
         place,
         operator: place,
-        target: Some(named(place, taken)),
-        function,
+        target: Some(Operand::new(named(place, taken))),
+        function: Operand::new(function),
         arguments,
     })
 }
@@ -55,7 +55,11 @@ fn go_round(alloc: Global, place: Place, book: &Book<'_>) -> Result<Statement, N
 {
     let test = is_taken(alloc, place, book)?;
     let body = Box::new(alloc, takes_up(alloc, place, book)?)?;
-    Ok(Statement::While { place, test, body })
+    Ok(Statement::While {
+        place,
+        test: Operand::new(test),
+        body,
+    })
 }
 
 // `struct frame__ *f__ = k__;`. `NoMemory` is want of memory.
@@ -67,7 +71,7 @@ fn take(alloc: Global, place: Place, book: &Book<'_>) -> Result<Statement, NoMem
         place,
         word: Word { place, name },
         of: to_struct(alloc, book.own.any_frame)?,
-        start: Some(named(place, book.own.pointer)),
+        start: Some(Operand::new(named(place, book.own.pointer))),
     })
 }
 
@@ -79,9 +83,9 @@ fn answer(alloc: Global, place: Place, book: &Book<'_>) -> Result<Statement, NoM
     Ok(Statement::Assign {
         place,
         operator: place,
-        target: field(alloc, place, taken, book.own.value)?,
+        target: Operand::new(field(alloc, place, taken, book.own.value)?),
         op: None,
-        value: named(place, book.own.answer),
+        value: Operand::new(named(place, book.own.answer)),
     })
 }
 

@@ -30,7 +30,7 @@ use cpc_convert_names::Called;
 use cpc_forms_code::{Manner, Node, Stood};
 use cpc_num::Kind;
 use cpc_shapes::copy_of;
-use cpc_tree::program::{CType, Expr, Statement};
+use cpc_tree::program::{CType, Expr, Operand, Statement};
 use std::alloc::Global;
 
 /// The place for the value that arrives at a statement.
@@ -38,7 +38,10 @@ pub fn target(s: &Statement) -> Option<&Expr>
     ensures { (names : E.Names) → option_map (λ e. expr_of names e.now) result ≡ place_in (target_of (Simple (stmt_of names s.now))) }
 {
     match s {
-        Statement::Call { target, .. } | Statement::Detach { target, .. } => target.as_ref(),
+        Statement::Call { target, .. } | Statement::Detach { target, .. } => match target {
+            Some(target) => Some(target.expr()),
+            None => None,
+        },
         _ => None,
     }
 }
@@ -63,7 +66,7 @@ pub fn arriving(alloc: Global, around: Around<'_>, s: &Statement) -> Result<CTyp
         → type_of to t ≡ arriving_found p (Simple (stmt_of from s.now))) }
 {
     match s {
-        Statement::Call { function, .. } => match function {
+        Statement::Call { function, .. } => match function.expr() {
             Expr::Name(word) => match around.book.find(word.name) {
                 Some(callee) => {
                     let of = arriving_from(alloc, callee)?;
@@ -118,7 +121,7 @@ pub fn load(
 {
     let frame = named(around.place, around.book.own.frame);
     let (of, start) = both(of, field(alloc, around.place, frame, from_field))?;
-    out.declare(alloc, around.place, name, of, Some(start))?;
+    out.declare(alloc, around.place, name, of, Some(Operand::new(start)))?;
     Ok(())
 }
 

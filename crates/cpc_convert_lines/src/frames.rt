@@ -18,7 +18,7 @@ use crate::out::Out;
 use crate::trees::{field, frame_through, named, size_of};
 use cpc_base::{Name, NoMemory, Place};
 use cpc_convert_names::Book;
-use cpc_tree::program::Expr;
+use cpc_tree::program::{Expr, Operand};
 use std::alloc::Global;
 
 /// A block for a frame of this tag is asked for, by this pointer. `NoMemory` is want of memory.
@@ -33,7 +33,7 @@ pub fn ask_block(
     ensures { OnOk result ((source : Table) (to : E.Names) → IsBook source to book.now → written to out.new ≡ puts (written to out.old) (F.asks_block (to pointer) (to tag) ∷ [])) }
 {
     let size = size_of(place, tag);
-    let target = Some(named(place, pointer));
+    let target = Some(Operand::new(named(place, pointer)));
     out.call_one(alloc, place, target, book.of_loop.frame, size)?;
     Ok(())
 }

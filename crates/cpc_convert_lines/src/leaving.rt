@@ -16,7 +16,7 @@ use crate::out::Out;
 use crate::trees::{field, is_there, named, zero};
 use cpc_base::{Name, NoMemory};
 use cpc_convert_images::{both, image};
-use cpc_tree::program::Expr;
+use cpc_tree::program::Operand;
 use std::alloc::Global;
 
 /// A frame is given to the driver. `NoMemory` is want of memory.
@@ -91,14 +91,14 @@ pub fn leave(
     out: &mut Out,
     around: Around<'_>,
     scope: Option<usize>,
-    value: &Option<Expr>,
+    value: &Option<Operand>,
 ) -> Result<(), NoMemory>
     ensures { OnOk result ((source : Table) (from to : E.Names) (p : S.Program) (r : Routine) → Stands source from to p r around.entry → option_map (expr_of from) value.now ≡ option_map (expr_of to) value.now
         → written to out.new ≡ puts (written to out.old) (L.leave_lines r (reads from r around.entry scope) (option_map (expr_of from) value.now))) }
 {
     let own = &around.book.own;
     if let Some(e) = value {
-        let made = image(alloc, e, readings(around, scope))?;
+        let made = image(alloc, e.expr(), readings(around, scope))?;
         out.assign(alloc, around.place, named(around.place, own.returned), made)?;
         unbox(alloc, out, around)?;
         patch(alloc, out, around)?;

@@ -10,7 +10,7 @@ use crate::trees::named;
 use cpc_base::{Name, NoMemory, Place};
 use cpc_convert_images::{both, boxed};
 use cpc_num::Op;
-use cpc_tree::program::{CType, Expr, Statement, Word};
+use cpc_tree::program::{CType, Expr, Operand, Statement, Word};
 use std::alloc::Global;
 
 impl Out {
@@ -28,7 +28,7 @@ impl Out {
         place: Place,
         name: Name,
         of: CType,
-        start: Option<Expr>,
+        start: Option<Operand>,
     ) -> Result<(), NoMemory>
         ensures { OnOk result ((to : E.Names) → written to self.new ≡ puts (written to self.old) (S.Declare (to name) (type_of to of) (option_map (expr_of to) start) ∷ [])) }
     {
@@ -60,9 +60,9 @@ impl Out {
             Statement::Assign {
                 place,
                 operator: place,
-                target,
+                target: Operand::new(target),
                 op,
-                value,
+                value: Operand::new(value),
             },
         )
     }
@@ -85,7 +85,7 @@ impl Out {
         &mut self,
         alloc: Global,
         place: Place,
-        target: Option<Expr>,
+        target: Option<Operand>,
         function: Expr,
         arguments: Vec<Expr>,
     ) -> Result<(), NoMemory>
@@ -97,7 +97,7 @@ impl Out {
                 place,
                 operator: place,
                 target,
-                function,
+                function: Operand::new(function),
                 arguments,
             },
         )
@@ -121,7 +121,7 @@ impl Out {
         &mut self,
         alloc: Global,
         place: Place,
-        target: Option<Expr>,
+        target: Option<Operand>,
         function: Name,
         argument: Expr,
     ) -> Result<(), NoMemory>
@@ -140,7 +140,7 @@ impl Out {
             alloc,
             Statement::Return {
                 place,
-                value: Some(value),
+                value: Some(Operand::new(value)),
             },
         )
     }
@@ -168,7 +168,7 @@ impl Out {
                 alloc,
                 Statement::If {
                     place,
-                    test,
+                    test: Operand::new(test),
                     yes,
                     no: None,
                 },
@@ -209,9 +209,9 @@ impl Out {
             Statement::Assign {
                 place,
                 operator: place,
-                target,
+                target: Operand::new(target),
                 op: None,
-                value,
+                value: Operand::new(value),
             },
         )
     }

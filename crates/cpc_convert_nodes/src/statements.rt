@@ -16,7 +16,7 @@ use crate::waiting::{call_waiting, section};
 use cpc_base::NoMemory;
 use cpc_convert_images::{image, image_if, images};
 use cpc_convert_lines::{Around, Out, go_on, leave, pass, readings};
-use cpc_tree::program::{Expr, Statement, Word};
+use cpc_tree::program::{Expr, Operand, Statement, Word};
 use std::alloc::Global;
 
 // A variable that is declared gets the value that it begins with. `NoMemory` is want of memory.
@@ -43,7 +43,7 @@ fn call(
     out: &mut Out,
     around: Around<'_>,
     scope: Option<usize>,
-    target: &Option<Expr>,
+    target: &Option<Operand>,
     function: &Expr,
     arguments: &[Expr],
 ) -> Result<(), NoMemory>
@@ -90,7 +90,7 @@ pub(crate) fn simple(
         }
         Statement::Declare { word, start, .. } => match start {
             Some(start) => {
-                begin_variable(alloc, out, around, scope, *word, start)?;
+                begin_variable(alloc, out, around, scope, *word, start.expr())?;
                 go_on(alloc, out, around, next, following)?;
                 Ok(())
             }
@@ -105,8 +105,8 @@ pub(crate) fn simple(
             value,
             ..
         } => {
-            let target = image(alloc, target, readings(around, scope))?;
-            let value = image(alloc, value, readings(around, scope))?;
+            let target = image(alloc, target.expr(), readings(around, scope))?;
+            let value = image(alloc, value.expr(), readings(around, scope))?;
             out.assign_by(alloc, around.place, target, *op, value)?;
             go_on(alloc, out, around, next, following)?;
             Ok(())
@@ -117,7 +117,15 @@ pub(crate) fn simple(
             arguments,
             ..
         } => {
-            call(alloc, out, around, scope, target, function, arguments)?;
+            call(
+                alloc,
+                out,
+                around,
+                scope,
+                target,
+                function.expr(),
+                arguments,
+            )?;
             go_on(alloc, out, around, next, following)?;
             Ok(())
         }
@@ -149,7 +157,15 @@ pub(crate) fn framed(
             arguments,
             ..
         } => {
-            call(alloc, out, around, scope, target, function, arguments)?;
+            call(
+                alloc,
+                out,
+                around,
+                scope,
+                target,
+                function.expr(),
+                arguments,
+            )?;
             go_on(alloc, out, around, next, following)?;
             Ok(())
         }
@@ -179,7 +195,7 @@ pub(crate) fn waiting(
             function,
             arguments,
             ..
-        } => match function {
+        } => match function.expr() {
             Expr::Name(word) => {
                 call_waiting(alloc, out, around, scope, arrival, word.name, arguments)?;
                 Ok(())

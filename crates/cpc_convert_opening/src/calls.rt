@@ -32,7 +32,7 @@ fn enters(around: Around<'_>, s: &Statement) -> bool
     ensures { (source : Table) (from to : E.Names) (p : S.Program) (r : Routine) → Stands source from to p r around.entry → AreEntries from p around.entry → result ≡ P.is_entry p (AtStatement (Simple (E.stmt_of from s.now))) }
 {
     match s {
-        Statement::Call { function, .. } => is_found(around, function),
+        Statement::Call { function, .. } => is_found(around, function.expr()),
         _ => false,
     }
 }

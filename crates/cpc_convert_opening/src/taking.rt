@@ -22,7 +22,7 @@ use cpc_convert_lines::{
 };
 use cpc_forms_code::Owner;
 use cpc_shapes::copy_of;
-use cpc_tree::program::CType;
+use cpc_tree::program::{CType, Operand};
 use std::alloc::Global;
 
 /// The frame of a tag is taken. `NoMemory` is want of memory.
@@ -39,7 +39,7 @@ pub(crate) fn take_frame(
     let place = around.place;
     let of = to_struct(alloc, tag)?;
     let pointer = named(place, own.pointer);
-    out.declare(alloc, place, own.frame, of, Some(pointer))?;
+    out.declare(alloc, place, own.frame, of, Some(Operand::new(pointer)))?;
     Ok(())
 }
 
@@ -223,7 +223,7 @@ fn make_box(alloc: Global, out: &mut Out, around: Around<'_>, number: usize) -> 
     out.call_one(
         alloc,
         place,
-        Some(pointer),
+        Some(Operand::new(pointer)),
         around.book.of_loop.put_in_box,
         size,
     )?;

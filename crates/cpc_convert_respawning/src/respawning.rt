@@ -11,7 +11,7 @@ use cpc_convert_images::{copies, copy, copy_if};
 use cpc_convert_names::Book;
 use cpc_num::Op;
 use cpc_shapes::copy_of;
-use cpc_tree::program::{CType, Expr, Statement, Word};
+use cpc_tree::program::{CType, Expr, Operand, Statement, Word};
 use std::alloc::Global;
 
 // A declaration once more. `NoMemory` is want of memory.
@@ -20,7 +20,7 @@ fn declared(
     place: Place,
     word: Word,
     of: &CType,
-    start: &Option<Expr>,
+    start: &Option<Operand>,
 ) -> Result<Statement, NoMemory>
     ensures { IfOk result (λ s. (names : E.Names) → stmt_of names s ≡ S.Declare (names word.name) (type_of names of.now) (option_map (expr_of names) start.now)) }
 {
@@ -46,14 +46,14 @@ fn assigned(
     Ok(Statement::Assign {
         place,
         operator,
-        target: copy(alloc, target)?,
+        target: Operand::new(copy(alloc, target)?),
         op,
-        value: copy(alloc, value)?,
+        value: Operand::new(copy(alloc, value)?),
     })
 }
 
 // A return once more. `NoMemory` is want of memory.
-fn returned(alloc: Global, place: Place, value: &Option<Expr>) -> Result<Statement, NoMemory>
+fn returned(alloc: Global, place: Place, value: &Option<Operand>) -> Result<Statement, NoMemory>
     ensures { IfOk result (λ s. (names : E.Names) → stmt_of names s ≡ S.Return (option_map (expr_of names) value.now)) }
 {
     Ok(Statement::Return {
@@ -67,7 +67,7 @@ fn called(
     alloc: Global,
     place: Place,
     operator: Place,
-    target: &Option<Expr>,
+    target: &Option<Operand>,
     function: &Expr,
     arguments: &[Expr],
 ) -> Result<Statement, NoMemory>
@@ -77,7 +77,7 @@ fn called(
         place,
         operator,
         target: copy_if(alloc, target)?,
-        function: copy(alloc, function)?,
+        function: Operand::new(copy(alloc, function)?),
         arguments: copies(alloc, arguments)?,
     })
 }
@@ -88,7 +88,7 @@ fn detached(
     place: Place,
     operator: Place,
     keyword: Place,
-    target: &Option<Expr>,
+    target: &Option<Operand>,
     function: Word,
     arguments: &[Expr],
 ) -> Result<Statement, NoMemory>
@@ -119,7 +119,7 @@ fn spawner_called(
         place,
         operator: place,
         target: None,
-        function: Expr::Name(Word { place, name }),
+        function: Operand::new(Expr::Name(Word { place, name })),
         arguments: copies(alloc, arguments)?,
     })
 }
@@ -150,14 +150,14 @@ pub fn respawn(alloc: Global, book: &Book<'_>, statement: &Statement) -> Result<
             target,
             op,
             value,
-        } => assigned(alloc, *place, *operator, target, *op, value),
+        } => assigned(alloc, *place, *operator, target.expr(), *op, value.expr()),
         Statement::Call {
             place,
             operator,
             target,
             function,
             arguments,
-        } => called(alloc, *place, *operator, target, function, arguments),
+        } => called(alloc, *place, *operator, target, function.expr(), arguments),
         Statement::Detach {
             place,
             operator,
@@ -179,32 +179,32 @@ pub fn respawn(alloc: Global, book: &Book<'_>, statement: &Statement) -> Result<
             yes,
             no,
         } => {
-            let test = copy(alloc, test)?;
+            let test = copy(alloc, test.expr())?;
             let yes = respawn_boxed(alloc, book, yes)?;
             let no = respawn_arm(alloc, book, no)?;
             Ok(Statement::If {
                 place: *place,
-                test,
+                test: Operand::new(test),
                 yes,
                 no,
             })
         }
         Statement::While { place, test, body } => {
-            let test = copy(alloc, test)?;
+            let test = copy(alloc, test.expr())?;
             let body = respawn_boxed(alloc, book, body)?;
             Ok(Statement::While {
                 place: *place,
-                test,
+                test: Operand::new(test),
                 body,
             })
         }
         Statement::DoWhile { place, body, test } => {
-            let test = copy(alloc, test)?;
+            let test = copy(alloc, test.expr())?;
             let body = respawn_boxed(alloc, book, body)?;
             Ok(Statement::DoWhile {
                 place: *place,
                 body,
-                test,
+                test: Operand::new(test),
             })
         }
         Statement::For {

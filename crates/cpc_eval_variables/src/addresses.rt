@@ -11,7 +11,7 @@ ghost use Rattle.cpc_eval_variables.specs.Scoped.{scope_of};
 
 use crate::scope::Scope;
 use cpc_base::{Name, NoMemory};
-use cpc_tree::program::{Expr, UnaryOp};
+use cpc_tree::program::{Expr, Operand, UnaryOp};
 
 // The name that an expression is.
 fn name_of(e: &Expr) -> Option<Name>
@@ -114,14 +114,14 @@ pub(crate) fn add_all_addresses(
 
 /// The same in an expression that may be absent.
 pub(crate) fn add_addresses_if(
-    e: &Option<Expr>,
+    e: &Option<Operand>,
     scope: &Scope<'_>,
     found: &mut Vec<usize>,
 ) -> Result<(), NoMemory>
     ensures { OnOk result ((names : Names) → IsTold names scope.now.parameters.now → found.new.items ≡ found.old.items ++ R.addresses_if (scope_of names scope.now) (option_map (expr_of names) e.now)) }
 {
     match e {
-        Some(e) => add_addresses(e, scope, found),
+        Some(e) => add_addresses(e.expr(), scope, found),
         None => Ok(()),
     }
 }
@@ -142,7 +142,7 @@ pub(crate) fn add_both_addresses(
 
 /// The same in the place for a value that may be absent, and in arguments.
 pub(crate) fn add_section_addresses(
-    target: &Option<Expr>,
+    target: &Option<Operand>,
     arguments: &[Expr],
     scope: &Scope<'_>,
     found: &mut Vec<usize>,
@@ -156,7 +156,7 @@ pub(crate) fn add_section_addresses(
 
 /// The same in the parts of a call that is a whole statement.
 pub(crate) fn add_call_addresses(
-    target: &Option<Expr>,
+    target: &Option<Operand>,
     function: &Expr,
     arguments: &[Expr],
     scope: &Scope<'_>,

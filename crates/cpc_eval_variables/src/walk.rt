@@ -15,7 +15,7 @@ use crate::addresses::{
 };
 use crate::scope::{Local, Scope};
 use cpc_base::NoMemory;
-use cpc_tree::program::{CType, Expr, Function, Parameter, Statement, Word};
+use cpc_tree::program::{CType, Function, Operand, Parameter, Statement, Word};
 use std::alloc::Global;
 
 /// What a walk has come to: the names in scope, the types of the variables so far, and the numbers of those to which `&`
@@ -44,13 +44,18 @@ fn add_parts(s: &Statement, scope: &Scope<'_>, found: &mut Vec<usize>) -> Result
     ensures { OnOk result ((names : Names) → IsTold names scope.now.parameters.now → found.new.items ≡ found.old.items ++ leaf_addresses (scope_of names scope.now) (stmt_of names s.now)) }
 {
     match s {
-        Statement::Assign { target, value, .. } => add_both_addresses(target, value, scope, found),
+        Statement::Assign { target, value, .. } => add_both_addresses(
+            target.expr(),
+            value.expr(),
+            scope,
+            found,
+        ),
         Statement::Call {
             target,
             function,
             arguments,
             ..
-        } => add_call_addresses(target, function, arguments, scope, found),
+        } => add_call_addresses(target, function.expr(), arguments, scope, found),
         Statement::Detach {
             target,
             arguments,
@@ -97,7 +102,7 @@ impl<'f> Walk<'f> {
         &mut self,
         word: &Word,
         of: &'f CType,
-        start: &Option<Expr>,
+        start: &Option<Operand>,
         slot: usize,
     ) -> Result<(), NoMemory>
         ensures parameters { self.new.scope.parameters.now ≡ self.old.scope.parameters.now }
@@ -122,7 +127,7 @@ impl<'f> Walk<'f> {
         &mut self,
         word: &Word,
         of: &'f CType,
-        start: &Option<Expr>,
+        start: &Option<Operand>,
         slot: usize,
     ) -> Result<(), NoMemory>
         ensures parameters { self.new.scope.parameters.now ≡ self.old.scope.parameters.now }
@@ -249,7 +254,7 @@ impl<'f> Walk<'f> {
     fn header(
         &mut self,
         first: &'f [Statement],
-        test: &Option<Expr>,
+        test: &Option<Operand>,
         n: usize,
     ) -> Result<usize, NoMemory>
         requires { n ≤ length self.old.types.items }
@@ -290,17 +295,17 @@ impl<'f> Walk<'f> {
                 ..
             } => self.alone(word, of, start, n),
             Statement::If { test, yes, no, .. } => {
-                add_addresses(test, &self.scope, &mut self.addressed)?;
+                add_addresses(test.expr(), &self.scope, &mut self.addressed)?;
                 let after = self.counted(yes, n)?;
                 self.arm(no, after)
             }
             Statement::While { test, body, .. } => {
-                add_addresses(test, &self.scope, &mut self.addressed)?;
+                add_addresses(test.expr(), &self.scope, &mut self.addressed)?;
                 self.inside(body, n)
             }
             Statement::DoWhile { body, test, .. } => {
                 self.inside(body, n)?;
-                add_addresses(test, &self.scope, &mut self.addressed)
+                add_addresses(test.expr(), &self.scope, &mut self.addressed)
             }
             Statement::For {
                 first,

@@ -9,7 +9,7 @@ ghost use Rattle.cpc_lift.specs.Scoped.{scope_at};
 
 use cpc_base::{Name, NoMemory};
 use cpc_forms_code::{Variable, slot};
-use cpc_tree::program::Expr;
+use cpc_tree::program::{Expr, Operand};
 
 /// Where names occur: the variables of the function, and the innermost of them in scope.
 #[derive(Clone, Copy)]
@@ -87,14 +87,14 @@ pub(crate) fn add_all_used(
 
 /// The same of an expression that may be absent.
 pub(crate) fn add_used_if(
-    e: &Option<Expr>,
+    e: &Option<Operand>,
     at: &Scoped<'_>,
     found: &mut Vec<usize>,
 ) -> Result<(), NoMemory>
     ensures { OnOk result ((names : Names) → AreApart names → AreNamed names at.now.variables.now → found.new.items ≡ found.old.items ++ U.used_if (scope_at names at.now) (option_map (expr_of names) e.now)) }
 {
     match e {
-        Some(e) => add_used(e, at, found),
+        Some(e) => add_used(e.expr(), at, found),
         None => Ok(()),
     }
 }

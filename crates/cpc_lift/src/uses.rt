@@ -14,7 +14,7 @@ use crate::names::{Scoped, add_all_used, add_name, add_used, add_used_if};
 use cpc_base::NoMemory;
 use cpc_forms_code::Stood;
 use cpc_lift_closures::Link;
-use cpc_tree::program::{Expr, Statement, Word};
+use cpc_tree::program::{Expr, Operand, Statement, Word};
 use std::alloc::Global;
 
 // Adds the variables of two expressions.
@@ -33,7 +33,7 @@ fn add_both(
 
 // Adds the variables of a call.
 fn add_call(
-    target: &Option<Expr>,
+    target: &Option<Operand>,
     function: &Expr,
     arguments: &[Expr],
     at: &Scoped<'_>,
@@ -49,7 +49,7 @@ fn add_call(
 
 // Adds the variables of a section.
 fn add_section(
-    target: &Option<Expr>,
+    target: &Option<Operand>,
     arguments: &[Expr],
     at: &Scoped<'_>,
     found: &mut Vec<usize>,
@@ -64,7 +64,7 @@ fn add_section(
 // Adds a local and the variables of what it starts with; without a start value nothing happens.
 fn add_start(
     word: &Word,
-    start: &Option<Expr>,
+    start: &Option<Operand>,
     at: &Scoped<'_>,
     found: &mut Vec<usize>,
 ) -> Result<(), NoMemory>
@@ -74,7 +74,7 @@ fn add_start(
     match start {
         Some(start) => {
             add_name(word.name, at, found)?;
-            add_used(start, at, found)
+            add_used(start.expr(), at, found)
         }
         None => Ok(()),
     }
@@ -86,13 +86,13 @@ fn add_simple(s: &Statement, at: &Scoped<'_>, found: &mut Vec<usize>) -> Result<
 {
     match s {
         Statement::Declare { word, start, .. } => add_start(word, start, at, found),
-        Statement::Assign { target, value, .. } => add_both(target, value, at, found),
+        Statement::Assign { target, value, .. } => add_both(target.expr(), value.expr(), at, found),
         Statement::Call {
             target,
             function,
             arguments,
             ..
-        } => add_call(target, function, arguments, at, found),
+        } => add_call(target, function.expr(), arguments, at, found),
         Statement::Detach {
             target,
             arguments,

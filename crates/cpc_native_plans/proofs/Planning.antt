@@ -25,7 +25,7 @@ use Rattle.cpc_native_plans.specs.Parts.{Stands, aimed, goes_on}
 use Rattle.cpc_native_plans.specs.Plans.{Lays}
 use Rattle.cpc_native_plans.specs.declared.plan.Plan.{Plan}
 use Rattle.cpc_native_plans.proofs.Stopping.{stands_same, stands_then}
-use Rattle.cpc_native_plans.proofs.Laying.{lays_by, lays_through}
+use Rattle.cpc_native_plans.proofs.Laying.{lays_by, lays_after, lays_through}
 use Rattle.cpc_native_plans.proofs.Calling.{local_calls, global_calls, functions_call}
 use Rattle.cpc_native_plans.proofs.Doing.{wrote, aim_goes, assigns_parts}
 
@@ -45,6 +45,23 @@ module _ (k : E.Context) where
       → Stands (wrote k q) (M.simple_act k rt (Declare x t o))
   declared_stands x rt t o e v q i h g =
       stands_by (wrote k q) (M.assigns k (ENamed x) e) (M.simple_act k rt (Declare x t o)) (ap (λ y. M.simple_act k rt (Declare x t y)) (sym i)) (assigned_stands (ENamed x) e v q h g)
+
+  declared : (x : Text) (rt t : Ty) (o : Option Expr) (e : Expr) → o ≡ Some e → (E.value k e >>= (λ w. aimed k (ENamed x) w >>= wrote k)) ≡ M.simple_act k rt (Declare x t o)
+  declared x rt t o e i = sym (assigns_parts k (ENamed x) e) ∙ ap (λ y. M.simple_act k rt (Declare x t y)) (sym i)
+
+  -- what a local starts with is a fault
+  pub declares_not : (names : Names) (x : Text) (rt t : Ty) (o : Option Expr) (e : Expr) (r : Result Plan Fault) (s : Fault) → o ≡ Some e → IsErrAnd r (λ y. y ≡ s) → Meets {A = Value} (Err s) (E.value k e)
+      → Lays names k r (M.simple_act k rt (Declare x t o))
+  declares_not names x rt t o e r s i j h =
+      lays_by names k r (E.value k e >>= (λ w. aimed k (ENamed x) w >>= wrote k)) (M.simple_act k rt (Declare x t o)) (declared x rt t o e i)
+      (lays_through names k r s (E.value k e) (λ w. aimed k (ENamed x) w >>= wrote k) j h)
+
+  -- it is none, and cannot be put there
+  pub declares_nowhere : (names : Names) (x : Text) (rt t : Ty) (o : Option Expr) (e : Expr) (v : Value) (r : Result Plan Fault) (s : Fault) → o ≡ Some e → IsErrAnd r (λ y. y ≡ s) → Meets (Ok v) (E.value k e)
+      → Meets {A = E.Spot × Value} (Err s) (aimed k (ENamed x) v) → Lays names k r (M.simple_act k rt (Declare x t o))
+  declares_nowhere names x rt t o e v r s i j g h =
+      lays_by names k r (E.value k e >>= (λ w. aimed k (ENamed x) w >>= wrote k)) (M.simple_act k rt (Declare x t o)) (declared x rt t o e i)
+      (lays_after names k v (E.value k e) (λ w. aimed k (ENamed x) w >>= wrote k) r g (lays_through names k r s (aimed k (ENamed x) v) (wrote k) j h))
 
   delivered : (o : Option Expr) (e : Expr) (v : Value) → o ≡ Some e → (aimed k e v >>= wrote k) ≡ goes_on (M.deliver k o v)
   delivered o e v i = sym (aim_goes k e v) ∙ ap (λ y. goes_on (M.deliver k y v)) (sym i)

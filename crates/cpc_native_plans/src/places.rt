@@ -22,7 +22,7 @@ use cpc_eval::{
 use cpc_eval_values::{assigned, holds};
 use cpc_num::{Fault, Op};
 use cpc_store::Value;
-use cpc_tree::program::{CType, Expr};
+use cpc_tree::program::{CType, Expr, Operand};
 
 /// The right side of an assignment with or without an operator.
 ///
@@ -98,7 +98,7 @@ pub(crate) fn aimed_at(
 /// The faults are those of `cpc_eval`.
 pub(crate) fn returned<'a>(
     of: &CType,
-    given: &'a Option<Expr>,
+    given: &'a Option<Operand>,
     around: &Around<'a>,
 ) -> Result<Value, Fault>
     requires { AreLawful around.now.slots.now }
@@ -108,7 +108,7 @@ pub(crate) fn returned<'a>(
 {
     match given {
         Some(given) => {
-            let value = value(given, around)?;
+            let value = value(given.expr(), around)?;
             assigned(of, value)
         }
         None => Ok(Value::Unset),

@@ -27,7 +27,7 @@ use cpc_native_builtins::Call;
 use cpc_native_points::Found;
 use cpc_num::{Fault, Op};
 use cpc_store::Value;
-use cpc_tree::program::{CType, Expr, Function, Mode, Statement, Word};
+use cpc_tree::program::{CType, Expr, Function, Mode, Operand, Statement, Word};
 
 /// What is to be done. Arguments are evaluated afterwards: they are kept where a step is made, and passed over where it
 /// is told ahead what a step does to the live cells.
@@ -67,7 +67,11 @@ fn assigns<'a>(
 }
 
 // A declaration: what a local starts with is assigned to it.
-fn declares<'a>(word: Word, start: &'a Option<Expr>, around: &Around<'a>) -> Result<Plan<'a>, Fault>
+fn declares<'a>(
+    word: Word,
+    start: &'a Option<Operand>,
+    around: &Around<'a>,
+) -> Result<Plan<'a>, Fault>
     requires { AreLawful around.now.slots.now }
     ensures value { (names : Texts) (result_type : Y.Ty) (t : Y.Ty) → IsToldIn names around.now → MaybeNumbers (items_of names around.now.index.now) (option_map (expr_of names) start.now)
         → Lays names (context_of names around.now) result (M.simple_act (context_of names around.now) result_type (Y.Declare (names word.name) t (option_map (expr_of names) start.now))) }
@@ -77,7 +81,7 @@ fn declares<'a>(word: Word, start: &'a Option<Expr>, around: &Around<'a>) -> Res
 {
     match start {
         Some(start) => {
-            let given = value(start, around)?;
+            let given = value(start.expr(), around)?;
             let (spot, written) = aimed_at(word.name, given, around)?;
             Ok(Plan::Writes(spot, written))
         }
@@ -208,7 +212,11 @@ fn calls<'a>(
 }
 
 // A return.
-fn returns<'a>(of: &CType, given: &'a Option<Expr>, around: &Around<'a>) -> Result<Plan<'a>, Fault>
+fn returns<'a>(
+    of: &CType,
+    given: &'a Option<Operand>,
+    around: &Around<'a>,
+) -> Result<Plan<'a>, Fault>
     requires { AreLawful around.now.slots.now }
     ensures value { (names : Texts) → IsToldIn names around.now → MaybeNumbers (items_of names around.now.index.now) (option_map (expr_of names) given.now)
         → Lays names (context_of names around.now) result (M.returns (context_of names around.now) (type_of names of.now) (option_map (expr_of names) given.now)) }
@@ -242,12 +250,12 @@ fn simple<'a>(
             op,
             value,
             ..
-        } => assigns(target, *op, value, around),
+        } => assigns(target.expr(), *op, value.expr(), around),
         Statement::Call {
             function,
             arguments,
             ..
-        } => calls(function, arguments, around, texts),
+        } => calls(function.expr(), arguments, around, texts),
         Statement::Detach { .. } => Err(Fault::Kind),
         Statement::Spawn { .. } => Err(Fault::Kind),
         Statement::Return { value, .. } => returns(of, value, around),
@@ -295,7 +303,7 @@ pub fn found<'a>(
 
 // A value for a place that may be absent.
 fn delivers<'a>(
-    target: &'a Option<Expr>,
+    target: &'a Option<Operand>,
     given: Value,
     around: &Around<'a>,
 ) -> Result<Plan<'a>, Fault>
@@ -309,7 +317,7 @@ fn delivers<'a>(
 {
     match target {
         Some(target) => {
-            let (spot, written) = aimed(target, given, around)?;
+            let (spot, written) = aimed(target.expr(), given, around)?;
             Ok(Plan::Writes(spot, written))
         }
         None => Ok(Plan::Passes(true)),

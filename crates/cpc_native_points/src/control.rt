@@ -55,9 +55,9 @@ fn test_at(s: &Statement, part: Part) -> Found<'_>
         Part::Test => match s {
             Statement::If { test, .. }
             | Statement::While { test, .. }
-            | Statement::DoWhile { test, .. } => Found::Test(Some(test)),
+            | Statement::DoWhile { test, .. } => Found::Test(Some(test.expr())),
             Statement::For { test, .. } => match test {
-                Some(test) => Found::Test(Some(test)),
+                Some(test) => Found::Test(Some(test.expr())),
                 None => Found::Test(None),
             },
             _ => Found::Nothing,

@@ -9,7 +9,7 @@ ghost use Rattle.cpc_parser.specs.ItemReaders.{integer_in, literal_in, initial_a
 ghost use Rattle.cpc_parser.specs.ItemViews.{flat, starting_at};
 
 use cpc_parser_types::{Refusal, begins_mark, deep, expect_mark, fault};
-use cpc_tree::program::{Expr, UnaryOp};
+use cpc_tree::program::{Expr, Operand, UnaryOp};
 use cpc_tree::token::{Punctuator, Token, TokenKind};
 use std::alloc::Global;
 
@@ -81,7 +81,7 @@ pub fn start(
     alloc: Global,
     depth: usize,
     tokens: &[Token],
-) -> Result<(Option<Expr>, &[Token]), Refusal>
+) -> Result<(Option<Operand>, &[Token]), Refusal>
     ensures gives { (names : Names) → Gives (λ x. (option_map (located_expr names) x.0, 0, placed names x.1.now)) result (flat (starting_at depth) (placed names tokens.now)) }
     ensures shorter { IfOk result (λ x. length x.1.now ≤ length tokens.now) }
 {
@@ -93,5 +93,5 @@ pub fn start(
     }
     let (_, rest) = expect_mark(tokens, Punctuator::Equal)?;
     let (value, rest) = initial(alloc, depth, rest)?;
-    Ok((Some(value), rest))
+    Ok((Some(Operand::new(value)), rest))
 }

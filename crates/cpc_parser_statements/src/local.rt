@@ -19,7 +19,7 @@ use cpc_base::Place;
 use cpc_parser_types::{
     Base, Refusal, base_type, begins_mark, declarator, deep, deeper, expect_mark, fault,
 };
-use cpc_tree::program::{CType, Expr, Statement, Word};
+use cpc_tree::program::{CType, Expr, Operand, Statement, Word};
 use cpc_tree::token::{Punctuator, Token};
 use std::alloc::Global;
 
@@ -41,7 +41,7 @@ fn begun(
                 place,
                 word,
                 of,
-                start: Some(value),
+                start: Some(Operand::new(value)),
             })?;
         }
         apart => {
@@ -51,7 +51,12 @@ fn begun(
                 of,
                 start: None,
             })?;
-            all.push(given(word.place, word.place, Expr::Name(word), apart))?;
+            all.push(given(
+                word.place,
+                word.place,
+                Operand::new(Expr::Name(word)),
+                apart,
+            ))?;
         }
     }
     Ok(all)

@@ -6,7 +6,7 @@ ghost use Rattle.cpc_parser_statements.specs.StmtReaders.{block_of, if_of, while
 ghost use Rattle.cpc_parser_statements.specs.CodeViews.{held, seen};
 
 use cpc_base::Place;
-use cpc_tree::program::{Expr, Statement, Word};
+use cpc_tree::program::{Operand, Statement, Word};
 
 /// A block.
 pub fn block(place: Place, inner: Vec<Statement>) -> Statement
@@ -18,7 +18,7 @@ pub fn block(place: Place, inner: Vec<Statement>) -> Statement
 /// An `if`.
 pub fn branched(
     place: Place,
-    test: Expr,
+    test: Operand,
     yes: Box<Statement>,
     no: Option<Box<Statement>>,
 ) -> Statement
@@ -33,14 +33,14 @@ pub fn branched(
 }
 
 /// A `while`.
-pub fn looped(place: Place, test: Expr, body: Box<Statement>) -> Statement
+pub fn looped(place: Place, test: Operand, body: Box<Statement>) -> Statement
     ensures { (names : Names) → located_stmt names result ≡ while_of place (located_expr names test, located_stmt names body.value) }
 {
     Statement::While { place, test, body }
 }
 
 /// A `do`.
-pub fn until(place: Place, body: Box<Statement>, test: Expr) -> Statement
+pub fn until(place: Place, body: Box<Statement>, test: Operand) -> Statement
     ensures { (names : Names) → located_stmt names result ≡ do_of place (located_stmt names body.value, located_expr names test) }
 {
     Statement::DoWhile { place, body, test }
@@ -50,7 +50,7 @@ pub fn until(place: Place, body: Box<Statement>, test: Expr) -> Statement
 pub fn counted(
     place: Place,
     first: Vec<Statement>,
-    test: Option<Expr>,
+    test: Option<Operand>,
     step: Option<Box<Statement>>,
     body: Box<Statement>,
 ) -> Statement

@@ -12,7 +12,7 @@ use crate::simple::simple;
 use cpc_base::Place;
 use cpc_parser_expressions::{arguments, begins_expr, expr};
 use cpc_parser_types::{Refusal, begins_base, deep, expect_mark, name};
-use cpc_tree::program::{Expr, Statement};
+use cpc_tree::program::{Operand, Statement};
 use cpc_tree::token::{Punctuator, Token};
 use std::alloc::Global;
 
@@ -21,7 +21,7 @@ pub fn test(
     alloc: Global,
     room: usize,
     tokens: &[Token],
-) -> Result<(Expr, usize, &[Token]), Refusal>
+) -> Result<(Operand, usize, &[Token]), Refusal>
     requires { 0 < room }
     ensures gives { (names : Names) → Gives (λ x. (located_expr names x.0, x.1, placed names x.2.now)) result (test_at room (placed names tokens.now)) }
     ensures nest { IfOk result (λ x. x.1 ≤ room) }
@@ -30,7 +30,7 @@ pub fn test(
     let (_, rest) = expect_mark(tokens, Punctuator::LeftParen)?;
     let (test, nest, rest) = expr(alloc, room, rest)?;
     let (_, rest) = expect_mark(rest, Punctuator::RightParen)?;
-    Ok((test, nest, rest))
+    Ok((Operand::new(test), nest, rest))
 }
 
 /// A label's name or another one, and the semicolon of `goto`, which stands at the place.
@@ -109,7 +109,7 @@ pub fn maybe(
     alloc: Global,
     room: usize,
     tokens: &[Token],
-) -> Result<(Option<Expr>, usize, &[Token]), Refusal>
+) -> Result<(Option<Operand>, usize, &[Token]), Refusal>
     ensures gives { (names : Names) → Gives (λ x. (option_map (located_expr names) x.0, x.1, placed names x.2.now)) result (maybe_at room (placed names tokens.now)) }
     ensures nest { IfOk result (λ x. x.1 ≤ room) }
     ensures shorter { IfOk result (λ x. length x.2.now < length tokens.now) }
@@ -123,7 +123,7 @@ pub fn maybe(
     }
     let (value, nest, rest) = expr(alloc, room, tokens)?;
     let (_, rest) = expect_mark(rest, Punctuator::Semicolon)?;
-    Ok((Some(value), nest, rest))
+    Ok((Some(Operand::new(value)), nest, rest))
 }
 
 /// What stands behind `return`, which stands at the place.

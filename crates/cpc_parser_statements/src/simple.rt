@@ -20,12 +20,12 @@ use cpc_base::Place;
 use cpc_num::{Kind, Op};
 use cpc_parser_expressions::{Apart, Shape, expr, unary};
 use cpc_parser_types::{Refusal, deep, deeper, fault};
-use cpc_tree::program::{Expr, Statement};
+use cpc_tree::program::{Expr, Operand, Statement};
 use cpc_tree::token::Token;
 use std::alloc::Global;
 
 /// The statement by which a place is given what stands behind `=`.
-pub fn given(place: Place, operator: Place, target: Expr, right: Right) -> Statement
+pub fn given(place: Place, operator: Place, target: Operand, right: Right) -> Statement
     ensures { (names : Names) → located_stmt names result ≡ given place operator (located_expr names target) (right_seen names right) }
 {
     match right {
@@ -34,7 +34,7 @@ pub fn given(place: Place, operator: Place, target: Expr, right: Right) -> State
             operator,
             target,
             op: None,
-            value,
+            value: Operand::new(value),
         },
         Right::Call {
             function,
@@ -43,7 +43,7 @@ pub fn given(place: Place, operator: Place, target: Expr, right: Right) -> State
             place,
             operator,
             target: Some(target),
-            function,
+            function: Operand::new(function),
             arguments,
         },
         Right::Section {
@@ -62,7 +62,7 @@ pub fn given(place: Place, operator: Place, target: Expr, right: Right) -> State
 }
 
 // `target op= 1`, as `++` and `--` have it.
-fn stepped(place: Place, operator: Place, target: Expr, op: Op) -> Statement
+fn stepped(place: Place, operator: Place, target: Operand, op: Op) -> Statement
     ensures { (names : Names) → located_stmt names result ≡ stepped place operator (located_expr names target) op }
 {
     Statement::Assign {
@@ -70,21 +70,21 @@ fn stepped(place: Place, operator: Place, target: Expr, op: Op) -> Statement
         operator,
         target,
         op: Some(op),
-        value: Expr::Integer {
+        value: Operand::new(Expr::Integer {
             place: operator,
             kind: Kind::Int,
             value: 1,
-        },
+        }),
     }
 }
 
 // The expression that a shape is. Only memory can be wanting.
-fn target(alloc: Global, shape: Shape) -> Result<Expr, Refusal>
+fn target(alloc: Global, shape: Shape) -> Result<Operand, Refusal>
     ensures is { IfOk result (λ e. (names : Names) → located_expr names e ≡ whole (shape_of names shape)) }
     ensures wants { IfErr result (λ e. e ≡ GRefusal.Memory) }
 {
     match shape.whole(alloc) {
-        Ok(target) => Ok(target),
+        Ok(target) => Ok(Operand::new(target)),
         Err(_) => Err(Refusal::Memory),
     }
 }
@@ -150,7 +150,7 @@ fn updated(
     place: Place,
     operator: Place,
     op: Op,
-    target: Expr,
+    target: Operand,
     nest: usize,
     tokens: &[Token],
 ) -> Result<(Statement, usize, &[Token]), Refusal>
@@ -166,7 +166,7 @@ fn updated(
         operator,
         target,
         op: Some(op),
-        value,
+        value: Operand::new(value),
     };
     Ok((statement, deeper(nest, other) + 1, rest))
 }
@@ -177,7 +177,7 @@ fn assigned(
     depth: usize,
     place: Place,
     operator: Place,
-    target: Expr,
+    target: Operand,
     nest: usize,
     tokens: &[Token],
 ) -> Result<(Statement, usize, &[Token]), Refusal>
@@ -251,7 +251,7 @@ fn alone(
                 place,
                 operator: place,
                 target: None,
-                function,
+                function: Operand::new(function),
                 arguments,
             };
             Ok((statement, nest + 1, tokens))

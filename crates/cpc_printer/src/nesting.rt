@@ -12,37 +12,40 @@ use crate::depth::{
     star_count,
 };
 use crate::rank::Rank;
-use cpc_tree::program::{CType, Expr, Field, Function, Item, Parameter, Program, Statement};
+use cpc_tree::program::{CType, Field, Function, Item, Operand, Parameter, Program, Statement};
 
 /// How deep an expression that can be absent nests.
-fn maybe_depth(e: &Option<Expr>) -> u64
+fn maybe_depth(e: &Option<Operand>) -> u64
     ensures { (names : Names) → result ≡ capped (maybe_depth false (option_map (expr_of names) e.now)) }
 {
     match e {
         None => 0,
-        Some(e) => expression_depth(Rank::Whole, e),
+        Some(e) => expression_depth(Rank::Whole, e.expr()),
     }
 }
 
 /// How deep the place that a value goes to nests.
-fn place_depth(target: &Option<Expr>) -> u64
+fn place_depth(target: &Option<Operand>) -> u64
     ensures { (names : Names) → result ≡ capped (place_depth (option_map (expr_of names) target.now)) }
 {
     match target {
         None => 0,
-        Some(target) => expression_depth(Rank::Unary, target),
+        Some(target) => expression_depth(Rank::Unary, target.expr()),
     }
 }
 
 /// How deep a local nests.
 #[tactic(auto, using(std::proofs::lemmas::Grind::common_steps, crate::proofs::DepthRows::declarator_is))]
-fn local_depth(of: &CType, start: &Option<Expr>) -> u64
+fn local_depth(of: &CType, start: &Option<Operand>) -> u64
     ensures { (names : Names) → result ≡ capped (local_depth false (type_of names of.now) (option_map (expr_of names) start.now)) }
 {
     let depth = declarator_depth(of);
     match start {
         None => deeper(depth),
-        Some(start) => deeper(deepest(depth, deepest(1, expression_depth(Rank::Whole, start)))),
+        Some(start) => deeper(deepest(
+            depth,
+            deepest(1, expression_depth(Rank::Whole, start.expr())),
+        )),
     }
 }
 
@@ -54,8 +57,8 @@ fn simple_depth(s: &Statement) -> u64
     match s {
         Statement::Declare { of, start, .. } => local_depth(of, start),
         Statement::Assign { target, value, .. } => {
-            let before = expression_depth(Rank::Unary, target);
-            deeper(deepest(before, expression_depth(Rank::Whole, value)))
+            let before = expression_depth(Rank::Unary, target.expr());
+            deeper(deepest(before, expression_depth(Rank::Whole, value.expr())))
         }
         Statement::Call {
             target,
@@ -63,7 +66,7 @@ fn simple_depth(s: &Statement) -> u64
             arguments,
             ..
         } => {
-            let called = expression_depth(Rank::Postfix, function);
+            let called = expression_depth(Rank::Postfix, function.expr());
             let depth = deepest(called, arguments_depth(arguments));
             deeper(deepest(place_depth(target), depth))
         }
@@ -103,7 +106,10 @@ fn statement_depth(s: &Statement) -> u64
     match s {
         Statement::Block { inner, .. } => deeper(block_depth(inner)),
         Statement::If { test, yes, no, .. } => {
-            let before = deepest(expression_depth(Rank::Whole, test), statement_depth(yes));
+            let before = deepest(
+                expression_depth(Rank::Whole, test.expr()),
+                statement_depth(yes),
+            );
             match no {
                 None => deeper(before),
                 Some(no) => deeper(deepest(before, statement_depth(no))),
@@ -131,7 +137,7 @@ fn nested_depth(s: &Statement) -> u64
 {
     match s {
         Statement::While { test, body, .. } | Statement::DoWhile { body, test, .. } => {
-            let depth = expression_depth(Rank::Whole, test);
+            let depth = expression_depth(Rank::Whole, test.expr());
             deeper(deepest(depth, statement_depth(body)))
         }
         Statement::Label { inner, .. } => deeper(statement_depth(inner)),
@@ -152,7 +158,11 @@ fn block_depth(inner: &[Statement]) -> u64
 }
 
 /// How deep the three parts of a `for` nest.
-fn head_parts_depth(first: &[Statement], test: &Option<Expr>, step: &Option<Box<Statement>>) -> u64
+fn head_parts_depth(
+    first: &[Statement],
+    test: &Option<Operand>,
+    step: &Option<Box<Statement>>,
+) -> u64
     ensures { (names : Names) → result ≡ capped (max (first_depth false (list_of names first.now)) (max (maybe_depth false (option_map (expr_of names) test.now)) (step_depth false (maybe_at names step.now)))) }
 {
     let depth = deepest(maybe_depth(test), step_depth(step));

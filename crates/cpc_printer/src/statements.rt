@@ -18,7 +18,7 @@ use crate::types::{base, variable};
 use cpc_base::{Name, NoMemory};
 use cpc_num::Op;
 use cpc_printer_layout::Sheet;
-use cpc_tree::program::{CType, Expr, Statement};
+use cpc_tree::program::{CType, Expr, Operand, Statement};
 use cpc_tree::token::{Keyword, Punctuator};
 use std::alloc::Global;
 
@@ -31,7 +31,7 @@ pub(crate) fn statement(out: &mut Sheet, alloc: Global, s: &Statement) -> Result
     match s {
         Statement::Block { inner, .. } => block(out, alloc, inner),
         Statement::If { test, yes, no, .. } => {
-            condition(out, alloc, Keyword::If, test)?;
+            condition(out, alloc, Keyword::If, test.expr())?;
             body(out, alloc, yes)?;
             match no {
                 None => Ok(()),
@@ -68,7 +68,7 @@ fn nested(out: &mut Sheet, alloc: Global, s: &Statement) -> Result<(), NoMemory>
             body: inner,
             ..
         } => {
-            condition(out, alloc, Keyword::While, test)?;
+            condition(out, alloc, Keyword::While, test.expr())?;
             body(out, alloc, inner)
         }
         Statement::DoWhile {
@@ -79,7 +79,7 @@ fn nested(out: &mut Sheet, alloc: Global, s: &Statement) -> Result<(), NoMemory>
             out.word(Keyword::Do)?;
             body(out, alloc, inner)?;
             behind(out, inner);
-            condition(out, alloc, Keyword::While, test)?;
+            condition(out, alloc, Keyword::While, test.expr())?;
             out.mark(Punctuator::Semicolon)
         }
         Statement::Label { label, inner } => {
@@ -195,7 +195,7 @@ fn for_head(
     out: &mut Sheet,
     alloc: Global,
     first: &[Statement],
-    test: &Option<Expr>,
+    test: &Option<Operand>,
     step: &Option<Box<Statement>>,
 ) -> Result<(), NoMemory>
     ensures row { OnOk result ((names : Names) → row_of names out.new ≡ row_of names out.old ++ for_row out.old.is_tight (list_of names first.now) (option_map (expr_of names) test.now) (maybe_at names step.now)) }
@@ -212,7 +212,7 @@ fn for_head(
 fn further_parts(
     out: &mut Sheet,
     alloc: Global,
-    test: &Option<Expr>,
+    test: &Option<Operand>,
     step: &Option<Box<Statement>>,
 ) -> Result<(), NoMemory>
     ensures row { OnOk result ((names : Names) → row_of names out.new ≡ row_of names out.old ++ parts_row out.old.is_tight (option_map (expr_of names) test.now) (maybe_at names step.now)) }
@@ -226,7 +226,7 @@ fn further_parts(
 }
 
 /// An expression that can be absent.
-fn maybe(out: &mut Sheet, alloc: Global, e: &Option<Expr>) -> Result<(), NoMemory>
+fn maybe(out: &mut Sheet, alloc: Global, e: &Option<Operand>) -> Result<(), NoMemory>
     ensures row { OnOk result ((names : Names) → row_of names out.new ≡ row_of names out.old ++ maybe_row out.old.is_tight (option_map (expr_of names) e.now)) }
     ensures style { out.new.is_tight ≡ out.old.is_tight }
 {
@@ -234,7 +234,7 @@ fn maybe(out: &mut Sheet, alloc: Global, e: &Option<Expr>) -> Result<(), NoMemor
         None => Ok(()),
         Some(e) => {
             out.blank();
-            expression(out, alloc, Rank::Whole, e)
+            expression(out, alloc, Rank::Whole, e.expr())
         }
     }
 }
@@ -319,7 +319,7 @@ fn simple(out: &mut Sheet, alloc: Global, s: &Statement) -> Result<(), NoMemory>
             op,
             value,
             ..
-        } => assigned(out, alloc, target, *op, value),
+        } => assigned(out, alloc, target.expr(), *op, value.expr()),
         Statement::Call {
             target,
             function,
@@ -327,7 +327,7 @@ fn simple(out: &mut Sheet, alloc: Global, s: &Statement) -> Result<(), NoMemory>
             ..
         } => {
             place(out, alloc, target)?;
-            call(out, alloc, function, arguments)
+            call(out, alloc, function.expr(), arguments)
         }
         Statement::Detach {
             target,
@@ -348,7 +348,7 @@ fn declared(
     alloc: Global,
     name: Name,
     of: &CType,
-    start: &Option<Expr>,
+    start: &Option<Operand>,
 ) -> Result<(), NoMemory>
     ensures row { OnOk result ((names : Names) → row_of names out.new ≡ row_of names out.old ++ (base_row (type_of names of.now) ++ local_row out.old.is_tight (text_of names name) (type_of names of.now) (option_map (expr_of names) start.now))) }
     ensures style { out.new.is_tight ≡ out.old.is_tight }
@@ -388,14 +388,14 @@ fn assignment(out: &mut Sheet, op: Option<Op>) -> Result<(), NoMemory>
 }
 
 /// The place that a value goes to, and `=`.
-fn place(out: &mut Sheet, alloc: Global, target: &Option<Expr>) -> Result<(), NoMemory>
+fn place(out: &mut Sheet, alloc: Global, target: &Option<Operand>) -> Result<(), NoMemory>
     ensures row { OnOk result ((names : Names) → row_of names out.new ≡ row_of names out.old ++ place_row out.old.is_tight (option_map (expr_of names) target.now)) }
     ensures style { out.new.is_tight ≡ out.old.is_tight }
 {
     match target {
         None => Ok(()),
         Some(target) => {
-            expression(out, alloc, Rank::Unary, target)?;
+            expression(out, alloc, Rank::Unary, target.expr())?;
             out.between(Punctuator::Equal)
         }
     }
@@ -423,7 +423,7 @@ pub(crate) fn local(
     alloc: Global,
     name: Name,
     of: &CType,
-    start: &Option<Expr>,
+    start: &Option<Operand>,
 ) -> Result<(), NoMemory>
     ensures row { OnOk result ((names : Names) → row_of names out.new ≡ row_of names out.old ++ local_row out.old.is_tight (text_of names name) (type_of names of.now) (option_map (expr_of names) start.now)) }
     ensures style { out.new.is_tight ≡ out.old.is_tight }
@@ -433,7 +433,7 @@ pub(crate) fn local(
         None => Ok(()),
         Some(start) => {
             out.between(Punctuator::Equal)?;
-            expression(out, alloc, Rank::Whole, start)
+            expression(out, alloc, Rank::Whole, start.expr())
         }
     }
 }
@@ -501,7 +501,7 @@ fn further(out: &mut Sheet, alloc: Global, s: &Statement) -> Result<(), NoMemory
             ..
         } => {
             out.between(Punctuator::Equal)?;
-            call(out, alloc, function, arguments)
+            call(out, alloc, function.expr(), arguments)
         }
         Statement::Detach {
             function,

@@ -11,7 +11,7 @@ ghost use Rattle.cpc_run_globals.specs.Starts.{text_cell, only_kind, minus_numbe
 use cpc_base::NoMemory;
 use cpc_num::{Kind, convert};
 use cpc_store::{Scalar, Value};
-use cpc_tree::program::{Expr, UnaryOp};
+use cpc_tree::program::{Expr, Operand, UnaryOp};
 use std::alloc::Global;
 
 // What a cell holds that nothing is written for.
@@ -145,14 +145,14 @@ fn written(alloc: Global, start: &Expr, row: &[Scalar]) -> Result<Vec<Value>, No
 /// The cells of a global by what is written for it and what they hold. `NoMemory` is want of memory.
 pub(crate) fn start_cells(
     alloc: Global,
-    start: &Option<Expr>,
+    start: &Option<Operand>,
     row: &[Scalar],
 ) -> Result<Vec<Value>, NoMemory>
     ensures value { IfOk result (λ cells. (names : Names) → values_of names cells.items ≡ M.start_cells (option_map (expr_of names) start.now) row.now) }
     ensures lawful { IfOk result (λ cells. All (λ v. IsLawful (seen v)) cells.items) }
 {
     match start {
-        Some(start) => written(alloc, start, row),
+        Some(start) => written(alloc, start.expr(), row),
         None => zeros(alloc, row),
     }
 }

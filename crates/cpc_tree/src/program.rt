@@ -9,6 +9,7 @@ ghost use Rattle.cpc_tree.specs.Typing.{APlace};
 use cpc_base::{Name, Names, NoMemory, Place};
 use cpc_num::{Kind, Op};
 use std::alloc::Global;
+use std::marker::Model;
 
 // What a tree owns is let go of here and not by a derive: a crate that lets go of one then calls this, and does not prove
 // it again in each function that may end while it owns one.
@@ -335,6 +336,48 @@ impl Drop for Expr {
     }
 }
 
+/// An expression that a statement or a global has: what it tests, writes to, calls, gives or starts with.
+///
+/// It is a type of its own, seen as its expression, since what a statement holds is told in full wherever a function holds the statement.
+pub struct Operand {
+    expr: Expr,
+}
+
+impl Drop for Operand {
+    fn drop(self) {
+        let Operand { expr } = self;
+        drop(expr);
+    }
+}
+
+impl Model for Operand {
+    ghost use Rattle.cpc_tree.specs.declared.program.Expr as GExpr;
+    ghost use Rattle.cpc_tree.specs.contracts.program.Expr as contracts;
+    ghost use Rattle.std.specs.Coded.{codes};
+
+    ghost Value = { GExpr.Expr };
+
+    ghost view = { λ s. s.expr };
+
+    ghost coded = { Prim.hlevel (codes, contracts.the_row.coded) };
+}
+
+impl Operand {
+    /// This expression.
+    pub fn new(expr: Expr) -> Operand
+        ensures { result ≡ expr }
+    {
+        Operand { expr }
+    }
+
+    /// The expression.
+    pub fn expr(&self) -> &Expr
+        ensures { result.now ≡ self.now }
+    {
+        &self.expr
+    }
+}
+
 /// A statement (C11 6.8). `place` is that of its first byte.
 ///
 /// `operator` is the place of the assignment's operator, of `=` before a call or a section; where an initialiser is such
@@ -352,22 +395,22 @@ pub enum Statement {
         place: Place,
         word: Word,
         of: CType,
-        start: Option<Expr>,
+        start: Option<Operand>,
     },
     /// `target op= value`, or `target = value` without an operator. `x++` and `++x` are `x += 1`.
     Assign {
         place: Place,
         operator: Place,
-        target: Expr,
+        target: Operand,
         op: Option<Op>,
-        value: Expr,
+        value: Operand,
     },
     /// A call that is a whole statement or a whole right side.
     Call {
         place: Place,
         operator: Place,
-        target: Option<Expr>,
-        function: Expr,
+        target: Option<Operand>,
+        function: Operand,
         arguments: Vec<Expr>,
     },
     /// `cpc_detached function(arguments)`: a section. `keyword` is the place of `cpc_detached`.
@@ -375,7 +418,7 @@ pub enum Statement {
         place: Place,
         operator: Place,
         keyword: Place,
-        target: Option<Expr>,
+        target: Option<Operand>,
         function: Word,
         arguments: Vec<Expr>,
     },
@@ -387,25 +430,25 @@ pub enum Statement {
     },
     If {
         place: Place,
-        test: Expr,
+        test: Operand,
         yes: Box<Statement>,
         no: Option<Box<Statement>>,
     },
     While {
         place: Place,
-        test: Expr,
+        test: Operand,
         body: Box<Statement>,
     },
     DoWhile {
         place: Place,
         body: Box<Statement>,
-        test: Expr,
+        test: Operand,
     },
     /// `for`, whose first part is no statement, or one, or declarations with what they start with.
     For {
         place: Place,
         first: Vec<Statement>,
-        test: Option<Expr>,
+        test: Option<Operand>,
         step: Option<Box<Statement>>,
         body: Box<Statement>,
     },
@@ -426,7 +469,7 @@ pub enum Statement {
     },
     Return {
         place: Place,
-        value: Option<Expr>,
+        value: Option<Operand>,
     },
 }
 
@@ -578,7 +621,7 @@ pub enum Item {
     Global {
         word: Word,
         of: CType,
-        start: Option<Expr>,
+        start: Option<Operand>,
     },
     /// A function declared. `place` is that of its first byte.
     Prototype {

@@ -4,7 +4,7 @@ use cpc_base::{Dialect, Names, NoMemory};
 use cpc_lexer::{end_of_text, tokens};
 use cpc_num::Kind;
 use cpc_parser::parse;
-use cpc_tree::program::{CType, Expr, Item, Program};
+use cpc_tree::program::{CType, Item, Operand, Program};
 use cpc_types::{Scope, TypeFound, assignable, cells, typing};
 use std::alloc::Global;
 use std::test::Fail;
@@ -25,7 +25,7 @@ struct Found {
 }
 
 // The type and the start of the global that is the item of this number.
-fn global(program: &Program, number: usize) -> Option<(&CType, Option<&Expr>)> {
+fn global(program: &Program, number: usize) -> Option<(&CType, Option<&Operand>)> {
     match program.items.get(number) {
         Some(Item::Global { of, start, .. }) => Some((of, start.as_ref())),
         _ => None,
@@ -53,12 +53,12 @@ fn asked(alloc: Global, program: &Program) -> Result<Option<Found>, NoMemory> {
     };
     Ok(Some(Found {
         of_seven: matches!(
-            &typing(alloc, seven, &scope)?,
+            &typing(alloc, seven.expr(), &scope)?,
             TypeFound::Value(CType::Int(Kind::Int))
         ),
-        null_to_pointer: assignable(alloc, pointer, null, &scope)?,
-        seven_to_pointer: assignable(alloc, pointer, seven, &scope)?,
-        null_to_int: assignable(alloc, int, null, &scope)?,
+        null_to_pointer: assignable(alloc, pointer, null.expr(), &scope)?,
+        seven_to_pointer: assignable(alloc, pointer, seven.expr(), &scope)?,
+        null_to_int: assignable(alloc, int, null.expr(), &scope)?,
         within: cells(large, &scope),
         above: cells(pointed(to_larger), &scope),
     }))

@@ -1,3 +1,4 @@
+use Rattle.std.proofs.Common.{◌≡◌, Some, option_map, ap, sym, ◌∙◌}
 use Rattle.cpc_tree.specs.Erase.{type_of, expr_of}
 use Rattle.cpc_tree.specs.Locate.{ident, located_expr}
 use Rattle.cpc_tree.proofs.Places.{bare_located}
@@ -12,6 +13,6 @@ returns-in_ok-found-in-Some c = λ names spells.
     let k = c.in_ok-found-in-Some.ensures.noted names spells in
     let u = c.is_unfit.ensures names spells.apart in
     let n = c.note_if.ensures in
-    let i = c.in-Some.is in
-    let e = start_noted (where_of names c.args.w.now) (first_of c.args.first.now) (ident names c.args.word) (type_of names c.args.of.now) (located_expr names c.in-Some.e) (expr_of names c.in-Some.e) (bare_located names c.in-Some.e) in
+    let given : option_map (located_expr names) c.args.start.now ≡ Some (located_expr names c.expr-e.result.now) = ap (option_map (located_expr names)) (c.in-Some.is ∙ ap Some (sym c.expr-e.ensures)) in
+    let e = start_noted (where_of names c.args.w.now) (first_of c.args.first.now) (ident names c.args.word) (type_of names c.args.of.now) (located_expr names c.expr-e.result.now) (expr_of names c.expr-e.result.now) (bare_located names c.expr-e.result.now) in
     cc

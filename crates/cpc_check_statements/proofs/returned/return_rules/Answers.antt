@@ -1,3 +1,4 @@
+use Rattle.std.proofs.Common.{◌≡◌, Some, option_map, ap, sym, ◌∙◌}
 use Rattle.cpc_tree.specs.Locate.{located_expr}
 use Rattle.cpc_check_rules.specs.Noted.{first_of}
 use Rattle.cpc_check_values.specs.Stands.{where_of}
@@ -10,6 +11,6 @@ returns-in_ok-found-in-Some c = λ names spells.
     let k = c.in_ok-found-in-Some.ensures.noted names spells in
     let u = c.is_unfit_return.ensures names spells.apart in
     let n = c.note_if.ensures in
-    let i = c.in-Some.is in
-    let e = returned_noted (where_of names c.args.w.now) (first_of c.args.first.now) c.args.place (located_expr names c.in-Some.e) in
+    let given : option_map (located_expr names) c.args.value.now ≡ Some (located_expr names c.expr-e.result.now) = ap (option_map (located_expr names)) (c.in-Some.is ∙ ap Some (sym c.expr-e.ensures)) in
+    let e = returned_noted (where_of names c.args.w.now) (first_of c.args.first.now) c.args.place (located_expr names c.expr-e.result.now) in
     cc

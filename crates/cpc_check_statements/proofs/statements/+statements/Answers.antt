@@ -1,4 +1,5 @@
-use Rattle.std.proofs.Common.{sym, ap, ◌∙◌, subst, arith}
+use Rattle.cpc_tree.specs.declared.program.Statement.TheVariants as T
+use Rattle.std.proofs.Common.{◌≡◌, sym, ap, ◌∙◌, subst, arith}
 use Rattle.std.proofs.lemmas.Result.{on_ok_weaker}
 use Rattle.cpc_tree.specs.Locate.{located_list}
 use Rattle.cpc_check_rules.specs.Apart.{Spells}
@@ -43,7 +44,7 @@ statement_rules-returns-in-Block-clause-noted t c = on_ok_weaker c.block_rules.r
 pub statement_rules-returns-in_ok-statement_rules-in-If-clause-noted : goal.statement_rules-returns-in_ok-statement_rules-in-If-clause-noted
 statement_rules-returns-in_ok-statement_rules-in-If-clause-noted t c = on_ok_weaker c.maybe_rules.result (λ h names spells.
     let w = standing names c.args.scope.now c.args.around.now in
-    walk_if names w _ _ (first_of c.args.first.now) _ _ _ c.args.s.now _ _ _ _ _ c.in-If.is c.deref-in-If.ensures (c.standing.ensures.stands names) (ap (in_scope w) (c.in_ok-statement_rules-in-If.ensures.scope names))
+    walk_if names w _ _ (first_of c.args.first.now) _ _ _ c.args.s.now _ _ _ _ _ (subst (λ t. c.args.s.now ≡ T.If c.in-If.place t c.in-If.yes c.in-If.no) (sym c.expr.ensures) c.in-If.is) c.deref-in-If.ensures (c.standing.ensures.stands names) (ap (in_scope w) (c.in_ok-statement_rules-in-If.ensures.scope names))
     (c.in_ok-test_rules-in-If.ensures names (subst (λ t. Spells t names) (sym c.standing.ensures.named) spells)) (c.in_ok-statement_rules-in-If.ensures.noted names spells) (h names spells)) c.maybe_rules.ensures.noted
 
 pub statement_rules-returns-in_ok-statement_rules-in-If-clause-scope : goal.statement_rules-returns-in_ok-statement_rules-in-If-clause-scope
@@ -52,13 +53,13 @@ statement_rules-returns-in_ok-statement_rules-in-If-clause-scope t c = on_ok_wea
 pub statement_rules-returns-in_ok-test_rules-in-While-clause-noted : goal.statement_rules-returns-in_ok-test_rules-in-While-clause-noted
 statement_rules-returns-in_ok-test_rules-in-While-clause-noted t c = on_ok_weaker c.statement_rules-in-While.result (λ h names spells.
     let w = standing names c.args.scope.now c.args.around.now in
-    walk_while names w _ (first_of c.args.first.now) _ _ c.args.s.now _ _ _ _ c.in-While.is c.deref-in-While.ensures (c.standing-in-While.ensures.stands names)
+    walk_while names w _ (first_of c.args.first.now) _ _ c.args.s.now _ _ _ _ (subst (λ t. c.args.s.now ≡ T.While c.in-While.place t c.in-While.body) (sym c.expr-in-While.ensures) c.in-While.is) c.deref-in-While.ensures (c.standing-in-While.ensures.stands names)
     (c.in_ok-test_rules-in-While.ensures names (subst (λ t. Spells t names) (sym c.standing-in-While.ensures.named) spells)) (h names spells)) c.statement_rules-in-While.ensures.noted
 
 pub statement_rules-returns-in_ok-statement_rules-in-DoWhile-clause-noted : goal.statement_rules-returns-in_ok-statement_rules-in-DoWhile-clause-noted
 statement_rules-returns-in_ok-statement_rules-in-DoWhile-clause-noted t c = on_ok_weaker c.test_rules-in-DoWhile.result (λ h names spells.
     let w = standing names c.args.scope.now c.args.around.now in
-    walk_do names w _ (first_of c.args.first.now) _ _ c.args.s.now _ _ _ _ c.in-DoWhile.is c.deref-in-DoWhile.ensures
+    walk_do names w _ (first_of c.args.first.now) _ _ c.args.s.now _ _ _ _ (subst (λ t. c.args.s.now ≡ T.DoWhile c.in-DoWhile.place c.in-DoWhile.body t) (sym c.expr-in-DoWhile.ensures) c.in-DoWhile.is) c.deref-in-DoWhile.ensures
     (c.standing-in-DoWhile.ensures.stands names ∙ ap (in_scope w) (c.in_ok-statement_rules-in-DoWhile.ensures.scope names))
     (c.in_ok-statement_rules-in-DoWhile.ensures.noted names spells) (h names (subst (λ t. Spells t names) (sym c.standing-in-DoWhile.ensures.named) spells))) c.test_rules-in-DoWhile.ensures
 

@@ -10,5 +10,5 @@ returns-in_ok-of-in-Some c = λ source from to p r st means.
     let o = option_map (expr_of from) c.in-Call.target in
     let f = from c.in-Name.word.name in
     let es = exprs_of from c.in-Call.arguments.items in
-    let is : stmt_of from c.args.s.now ≡ S.Call o (S.ENamed f) es = ap (stmt_of from) c.in-Call.is ∙ ap (λ x. S.Call o (expr_of from x) es) c.in-Name.is in
+    let is : stmt_of from c.args.s.now ≡ S.Call o (S.ENamed f) es = ap (stmt_of from) c.in-Call.is ∙ ap (λ x. S.Call o (expr_of from x) es) (sym c.expr.ensures ∙ c.in-Name.is) in
     arrives from to p c.args.around.book.now.functions.items (stmt_of from c.args.s.now) o f es callee _ st.functions is (means o f es) (sym (c.in-Some.ensures from st.spells.apart)) (c.in_ok-of-in-Some.ensures from to)

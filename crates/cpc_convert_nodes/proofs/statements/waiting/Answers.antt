@@ -19,7 +19,7 @@ returns-in_ok-call_waiting-in-Name c = λ source from to p r st leads means same
     let passed : exprs_of from c.deref.result.now ≡ exprs_of to c.deref.result.now = cc in
     let same_row : exprs_of from c.deref.result.now ≡ exprs_of from c.in-Call.arguments.items = cc in
     let whole : stmt_of from c.args.s.now ≡ S.Call (option_map (expr_of from) c.in-Call.target) (S.ENamed (from c.in-Name.word.name)) (exprs_of from c.in-Call.arguments.items) =
-    ap (stmt_of from) c.in-Call.is ∙ ap (λ (e : GExpr.Expr). S.Call (option_map (expr_of from) c.in-Call.target) (expr_of from e) (exprs_of from c.in-Call.arguments.items)) c.in-Name.is in
+    ap (stmt_of from) c.in-Call.is ∙ ap (λ (e : GExpr.Expr). S.Call (option_map (expr_of from) c.in-Call.target) (expr_of from e) (exprs_of from c.in-Call.arguments.items)) (sym c.expr.ensures ∙ c.in-Name.is) in
     c.in_ok-call_waiting-in-Name.ensures source from to p r st leads (means _ _ _ whole) passed
     ∙ (ap (λ (es : S.Exprs). puts u (L.cps_lines p r names (S.Call (option_map (expr_of from) c.in-Call.target) (S.ENamed (from c.in-Name.word.name)) es) c.args.arrival)) same_row
     ∙ ap (λ (x : S.Stmt). puts u (L.cps_lines p r names x c.args.arrival)) (sym whole))

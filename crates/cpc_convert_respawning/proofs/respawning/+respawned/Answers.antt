@@ -1,4 +1,5 @@
-use Rattle.cpc_tree.specs.Erase.{in_table}
+use Rattle.std.proofs.Common.{ap, ◌∙◌}
+use Rattle.cpc_tree.specs.Erase.{in_table, expr_of}
 use Rattle.cpc_convert_respawning.proofs.Respawned.{block_respawned, if_respawned, for_respawned, row_more, row_through, one_through}
 use Rattle.cpc_convert_respawning.proofs.respawning.+respawned.Goals as goal
 
@@ -9,7 +10,7 @@ respawn-returns-in_ok-inner-in-Block t c = λ table to b e.
 
 pub respawn-returns-in_ok-no-in-If : goal.respawn-returns-in_ok-no-in-If
 respawn-returns-in_ok-no-in-If t c = λ table to b e.
-    if_respawned (in_table table) to c.args.statement.now e c.in-If.place c.in-If.test c.in_ok-test-in-If.test c.in-If.yes c.in_ok-yes-in-If.yes c.in-If.no c.in_ok-no-in-If.no c.in-If.is (c.in_ok-test-in-If.ensures to)
+    if_respawned (in_table table) to c.args.statement.now e c.in-If.place c.in-If.test c.new.result c.in-If.yes c.in_ok-yes-in-If.yes c.in-If.no c.in_ok-no-in-If.no c.in-If.is (ap (expr_of to) c.new.ensures ∙ (c.in_ok-test-in-If.ensures to ∙ ap (expr_of to) c.expr-in-If.ensures))
     (one_through (in_table table) to c.deref-in-If.result.now c.in-If.yes.value c.in_ok-yes-in-If.yes.value c.deref-in-If.ensures (c.in_ok-yes-in-If.ensures table to b))
     (c.in_ok-no-in-If.ensures table to b)
 

@@ -1,4 +1,4 @@
-use Rattle.std.proofs.Common.{ap, option_map}
+use Rattle.std.proofs.Common.{ap, option_map, sym, ◌∙◌, Some}
 use Rattle.cpc_tree.specs.Erase.{expr_of}
 use Rattle.cpc_eval_values.specs.Shown.{value_of}
 use Rattle.cpc_eval_index.specs.Indexed.{items_of}
@@ -11,7 +11,7 @@ pub returns-in_err-spot-in-Some-clause-value : goal.returns-in_err-spot-in-Some-
 returns-in_err-spot-in-Some-clause-value c = λ names told h.
     let k = context_of names c.args.around.now in
     let o = option_map (expr_of names) c.args.target.now in
-    let i = ap (option_map (expr_of names)) c.in-Some.is in
+    let i = ap (option_map (expr_of names)) (c.in-Some.is ∙ ap Some (sym c.expr.ensures)) in
     delivers_not k names o _ (value_of names c.args.given) c.from_residual.result _ i c.from_residual.ensures.1
     (c.in_err-spot-in-Some.ensures.value names told (numbers_there (items_of names c.args.around.now.index.now) o _ i h))
 
@@ -19,7 +19,7 @@ pub returns-in_ok-spot-in-Some-clause-value : goal.returns-in_ok-spot-in-Some-cl
 returns-in_ok-spot-in-Some-clause-value c = λ names told h.
     let k = context_of names c.args.around.now in
     let o = option_map (expr_of names) c.args.target.now in
-    let i = ap (option_map (expr_of names)) c.in-Some.is in (
+    let i = ap (option_map (expr_of names)) (c.in-Some.is ∙ ap Some (sym c.expr.ensures)) in (
       tt,
       delivers_stands k o _ (value_of names c.args.given) (spot_of c.in_ok-spot-in-Some.spot, value_of names c.in_ok-spot-in-Some.written) i
           (c.in_ok-spot-in-Some.ensures.value names told (numbers_there (items_of names c.args.around.now.index.now) o _ i h)),

@@ -1,5 +1,6 @@
-use Rattle.std.proofs.Common.{◌+◌, drop, length, sym, ◌∙◌, option_map, arith}
+use Rattle.std.proofs.Common.{◌≡◌, ◌+◌, drop, length, sym, subst, ◌∙◌, option_map, arith}
 use Rattle.std.proofs.lemmas.Result.{on_ok_weaker}
+use Rattle.cpc_tree.specs.declared.program.Statement.TheVariants as T
 use Rattle.cpc_tree.specs.Erase.{expr_of, stmt_of, list_of, maybe_at}
 use Rattle.cpc_tree.proofs.Nodes.{row_more, row_end, block_row}
 use Rattle.cpc_eval_index.specs.Indexed.{items_of}
@@ -27,8 +28,8 @@ inside-returns-in_ok-inside-in-If t c = on_ok_weaker c.arm.result (λ h names sc
     let st1 = stands_on names ms texts _ _ _ _ _ sc st w in
     let v = c.in_ok-inside-in-If.ensures names sc st1 in
     let st2 = stands_on names ms texts _ _ _ _ _ sc st1 v in
-    by_stmt names ms items c.args.fixed sc (length a.variables.items) a _ _ _ (if_row names c.args.s.now _ _ _ _ c.deref-in-If.result.now c.in-If.is c.deref-in-If.ensures)
-    (if_walked names ms items c.args.fixed sc (expr_of names c.in-If.test) (stmt_of names c.deref-in-If.result.now) (maybe_at names c.in-If.no) _ _ _ _ w v (h names sc st2))) c.arm.ensures
+    by_stmt names ms items c.args.fixed sc (length a.variables.items) a _ _ _ (if_row names c.args.s.now _ _ _ _ c.deref-in-If.result.now (subst (λ t. c.args.s.now ≡ T.If c.in-If.place t c.in-If.yes c.in-If.no) (sym c.expr.ensures) c.in-If.is) c.deref-in-If.ensures)
+    (if_walked names ms items c.args.fixed sc (expr_of names c.expr.result.now) (stmt_of names c.deref-in-If.result.now) (maybe_at names c.in-If.no) _ _ _ _ w v (h names sc st2))) c.arm.ensures
 
 pub inside-returns-in_ok-push_test-in-While : goal.inside-returns-in_ok-push_test-in-While
 inside-returns-in_ok-push_test-in-While t c = on_ok_weaker c.inside-in-While.result (λ h names sc st.
@@ -38,8 +39,8 @@ inside-returns-in_ok-push_test-in-While t c = on_ok_weaker c.inside-in-While.res
     let a = c.args.self.now in
     let w = c.in_ok-push_test-in-While.ensures names ms items sc st.scope in
     let st1 = stands_on names ms texts _ _ _ _ _ sc st w in
-    by_stmt names ms items c.args.fixed sc (length a.variables.items) a _ _ _ (while_row names c.args.s.now _ _ _ c.deref-in-While.result.now c.in-While.is c.deref-in-While.ensures)
-    (while_walked names ms items c.args.fixed sc (expr_of names c.in-While.test) (stmt_of names c.deref-in-While.result.now) _ _ _ w (h names sc st1))) c.inside-in-While.ensures
+    by_stmt names ms items c.args.fixed sc (length a.variables.items) a _ _ _ (while_row names c.args.s.now _ _ _ c.deref-in-While.result.now (subst (λ t. c.args.s.now ≡ T.While c.in-While.place t c.in-While.body) (sym c.expr-in-While.ensures) c.in-While.is) c.deref-in-While.ensures)
+    (while_walked names ms items c.args.fixed sc (expr_of names c.expr-in-While.result.now) (stmt_of names c.deref-in-While.result.now) _ _ _ w (h names sc st1))) c.inside-in-While.ensures
 
 pub inside-returns-in_ok-inside-in-DoWhile : goal.inside-returns-in_ok-inside-in-DoWhile
 inside-returns-in_ok-inside-in-DoWhile t c = on_ok_weaker c.push_test-in-DoWhile.result (λ h names sc st.
@@ -49,8 +50,8 @@ inside-returns-in_ok-inside-in-DoWhile t c = on_ok_weaker c.push_test-in-DoWhile
     let a = c.args.self.now in
     let w = c.in_ok-inside-in-DoWhile.ensures names sc st in
     let st1 = stands_on names ms texts _ _ _ _ _ sc st w in
-    by_stmt names ms items c.args.fixed sc (length a.variables.items) a _ _ _ (do_row names c.args.s.now _ _ _ c.deref-in-DoWhile.result.now c.in-DoWhile.is c.deref-in-DoWhile.ensures)
-    (do_walked names ms items c.args.fixed sc (expr_of names c.in-DoWhile.test) (stmt_of names c.deref-in-DoWhile.result.now) _ _ _ w (h names ms items sc st1.scope))) c.push_test-in-DoWhile.ensures
+    by_stmt names ms items c.args.fixed sc (length a.variables.items) a _ _ _ (do_row names c.args.s.now _ _ _ c.deref-in-DoWhile.result.now (subst (λ t. c.args.s.now ≡ T.DoWhile c.in-DoWhile.place c.in-DoWhile.body t) (sym c.expr-in-DoWhile.ensures) c.in-DoWhile.is) c.deref-in-DoWhile.ensures)
+    (do_walked names ms items c.args.fixed sc (expr_of names c.expr-in-DoWhile.result.now) (stmt_of names c.deref-in-DoWhile.result.now) _ _ _ w (h names ms items sc st1.scope))) c.push_test-in-DoWhile.ensures
 
 pub inside-returns-in_ok-arm-in-For : goal.inside-returns-in_ok-arm-in-For
 inside-returns-in_ok-arm-in-For t c = on_ok_weaker c.inside-in-For.result (λ h names sc st.

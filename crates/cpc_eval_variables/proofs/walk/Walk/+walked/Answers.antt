@@ -4,7 +4,7 @@ use Rattle.cpc_tree.specs.declared.program.CType.{CType}
 use Rattle.cpc_tree.specs.declared.program.Statement.{Statement}
 use Rattle.cpc_tree.specs.Erase.{expr_of, stmt_of, list_of, maybe_at}
 use Rattle.cpc_tree.specs.Points.{locals, locals_in, locals_arm, extended, extended_all}
-use Rattle.cpc_tree.specs.Registers.{addresses_by, addresses_in, addresses_if, addresses_arm}
+use Rattle.cpc_tree.specs.Registers.{addresses, addresses_by, addresses_in, addresses_if, addresses_arm}
 use Rattle.cpc_tree.proofs.Nodes.{row_end}
 use Rattle.cpc_eval_variables.specs.Scoped.{scope_of}
 use Rattle.cpc_eval_variables.specs.Typed.{types_in, types_of}
@@ -88,7 +88,7 @@ inside-returns-in_ok-after-in-If-clause-addressed t c = on_ok_weaker c.arm.resul
     if_added names c.args.s.now (scope_of names c.args.self.now.scope) (scope_of names c.counted.new.self.scope) c.args.n c.in_ok-after-in-If.after
     _ c.in-If.test c.in-If.yes c.in-If.no c.deref-in-If.result.now _ _ _ _ c.in-If.is c.deref-in-If.ensures
     (scope_same names c.counted.new.self.scope c.args.self.now.scope yes.parameters yes.locals) (yes.behind names)
-    (c.in_ok-add_addresses-in-If.ensures names told) (yes.addressed names told) (h names (told_same names _ _ yes.parameters told))) c.arm.ensures.addressed
+    (subst (λ e. c.add_addresses.new.found.items ≡ c.args.self.now.addressed.items ++ addresses (scope_of names c.args.self.now.scope) (expr_of names e)) c.expr.ensures (c.in_ok-add_addresses-in-If.ensures names told)) (yes.addressed names told) (h names (told_same names _ _ yes.parameters told))) c.arm.ensures.addressed
 
 pub inside-returns-in_ok-after-in-If-clause-types : goal.inside-returns-in_ok-after-in-If-clause-types
 inside-returns-in_ok-after-in-If-clause-types t c = on_ok_weaker c.arm.result (λ h names.
@@ -99,14 +99,14 @@ inside-returns-in_ok-after-in-If-clause-types t c = on_ok_weaker c.arm.result (�
 pub inside-returns-in_ok-add_addresses-in-While-clause-addressed : goal.inside-returns-in_ok-add_addresses-in-While-clause-addressed
 inside-returns-in_ok-add_addresses-in-While-clause-addressed t c = on_ok_weaker c.inside.result (λ h names told.
     while_added names c.args.s.now (scope_of names c.args.self.now.scope) c.args.n _ c.in-While.test c.in-While.body c.deref-in-While.result.now _ _ _ c.in-While.is c.deref-in-While.ensures
-    (c.in_ok-add_addresses-in-While.ensures names told) (h names told)) c.inside.ensures.addressed
+    (subst (λ e. c.add_addresses-in-While.new.found.items ≡ c.args.self.now.addressed.items ++ addresses (scope_of names c.args.self.now.scope) (expr_of names e)) c.expr-in-While.ensures (c.in_ok-add_addresses-in-While.ensures names told)) (h names told)) c.inside.ensures.addressed
 
 pub inside-returns-in_ok-inside-in-DoWhile-clause-addressed : goal.inside-returns-in_ok-inside-in-DoWhile-clause-addressed
 inside-returns-in_ok-inside-in-DoWhile-clause-addressed t c = on_ok_weaker c.add_addresses-in-DoWhile.result (λ h names told.
     let body = c.in_ok-inside-in-DoWhile.ensures in
     do_added names c.args.s.now (scope_of names c.args.self.now.scope) (scope_of names c.inside-in-DoWhile.new.self.scope) c.args.n _ c.in-DoWhile.body c.in-DoWhile.test c.deref-in-DoWhile.result.now _ _ _
     c.in-DoWhile.is c.deref-in-DoWhile.ensures (scope_same names c.inside-in-DoWhile.new.self.scope c.args.self.now.scope body.parameters body.locals)
-    (body.addressed names told) (h names (told_same names _ _ body.parameters told))) c.add_addresses-in-DoWhile.ensures
+    (body.addressed names told) (subst (λ e. c.add_addresses-in-DoWhile.new.found.items ≡ c.inside-in-DoWhile.new.self.addressed.items ++ addresses (scope_of names c.inside-in-DoWhile.new.self.scope) (expr_of names e)) c.expr-in-DoWhile.ensures (h names (told_same names _ _ body.parameters told)))) c.add_addresses-in-DoWhile.ensures
 
 pub header-returns-clause-addressed : goal.header-returns-clause-addressed
 header-returns-clause-addressed t c = λ names told.
