@@ -1,5 +1,5 @@
 -- What a step that goes on tells of what its code asked for.
-use Rattle.std.proofs.Common.{◌≡◌, ℕ, ◌<◌, ◌^◌, inl, inr, true, List, [], ◌∷◌, length, Some, Ok, sym, ap, subst, ◌∙◌}
+use Rattle.std.proofs.Common.{◌≡◌, ℕ, ◌<◌, ◌^◌, inl, inr, true, List, [], ◌∷◌, length, None, Some, Ok, sym, ap, subst, ◌∙◌}
 use Rattle.std.proofs.lemmas.Bool.{cases_lt}
 use Rattle.cpc_base.specs.Bytes.{Text}
 use Rattle.cpc_base.specs.declared.names.Name.{Name}
@@ -112,77 +112,81 @@ call_there table names there q s k (C.Host x) vs spells hosts known e =
 
 -- ---- callbacks
 
+-- no state comes of nothing
+no_state : (t : States) → None ≡ Some t → ⊥
+no_state t h = cc h
+
 module _ (names : Names) (q : Program) (k : Stack Point) (s t : States) where
   -- what a primitive is asked for goes on
   abbrev Answered : P.Primitive → List V.Value → Type 0
   Answered prim vs = settled (callbacks q) s (primitive (callbacks q) prim (values_of names vs) k s) ≡ Some t
 
   ready_back : (vs : List V.Value) → Answered P.RtReady vs → HasCallback P.RtReady vs
-  ready_back [] h = absurd (cc h)
+  ready_back [] h = absurd (no_state t h)
   ready_back (W.Code f ∷ vs) h = tt
-  ready_back (W.Unset ∷ vs) h = absurd (cc h)
-  ready_back (W.Int kind z ∷ vs) h = absurd (cc h)
-  ready_back (W.Null ∷ vs) h = absurd (cc h)
-  ready_back (W.At block offset ∷ vs) h = absurd (cc h)
-  ready_back (W.Cond n ∷ vs) h = absurd (cc h)
+  ready_back (W.Unset ∷ vs) h = absurd (no_state t h)
+  ready_back (W.Int kind z ∷ vs) h = absurd (no_state t h)
+  ready_back (W.Null ∷ vs) h = absurd (no_state t h)
+  ready_back (W.At block offset ∷ vs) h = absurd (no_state t h)
+  ready_back (W.Cond n ∷ vs) h = absurd (no_state t h)
 
   wait_back : (vs : List V.Value) → Answered P.RtWait vs → HasCallback P.RtWait vs
-  wait_back [] h = absurd (cc h)
-  wait_back (c ∷ []) h = absurd (cc h)
+  wait_back [] h = absurd (no_state t h)
+  wait_back (c ∷ []) h = absurd (no_state t h)
   wait_back (c ∷ W.Code f ∷ vs) h = tt
-  wait_back (c ∷ W.Unset ∷ vs) h = absurd (cc h)
-  wait_back (c ∷ W.Int kind z ∷ vs) h = absurd (cc h)
-  wait_back (c ∷ W.Null ∷ vs) h = absurd (cc h)
-  wait_back (c ∷ W.At block offset ∷ vs) h = absurd (cc h)
-  wait_back (c ∷ W.Cond n ∷ vs) h = absurd (cc h)
+  wait_back (c ∷ W.Unset ∷ vs) h = absurd (no_state t h)
+  wait_back (c ∷ W.Int kind z ∷ vs) h = absurd (no_state t h)
+  wait_back (c ∷ W.Null ∷ vs) h = absurd (no_state t h)
+  wait_back (c ∷ W.At block offset ∷ vs) h = absurd (no_state t h)
+  wait_back (c ∷ W.Cond n ∷ vs) h = absurd (no_state t h)
 
   sleep_back : (vs : List V.Value) → Answered P.RtSleep vs → HasCallback P.RtSleep vs
-  sleep_back [] h = absurd (cc h)
-  sleep_back (l ∷ []) h = absurd (cc h)
+  sleep_back [] h = absurd (no_state t h)
+  sleep_back (l ∷ []) h = absurd (no_state t h)
   sleep_back (l ∷ W.Code f ∷ vs) h = tt
-  sleep_back (l ∷ W.Unset ∷ vs) h = absurd (cc h)
-  sleep_back (l ∷ W.Int kind z ∷ vs) h = absurd (cc h)
-  sleep_back (l ∷ W.Null ∷ vs) h = absurd (cc h)
-  sleep_back (l ∷ W.At block offset ∷ vs) h = absurd (cc h)
-  sleep_back (l ∷ W.Cond n ∷ vs) h = absurd (cc h)
+  sleep_back (l ∷ W.Unset ∷ vs) h = absurd (no_state t h)
+  sleep_back (l ∷ W.Int kind z ∷ vs) h = absurd (no_state t h)
+  sleep_back (l ∷ W.Null ∷ vs) h = absurd (no_state t h)
+  sleep_back (l ∷ W.At block offset ∷ vs) h = absurd (no_state t h)
+  sleep_back (l ∷ W.Cond n ∷ vs) h = absurd (no_state t h)
 
   io_back : (vs : List V.Value) → Answered P.RtIo vs → HasCallback P.RtIo vs
-  io_back [] h = absurd (cc h)
-  io_back (fd ∷ []) h = absurd (cc h)
-  io_back (fd ∷ way ∷ []) h = absurd (cc h)
+  io_back [] h = absurd (no_state t h)
+  io_back (fd ∷ []) h = absurd (no_state t h)
+  io_back (fd ∷ way ∷ []) h = absurd (no_state t h)
   io_back (fd ∷ way ∷ W.Code f ∷ vs) h = tt
-  io_back (fd ∷ way ∷ W.Unset ∷ vs) h = absurd (cc h)
-  io_back (fd ∷ way ∷ W.Int kind z ∷ vs) h = absurd (cc h)
-  io_back (fd ∷ way ∷ W.Null ∷ vs) h = absurd (cc h)
-  io_back (fd ∷ way ∷ W.At block offset ∷ vs) h = absurd (cc h)
-  io_back (fd ∷ way ∷ W.Cond n ∷ vs) h = absurd (cc h)
+  io_back (fd ∷ way ∷ W.Unset ∷ vs) h = absurd (no_state t h)
+  io_back (fd ∷ way ∷ W.Int kind z ∷ vs) h = absurd (no_state t h)
+  io_back (fd ∷ way ∷ W.Null ∷ vs) h = absurd (no_state t h)
+  io_back (fd ∷ way ∷ W.At block offset ∷ vs) h = absurd (no_state t h)
+  io_back (fd ∷ way ∷ W.Cond n ∷ vs) h = absurd (no_state t h)
 
   alone : (v : V.Value) → Answered P.RtDetach (v ∷ []) → ⊥
-  alone (W.Code f) h = cc h
-  alone W.Unset h = cc h
-  alone (W.Int kind z) h = cc h
-  alone W.Null h = cc h
-  alone (W.At block offset) h = cc h
-  alone (W.Cond n) h = cc h
+  alone (W.Code f) h = no_state t h
+  alone W.Unset h = no_state t h
+  alone (W.Int kind z) h = no_state t h
+  alone W.Null h = no_state t h
+  alone (W.At block offset) h = no_state t h
+  alone (W.Cond n) h = no_state t h
 
   paired : (v w : V.Value) → Answered P.RtDetach (v ∷ w ∷ []) → ⊥
-  paired (W.Code f) w h = cc h
-  paired W.Unset w h = cc h
-  paired (W.Int kind z) w h = cc h
-  paired W.Null w h = cc h
-  paired (W.At block offset) w h = cc h
-  paired (W.Cond n) w h = cc h
+  paired (W.Code f) w h = no_state t h
+  paired W.Unset w h = no_state t h
+  paired (W.Int kind z) w h = no_state t h
+  paired W.Null w h = no_state t h
+  paired (W.At block offset) w h = no_state t h
+  paired (W.Cond n) w h = no_state t h
 
   detach_back : (vs : List V.Value) → Answered P.RtDetach vs → HasCallback P.RtDetach vs
-  detach_back [] h = absurd (cc h)
+  detach_back [] h = absurd (no_state t h)
   detach_back (v ∷ []) h = absurd (alone v h)
   detach_back (v ∷ w ∷ []) h = absurd (paired v w h)
   detach_back (W.Code f ∷ w ∷ g ∷ vs) h = tt
-  detach_back (W.Unset ∷ w ∷ g ∷ vs) h = absurd (cc h)
-  detach_back (W.Int kind z ∷ w ∷ g ∷ vs) h = absurd (cc h)
-  detach_back (W.Null ∷ w ∷ g ∷ vs) h = absurd (cc h)
-  detach_back (W.At block offset ∷ w ∷ g ∷ vs) h = absurd (cc h)
-  detach_back (W.Cond n ∷ w ∷ g ∷ vs) h = absurd (cc h)
+  detach_back (W.Unset ∷ w ∷ g ∷ vs) h = absurd (no_state t h)
+  detach_back (W.Int kind z ∷ w ∷ g ∷ vs) h = absurd (no_state t h)
+  detach_back (W.Null ∷ w ∷ g ∷ vs) h = absurd (no_state t h)
+  detach_back (W.At block offset ∷ w ∷ g ∷ vs) h = absurd (no_state t h)
+  detach_back (W.Cond n ∷ w ∷ g ∷ vs) h = absurd (no_state t h)
 
   has_callback : (prim : P.Primitive) (vs : List V.Value) → Answered prim vs → HasCallback prim vs
   has_callback P.RtReady vs h = ready_back vs h
