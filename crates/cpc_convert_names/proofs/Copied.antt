@@ -9,7 +9,7 @@ use Rattle.std.proofs.lemmas.List.{map-append}
 use Rattle.std.proofs.lemmas.Option.{get_or_from_slice_get}
 use Rattle.cpc_base.specs.declared.names.Name.{Name}
 use Rattle.cpc_tree.specs.Erase.{Names, Table, in_table, text_of}
-use Rattle.cpc_convert.specs.Converted.{spawner_name}
+use Rattle.cpc_convert_common.specs.Converted.{spawner_name}
 use Rattle.cpc_convert_names.specs.Tables.{HasGrown, Spells}
 use Rattle.cpc_convert_names.proofs.Growing.{spells_before}
 

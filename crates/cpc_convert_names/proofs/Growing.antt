@@ -5,7 +5,7 @@ use Rattle.std.specs.List.{list_any}
 use Rattle.std.proofs.lemmas.List.{append-nil, get_or_past}
 use Rattle.std.proofs.Math.ListN.{get_or-append}
 use Rattle.std.proofs.lemmas.Bool.{cases_lt}
-use Rattle.cpc_convert.specs.Converted.{marked}
+use Rattle.cpc_convert_common.specs.Converted.{marked}
 use Rattle.cpc_base.specs.Bytes.{Text}
 use Rattle.cpc_base.specs.Texts.{with_text}
 use Rattle.cpc_base.specs.declared.names.Name.{Name}

@@ -2,7 +2,7 @@
 use Rattle.std.specs.Prelude.{◌≡◌, List, [], ◌∷◌, bytes_eq, if◌then◌else◌, map, Option, Some, None, All}
 use Rattle.cpc_base.specs.Bytes.{Text}
 use Rattle.cpc_tree.specs.Erase.{Names, Table, text_of}
-use Rattle.cpc_convert.specs.Converted.{spawner_name}
+use Rattle.cpc_convert_common.specs.Converted.{spawner_name}
 use Rattle.cpc_convert_names.specs.Words.{AreOwn, AreOfLoop}
 use Rattle.cpc_convert_names.specs.Called.{name_in, AreCalled}
 use Rattle.cpc_convert_names.specs.declared.called.Called.{Called}

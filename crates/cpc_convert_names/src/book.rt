@@ -3,7 +3,7 @@ ghost use Rattle.std.specs.Prelude.{◌≡◌, map, All, IfOk, OnOk, Option, opt
 ghost use Rattle.cpc_tree.specs.Erase as E;
 ghost use Rattle.cpc_tree.specs.Erase.{Table, in_table, text_of};
 ghost use Rattle.cpc_check_rules.specs.Apart.{AreApart};
-ghost use Rattle.cpc_convert.specs.Converted.{spawner_name};
+ghost use Rattle.cpc_convert_common.specs.Converted.{spawner_name};
 ghost use Rattle.cpc_convert_names.specs.Tables.{HasGrown, Spells};
 ghost use Rattle.cpc_convert_names.specs.Called.{AreCalled, IsNamed};
 ghost use Rattle.cpc_convert_names.specs.Book as B;

@@ -2,7 +2,7 @@
 ghost use Rattle.std.specs.Prelude.{◌≡◌, ℕ, ◌++◌, decimal, IfOk, OnOk};
 ghost use Rattle.cpc_tree.specs.Erase as E;
 ghost use Rattle.cpc_tree.specs.Erase.{Table, in_table};
-ghost use Rattle.cpc_convert.specs.Converted.{marked, spawner_name};
+ghost use Rattle.cpc_convert_common.specs.Converted.{marked, spawner_name};
 ghost use Rattle.cpc_convert_names.specs.Tables.{HasGrown, Spells};
 
 use cpc_base::{Name, Names, NoMemory};
@@ -61,7 +61,7 @@ pub(crate) fn numbered_name(
 }
 
 /// What a spawn of a name calls. `NoMemory` is want of memory.
-#[tactic(auto, unfolding(cpc_convert::specs::Converted::spawner_name))]
+#[tactic(auto, unfolding(cpc_convert_common::specs::Converted::spawner_name))]
 pub(crate) fn spawner(alloc: Global, names: &mut Names, of: Name) -> Result<Name, NoMemory>
     ensures grown { OnOk result (HasGrown names.old names.new) }
     ensures is { IfOk result (λ n. (source : Table) (to : E.Names) → HasGrown source names.old → Spells names.new to → in_table source of ≡ to of → to n ≡ spawner_name (to of)) }

@@ -9,7 +9,7 @@ use Rattle.cpc_tree.specs.Syntax.{Stmts, NoStmt, AndStmt}
 use Rattle.cpc_tree.specs.Erase.{Names, expr_of, stmt_of, list_of, maybe_at}
 use Rattle.cpc_tree.proofs.Clauses.{block_is, for_is}
 use Rattle.cpc_tree.proofs.Nodes.{if_is}
-use Rattle.cpc_convert.specs.Converted.{respawned, respawned_all, respawned_arm}
+use Rattle.cpc_convert_common.specs.Converted.{respawned, respawned_all, respawned_arm}
 use Rattle.cpc_shapes.proofs.Indexes.{next_item}
 
 module _ (from to : Names) (e : Statement) (alike : stmt_of from e ≡ stmt_of to e) where

@@ -3,7 +3,7 @@ ghost use Rattle.std.specs.Prelude.{◌≡◌, Option, Some, None, IfOk, option_
 ghost use Rattle.cpc_tree.specs.Erase as E;
 ghost use Rattle.cpc_tree.specs.Erase.{Table, in_table, type_of, expr_of, exprs_of, stmt_of, list_of, maybe_at};
 ghost use Rattle.cpc_tree.specs.Syntax as S;
-ghost use Rattle.cpc_convert.specs.Converted.{respawned, respawned_all, respawned_arm};
+ghost use Rattle.cpc_convert_common.specs.Converted.{respawned, respawned_all, respawned_arm};
 ghost use Rattle.cpc_convert_names.specs.Book.{IsBook};
 
 use cpc_base::{NoMemory, Place};

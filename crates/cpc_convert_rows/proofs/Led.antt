@@ -5,12 +5,12 @@ use Rattle.cpc_tree.specs.Syntax.{Expr, Stmt, Block, Empty, Declare, Assign, Cal
 use Rattle.cpc_tree.specs.Points.{Simple, Test, Nothing}
 use Rattle.cpc_meaning.specs.Act.{Stood, AtStatement, AtArrival, AtEnd, target_of}
 use Rattle.cpc_meaning.specs.Ways.{Manner, InPlace, ByFrame, AsCps}
-use Rattle.cpc_convert_event.specs.Images.{Readings}
+use Rattle.cpc_chains_event.specs.Images.{Readings}
 use Rattle.cpc_forms.specs.Graph.{Node}
-use Rattle.cpc_convert_event.specs.Routines.{Routine, readings_of}
-use Rattle.cpc_convert_event.specs.Lines as L
-use Rattle.cpc_convert_event.specs.Lines.{Line, Does, Goes, Tests, Passes, all_do, goes, passes, node_lines, stood_lines, behind_arrival}
-use Rattle.cpc_convert_event.specs.Rows.{Plain, Jump, falls, put_lines, any_leads, is_next}
+use Rattle.cpc_chains_event.specs.Routines.{Routine, readings_of}
+use Rattle.cpc_chains_event.specs.Lines as L
+use Rattle.cpc_chains_event.specs.Lines.{Line, Does, Goes, Tests, Passes, all_do, goes, passes, node_lines, stood_lines, behind_arrival}
+use Rattle.cpc_chains_event.specs.Rows.{Plain, Jump, falls, put_lines, any_leads, is_next}
 use Rattle.cpc_convert_rows.specs.Ways.{test_of, test_falls, simple_falls, stood_falls, falls_of, jumps_to, ways_lead}
 
 -- lines fall to this way, and those before the last lead by this test alone

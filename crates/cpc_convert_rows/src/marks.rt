@@ -4,7 +4,7 @@ ghost use Rattle.std.specs.Prelude.{◌≡◌, ℕ, List, ◌<◌, ◌==◌, ◌
 ghost use Rattle.cpc_tree.specs.Lists.{holds_number};
 ghost use Rattle.cpc_forms.specs.Flow.{as_list};
 ghost use Rattle.cpc_forms.specs.Pieces.{is_next};
-ghost use Rattle.cpc_convert_event.specs.Rows.{number_where};
+ghost use Rattle.cpc_chains_event.specs.Rows.{number_where};
 ghost use Rattle.cpc_convert_rows.specs.Marks.{AreMarked, is_set};
 
 use cpc_base::NoMemory;

@@ -2,7 +2,7 @@
 use Rattle.std.proofs.Common.{◌≡◌, List, [], ◌∷◌, map, All, sym, subst}
 use Rattle.std.proofs.lemmas.List.Elements.{All-nil, All-cons, All-head, All-tail}
 use Rattle.cpc_tree.specs.declared.program.Program.{Program}
-use Rattle.cpc_convert_code.specs.Laws.{AreOf}
+use Rattle.cpc_chains_code.specs.Laws.{AreOf}
 use Rattle.cpc_forms_code.specs.declared.boxed.Boxed.{Boxed}
 use Rattle.cpc_forms_code.specs.declared.boxed.BoxedFunction.{BoxedFunction}
 use Rattle.cpc_forms_code.specs.declared.graph.Graph.{Graph}

@@ -10,17 +10,17 @@ use Rattle.cpc_tree.specs.Locate.{located}
 use Rattle.cpc_tree.proofs.Places.{bare_program}
 use Rattle.cpc_printer.specs.Style.{IsPrint}
 use Rattle.cpc_meaning.specs.Runs.{SameRuns, Within}
-use Rattle.cpc_convert_event.specs.Converted.{converted}
-use Rattle.cpc_convert_laws.specs.Accepted.Accepted.{OfAccepted}
-use Rattle.cpc_convert_laws.specs.Accepted.Names.{HasNames}
-use Rattle.cpc_convert_laws.proofs.Accepted.Names.{accepted_has_names}
-use Rattle.cpc_convert_laws.specs.Runs.Laws.{ConvertedHasSameRuns}
-use Rattle.cpc_convert_print_laws.proofs.Back.{converted_reads_back}
-use Rattle.cpc_convert_laws.specs.Rules.Laws.{Unbroken}
-use Rattle.cpc_convert_laws.proofs.RowBodies.Theorem.{converted_unbroken}
-use Rattle.cpc_convert_laws.specs.Shape.Shape.{Shape}
-use Rattle.cpc_convert_laws.proofs.Shape.Shape.{accepted_shape}
-use Rattle.cpc_convert_laws.specs.Leak.Laws.{NoLeak, ConvertedRests}
+use Rattle.cpc_chains_event.specs.Converted.{converted}
+use Rattle.cpc_chains_laws.specs.Accepted.Accepted.{OfAccepted}
+use Rattle.cpc_chains_laws.specs.Accepted.Names.{HasNames}
+use Rattle.cpc_chains_laws.proofs.Accepted.Names.{accepted_has_names}
+use Rattle.cpc_chains_laws.specs.Runs.Laws.{ConvertedHasSameRuns}
+use Rattle.cpc_chains_print_laws.proofs.Back.{converted_reads_back}
+use Rattle.cpc_chains_laws.specs.Rules.Laws.{Unbroken}
+use Rattle.cpc_chains_laws.proofs.RowBodies.Theorem.{converted_unbroken}
+use Rattle.cpc_chains_laws.specs.Shape.Shape.{Shape}
+use Rattle.cpc_chains_laws.proofs.Shape.Shape.{accepted_shape}
+use Rattle.cpc_chains_laws.specs.Leak.Laws.{NoLeak, ConvertedRests}
 use Rattle.cpc_check.specs.Accepted.{Accepts, IsWithin}
 use Rattle.cpc_forms_code.specs.Programs.{IsSpeakable}
 use Rattle.cpc_translate.specs.Passes.{IsGiven}

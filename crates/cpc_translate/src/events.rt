@@ -6,7 +6,7 @@ ghost use Rattle.cpc_tree.specs.Locate.{located};
 ghost use Rattle.cpc_printer.specs.Style.{IsPrint};
 ghost use Rattle.cpc_check_rules.specs.Rules.{breaks};
 ghost use Rattle.cpc_check.specs.Accepted.{IsRead, IsWithin};
-ghost use Rattle.cpc_convert_event.specs.Converted as E;
+ghost use Rattle.cpc_chains_event.specs.Converted as E;
 ghost use Rattle.cpc_eval_index.specs.Indexed.{program_items};
 ghost use Rattle.cpc_forms_code.specs.Programs.{IsSpeakable};
 

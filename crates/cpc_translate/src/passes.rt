@@ -2,12 +2,12 @@
 ghost use Rattle.std.specs.Prelude.{IfOk};
 ghost use Rattle.cpc_tree.specs.Erase.{program_of};
 ghost use Rattle.cpc_printer.specs.Style.{IsPrint};
-ghost use Rattle.cpc_convert_event.specs.Converted as E;
-ghost use Rattle.cpc_convert_code.specs.Laws.{AreOf};
+ghost use Rattle.cpc_chains_event.specs.Converted as E;
+ghost use Rattle.cpc_chains_code.specs.Laws.{AreOf};
 ghost use Rattle.cpc_translate.specs.Passes.{IsGiven, AreOfBoxed, AreOfGraph, AreOfSplit};
 
 use cpc_base::NoMemory;
-use cpc_convert_code::convert;
+use cpc_chains_code::convert;
 use cpc_forms_code::{Boxed, Graph, LiftedProgram, SplitProgram};
 use cpc_graph::graph;
 use cpc_lift::lift;

@@ -7,9 +7,9 @@ ghost use Rattle.cpc_tree.specs.Locate.{located};
 ghost use Rattle.cpc_meaning.specs.Runs.{SameRuns, Within};
 ghost use Rattle.cpc_printer.specs.Style.{IsPrint};
 ghost use Rattle.cpc_check.specs.Accepted.{Accepts};
-ghost use Rattle.cpc_convert_event.specs.Converted.{converted};
-ghost use Rattle.cpc_convert_laws.specs.Shape.Shape.{Shape};
-ghost use Rattle.cpc_convert_laws.specs.Leak.Laws.{NoLeak};
+ghost use Rattle.cpc_chains_event.specs.Converted.{converted};
+ghost use Rattle.cpc_chains_laws.specs.Shape.Shape.{Shape};
+ghost use Rattle.cpc_chains_laws.specs.Leak.Laws.{NoLeak};
 ghost use Rattle.cpc_translate.specs.Refusals.{IsTextFault};
 ghost use Rattle.cpc_translate.specs.declared.fault.TextFault.{TextFault};
 
@@ -17,8 +17,8 @@ use crate::events::event_text;
 use crate::fault::TextFault;
 use crate::reading::{read, read_again};
 use cpc_base::{Dialect, NoMemory, Stop};
+use cpc_chains_laws::{converted_has_the_same_runs, converted_rests_with_held_frames};
 use cpc_check::Checked;
-use cpc_convert_laws::{converted_has_the_same_runs, converted_rests_with_held_frames};
 use std::alloc::Global;
 
 /// A program, the text that is printed of its event program, and the program that this is read as.

@@ -1,6 +1,6 @@
 use Rattle.std.proofs.Common.{◌≡◌, map, take}
 use Rattle.cpc_tree.specs.Erase.{Names, text_of}
-use Rattle.cpc_convert.specs.Converted.{spawner_name}
+use Rattle.cpc_convert_common.specs.Converted.{spawner_name}
 use Rattle.cpc_convert_names.specs.Tables.{HasGrown, Spells}
 use Rattle.cpc_convert_names.proofs.book.spawners.Given as goal
 

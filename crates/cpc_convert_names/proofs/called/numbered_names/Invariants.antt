@@ -1,6 +1,6 @@
 use Rattle.std.proofs.Common.{◌≡◌, ◌++◌, map, decimal}
 use Rattle.cpc_tree.specs.Erase.{Names, Table, in_table, text_of}
-use Rattle.cpc_convert.specs.Converted.{marked}
+use Rattle.cpc_convert_common.specs.Converted.{marked}
 use Rattle.cpc_convert_names.specs.Tables.{HasGrown, Spells}
 use Rattle.cpc_convert_names.specs.Counted.{counted}
 use Rattle.cpc_convert_names.proofs.called.numbered_names.Given as goal

@@ -1,5 +1,5 @@
 use Rattle.std.proofs.Common.{◌≡◌, ◌++◌, ◌∙◌, ap, decimal}
-use Rattle.cpc_convert.specs.Converted.{marked}
+use Rattle.cpc_convert_common.specs.Converted.{marked}
 use Rattle.cpc_convert_names.proofs.interned.numbered_name.Goals as goal
 
 pub returns-clause-is : goal.returns-clause-is

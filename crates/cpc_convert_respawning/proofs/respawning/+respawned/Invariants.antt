@@ -1,6 +1,6 @@
 use Rattle.std.proofs.Common.{◌≡◌, take}
 use Rattle.cpc_tree.specs.Erase.{Names, Table, in_table, list_of}
-use Rattle.cpc_convert.specs.Converted.{respawned_all}
+use Rattle.cpc_convert_common.specs.Converted.{respawned_all}
 use Rattle.cpc_convert_names.specs.Book.{IsBook}
 use Rattle.cpc_convert_respawning.proofs.respawning.+respawned.Given as goal
 

@@ -1,6 +1,6 @@
 use Rattle.std.proofs.Common.{◌≡◌, ◌∙◌, sym, ap, subst, arith, length}
 use Rattle.std.proofs.lemmas.Result.{IfOk-weaker}
-use Rattle.cpc_convert_event.specs.Rows.{stubs_of}
+use Rattle.cpc_chains_event.specs.Rows.{stubs_of}
 use Rattle.cpc_convert_rows.specs.Marks.{AreMarked}
 use Rattle.cpc_convert_rows.specs.Numbers.{AreLeaders}
 use Rattle.cpc_convert_rows.proofs.Placing.{one_more, leaders_below, all_placed}

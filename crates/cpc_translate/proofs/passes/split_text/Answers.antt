@@ -1,7 +1,7 @@
 use Rattle.std.proofs.Common.{IfOk, subst}
 use Rattle.cpc_tree.specs.Erase.{program_of}
 use Rattle.cpc_printer.specs.Style.{IsPrint}
-use Rattle.cpc_convert_event.specs.Converted.{converted}
+use Rattle.cpc_chains_event.specs.Converted.{converted}
 use Rattle.cpc_translate.proofs.Functions.{lifted_is_of}
 use Rattle.cpc_translate.proofs.passes.split_text.Goals as goal
 

@@ -1,7 +1,7 @@
 use Rattle.std.proofs.Common.{subst, sym, ◌∙◌}
 use Rattle.cpc_tree.specs.Erase.{program_of}
 use Rattle.cpc_printer.specs.Style.{IsPrint}
-use Rattle.cpc_convert_event.specs.Converted.{converted}
+use Rattle.cpc_chains_event.specs.Converted.{converted}
 use Rattle.cpc_translate.proofs.Whole.{print_accepted, runs_same, runs_within, has_shape, has_no_leak}
 use Rattle.cpc_translate.proofs.translating.translate.Goals as goal
 

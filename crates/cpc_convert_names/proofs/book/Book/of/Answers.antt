@@ -1,4 +1,4 @@
-use Rattle.cpc_convert.specs.Converted.{spawner_name}
+use Rattle.cpc_convert_common.specs.Converted.{spawner_name}
 use Rattle.cpc_convert_names.proofs.Growing.{grown_more, spells_before}
 use Rattle.cpc_convert_names.proofs.book.Book.of.Goals as goal
 

@@ -1,6 +1,6 @@
 use Rattle.std.proofs.Common.{◌∙◌, ◌++◌, ◌∷◌, [], ap}
 use Rattle.std.proofs.lemmas.Result.{on_ok_weaker}
-use Rattle.cpc_convert_event.specs.Rows.{stub_behind}
+use Rattle.cpc_chains_event.specs.Rows.{stub_behind}
 use Rattle.cpc_convert_rows.specs.declared.steps.Step.{Step}
 use Rattle.cpc_convert_rows.proofs.numbers.Placed.add_node.Goals as goal
 

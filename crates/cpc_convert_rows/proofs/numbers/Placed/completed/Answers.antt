@@ -1,6 +1,6 @@
 use Rattle.std.proofs.Common.{◌<◌, ap, sym, not, subst, length, ◌∙◌, ◌++◌, get_or, arith}
 use Rattle.cpc_tree.specs.Lists.{holds_number}
-use Rattle.cpc_convert_event.specs.Rows.{number_where}
+use Rattle.cpc_chains_event.specs.Rows.{number_where}
 use Rattle.cpc_convert_rows.specs.Marks.{AreMarked}
 use Rattle.cpc_convert_rows.proofs.Turned.{chosen_left}
 use Rattle.cpc_convert_rows.proofs.Placing.{holds_at}

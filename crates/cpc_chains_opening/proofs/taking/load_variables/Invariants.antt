@@ -1,0 +1,13 @@
+use Rattle.std.proofs.Common.{◌≡◌, map, drop, All}
+use Rattle.cpc_tree.specs.Erase.{Names, Table}
+use Rattle.cpc_tree.specs.Syntax.{Program}
+use Rattle.cpc_chains_event.specs.Routines.{Routine}
+use Rattle.cpc_chains_lines.specs.Written.{written, puts}
+use Rattle.cpc_chains_lines.specs.Puts.{loads}
+use Rattle.cpc_chains_lines.specs.Around.{Stands, IsVariable}
+use Rattle.cpc_chains_opening.proofs.taking.load_variables.Given as goal
+
+-- with the variables that are left, all are loaded
+abbrev pub invariant-loop-number : goal.invariant-loop-number
+invariant-loop-number l = (source : Table) (from to : Names) (p : Program) (r : Routine) → Stands source from to p r l.around → All (IsVariable l.around) l.numbers
+    → puts (written to l.out) (map (loads r) (drop l.number-index l.numbers)) ≡ puts (written to l.initial.out) (map (loads r) l.numbers)

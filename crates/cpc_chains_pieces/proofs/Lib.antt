@@ -1,0 +1,2 @@
+mod Rowed
+pub use Rattle.cpc_chains_opening.proofs.Made

@@ -1,5 +1,0 @@
-use Rattle.cpc_convert.proofs.Marks.{marked_has, marked_differs}
-use Rattle.cpc_convert.proofs.made_names_are_apart.Goals as goal
-
-pub returns : goal.returns
-returns c = λ f rest x h. (marked_has f rest, marked_differs f rest x h)

@@ -1,5 +1,0 @@
-use Rattle.cpc_convert_event.proofs.Locals.{locals_meant}
-use Rattle.cpc_convert_event.proofs.laws.locals_are_meant.Goals as goal
-
-pub returns : goal.returns
-returns c = record { law = locals_meant }

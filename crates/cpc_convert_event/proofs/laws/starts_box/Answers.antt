@@ -1,5 +1,0 @@
-use Rattle.cpc_convert_event.proofs.Boxing.{starts_box}
-use Rattle.cpc_convert_event.proofs.laws.starts_box.Goals as goal
-
-pub returns : goal.returns
-returns c = record { law = starts_box }

@@ -1,5 +1,0 @@
-use Rattle.cpc_convert_event.proofs.BoxesThere as L
-use Rattle.cpc_convert_event.proofs.laws.structs_are_there.Goals as goal
-
-pub returns : goal.returns
-returns c = record { law = L.structs_there }

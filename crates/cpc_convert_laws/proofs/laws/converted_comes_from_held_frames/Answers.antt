@@ -1,5 +1,0 @@
-use Rattle.cpc_convert_laws.proofs.Leak.Theorem as L
-use Rattle.cpc_convert_laws.proofs.laws.converted_comes_from_held_frames.Goals as goal
-
-pub returns : goal.returns
-returns c = record { law = L.converted_comes_from }

@@ -1,5 +1,0 @@
-use Rattle.cpc_convert_laws.proofs.Runs.Theorem as L
-use Rattle.cpc_convert_laws.proofs.laws.converted_has_the_same_runs.Goals as goal
-
-pub returns : goal.returns
-returns c = record { law = L.converted_runs }

@@ -1,6 +1,0 @@
-pub mod Written
-pub mod Around
-pub mod Puts
-pub use Rattle.cpc_convert_standing.specs.Known
-pub use Rattle.cpc_convert_standing.specs.Whole
-pub use Rattle.cpc_convert_names.specs.Called

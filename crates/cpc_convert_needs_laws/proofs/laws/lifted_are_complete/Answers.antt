@@ -1,0 +1,5 @@
+use Rattle.cpc_convert_needs_laws.proofs.Routines as L
+use Rattle.cpc_convert_needs_laws.proofs.laws.lifted_are_complete.Goals as goal
+
+pub returns : goal.returns
+returns c = record { law = L.lifted_are_complete }

@@ -1,2 +1,0 @@
-mod Rowed
-pub use Rattle.cpc_convert_opening.proofs.Made

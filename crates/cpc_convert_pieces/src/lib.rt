@@ -1,9 +1,0 @@
-//! The pieces of an event program: the statements that are made of an owner of a cps function.
-#![tactic(auto)]
-
-mod making;
-mod rows;
-
-pub use cpc_convert_lines::Around;
-pub use cpc_convert_opening::owner_name;
-pub use making::statements;

@@ -1,5 +1,0 @@
-use Rattle.cpc_convert_print_laws.proofs.Back.{converted_reads_back}
-use Rattle.cpc_convert_print_laws.proofs.laws.converted_reads_back.Goals as goal
-
-pub returns : goal.returns
-returns c = record { law = converted_reads_back }

@@ -1,5 +1,0 @@
-use Rattle.cpc_convert_stands_laws.proofs.Routines as L
-use Rattle.cpc_convert_stands_laws.proofs.laws.lifted_are_complete.Goals as goal
-
-pub returns : goal.returns
-returns c = record { law = L.lifted_are_complete }
