@@ -8,9 +8,10 @@ use Rattle.cpc_tree.specs.Syntax.{Item, FunctionItem, Program}
 use Rattle.cpc_convert_common.specs.Converted.{prototype}
 use Rattle.cpc_convert_needs_laws.specs.Names.{HasNames}
 use Rattle.cpc_chains_store_laws.specs.Driver.{drive_function}
-use Rattle.cpc_chains_event.specs.Routines.{Routine}
+use Rattle.cpc_convert_routines.specs.Routines.{Routine}
 use Rattle.cpc_chains_event.specs.Frames.{any_frame}
-use Rattle.cpc_chains_event.specs.Converted.{all_structs, all_made, kept_items, routines, converted_with, converted}
+use Rattle.cpc_chains_event.specs.Converted.{all_structs, all_made, converted_with, converted}
+use Rattle.cpc_convert_routines.specs.Kept.{kept_items, routines}
 use Rattle.cpc_forms_code.specs.Programs.{IsSpeakable, IsSpelling}
 use Rattle.cpc_forms_code.specs.declared.lifted.LiftedFunction.{LiftedFunction}
 use Rattle.cpc_forms_code.specs.declared.lifted.LiftedProgram.{LiftedProgram}

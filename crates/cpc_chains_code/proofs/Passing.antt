@@ -3,7 +3,7 @@ use Rattle.std.proofs.Common.{◌≡◌, ℕ, suc, ◌+◌, ◌<◌, ◌≤◌, 
 use Rattle.std.proofs.lemmas.List.{append-nil, drop_all}
 use Rattle.std.proofs.Math.Seq.{drop-cons}
 use Rattle.cpc_tree.specs.Syntax.{Item}
-use Rattle.cpc_chains_event.specs.Routines.{Routine}
+use Rattle.cpc_convert_routines.specs.Routines.{Routine}
 
 -- one function more
 pub part_more : {X : Type 0} (routine : X → Routine) (part : Routine → List Item) (all : List Routine → List Item) → ((r : Routine) (rs : List Routine) → all (r ∷ rs) ≡ part r ++ all rs)

@@ -10,7 +10,7 @@ use Rattle.cpc_convert_names.specs.declared.book.Book.{Book}
 use Rattle.cpc_convert_needs_laws.specs.Known.{IsAlike, IsRoutine}
 use Rattle.cpc_convert_needs_laws.specs.Whole.{IsComplete}
 use Rattle.cpc_chains_pieces.specs.Around.{Stands}
-use Rattle.cpc_chains_pieces.specs.ConvertLinesAround.{Around}
+use Rattle.cpc_chains_pieces.specs.ChainsLinesAround.{Around}
 use Rattle.cpc_chains_code.specs.Given.{AreGiven, lifted_by, routine_by}
 
 -- what holds of all functions holds of one of them

@@ -7,7 +7,7 @@ use Rattle.cpc_tree.specs.Typing.{function_named}
 use Rattle.cpc_meaning.specs.Threads.{is_cps}
 use Rattle.cpc_check_rules.specs.Apart.{Spells}
 use Rattle.cpc_forms_code.specs.declared.lifted.LiftedFunction.{LiftedFunction}
-use Rattle.cpc_chains_event.specs.Routines.{Routine}
+use Rattle.cpc_convert_routines.specs.Routines.{Routine}
 use Rattle.cpc_convert_names.specs.Called.{IsNamed}
 use Rattle.cpc_convert_names.specs.Book.{IsBook, find}
 use Rattle.cpc_convert_names.specs.declared.called.Called.{Called}

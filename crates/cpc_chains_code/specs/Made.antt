@@ -6,9 +6,10 @@ use Rattle.cpc_meaning.specs.Start.{main_name}
 use Rattle.cpc_meaning.specs.Threads.{is_cps}
 use Rattle.cpc_convert_common.specs.Converted.{function_item, prototype}
 use Rattle.cpc_chains_store_laws.specs.Driver.{drive_function}
-use Rattle.cpc_chains_event.specs.Routines.{Routine}
+use Rattle.cpc_convert_routines.specs.Routines.{Routine}
 use Rattle.cpc_chains_event.specs.Frames.{any_frame}
-use Rattle.cpc_chains_event.specs.Converted.{all_structs, all_boxes, all_made, kept_items, main_if}
+use Rattle.cpc_chains_event.specs.Converted.{all_structs, all_boxes, all_made, main_if}
+use Rattle.cpc_convert_routines.specs.Kept.{kept_items}
 
 -- what is made before the items that stay
 abbrev pub made_before : Program → List Routine → List Item

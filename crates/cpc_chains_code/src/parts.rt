@@ -4,7 +4,7 @@ ghost use Rattle.cpc_tree.specs.Erase as E;
 ghost use Rattle.cpc_tree.specs.Erase.{Table};
 ghost use Rattle.cpc_tree.specs.Syntax as S;
 ghost use Rattle.cpc_convert_common.specs.Converted.{prototype, function_item};
-ghost use Rattle.cpc_chains_event.specs.Routines.{Routine};
+ghost use Rattle.cpc_convert_routines.specs.Routines.{Routine};
 ghost use Rattle.cpc_chains_event.specs.Pieces.{made_of};
 ghost use Rattle.cpc_chains_event.specs.Converted.{all_structs, all_boxes, all_made};
 ghost use Rattle.cpc_convert_needs_laws.specs.Whole.{IsComplete};

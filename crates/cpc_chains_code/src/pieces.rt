@@ -5,7 +5,7 @@ ghost use Rattle.cpc_tree.specs.Erase.{Table};
 ghost use Rattle.cpc_tree.specs.Syntax as S;
 ghost use Rattle.cpc_convert_common.specs.Converted.{function_item};
 ghost use Rattle.cpc_chains_event.specs.Pieces.{piece_function, leader_function};
-ghost use Rattle.cpc_chains_event.specs.Routines.{Routine};
+ghost use Rattle.cpc_convert_routines.specs.Routines.{Routine};
 ghost use Rattle.cpc_chains_items.specs.Listed.{listed};
 ghost use Rattle.cpc_chains_pieces.specs.Parts.{pieces_of};
 ghost use Rattle.cpc_chains_pieces.specs.Whole.{IsWhole};

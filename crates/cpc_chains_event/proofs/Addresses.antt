@@ -13,18 +13,21 @@ use Rattle.cpc_convert_common.specs.Marks.{has_marks}
 use Rattle.cpc_convert_image_laws.specs.Images.{Reading, AsLocal, AsField, Readings, image_named, image, images, image_if, followed}
 use Rattle.cpc_forms.specs.Graph.{Node, graph_of, at_node}
 use Rattle.cpc_forms.specs.Flow.{Place, Start, At}
-use Rattle.cpc_chains_store_laws.specs.Addresses.{avoids, avoids_all, avoids_if, avoids_by, avoids_in, AndAmong, NoneAmong}
+use Rattle.cpc_convert_flat_laws.specs.Addresses.{avoids, avoids_all, avoids_if, avoids_by, avoids_in, AndAmong, NoneAmong}
 use Rattle.cpc_chains_store_laws.specs.Driver.{drive_name}
-use Rattle.cpc_chains_store_laws.specs.Flat.{before}
-use Rattle.cpc_chains_store_laws.specs.Frames.{Load, loads_one, declares_one, frees_frame, gives_one, AreRegisters}
-use Rattle.cpc_chains_store_laws.proofs.Addresses.{none_addressed}
+use Rattle.cpc_convert_flat_laws.specs.Flat.{before}
+use Rattle.cpc_convert_flat_laws.specs.Locals.{Load, loads_one, declares_one, AreRegisters}
+use Rattle.cpc_chains_store_laws.specs.Frames.{frees_frame, gives_one}
+use Rattle.cpc_convert_flat_laws.proofs.Addresses.{none_addressed}
 use Rattle.cpc_chains_store_laws.proofs.Pieces.{registers_unaddressed}
-use Rattle.cpc_chains_event.specs.Names.{node_label, pointer_name, frame_name, to_name, under_name}
-use Rattle.cpc_chains_event.specs.Routines.{Routine, routine_of, readings_of, variable_of}
+use Rattle.cpc_convert_routines.specs.Names.{node_label, pointer_name, frame_name, to_name, under_name}
+use Rattle.cpc_convert_routines.specs.Routines.{Routine, routine_of, readings_of, variable_of}
 use Rattle.cpc_chains_event.specs.Lines.{Line, Does, Goes, Tests, Passes, goes, passes, all_do, frame_lines, frame_lines_if, gives_from, call_lines, waits_lines, unbox_lines, result_lines, patch_lines, leave_lines, simple_lines, cps_lines, test_lines, arrival_lines, framed_lines, stood_lines, node_lines, hands_over}
-use Rattle.cpc_chains_event.specs.Rows.{is_own, Row, lines_by, row_of, numbers_of, rows_of, Put, Plain, Jump, put_line, put_lines, PutRow, first_number, put_rows, put_statement, label_if, is_wanted, is_next, rows_statements, piece_statements}
+use Rattle.cpc_convert_routines.specs.Nodes.{is_own}
+use Rattle.cpc_chains_event.specs.Rows.{Row, lines_by, row_of, numbers_of, rows_of, Put, Plain, Jump, put_line, put_lines, PutRow, first_number, put_rows, put_statement, label_if, is_wanted, is_next, rows_statements, piece_statements}
 use Rattle.cpc_chains_event.specs.Pieces.{loads_of, declares_of, fills_if, box_lines, boxing_lines, boxing_of, piece_body, piece_function}
-use Rattle.cpc_chains_event.specs.AddressLaws.{bars, avoids_simple, avoids_stood, AddressesAreBoxes, PiecesAddressNone, VariablesAreRegisters}
+use Rattle.cpc_convert_routines.specs.Addressed.{bars, avoids_simple, avoids_stood, AddressesAreBoxes}
+use Rattle.cpc_chains_event.specs.AddressLaws.{PiecesAddressNone, VariablesAreRegisters}
 use Rattle.cpc_chains_event.proofs.Scopes.{MarkedLoads, MarkedVariables, loads_marked, declares_marked}
 use Rattle.cpc_chains_event.proofs.Locals.{locals_meant}
 

@@ -6,7 +6,7 @@ use Rattle.cpc_convert_common.specs.Converted.{marked, spawner_name}
 use Rattle.cpc_convert_common.proofs.Marks.{NoUnderscore, marked_differs, decimal_is, no_bar_of}
 use Rattle.cpc_forms.specs.Flow.{Place, Start, At}
 use Rattle.cpc_chains_store_laws.specs.Driver.{drive_name, frame_tag}
-use Rattle.cpc_chains_event.specs.Names.{start_name, leader_name, piece_name, value_tag, box_tag}
+use Rattle.cpc_convert_routines.specs.Names.{start_name, leader_name, piece_name, value_tag, box_tag}
 
 -- what stands behind the underscores of a piece's name
 abbrev pub behind : Place → Text

@@ -11,14 +11,15 @@ use Rattle.cpc_convert_common.specs.Converted.{function_item, prototype}
 use Rattle.cpc_convert_common.specs.Members.{Has, OnTop, Below}
 use Rattle.cpc_convert_image_laws.specs.Relations.{Less, AsIs, Extends}
 use Rattle.cpc_convert_image_laws.proofs.Options.{less_then}
-use Rattle.cpc_chains_store_laws.specs.Structs.{NoStruct, NoneHere, NotThis}
+use Rattle.cpc_convert_flat_laws.specs.Structs.{NoStruct, NoneHere, NotThis}
 use Rattle.cpc_chains_store_laws.specs.Driver.{drive_function}
-use Rattle.cpc_chains_store_laws.proofs.Structs.{no_struct_append, struct_fields, struct_is}
-use Rattle.cpc_chains_event.specs.Names.{box_tag}
-use Rattle.cpc_chains_event.specs.Routines.{Routine, routine_of, variable_of}
+use Rattle.cpc_convert_flat_laws.proofs.Structs.{no_struct_append, struct_fields, struct_is}
+use Rattle.cpc_convert_routines.specs.Names.{box_tag}
+use Rattle.cpc_convert_routines.specs.Routines.{Routine, routine_of, variable_of}
 use Rattle.cpc_chains_event.specs.Frames.{any_frame, start_struct, box_of}
-use Rattle.cpc_chains_event.specs.Converted.{kept_function, item_unless, kept_items, routines, all_structs, all_boxes, all_made, main_if, converted_with, converted}
-use Rattle.cpc_chains_event.specs.NameLaws.{IsUnmarked, IsNamed, IsCps}
+use Rattle.cpc_convert_routines.specs.Kept.{kept_function, item_unless, kept_items, routines}
+use Rattle.cpc_chains_event.specs.Converted.{all_structs, all_boxes, all_made, main_if, converted_with, converted}
+use Rattle.cpc_convert_routines.specs.Named.{IsUnmarked, IsNamed, IsCps}
 use Rattle.cpc_chains_event.specs.StructLaws.{IsBox, StructsAreThere}
 use Rattle.cpc_chains_event.proofs.Apart.{frame_is}
 use Rattle.cpc_chains_event.proofs.Structs.{AreStructs, NoneAre, OneIs, all_structs_are, all_boxes_are}

@@ -18,19 +18,19 @@ use Rattle.cpc_lift_laws.specs.Lift.{boxes_from}
 use Rattle.cpc_lift_laws.proofs.Lift.{boxes_exact}
 use Rattle.cpc_convert_image_laws.specs.Locals.{local_type}
 use Rattle.cpc_convert_image_laws.specs.Relations.{Less, AsIs, Untold}
-use Rattle.cpc_chains_store_laws.specs.Boxes.{boxes_one, Boxing, NoBoxing, PassRegister, BoxLocal, BoxParameter}
+use Rattle.cpc_convert_flat_laws.specs.Boxes.{boxes_one, Boxing, NoBoxing, PassRegister, BoxLocal, BoxParameter}
 use Rattle.cpc_chains_store_laws.specs.Chains.{frame_cells}
 use Rattle.cpc_meaning.specs.Eval.{Fits}
-use Rattle.cpc_chains_store_laws.specs.Frames.{at}
-use Rattle.cpc_chains_event.specs.Names.{piece_name, frame_name, variable_name, box_tag}
-use Rattle.cpc_chains_event.specs.Routines.{Routine, routine_of, is_plain, variable_of, variable_or, local_of, passed_from, passed, variable_if, is_parameter}
+use Rattle.cpc_convert_flat_laws.specs.Locals.{at}
+use Rattle.cpc_convert_routines.specs.Names.{piece_name, frame_name, variable_name, box_tag}
+use Rattle.cpc_convert_routines.specs.Routines.{Routine, routine_of, is_plain, variable_of, variable_or, local_of, passed_from, passed, variable_if, is_parameter}
 use Rattle.cpc_chains_event.specs.Pieces.{box_lines, fills_if, boxing_lines, boxing_of}
 use Rattle.cpc_chains_event.specs.Converted.{converted}
 use Rattle.cpc_chains_event.specs.FlatLaws.{piece_scope, piece_count}
-use Rattle.cpc_chains_event.specs.NameLaws.{IsNamed, IsCps}
+use Rattle.cpc_convert_routines.specs.Named.{IsNamed, IsCps}
 use Rattle.cpc_chains_event.specs.LocalLaws.{piece_locals}
 use Rattle.cpc_chains_event.specs.StructLaws.{IsBox}
-use Rattle.cpc_chains_event.specs.FillLaws.{AllFit, NoneFit, OneFits, ParametersAreScalar}
+use Rattle.cpc_convert_routines.specs.Given.{AllFit, NoneFit, OneFits, ParametersAreScalar}
 use Rattle.cpc_chains_event.specs.BoxingLaws.{VariablesHaveSizes, ArePlaces, AllStartsBox}
 use Rattle.cpc_chains_event.proofs.BoxesThere.{box_there}
 use Rattle.cpc_chains_event.proofs.StructsThere.{start_there}

@@ -16,15 +16,16 @@ use Rattle.cpc_forms.specs.Flow.{Start}
 use Rattle.cpc_lift_laws.specs.Boxes.{is_box}
 use Rattle.cpc_lift_laws.specs.Lift.{boxes_from}
 use Rattle.cpc_lift_laws.proofs.Lift.{boxes_exact}
-use Rattle.cpc_chains_store_laws.specs.Boxes.{Unboxing, NoUnboxing, PassSlot, AndUnbox}
+use Rattle.cpc_convert_flat_laws.specs.Boxes.{Unboxing, NoUnboxing, PassSlot, AndUnbox}
 use Rattle.cpc_chains_store_laws.specs.Frames.{Giving, NoGiving, AndGiving, GivingFaults, FirstFaults, LaterFaults}
-use Rattle.cpc_chains_event.specs.Names.{piece_name, variable_name}
-use Rattle.cpc_chains_event.specs.Routines.{Routine, routine_of, local_of}
+use Rattle.cpc_convert_routines.specs.Names.{piece_name, variable_name}
+use Rattle.cpc_convert_routines.specs.Routines.{Routine, routine_of, local_of}
 use Rattle.cpc_chains_event.specs.Lines.{gives_from}
 use Rattle.cpc_chains_event.specs.Converted.{converted}
-use Rattle.cpc_chains_event.specs.NameLaws.{IsNamed, IsCps}
-use Rattle.cpc_chains_event.specs.FillLaws.{ParametersAreScalar}
-use Rattle.cpc_chains_event.specs.CallLaws.{BoxesStand, BoxesAreReturned, GivesAll, NoneGiven, OneGiven, OneFaults, ThisFaults, NextFaults, AllArgumentsAreGiven}
+use Rattle.cpc_convert_routines.specs.Named.{IsNamed, IsCps}
+use Rattle.cpc_convert_routines.specs.Given.{ParametersAreScalar}
+use Rattle.cpc_chains_event.specs.CallLaws.{BoxesStand, BoxesAreReturned, AllArgumentsAreGiven}
+use Rattle.cpc_convert_routines.specs.Given.{GivesAll, NoneGiven, OneGiven, OneFaults, ThisFaults, NextFaults}
 use Rattle.cpc_chains_event.proofs.StructsThere.{start_there}
 use Rattle.cpc_chains_event.proofs.Locals.{counted}
 use Rattle.cpc_chains_event.proofs.Filling.{passed_at}

@@ -18,11 +18,11 @@ use Rattle.cpc_lift_laws.specs.Boxes.{is_box, has_block, is_box_in}
 use Rattle.cpc_lift_laws.specs.Search.{Link, keepers, closure_from}
 use Rattle.cpc_lift_laws.specs.Lift.{boxes}
 use Rattle.cpc_lift_laws.proofs.Lift.{boxes_exact}
-use Rattle.cpc_chains_store_laws.specs.Structs.{NotCalled, NoneSo, NotSo, ScalarFields, NoFields, AndField}
+use Rattle.cpc_convert_flat_laws.specs.Structs.{NotCalled, NoneSo, NotSo, ScalarFields, NoFields, AndField}
 use Rattle.cpc_chains_store_laws.specs.Driver.{head_fields}
-use Rattle.cpc_chains_event.specs.Names.{box_tag, variable_name}
-use Rattle.cpc_chains_event.specs.Routines.{routine_of, closure_of, is_plain, variable_or, stood_variable, local_of, locals_of, variable_if, passed_from, passed}
-use Rattle.cpc_chains_event.specs.NameLaws.{IsNamed, IsCps}
+use Rattle.cpc_convert_routines.specs.Names.{box_tag, variable_name}
+use Rattle.cpc_convert_routines.specs.Routines.{routine_of, closure_of, is_plain, variable_or, stood_variable, local_of, locals_of, variable_if, passed_from, passed}
+use Rattle.cpc_convert_routines.specs.Named.{IsNamed, IsCps}
 
 -- ---- names
 

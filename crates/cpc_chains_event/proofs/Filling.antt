@@ -16,19 +16,21 @@ use Rattle.cpc_convert_image_laws.specs.Locals.{local_type}
 use Rattle.cpc_chains_store_laws.specs.Chains.{frame_cells}
 use Rattle.cpc_chains_store_laws.specs.Driver.{any_pointer, head_fields}
 use Rattle.cpc_meaning.specs.Eval.{Fits}
-use Rattle.cpc_chains_store_laws.specs.Frames.{Saving, NoSaving, AndSaving, Load, Loading, NoLoading, AndLoading, Scalars, AndScalar}
-use Rattle.cpc_chains_store_laws.specs.Structs.{IsStruct}
-use Rattle.cpc_chains_event.specs.Names.{piece_name, value_tag, frame_name, variable_name, box_tag}
-use Rattle.cpc_chains_event.specs.Routines.{Routine, routine_of, closure_of, is_plain, variable_of, variable_or, local_of, locals_of, variable_if, passed_from, passed, is_parameter}
-use Rattle.cpc_chains_event.specs.Frames.{arriving_type}
+use Rattle.cpc_convert_flat_laws.specs.Locals.{Saving, NoSaving, AndSaving, Load, Loading, NoLoading, AndLoading, Scalars, AndScalar}
+use Rattle.cpc_convert_flat_laws.specs.Structs.{IsStruct}
+use Rattle.cpc_convert_routines.specs.Names.{piece_name, value_tag, frame_name, variable_name, box_tag}
+use Rattle.cpc_convert_routines.specs.Routines.{Routine, routine_of, closure_of, is_plain, variable_of, variable_or, local_of, locals_of, variable_if, passed_from, passed, is_parameter}
+use Rattle.cpc_convert_routines.specs.Arriving.{arriving_type}
 use Rattle.cpc_chains_event.specs.Lines.{save_of}
-use Rattle.cpc_chains_event.specs.Pieces.{load_of, below_if, takes_value, value_load, loaded, loads_of}
+use Rattle.cpc_chains_event.specs.Pieces.{load_of, below_if, value_load, loaded, loads_of}
+use Rattle.cpc_convert_routines.specs.Taken.{takes_value}
 use Rattle.cpc_chains_event.specs.Converted.{converted}
-use Rattle.cpc_chains_event.specs.NameLaws.{IsNamed, IsCps}
-use Rattle.cpc_chains_event.specs.FillLaws.{AllFit, NoneFit, OneFits, AllHold, NoneHold, OneHolds, value_before, ParametersAreScalar, AllFramesAreFilled}
+use Rattle.cpc_convert_routines.specs.Named.{IsNamed, IsCps}
+use Rattle.cpc_convert_routines.specs.Given.{AllFit, NoneFit, OneFits, AllHold, NoneHold, OneHolds, value_before, ParametersAreScalar}
+use Rattle.cpc_chains_event.specs.FillLaws.{AllFramesAreFilled}
 use Rattle.cpc_chains_event.proofs.StructsThere.{arriving_scalar, leader_there, start_there}
 use Rattle.cpc_chains_event.proofs.Locals.{NoneCalled, none_word, locals_scalar, closure_rise, loaded_below}
-use Rattle.cpc_chains_event.proofs.Numbers.{chosen_is, AllBelow, NoneBelow, OneBelow, rises_below}
+use Rattle.cpc_convert_routines.proofs.Numbers.{chosen_is, AllBelow, NoneBelow, OneBelow, rises_below}
 
 -- ---- values that fit
 

@@ -6,16 +6,17 @@ use Rattle.cpc_tree.specs.Syntax.{TyPointer, TyStruct, ENamed, Declare, Stmt, St
 use Rattle.cpc_tree.specs.Typing.{Scope}
 use Rattle.cpc_tree.specs.Registers.{outer_scope}
 use Rattle.cpc_forms.specs.Flow.{Place, Start, At}
-use Rattle.cpc_chains_store_laws.specs.Flat.{before, is_line, is_flat, are_flat, are_lines, Stands}
-use Rattle.cpc_chains_store_laws.specs.Frames.{loads_one, loaded_scope, declares_one, frees_frame}
-use Rattle.cpc_chains_store_laws.proofs.Flat.{at_first, passed}
-use Rattle.cpc_chains_store_laws.proofs.Lines.{line_flat}
-use Rattle.cpc_chains_store_laws.proofs.Scopes.{all_lines, past_lines, lines_flat}
+use Rattle.cpc_convert_flat_laws.specs.Flat.{before, is_line, is_flat, are_flat, are_lines, Stands}
+use Rattle.cpc_convert_flat_laws.specs.Locals.{loads_one, loaded_scope, declares_one}
+use Rattle.cpc_chains_store_laws.specs.Frames.{frees_frame}
+use Rattle.cpc_convert_flat_laws.proofs.Flat.{at_first, passed}
+use Rattle.cpc_convert_flat_laws.proofs.Lines.{line_flat}
+use Rattle.cpc_convert_flat_laws.proofs.Scopes.{all_lines, past_lines, lines_flat}
 use Rattle.cpc_chains_store_laws.proofs.Taking.{past_loads}
 use Rattle.cpc_chains_store_laws.proofs.Prologue.{past_declares}
-use Rattle.cpc_chains_store_laws.proofs.Rows.{before_append}
-use Rattle.cpc_chains_event.specs.Names.{piece_name, pointer_name, frame_name}
-use Rattle.cpc_chains_event.specs.Routines.{Routine, variable_of}
+use Rattle.cpc_convert_flat_laws.proofs.Rows.{before_append}
+use Rattle.cpc_convert_routines.specs.Names.{piece_name, pointer_name, frame_name}
+use Rattle.cpc_convert_routines.specs.Routines.{Routine, variable_of}
 use Rattle.cpc_chains_event.specs.Rows.{piece_statements}
 use Rattle.cpc_chains_event.specs.Pieces.{loads_of, declares_of, fills_if, box_lines, boxing_lines, boxing_of, piece_body, piece_function}
 use Rattle.cpc_chains_event.specs.FlatLaws.{opening, piece_scope, piece_count, PiecesAreFlat, StatementsStand}

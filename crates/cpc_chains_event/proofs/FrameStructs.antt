@@ -4,8 +4,8 @@ use Rattle.cpc_base.specs.Bytes.{Text}
 use Rattle.cpc_tree.specs.Syntax.{Variable, Item, StructItem, GlobalItem, PrototypeItem, FunctionItem}
 use Rattle.cpc_meaning.proofs.Functions.{same_text, text_same}
 use Rattle.cpc_convert_common.specs.Members.{Has, OnTop, Below}
-use Rattle.cpc_chains_store_laws.specs.Structs.{NoStruct, NoneHere, NotThis, IsStruct, ScalarFields}
-use Rattle.cpc_chains_store_laws.proofs.Structs.{is_struct}
+use Rattle.cpc_convert_flat_laws.specs.Structs.{NoStruct, NoneHere, NotThis, IsStruct, ScalarFields}
+use Rattle.cpc_convert_flat_laws.proofs.Structs.{is_struct}
 
 -- ---- one struct of a tag
 

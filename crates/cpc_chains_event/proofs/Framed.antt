@@ -16,11 +16,12 @@ use Rattle.cpc_lift_laws.proofs.Lift.{boxes_exact}
 use Rattle.cpc_lift_laws.proofs.Boxes.{boxes_are_below}
 use Rattle.cpc_forms.specs.Flow.{Place, Start, At}
 use Rattle.cpc_chains_store_laws.specs.Driver.{frame_tag}
-use Rattle.cpc_chains_event.specs.Names.{piece_name, value_tag, box_tag}
-use Rattle.cpc_chains_event.specs.Routines.{routine_of}
+use Rattle.cpc_convert_routines.specs.Names.{piece_name, value_tag, box_tag}
+use Rattle.cpc_convert_routines.specs.Routines.{routine_of}
 use Rattle.cpc_chains_event.specs.Frames.{any_frame, value_struct, value_struct_if, start_struct, leader_struct, structs_of, box_of, boxes_of}
-use Rattle.cpc_chains_event.specs.Converted.{routine_if, routines_in, all_structs, all_boxes}
-use Rattle.cpc_chains_event.specs.NameLaws.{ALeader, IsNamed}
+use Rattle.cpc_convert_routines.specs.Kept.{routine_if, routines_in}
+use Rattle.cpc_chains_event.specs.Converted.{all_structs, all_boxes}
+use Rattle.cpc_convert_routines.specs.Named.{ALeader, IsNamed}
 use Rattle.cpc_chains_event.proofs.Apart.{behind, piece_is, value_is, box_is, frame_is, differ_at, no_underscore_behind, no_bar_nothing, piece_nothing, Small, StartIsSmall, behind_is}
 use Rattle.cpc_chains_event.proofs.Made.{Mapped, OfNumber, map_has, has_map, unmarked, small, one_function}
 

@@ -10,10 +10,11 @@ use Rattle.cpc_forms.specs.Split.{Split, number_if, owners_from, leaders_from, s
 use Rattle.cpc_forms.specs.Pieces.{is_owned_by, owned_from, without, fronted, first_of, piece_nodes, Once, NoNumber, AndOther}
 use Rattle.cpc_graph_laws.proofs.Formed.{formed_graph}
 use Rattle.cpc_graph_laws.proofs.Owning.{pieces_hold_theirs}
-use Rattle.cpc_chains_event.specs.Routines.{Routine, routine_of, number_before, chosen}
-use Rattle.cpc_chains_event.specs.Rows.{owner_at, is_own, has_row, turned, rows_nodes, onwards_all, reached, stubs_of, numbers_from, completed, numbers_of}
+use Rattle.cpc_convert_routines.specs.Routines.{Routine, routine_of, number_before, chosen}
+use Rattle.cpc_chains_event.specs.Rows.{owner_at, onwards_all, reached, stubs_of, numbers_from, completed, numbers_of}
+use Rattle.cpc_convert_routines.specs.Nodes.{is_own, has_row, turned, rows_nodes}
 use Rattle.cpc_chains_event.specs.HeadLaws.{PieceBegins, PiecesBegin}
-use Rattle.cpc_chains_event.proofs.Numbers.{chosen_is, chosen_has, chosen_out, rises_once}
+use Rattle.cpc_convert_routines.proofs.Numbers.{chosen_is, chosen_has, chosen_out, rises_once}
 use Rattle.cpc_chains_event.proofs.Labels.{leaders_rise}
 
 -- ---- a first node of its own

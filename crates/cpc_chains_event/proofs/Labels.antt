@@ -17,19 +17,21 @@ use Rattle.cpc_forms.specs.Split.{Split, number_if, leaders_from}
 use Rattle.cpc_forms.specs.Pieces.{is_owned_by, owned_from, without, fronted, first_of, piece_nodes, Once, NoNumber, AndOther}
 use Rattle.cpc_forms.proofs.Owners.{owners_long}
 use Rattle.cpc_graph_laws.proofs.Owning.{pieces_hold_once}
-use Rattle.cpc_chains_store_laws.specs.Flat.{before, has_label, label_in}
-use Rattle.cpc_chains_store_laws.specs.Frames.{loads_one, declares_one, frees_frame}
-use Rattle.cpc_chains_store_laws.proofs.Labels.{NoLabel, NoneLeft, NotHere, label_behind, label_first}
-use Rattle.cpc_chains_store_laws.proofs.Rows.{before_append}
-use Rattle.cpc_chains_event.specs.Names.{piece_name, node_label, pointer_name, frame_name}
-use Rattle.cpc_chains_event.specs.Routines.{Routine, routine_of, chosen}
-use Rattle.cpc_chains_event.specs.Rows.{owner_at, is_own, has_row, turned, rows_nodes, reached, stubs_of, Row, row_of, falls, number_where, stub_behind, numbers_from, numbers_of, rows_of, Put, first_number, PutRow, put_rows, put_statement, is_wanted, label_if, row_statements, rows_statements, piece_statements}
+use Rattle.cpc_convert_flat_laws.specs.Flat.{before, has_label, label_in}
+use Rattle.cpc_convert_flat_laws.specs.Locals.{loads_one, declares_one}
+use Rattle.cpc_chains_store_laws.specs.Frames.{frees_frame}
+use Rattle.cpc_convert_flat_laws.proofs.Labels.{NoLabel, NoneLeft, NotHere, label_behind, label_first}
+use Rattle.cpc_convert_flat_laws.proofs.Rows.{before_append}
+use Rattle.cpc_convert_routines.specs.Names.{piece_name, node_label, pointer_name, frame_name}
+use Rattle.cpc_convert_routines.specs.Routines.{Routine, routine_of, chosen}
+use Rattle.cpc_chains_event.specs.Rows.{owner_at, reached, stubs_of, Row, row_of, falls, number_where, stub_behind, numbers_from, numbers_of, rows_of, Put, first_number, PutRow, put_rows, put_statement, is_wanted, label_if, row_statements, rows_statements, piece_statements}
+use Rattle.cpc_convert_routines.specs.Nodes.{is_own, has_row, turned, rows_nodes}
 use Rattle.cpc_chains_event.specs.Pieces.{loads_of, declares_of, boxing_of, piece_body}
 use Rattle.cpc_chains_event.specs.FlatLaws.{opening}
 use Rattle.cpc_chains_event.specs.LabelLaws.{put_in, AllRowsStandOnce, LabelsLead}
 use Rattle.cpc_chains_event.proofs.Lines.{is_bare, AreBare, AllRows, rows_map, lines_done, puts_done}
 use Rattle.cpc_chains_event.proofs.Flat.{boxes_done}
-use Rattle.cpc_chains_event.proofs.Numbers.{held_either, not_in_append, once_append, chosen_is, chosen_has, chosen_out, once_chosen, Rises, NoneRise, OneRise, rises_lower, rises_once}
+use Rattle.cpc_convert_routines.proofs.Numbers.{held_either, not_in_append, once_append, chosen_is, chosen_has, chosen_out, once_chosen, Rises, NoneRise, OneRise, rises_lower, rises_once}
 
 -- ---- nodes and leaders of a piece
 

@@ -9,11 +9,12 @@ use Rattle.cpc_meaning.specs.Ways.{Manner, InPlace, ByFrame, AsCps}
 use Rattle.cpc_convert_image_laws.specs.Images.{Readings}
 use Rattle.cpc_forms.specs.Graph.{Node, at_node}
 use Rattle.cpc_forms.specs.Flow.{Place, At}
-use Rattle.cpc_chains_store_laws.specs.Flat.{is_line}
-use Rattle.cpc_chains_event.specs.Names.{to_name, under_name, node_label}
-use Rattle.cpc_chains_event.specs.Routines.{Routine}
+use Rattle.cpc_convert_flat_laws.specs.Flat.{is_line}
+use Rattle.cpc_convert_routines.specs.Names.{to_name, under_name, node_label}
+use Rattle.cpc_convert_routines.specs.Routines.{Routine}
 use Rattle.cpc_chains_event.specs.Lines.{Line, Does, Goes, Tests, Passes, goes, passes, all_do, frame_lines, frame_lines_if, call_lines, waits_lines, unbox_lines, result_lines, patch_lines, leave_lines, simple_lines, cps_lines, test_lines, arrival_lines, framed_lines, stood_lines, node_lines, hands_over}
-use Rattle.cpc_chains_event.specs.Rows.{is_own, Row, stub_lines, lines_by, row_of, numbers_of, rows_of, Put, Plain, Jump, put_line, put_lines, PutRow, first_number, put_rows, put_statement, label_if, is_wanted, is_next, rows_statements, piece_statements}
+use Rattle.cpc_convert_routines.specs.Nodes.{is_own}
+use Rattle.cpc_chains_event.specs.Rows.{Row, stub_lines, lines_by, row_of, numbers_of, rows_of, Put, Plain, Jump, put_line, put_lines, PutRow, first_number, put_rows, put_statement, label_if, is_wanted, is_next, rows_statements, piece_statements}
 
 -- ---- statements
 

@@ -19,23 +19,26 @@ use Rattle.cpc_forms.specs.Pieces.{Once, NoNumber, AndOther}
 use Rattle.cpc_lift_laws.specs.Search.{Link, keepers, closure_from}
 use Rattle.cpc_lift_laws.specs.Lift.{boxes_from, variables_in, variable_count}
 use Rattle.cpc_lift_laws.specs.Boxes.{is_box}
-use Rattle.cpc_chains_store_laws.specs.Flat.{before}
-use Rattle.cpc_chains_store_laws.specs.Frames.{Load, loads_one, loaded_scope, declares_one, declared_scope, frees_frame, Scalars, NoScalars, AndScalar}
+use Rattle.cpc_convert_flat_laws.specs.Flat.{before}
+use Rattle.cpc_convert_flat_laws.specs.Locals.{Load, loads_one, loaded_scope, declares_one, declared_scope, Scalars, NoScalars, AndScalar}
+use Rattle.cpc_chains_store_laws.specs.Frames.{frees_frame}
 use Rattle.cpc_chains_store_laws.specs.Driver.{value_field, any_pointer}
-use Rattle.cpc_chains_store_laws.proofs.Lines.{line_one}
-use Rattle.cpc_chains_event.specs.Names.{piece_name, variable_name, pointer_name, frame_name, next_name, value_name, to_name, under_name, result_name}
-use Rattle.cpc_chains_event.specs.Routines.{Routine, routine_of, closure_of, is_plain, variable_of, variable_or, stood_variable, local_of, locals_of, variable_if, is_parameter, chosen}
-use Rattle.cpc_chains_event.specs.Frames.{arriving_type}
-use Rattle.cpc_chains_event.specs.Rows.{rows_nodes, stubs_of, piece_statements}
-use Rattle.cpc_chains_event.specs.Pieces.{load_of, below_if, takes_value, value_load, loaded, loads_of, any_node, is_wait, is_entry, is_result, called_so, words_if, words_of, begun, declares_of, boxing_of, piece_function}
+use Rattle.cpc_convert_flat_laws.proofs.Lines.{line_one}
+use Rattle.cpc_convert_routines.specs.Names.{piece_name, variable_name, pointer_name, frame_name, next_name, value_name, to_name, under_name, result_name}
+use Rattle.cpc_convert_routines.specs.Routines.{Routine, routine_of, closure_of, is_plain, variable_of, variable_or, stood_variable, local_of, locals_of, variable_if, is_parameter, chosen}
+use Rattle.cpc_convert_routines.specs.Arriving.{arriving_type}
+use Rattle.cpc_convert_routines.specs.Nodes.{rows_nodes}
+use Rattle.cpc_chains_event.specs.Rows.{stubs_of, piece_statements}
+use Rattle.cpc_chains_event.specs.Pieces.{load_of, below_if, value_load, loaded, loads_of, is_wait, is_entry, called_so, words_if, words_of, begun, declares_of, boxing_of, piece_function}
+use Rattle.cpc_convert_routines.specs.Taken.{takes_value, any_node, is_result}
 use Rattle.cpc_chains_event.specs.FlatLaws.{piece_scope, piece_count}
-use Rattle.cpc_chains_event.specs.NameLaws.{IsNamed, IsCps}
+use Rattle.cpc_convert_routines.specs.Named.{IsNamed, IsCps}
 use Rattle.cpc_chains_event.specs.LocalLaws.{piece_locals, StandsIn, AllLocalsAreMeant}
 use Rattle.cpc_chains_event.proofs.Fields.{variables_apart, word_apart, local_scalar, plain_scalar}
 use Rattle.cpc_chains_event.proofs.Lines.{AreLines, bare_lines, piece_lines}
 use Rattle.cpc_chains_event.proofs.Flat.{boxes_done}
 use Rattle.cpc_chains_event.proofs.StructsThere.{arriving_scalar}
-use Rattle.cpc_chains_event.proofs.Numbers.{not_in_append, once_append, chosen_is, chosen_has, chosen_out, once_chosen, AllBelow, NoneBelow, OneBelow, below_append, below_chosen, Rises, NoneRise, OneRise, rises_lower, rises_below, rises_once}
+use Rattle.cpc_convert_routines.proofs.Numbers.{not_in_append, once_append, chosen_is, chosen_has, chosen_out, once_chosen, AllBelow, NoneBelow, OneBelow, below_append, below_chosen, Rises, NoneRise, OneRise, rises_lower, rises_below, rises_once}
 
 -- ---- names apart
 

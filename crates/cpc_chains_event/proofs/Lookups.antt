@@ -14,11 +14,13 @@ use Rattle.cpc_convert_common.proofs.Marks.{NoUnderscore, marked_is, differs_mar
 use Rattle.cpc_convert_common.proofs.Listed.{skip_prototypes, find_function, pass_functions}
 use Rattle.cpc_forms.specs.Flow.{Place}
 use Rattle.cpc_chains_store_laws.specs.Driver.{drive_name, drive_function}
-use Rattle.cpc_chains_event.specs.Names.{piece_name}
-use Rattle.cpc_chains_event.specs.Routines.{Routine, routine_of}
+use Rattle.cpc_convert_routines.specs.Names.{piece_name}
+use Rattle.cpc_convert_routines.specs.Routines.{Routine, routine_of}
 use Rattle.cpc_chains_event.specs.Pieces.{piece_function, spawner_function}
-use Rattle.cpc_chains_event.specs.Converted.{kept_function, item_unless, kept_items, routines, all_structs, all_boxes, all_made, main_function, main_if, converted_with, converted}
-use Rattle.cpc_chains_event.specs.NameLaws.{IsOwner, IsNamed, IsCps, IsKept, FunctionsAreFound}
+use Rattle.cpc_convert_routines.specs.Kept.{kept_function, item_unless, kept_items, routines}
+use Rattle.cpc_chains_event.specs.Converted.{all_structs, all_boxes, all_made, main_function, main_if, converted_with, converted}
+use Rattle.cpc_convert_routines.specs.Named.{IsOwner, IsNamed, IsCps, IsKept}
+use Rattle.cpc_chains_event.specs.NameLaws.{FunctionsAreFound}
 use Rattle.cpc_chains_event.proofs.Apart.{behind, piece_is, spawner_is, driver_is, piece_nothing, spawn_nothing, no_underscore_behind, no_bar_nothing, unlike_driver}
 use Rattle.cpc_chains_event.proofs.Structs.{skip_functions, all_structs_are, all_boxes_are}
 use Rattle.cpc_chains_event.proofs.Made.{made_one_name, made_marked, has_piece, has_spawner}

@@ -10,10 +10,11 @@ use Rattle.cpc_convert_common.specs.Members.{Has, OnTop, Below}
 use Rattle.cpc_convert_common.proofs.Marks.{marked_is, marked_differs, no_bar_spawn}
 use Rattle.cpc_convert_common.proofs.Members.{has_left, has_right, has_either}
 use Rattle.cpc_forms.specs.Flow.{Place, Start, At}
-use Rattle.cpc_chains_event.specs.Routines.{Routine, routine_of}
+use Rattle.cpc_convert_routines.specs.Routines.{Routine, routine_of}
 use Rattle.cpc_chains_event.specs.Pieces.{piece_function, leader_function, spawner_function, made_of}
-use Rattle.cpc_chains_event.specs.Converted.{routine_if, routines_in, routines, all_made}
-use Rattle.cpc_chains_event.specs.NameLaws.{IsOwner, TheStart, ALeader, IsNamed, IsCps}
+use Rattle.cpc_convert_routines.specs.Kept.{routine_if, routines_in, routines}
+use Rattle.cpc_chains_event.specs.Converted.{all_made}
+use Rattle.cpc_convert_routines.specs.Named.{IsOwner, TheStart, ALeader, IsNamed, IsCps}
 use Rattle.cpc_chains_event.proofs.Apart.{behind, piece_is, spawner_is, no_underscore_behind, piece_spawn, Small, StartIsSmall, NumberIsSmall, behind_is}
 
 -- ---- what is made

@@ -3,7 +3,7 @@ use Rattle.std.specs.Prelude.{refl}
 use Rattle.std.specs.Fmt.{digits}
 use Rattle.cpc_num.specs.Number.{settle, divided}
 use Rattle.cpc_convert_common.specs.Converted.{spawner_name}
-use Rattle.cpc_chains_event.specs.Names.{start_name, leader_name, value_tag, box_tag, variable_name, node_label}
+use Rattle.cpc_convert_routines.specs.Names.{start_name, leader_name, value_tag, box_tag, variable_name, node_label}
 use Rattle.cpc_chains_event.specs.Mixed.{MixedRunsAlike}
 
 pub mixed_alike : MixedRunsAlike

@@ -6,7 +6,7 @@ use Rattle.cpc_num.specs.declared.kinds.Fault.TheVariants as F
 use Rattle.cpc_tree.specs.Trace.{Ended, Failed, HistoryEnded, BadHistory}
 use Rattle.cpc_convert_common.specs.Converted.{spawner_name}
 use Rattle.cpc_convert_image_laws.specs.Shown.{no_polls, polls}
-use Rattle.cpc_chains_event.specs.Names.{start_name, leader_name, value_tag, box_tag, variable_name, node_label}
+use Rattle.cpc_convert_routines.specs.Names.{start_name, leader_name, value_tag, box_tag, variable_name, node_label}
 use Rattle.cpc_chains_event.specs.BoxPrograms.{boxed_code, boxed_parts, counting}
 use Rattle.cpc_chains_event.specs.MorePrograms.{shared_local, passing_unset, outliving, two_arrays, three_waiters, sleepers, two_readers, two_sums}
 use Rattle.cpc_chains_event.specs.Worked.{RunsAlike}

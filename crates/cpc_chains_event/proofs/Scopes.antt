@@ -9,12 +9,14 @@ use Rattle.cpc_meaning.proofs.Functions.{texts_differ}
 use Rattle.cpc_convert_common.specs.Marks.{has_marks}
 use Rattle.cpc_convert_common.proofs.Marks.{marked_has}
 use Rattle.cpc_forms.specs.Flow.{Place}
-use Rattle.cpc_chains_store_laws.specs.Frames.{Load, loaded_scope, declared_scope}
-use Rattle.cpc_chains_event.specs.Names.{piece_name, frame_name, variable_name}
-use Rattle.cpc_chains_event.specs.Routines.{Routine, locals_of}
-use Rattle.cpc_chains_event.specs.Frames.{arriving_type}
-use Rattle.cpc_chains_event.specs.Rows.{rows_nodes, stubs_of}
-use Rattle.cpc_chains_event.specs.Pieces.{load_of, takes_value, value_load, loaded, loads_of, any_node, is_wait, is_entry, is_result, words_if, words_of, begun, declares_of, piece_function}
+use Rattle.cpc_convert_flat_laws.specs.Locals.{Load, loaded_scope, declared_scope}
+use Rattle.cpc_convert_routines.specs.Names.{piece_name, frame_name, variable_name}
+use Rattle.cpc_convert_routines.specs.Routines.{Routine, locals_of}
+use Rattle.cpc_convert_routines.specs.Arriving.{arriving_type}
+use Rattle.cpc_convert_routines.specs.Nodes.{rows_nodes}
+use Rattle.cpc_chains_event.specs.Rows.{stubs_of}
+use Rattle.cpc_chains_event.specs.Pieces.{load_of, value_load, loaded, loads_of, is_wait, is_entry, words_if, words_of, begun, declares_of, piece_function}
+use Rattle.cpc_convert_routines.specs.Taken.{takes_value, any_node, is_result}
 use Rattle.cpc_chains_event.specs.FlatLaws.{piece_scope}
 use Rattle.cpc_chains_event.specs.ScopeLaws.{NothingIsHidden}
 

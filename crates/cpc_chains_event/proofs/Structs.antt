@@ -8,7 +8,7 @@ use Rattle.cpc_convert_common.specs.Marks.{has_marks}
 use Rattle.cpc_convert_common.proofs.Marks.{marked_has}
 use Rattle.cpc_forms.specs.Flow.{Start, At}
 use Rattle.cpc_chains_event.proofs.Apart.{behind, piece_is, value_is, box_is}
-use Rattle.cpc_chains_event.specs.Routines.{Routine}
+use Rattle.cpc_convert_routines.specs.Routines.{Routine}
 use Rattle.cpc_chains_event.specs.Frames.{value_struct_if, start_struct, leader_struct, structs_of, box_of, boxes_of}
 use Rattle.cpc_chains_event.specs.Converted.{all_structs, all_boxes}
 

@@ -16,13 +16,15 @@ use Rattle.cpc_convert_common.proofs.Marks.{marked_has}
 use Rattle.cpc_convert_common.proofs.Members.{has_left, has_either}
 use Rattle.cpc_forms.specs.Graph.{Node, at_node}
 use Rattle.cpc_forms.specs.Flow.{Place, Start, At}
-use Rattle.cpc_chains_store_laws.specs.Structs.{IsStruct, ScalarFields}
+use Rattle.cpc_convert_flat_laws.specs.Structs.{IsStruct, ScalarFields}
 use Rattle.cpc_chains_store_laws.specs.Driver.{drive_function, frame_tag, head_fields}
-use Rattle.cpc_chains_event.specs.Names.{piece_name, value_tag}
-use Rattle.cpc_chains_event.specs.Routines.{Routine, routine_of, closure_of, locals_of, passed}
-use Rattle.cpc_chains_event.specs.Frames.{any_frame, value_struct, start_struct, leader_struct, structs_of, arriving_if, arriving_from, arriving_found, arriving_stood, arriving_type}
-use Rattle.cpc_chains_event.specs.Converted.{kept_function, item_unless, kept_items, routines, all_structs, all_boxes, all_made, main_if, converted_with, converted}
-use Rattle.cpc_chains_event.specs.NameLaws.{IsNamed, IsCps}
+use Rattle.cpc_convert_routines.specs.Names.{piece_name, value_tag}
+use Rattle.cpc_convert_routines.specs.Routines.{Routine, routine_of, closure_of, locals_of, passed}
+use Rattle.cpc_chains_event.specs.Frames.{any_frame, value_struct, start_struct, leader_struct, structs_of}
+use Rattle.cpc_convert_routines.specs.Arriving.{arriving_if, arriving_from, arriving_found, arriving_stood, arriving_type}
+use Rattle.cpc_convert_routines.specs.Kept.{kept_function, item_unless, kept_items, routines}
+use Rattle.cpc_chains_event.specs.Converted.{all_structs, all_boxes, all_made, main_if, converted_with, converted}
+use Rattle.cpc_convert_routines.specs.Named.{IsNamed, IsCps}
 use Rattle.cpc_chains_event.proofs.Apart.{behind, piece_is, value_is, frame_is}
 use Rattle.cpc_chains_event.proofs.Fields.{kept_rises, passed_rise, frame_fields, NoneRises}
 use Rattle.cpc_chains_event.proofs.Framed.{Framed, AnyFrame, AValue, AStart, OfLeader, framed_is, boxed_is, framed_has, has_value, has_start, has_leader, framed_once}

@@ -5,7 +5,7 @@ use Rattle.cpc_num.specs.Number.{settle, divided}
 use Rattle.cpc_tree.specs.Trace.{Ended}
 use Rattle.cpc_convert_common.specs.Converted.{spawner_name}
 use Rattle.cpc_convert_image_laws.specs.Shown.{no_polls}
-use Rattle.cpc_chains_event.specs.Names.{start_name, leader_name, value_tag, box_tag, variable_name, node_label}
+use Rattle.cpc_convert_routines.specs.Names.{start_name, leader_name, value_tag, box_tag, variable_name, node_label}
 use Rattle.cpc_chains_event.specs.Programs.{two_counters, two_ways_in, two_ways_in_over_globals, many_calls, diving, asking_main}
 use Rattle.cpc_chains_event.specs.Worked.{RunsAlike}
 

@@ -2,7 +2,7 @@
 use Rattle.std.specs.Prelude.{◌≡◌, refl}
 use Rattle.std.specs.Fmt.{digits}
 use Rattle.cpc_convert_common.specs.Converted.{spawner_name}
-use Rattle.cpc_chains_event.specs.Names.{start_name, leader_name, value_tag, box_tag, variable_name, node_label}
+use Rattle.cpc_convert_routines.specs.Names.{start_name, leader_name, value_tag, box_tag, variable_name, node_label}
 use Rattle.cpc_chains_event.specs.Converted.{converted}
 use Rattle.cpc_chains_event.specs.Programs.{two_counters}
 use Rattle.cpc_chains_event.specs.MorePrograms.{shared_local}

@@ -5,16 +5,16 @@ use Rattle.cpc_tree.specs.Registers.{variables}
 use Rattle.cpc_tree.specs.Typing.{size}
 use Rattle.cpc_store.specs.Store.{Value}
 use Rattle.cpc_forms.specs.Flow.{Start}
-use Rattle.cpc_chains_store_laws.specs.Boxes.{Boxing}
+use Rattle.cpc_convert_flat_laws.specs.Boxes.{Boxing}
 use Rattle.cpc_chains_store_laws.specs.Chains.{frame_cells}
-use Rattle.cpc_chains_event.specs.Names.{piece_name, frame_name}
-use Rattle.cpc_chains_event.specs.Routines.{Routine, routine_of, local_of, passed}
+use Rattle.cpc_convert_routines.specs.Names.{piece_name, frame_name}
+use Rattle.cpc_convert_routines.specs.Routines.{Routine, routine_of, local_of, passed}
 use Rattle.cpc_chains_event.specs.Pieces.{boxing_of}
 use Rattle.cpc_chains_event.specs.Converted.{converted}
 use Rattle.cpc_chains_event.specs.FlatLaws.{piece_scope, piece_count}
-use Rattle.cpc_chains_event.specs.NameLaws.{IsNamed, IsCps}
+use Rattle.cpc_convert_routines.specs.Named.{IsNamed, IsCps}
 use Rattle.cpc_chains_event.specs.LocalLaws.{piece_locals}
-use Rattle.cpc_chains_event.specs.FillLaws.{AllFit, ParametersAreScalar}
+use Rattle.cpc_convert_routines.specs.Given.{AllFit, ParametersAreScalar}
 
 -- the types of all variables are complete, and their sizes can be told
 abbrev pub VariablesHaveSizes : Program → Function → Type 0

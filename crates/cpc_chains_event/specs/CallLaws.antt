@@ -2,23 +2,23 @@
 use Rattle.std.specs.Prelude.{◌≡◌, ℕ, suc, true, false, List, [], ◌∷◌, map, length}
 use Rattle.cpc_num.specs.declared.kinds.Fault.{Fault}
 use Rattle.cpc_tree.specs.Lists.{holds_number}
-use Rattle.cpc_tree.specs.Syntax.{Ty, Expr, Exprs, NoExpr, AndExpr, Function, Program}
+use Rattle.cpc_tree.specs.Syntax.{Exprs, Function, Program}
 use Rattle.cpc_tree.specs.Registers.{variables}
 use Rattle.cpc_tree.specs.Typing.{Scope, parameter_types}
-use Rattle.cpc_store.specs.declared.values.Class.TheVariants.{Auto, Frame}
-use Rattle.cpc_store.specs.Store.{Value, At as Pointer, Store, alloc}
-use Rattle.cpc_meaning.specs.Answer.{Gives, Faults}
-use Rattle.cpc_meaning.specs.Eval.{Slot, Register, Boxed, value, assigned}
+use Rattle.cpc_store.specs.declared.values.Class.TheVariants.{Auto}
+use Rattle.cpc_store.specs.Store.{Value, At as Pointer, Store}
+use Rattle.cpc_meaning.specs.Eval.{Slot, Register, Boxed}
 use Rattle.cpc_convert_image_laws.specs.Images.{Readings, images}
 use Rattle.cpc_forms.specs.Flow.{Start}
-use Rattle.cpc_chains_store_laws.specs.Boxes.{Unboxing}
-use Rattle.cpc_chains_store_laws.specs.Frames.{at, Holds, Giving, GivingFaults}
-use Rattle.cpc_chains_event.specs.Names.{piece_name}
-use Rattle.cpc_chains_event.specs.Routines.{Routine, routine_of, local_of}
+use Rattle.cpc_convert_flat_laws.specs.Boxes.{Unboxing}
+use Rattle.cpc_convert_flat_laws.specs.Locals.{Holds}
+use Rattle.cpc_chains_store_laws.specs.Frames.{Giving, GivingFaults}
+use Rattle.cpc_convert_routines.specs.Names.{piece_name}
+use Rattle.cpc_convert_routines.specs.Routines.{Routine, routine_of, local_of}
 use Rattle.cpc_chains_event.specs.Lines.{gives_from}
 use Rattle.cpc_chains_event.specs.Converted.{converted}
-use Rattle.cpc_chains_event.specs.NameLaws.{IsNamed, IsCps}
-use Rattle.cpc_chains_event.specs.FillLaws.{ParametersAreScalar}
+use Rattle.cpc_convert_routines.specs.Named.{IsNamed, IsCps}
+use Rattle.cpc_convert_routines.specs.Given.{ParametersAreScalar, GivesAll, OneFaults}
 
 -- ---- boxes
 
@@ -35,18 +35,6 @@ BoxesAreReturned =
     → Unboxing q scope slots variables_slots (map (λ k. (local_of (routine_of p f) k).called) (routine_of p f).boxes)
 
 -- ---- arguments
-
--- these expressions have values, whatever a new frame holds, which are assigned to these types
-pub data GivesAll (q : Program) (scope : Scope) (slots : List Slot) (s : Store) : List Ty → Exprs → List Value → Type 0 where
-  NoneGiven : GivesAll q scope slots s [] NoExpr []
-  OneGiven : (t : Ty) (u v : Value) (ts : List Ty) (e : Expr) (es : Exprs) (vs : List Value) → ((cells : List Value) → value (at q scope slots (alloc Frame cells s)) e ≡ Gives u) → assigned t u ≡ Gives v
-      → GivesAll q scope slots s ts es vs → GivesAll q scope slots s (t ∷ ts) (AndExpr e es) (v ∷ vs)
-
--- the first of them that has none faults
-pub data OneFaults (q : Program) (scope : Scope) (slots : List Slot) (s : Store) (fault : Fault) : List Ty → Exprs → Type 0 where
-  ThisFaults : (t : Ty) (ts : List Ty) (e : Expr) (es : Exprs) → ((cells : List Value) → value (at q scope slots (alloc Frame cells s)) e ≡ Faults fault) → OneFaults q scope slots s fault (t ∷ ts) (AndExpr e es)
-  NextFaults : (t : Ty) (u v : Value) (ts : List Ty) (e : Expr) (es : Exprs) → ((cells : List Value) → value (at q scope slots (alloc Frame cells s)) e ≡ Gives u) → assigned t u ≡ Gives v
-      → OneFaults q scope slots s fault ts es → OneFaults q scope slots s fault (t ∷ ts) (AndExpr e es)
 
 -- the arguments of a call are put into the fields of its first frame, in order
 pub record ArgumentsAreGiven (p : Program) (g : Function) : Type 0 where

@@ -2,50 +2,18 @@
 use Rattle.std.specs.Prelude.{Bool, true, false, List, [], ◌∷◌, ◌++◌, map, pos, Some, None}
 use Rattle.cpc_num.specs.declared.kinds.Kind.TheVariants.{Int}
 use Rattle.cpc_tree.specs.declared.program.Mode.TheVariants.{Native}
-use Rattle.cpc_tree.specs.Syntax.{TyInt, ENamed, EInteger, NoExpr, Block, Call, Return, NoStmt, AndStmt, Function, Item, PrototypeItem, FunctionItem, Program}
+use Rattle.cpc_tree.specs.Syntax.{TyInt, ENamed, EInteger, NoExpr, Block, Call, Return, NoStmt, AndStmt, Function, Item, FunctionItem, Program}
 use Rattle.cpc_tree.specs.Typing.{function_named}
 use Rattle.cpc_meaning.specs.Start.{main_name}
-use Rattle.cpc_meaning.specs.Threads.{is_cps_mode, is_cps}
-use Rattle.cpc_convert_common.specs.Converted.{respawned, spawner_name, function_item, prototype}
+use Rattle.cpc_meaning.specs.Threads.{is_cps}
+use Rattle.cpc_convert_common.specs.Converted.{spawner_name, function_item, prototype}
 use Rattle.cpc_chains_store_laws.specs.Driver.{drive_function}
-use Rattle.cpc_chains_event.specs.Routines.{Routine, routine_of}
+use Rattle.cpc_convert_routines.specs.Routines.{Routine}
 use Rattle.cpc_chains_event.specs.Frames.{any_frame, structs_of, boxes_of}
 use Rattle.cpc_chains_event.specs.Pieces.{made_of}
-
--- ---- what stays
-
--- a native or detached function, each spawn in it as a call of the spawner
-abbrev pub kept_function : Function → Function
-kept_function f = record f { body = respawned f.body }
-
--- an item before others, where its mode is not cps
-abbrev pub item_unless : (is_cps : Bool) → Item → List Item → List Item
-item_unless true item rest = rest
-item_unless false item rest = item ∷ rest
-
--- the items without cps functions
-abbrev pub kept_items : List Item → List Item
-kept_items [] = []
-kept_items (PrototypeItem mode f r ps ∷ items) = item_unless (is_cps_mode mode) (PrototypeItem mode f r ps) (kept_items items)
-kept_items (FunctionItem f ∷ items) = item_unless (is_cps_mode f.mode) (FunctionItem (kept_function f)) (kept_items items)
-kept_items (item ∷ items) = item ∷ kept_items items
+use Rattle.cpc_convert_routines.specs.Kept.{kept_items, routines}
 
 -- ---- what is made
-
--- a function before others, where it is cps
-abbrev pub routine_if : (is_cps : Bool) → Program → Function → List Routine → List Routine
-routine_if true p f rest = routine_of p f ∷ rest
-routine_if false p f rest = rest
-
--- the cps functions among these items, in their order
-abbrev pub routines_in : Program → List Item → List Routine
-routines_in p [] = []
-routines_in p (FunctionItem f ∷ items) = routine_if (is_cps_mode f.mode) p f (routines_in p items)
-routines_in p (item ∷ items) = routines_in p items
-
--- those of a program
-abbrev pub routines : Program → List Routine
-routines p = routines_in p p
 
 -- the frames of all of them
 abbrev pub all_structs : Program → List Routine → List Item

@@ -4,10 +4,10 @@ use Rattle.cpc_tree.specs.Syntax.{Stmt, NoStmt, Program}
 use Rattle.cpc_tree.specs.Typing.{Scope}
 use Rattle.cpc_tree.specs.Registers.{outer_scope}
 use Rattle.cpc_forms.specs.Flow.{Place}
-use Rattle.cpc_chains_store_laws.specs.Flat.{before, are_flat, are_lines, Stands}
+use Rattle.cpc_convert_flat_laws.specs.Flat.{before, are_flat, are_lines, Stands}
 use Rattle.cpc_chains_store_laws.specs.Frames.{taken_scope}
-use Rattle.cpc_chains_event.specs.Names.{piece_name, frame_name}
-use Rattle.cpc_chains_event.specs.Routines.{Routine}
+use Rattle.cpc_convert_routines.specs.Names.{piece_name, frame_name}
+use Rattle.cpc_convert_routines.specs.Routines.{Routine}
 use Rattle.cpc_chains_event.specs.Rows.{piece_statements}
 use Rattle.cpc_chains_event.specs.Pieces.{loads_of, declares_of, boxing_of, piece_body, piece_function}
 

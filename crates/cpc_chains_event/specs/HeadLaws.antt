@@ -4,8 +4,9 @@ use Rattle.cpc_tree.specs.Syntax.{Function, Program}
 use Rattle.cpc_forms.specs.Flow.{Place, Start, flow_of, is_leader}
 use Rattle.cpc_forms.specs.Graph.{graph_of}
 use Rattle.cpc_forms.specs.Pieces.{first_of}
-use Rattle.cpc_chains_event.specs.Routines.{routine_of}
-use Rattle.cpc_chains_event.specs.Rows.{is_own, has_row, numbers_of}
+use Rattle.cpc_convert_routines.specs.Routines.{routine_of}
+use Rattle.cpc_convert_routines.specs.Nodes.{is_own, has_row}
+use Rattle.cpc_chains_event.specs.Rows.{numbers_of}
 
 -- the first row of a piece is that of its first node; where the first node of a function leads, the start has one row, which goes to it
 pub record PieceBegins (p : Program) (f : Function) : Type 0 where

@@ -5,10 +5,11 @@ use Rattle.cpc_tree.specs.Syntax.{Function, Program}
 use Rattle.cpc_forms.specs.Graph.{graph_of}
 use Rattle.cpc_forms.specs.Flow.{Place}
 use Rattle.cpc_forms.specs.Pieces.{Once}
-use Rattle.cpc_chains_store_laws.specs.Flat.{label_in}
-use Rattle.cpc_chains_event.specs.Names.{node_label}
-use Rattle.cpc_chains_event.specs.Routines.{Routine, routine_of}
-use Rattle.cpc_chains_event.specs.Rows.{rows_nodes, stubs_of, numbers_of, rows_of, Put, PutRow, put_rows, is_wanted, rows_statements}
+use Rattle.cpc_convert_flat_laws.specs.Flat.{label_in}
+use Rattle.cpc_convert_routines.specs.Names.{node_label}
+use Rattle.cpc_convert_routines.specs.Routines.{Routine, routine_of}
+use Rattle.cpc_convert_routines.specs.Nodes.{rows_nodes}
+use Rattle.cpc_chains_event.specs.Rows.{stubs_of, numbers_of, rows_of, Put, PutRow, put_rows, is_wanted, rows_statements}
 use Rattle.cpc_chains_event.specs.Pieces.{piece_body}
 use Rattle.cpc_chains_event.specs.FlatLaws.{opening}
 

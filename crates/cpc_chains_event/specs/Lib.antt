@@ -1,5 +1,3 @@
-pub mod Names
-pub mod Routines
 pub mod Frames
 pub mod Lines
 pub mod Rows
@@ -15,7 +13,6 @@ pub mod WrittenLoop
 pub mod FlatLaws
 pub mod NameLaws
 pub mod StructLaws
-pub mod ClosureLaws
 pub mod ScopeLaws
 pub mod LocalLaws
 pub mod LabelLaws

@@ -13,11 +13,12 @@ use Rattle.cpc_convert_common.specs.Converted.{spawner_name}
 use Rattle.cpc_convert_image_laws.specs.Images.{Readings, image, images, image_stmt, followed}
 use Rattle.cpc_forms.specs.Graph.{Node, at_node}
 use Rattle.cpc_forms.specs.Flow.{Place, At}
-use Rattle.cpc_chains_store_laws.specs.Frames.{Save, asks_block, fills_frame, frame_through, Give, fills_call}
-use Rattle.cpc_chains_store_laws.specs.Boxes.{unboxes_one}
+use Rattle.cpc_convert_flat_laws.specs.Locals.{Save}
+use Rattle.cpc_chains_store_laws.specs.Frames.{asks_block, fills_frame, frame_through, Give, fills_call}
+use Rattle.cpc_convert_flat_laws.specs.Boxes.{unboxes_one}
 use Rattle.cpc_chains_store_laws.specs.Driver.{drive_name, code_field, next_field, patches, detaches}
-use Rattle.cpc_chains_event.specs.Names.{start_name, piece_name, variable_name, next_name, value_name, to_name, under_name, result_name}
-use Rattle.cpc_chains_event.specs.Routines.{Routine, readings_of, closure_of, local_of}
+use Rattle.cpc_convert_routines.specs.Names.{start_name, piece_name, variable_name, next_name, value_name, to_name, under_name, result_name}
+use Rattle.cpc_convert_routines.specs.Routines.{Routine, readings_of, closure_of, local_of}
 
 -- A line: a statement; a way behind one, which is a goto, unless the node stands next; a test with a goto; or a way in place of a statement that
 -- changes nothing, which is a goto, or an empty statement where the node stands next.

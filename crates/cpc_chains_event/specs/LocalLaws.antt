@@ -6,14 +6,15 @@ use Rattle.cpc_tree.specs.Registers.{variables}
 use Rattle.cpc_tree.specs.Typing.{ALocal, named, is_scalar}
 use Rattle.cpc_forms.specs.Flow.{Place, Start}
 use Rattle.cpc_chains_store_laws.specs.Driver.{any_pointer}
-use Rattle.cpc_chains_store_laws.specs.Frames.{Scalars}
-use Rattle.cpc_chains_event.specs.Names.{piece_name, pointer_name, frame_name, next_name, value_name}
-use Rattle.cpc_chains_event.specs.Routines.{Routine, routine_of, closure_of, local_of, locals_of, variable_if}
-use Rattle.cpc_chains_event.specs.Frames.{arriving_type}
-use Rattle.cpc_chains_event.specs.Rows.{rows_nodes}
-use Rattle.cpc_chains_event.specs.Pieces.{below_if, takes_value, loaded, any_node, is_result, called_so, words_of, begun, piece_function}
+use Rattle.cpc_convert_flat_laws.specs.Locals.{Scalars}
+use Rattle.cpc_convert_routines.specs.Names.{piece_name, pointer_name, frame_name, next_name, value_name}
+use Rattle.cpc_convert_routines.specs.Routines.{Routine, routine_of, closure_of, local_of, locals_of, variable_if}
+use Rattle.cpc_convert_routines.specs.Arriving.{arriving_type}
+use Rattle.cpc_convert_routines.specs.Nodes.{rows_nodes}
+use Rattle.cpc_chains_event.specs.Pieces.{below_if, loaded, called_so, words_of, begun, piece_function}
+use Rattle.cpc_convert_routines.specs.Taken.{takes_value, any_node, is_result}
 use Rattle.cpc_chains_event.specs.FlatLaws.{piece_scope}
-use Rattle.cpc_chains_event.specs.NameLaws.{IsNamed, IsCps, IsOwner}
+use Rattle.cpc_convert_routines.specs.Named.{IsNamed, IsCps, IsOwner}
 
 -- the variables of a piece in order: the pointer that it takes, the frame there, the frame below, the value that arrives, what it loads, its words, and what it begins
 abbrev pub piece_locals : Program → Routine → Place → List Variable

@@ -1,26 +1,28 @@
 -- The functions that are made of a cps function: its spawner, and a piece for its start and for each leader.
-use Rattle.std.specs.Prelude.{ℕ, Bool, true, false, not, ◌||◌, ◌&&◌, if◌then◌else◌, List, [], ◌∷◌, ◌++◌, map, slice_get, Option, Some}
+use Rattle.std.specs.Prelude.{ℕ, Bool, true, false, not, ◌||◌, ◌&&◌, if◌then◌else◌, List, [], ◌∷◌, ◌++◌, map, Some}
 use Rattle.cpc_base.specs.Bytes.{Text}
 use Rattle.cpc_tree.specs.declared.program.Mode.TheVariants.{Native}
 use Rattle.cpc_tree.specs.Lists.{is_empty}
-use Rattle.cpc_tree.specs.Syntax.{Ty, TyVoid, TyPointer, TyStruct, Expr, ENamed, ESizeOf, Stmt, Block, Call, Return, Stmts, NoStmt, AndStmt, Variable, Parameter, Function, Program}
+use Rattle.cpc_tree.specs.Syntax.{Ty, TyVoid, TyPointer, TyStruct, ENamed, ESizeOf, Stmt, Block, Call, Stmts, NoStmt, AndStmt, Variable, Parameter, Function, Program}
 use Rattle.cpc_tree.specs.Points.{Simple}
 use Rattle.cpc_tree.specs.Typing.{is_scalar, function_named}
-use Rattle.cpc_meaning.specs.Act.{Stood, AtStatement, AtArrival, target_of}
+use Rattle.cpc_meaning.specs.Act.{Stood, AtStatement}
 use Rattle.cpc_meaning.specs.Ways.{Manner, AsCps}
 use Rattle.cpc_meaning.specs.Threads.{is_cps}
 use Rattle.cpc_convert_common.specs.Converted.{spawner_name}
-use Rattle.cpc_forms.specs.Graph.{Node, at_node}
 use Rattle.cpc_forms.specs.Flow.{Place, Start, At}
-use Rattle.cpc_chains_store_laws.specs.Flat.{before}
-use Rattle.cpc_chains_store_laws.specs.Frames.{Load, opens_frame, frees_frame}
-use Rattle.cpc_chains_store_laws.specs.Boxes.{boxes_one, fills_box}
+use Rattle.cpc_convert_flat_laws.specs.Flat.{before}
+use Rattle.cpc_convert_flat_laws.specs.Locals.{Load}
+use Rattle.cpc_chains_store_laws.specs.Frames.{opens_frame, frees_frame}
+use Rattle.cpc_convert_flat_laws.specs.Boxes.{boxes_one, fills_box}
 use Rattle.cpc_chains_store_laws.specs.Driver.{frame_tag, code_field, next_field, value_field, any_pointer, spawns}
-use Rattle.cpc_chains_event.specs.Names.{start_name, piece_name, value_tag, box_tag, pointer_name, frame_name, next_name, value_name, to_name, under_name, result_name}
-use Rattle.cpc_chains_event.specs.Routines.{Routine, closure_of, is_plain, stood_variable, variable_of, locals_of, passed, is_parameter, chosen, variable_if}
-use Rattle.cpc_chains_event.specs.Frames.{arriving_type}
+use Rattle.cpc_convert_routines.specs.Names.{start_name, piece_name, value_tag, box_tag, pointer_name, frame_name, next_name, value_name, to_name, under_name, result_name}
+use Rattle.cpc_convert_routines.specs.Routines.{Routine, closure_of, is_plain, stood_variable, variable_of, locals_of, passed, is_parameter, chosen, variable_if}
+use Rattle.cpc_convert_routines.specs.Arriving.{arriving_type}
 use Rattle.cpc_chains_event.specs.Lines.{save_of}
-use Rattle.cpc_chains_event.specs.Rows.{rows_nodes, stubs_of, piece_statements}
+use Rattle.cpc_convert_routines.specs.Nodes.{rows_nodes}
+use Rattle.cpc_chains_event.specs.Rows.{stubs_of, piece_statements}
+pub use Rattle.cpc_convert_routines.specs.Taken.{takes_value, any_node, is_result}
 
 -- a parameter with this name and type
 abbrev pub parameter_of : Variable → Parameter
@@ -41,21 +43,6 @@ below_if false f = any_pointer
 abbrev pub next_load : Function → Load
 next_load f = record { variable = next_name; type = below_if (is_scalar f.result) f.called; field = next_field }
 
--- whether a value that arrives at a place is put somewhere
-abbrev pub has_place : Option (Option Expr) → Bool
-has_place (Some (Some e)) = true
-has_place o = false
-
--- whether a value that arrives at a node is
-abbrev pub takes_stood : Manner → Stood → Bool
-takes_stood AsCps (AtArrival x) = has_place (target_of x)
-takes_stood manner stood = false
-
--- whether a value that arrives at an owner is
-abbrev pub takes_value : Routine → Place → Bool
-takes_value r Start = false
-takes_value r (At n) = at_node false (λ node. takes_stood node.manner node.stood) (slice_get r.split.graph.nodes n)
-
 -- the value that arrives
 abbrev pub value_load : Program → Routine → Place → List Load
 value_load p r l = if takes_value r l then record { variable = value_name; type = arriving_type p r l; field = value_field } ∷ [] else []
@@ -71,11 +58,6 @@ loads_of p r l = next_load r.function ∷ (value_load p r l ++ map load_of (loca
 
 -- ---- what is declared
 
--- whether one of these nodes is so
-abbrev pub any_node : Routine → (Node → Bool) → List ℕ → Bool
-any_node r test [] = false
-any_node r test (n ∷ ns) = at_node false test (slice_get r.split.graph.nodes n) || any_node r test ns
-
 -- a statement that waits
 abbrev pub is_wait : Manner → Stood → Bool
 is_wait AsCps (AtStatement x) = true
@@ -85,11 +67,6 @@ is_wait manner stood = false
 abbrev pub is_entry : Program → Stood → Bool
 is_entry p (AtStatement (Simple (Call to (ENamed f) es))) = is_cps (function_named p f)
 is_entry p stood = false
-
--- a return of a value
-abbrev pub is_result : Stood → Bool
-is_result (AtStatement (Simple (Return (Some e)))) = true
-is_result stood = false
 
 -- a local of a name and a type
 abbrev pub called_so : Text → Ty → Variable

@@ -1,42 +1,18 @@
 -- The rows of a piece: the lines of each node that its owner owns, and those that go to another leader, each behind a label of its number.
-use Rattle.std.specs.Prelude.{ℕ, Bool, true, false, not, ◌||◌, ◌&&◌, ◌==◌, if◌then◌else◌, List, [], ◌∷◌, ◌++◌, map, slice_get, nat_le, nat_lt, Option, Some, None}
+use Rattle.std.specs.Prelude.{ℕ, Bool, true, false, not, ◌||◌, ◌&&◌, ◌==◌, if◌then◌else◌, List, [], ◌∷◌, ◌++◌, map, slice_get, Option, Some, None}
 use Rattle.cpc_base.specs.Bytes.{Text}
 use Rattle.cpc_tree.specs.Lists.{holds_number}
 use Rattle.cpc_tree.specs.Syntax.{Expr, Stmt, Empty, If, Goto, Label, Absent, Program}
-use Rattle.cpc_meaning.specs.Act.{Stood, AtArrival}
 use Rattle.cpc_meaning.specs.Ways.{Manner, ByFrame}
 use Rattle.cpc_forms.specs.Graph.{Node, at_node}
 use Rattle.cpc_forms.specs.Flow.{Place, At, as_list}
-use Rattle.cpc_forms.specs.Split.{Split}
-use Rattle.cpc_forms.specs.Pieces.{is_owned_by, piece_nodes, first_of}
+use Rattle.cpc_forms.specs.Pieces.{first_of}
 pub use Rattle.cpc_forms.specs.Pieces.{is_next}
-pub use Rattle.cpc_forms.specs.Spread.{known as owner_at}
-use Rattle.cpc_chains_event.specs.Names.{to_name, node_label}
-use Rattle.cpc_chains_event.specs.Routines.{Routine, chosen}
+use Rattle.cpc_convert_routines.specs.Names.{to_name, node_label}
+use Rattle.cpc_convert_routines.specs.Routines.{Routine, chosen}
 use Rattle.cpc_chains_event.specs.Lines.{Line, Does, Goes, Tests, Passes, frame_lines, hands_over, node_lines, all_do, behind_arrival}
-
--- ---- the nodes of a piece
-
--- whether l owns a node
-abbrev pub is_own : Split → Place → ℕ → Bool
-is_own s l n = is_owned_by l (owner_at (slice_get s.owners n))
-
--- the arrival of a call that is left over a frame, which stands with its call
-abbrev pub stands_with : Stood → Manner → Bool
-stands_with (AtArrival x) ByFrame = true
-stands_with stood manner = false
-
--- the other nodes
-abbrev pub has_row : Split → ℕ → Bool
-has_row s n = at_node true (λ node. not (stands_with node.stood node.manner)) (slice_get s.graph.nodes n)
-
--- these numbers from this one on, and then those below it
-abbrev pub turned : ℕ → List ℕ → List ℕ
-turned m ns = chosen (λ n. nat_le m n) ns ++ chosen (λ n. nat_lt n m) ns
-
--- the nodes of a piece that have rows: from its first one on, and then those that stand before it in the text
-abbrev pub rows_nodes : Split → Place → List ℕ
-rows_nodes s l = turned (first_of s l) (chosen (has_row s) (piece_nodes s l))
+pub use Rattle.cpc_convert_routines.specs.Nodes.{is_own, stands_with, has_row, rows_nodes}
+pub use Rattle.cpc_forms.specs.Spread.{known as owner_at}
 
 -- ---- the leaders to which a piece goes
 

@@ -5,7 +5,7 @@ use Rattle.cpc_tree.specs.Syntax.{Program}
 use Rattle.cpc_tree.specs.Typing.{named, item_named}
 use Rattle.cpc_convert_common.specs.Marks.{has_marks}
 use Rattle.cpc_forms.specs.Flow.{Place}
-use Rattle.cpc_chains_event.specs.Routines.{Routine}
+use Rattle.cpc_convert_routines.specs.Routines.{Routine}
 use Rattle.cpc_chains_event.specs.FlatLaws.{piece_scope}
 
 -- no local of a piece hides a name without marks: those of native functions, globals and primitives mean what they mean among the items

@@ -8,13 +8,13 @@ use Rattle.cpc_base.specs.Bytes.{Text}
 use Rattle.cpc_convert_common.specs.Members.{Has}
 use Rattle.cpc_convert_image_laws.specs.Relations.{Less, Extends}
 use Rattle.cpc_forms.specs.Flow.{Start, At}
-use Rattle.cpc_chains_store_laws.specs.Structs.{IsStruct}
+use Rattle.cpc_convert_flat_laws.specs.Structs.{IsStruct}
 use Rattle.cpc_chains_store_laws.specs.Driver.{frame_tag, head_fields}
-use Rattle.cpc_chains_event.specs.Names.{piece_name, value_tag, box_tag}
-use Rattle.cpc_chains_event.specs.Routines.{routine_of, closure_of, variable_of, locals_of, passed}
-use Rattle.cpc_chains_event.specs.Frames.{arriving_type}
+use Rattle.cpc_convert_routines.specs.Names.{piece_name, value_tag, box_tag}
+use Rattle.cpc_convert_routines.specs.Routines.{routine_of, closure_of, variable_of, locals_of, passed}
+use Rattle.cpc_convert_routines.specs.Arriving.{arriving_type}
 use Rattle.cpc_chains_event.specs.Converted.{converted}
-use Rattle.cpc_chains_event.specs.NameLaws.{IsNamed, IsCps}
+use Rattle.cpc_convert_routines.specs.Named.{IsNamed, IsCps}
 
 -- the struct of a box has one field, its variable, and is as large as it
 pub record IsBox (p q : Program) (tag : Text) (x : Variable) : Type 0 where

@@ -2,7 +2,6 @@
 ghost use Rattle.cpc_chains_event.specs.FlatLaws.{PiecesAreFlat, StatementsStand};
 ghost use Rattle.cpc_chains_event.specs.NameLaws.{FunctionsAreFound, ItemsAreMeant};
 ghost use Rattle.cpc_chains_event.specs.StructLaws.{StructsAreThere};
-ghost use Rattle.cpc_chains_event.specs.ClosureLaws.{ClosuresAreLifted};
 ghost use Rattle.cpc_chains_event.specs.ScopeLaws.{NothingIsHidden};
 ghost use Rattle.cpc_chains_event.specs.LocalLaws.{AllLocalsAreMeant};
 ghost use Rattle.cpc_chains_event.specs.BoxingLaws.{AllStartsBox};
@@ -54,11 +53,6 @@ pub fn items_are_meant()
 /// The structs of frames are there, with a cell for each field.
 pub fn structs_are_there()
     ensures law { StructsAreThere }
-{}
-
-/// What the frames of an owner keep is what the lifted machine keeps.
-pub fn closures_are_lifted()
-    ensures law { ClosuresAreLifted }
 {}
 
 /// No local of a piece hides a name of the source.

@@ -5,7 +5,7 @@ use Rattle.std.proofs.lemmas.Option.{slice_get-map, slice_get_read}
 use Rattle.cpc_tree.specs.Syntax.{Item, StructItem, GlobalItem, PrototypeItem, FunctionItem}
 use Rattle.cpc_meaning.specs.Threads.{is_cps_mode}
 use Rattle.cpc_shapes.proofs.Indexes.{next_item}
-use Rattle.cpc_chains_event.specs.Converted.{item_unless, kept_function, kept_items}
+use Rattle.cpc_convert_routines.specs.Kept.{item_unless, kept_function, kept_items}
 
 -- two functions that agree on a list agree on its elements
 pub agree_at : {A B : Type 0} (f g : A → B) (xs : List A) (i : ℕ) (x : A) → map f xs ≡ map g xs → i < length xs → x ≡ get_or xs i x → f x ≡ g x

@@ -2,8 +2,8 @@
 use Rattle.std.proofs.Common.{◌≡◌, ℕ, zero, suc, ◌+◌, true, false, Bool, List, [], ◌∷◌, ◌++◌, Option, Some, slice_get, refl, sym, ap, ◌∙◌, arith}
 use Rattle.cpc_tree.specs.Syntax.{Variable}
 use Rattle.cpc_tree.specs.Typing.{is_scalar}
-use Rattle.cpc_chains_event.specs.Names.{variable_name}
-use Rattle.cpc_chains_event.specs.Routines.{variable_if, passed_from}
+use Rattle.cpc_convert_routines.specs.Names.{variable_name}
+use Rattle.cpc_convert_routines.specs.Routines.{variable_if, passed_from}
 use Rattle.cpc_chains_items.specs.Passed.{passed_one, passed_always, passed_at}
 
 put_before : (b : Bool) (x : Variable) (rest more : List Variable) → variable_if b x (rest ++ more) ≡ variable_if b x rest ++ more

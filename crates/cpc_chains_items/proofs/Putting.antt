@@ -3,8 +3,8 @@ use Rattle.std.proofs.Common.{◌≡◌, ℕ, ◌+◌, ◌<◌, List, [], ◌∷
 use Rattle.std.proofs.lemmas.List.{map-append, append-nil}
 use Rattle.cpc_tree.specs.Syntax.{Stmt, NoStmt}
 use Rattle.cpc_shapes.proofs.Indexes.{next_item}
-use Rattle.cpc_chains_store_laws.specs.Flat.{before}
-use Rattle.cpc_chains_store_laws.proofs.Rows.{before_append}
+use Rattle.cpc_convert_flat_laws.specs.Flat.{before}
+use Rattle.cpc_convert_flat_laws.proofs.Rows.{before_append}
 use Rattle.cpc_chains_lines.specs.Written.{Written, puts}
 use Rattle.cpc_chains_lines.proofs.Puts.{puts_both}
 

@@ -9,7 +9,7 @@ use Rattle.cpc_tree.specs.Syntax.{Function, Program, Variable}
 use Rattle.cpc_forms_code.specs.declared.boxed.Variable as V
 use Rattle.cpc_forms.specs.Flow.{At}
 use Rattle.cpc_lift_laws.specs.Search.{Link, keepers, closure_from}
-use Rattle.cpc_chains_event.specs.Routines.{Routine, variable_of, variable_or, closure_of}
+use Rattle.cpc_convert_routines.specs.Routines.{Routine, variable_of, variable_or, closure_of}
 use Rattle.cpc_convert_names.specs.Called.{function_in, variables_in, name_in}
 use Rattle.cpc_forms_code.specs.Lifts.{unless}
 use Rattle.cpc_chains_lines.specs.Known.{plain_seen, boxes_among}

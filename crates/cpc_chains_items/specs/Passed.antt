@@ -2,8 +2,8 @@
 use Rattle.std.specs.Prelude.{ℕ, List, [], ◌∷◌, Option, Some, None}
 use Rattle.cpc_tree.specs.Syntax.{Variable}
 use Rattle.cpc_tree.specs.Typing.{is_scalar}
-use Rattle.cpc_chains_event.specs.Names.{variable_name}
-use Rattle.cpc_chains_event.specs.Routines.{variable_if}
+use Rattle.cpc_convert_routines.specs.Names.{variable_name}
+use Rattle.cpc_convert_routines.specs.Routines.{variable_if}
 
 -- the parameter of a number as it is passed
 abbrev pub passed_at : ℕ → Variable → Variable

@@ -3,7 +3,7 @@ ghost use Rattle.std.specs.Prelude.{◌≡◌, ◌++◌, ◌∷◌, [], map, OnO
 ghost use Rattle.cpc_tree.specs.Erase as E;
 ghost use Rattle.cpc_tree.specs.Erase.{Table, in_table, item_of, function_of};
 ghost use Rattle.cpc_tree.specs.Syntax as S;
-ghost use Rattle.cpc_chains_event.specs.Converted.{kept_items, kept_function};
+ghost use Rattle.cpc_convert_routines.specs.Kept.{kept_items, kept_function};
 ghost use Rattle.cpc_convert_names.specs.Book.{IsBook};
 ghost use Rattle.cpc_chains_items.specs.Listed.{listed};
 

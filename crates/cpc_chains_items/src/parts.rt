@@ -4,7 +4,7 @@ ghost use Rattle.cpc_tree.specs.Erase as E;
 ghost use Rattle.cpc_tree.specs.Erase.{Table, type_of, field_of, parameter_of};
 ghost use Rattle.cpc_tree.specs.Syntax as S;
 ghost use Rattle.cpc_chains_store_laws.specs.Driver as D;
-ghost use Rattle.cpc_chains_event.specs.Names.{pointer_name};
+ghost use Rattle.cpc_convert_routines.specs.Names.{pointer_name};
 ghost use Rattle.cpc_chains_event.specs.Pieces as P;
 ghost use Rattle.cpc_chains_event.specs.Pieces.{called_so};
 ghost use Rattle.cpc_convert_names.specs.Book.{IsBook};

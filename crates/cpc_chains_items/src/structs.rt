@@ -6,7 +6,7 @@ ghost use Rattle.cpc_tree.specs.Syntax as S;
 ghost use Rattle.cpc_tree.specs.Typing.{is_scalar};
 ghost use Rattle.cpc_forms.specs.Flow.{At};
 ghost use Rattle.cpc_forms_code.specs.declared.boxed.Variable as V;
-ghost use Rattle.cpc_chains_event.specs.Routines.{Routine, locals_of, closure_of};
+ghost use Rattle.cpc_convert_routines.specs.Routines.{Routine, locals_of, closure_of};
 ghost use Rattle.cpc_chains_event.specs.Frames as F;
 ghost use Rattle.cpc_convert_names.specs.Book.{IsBook};
 ghost use Rattle.cpc_convert_names.specs.Called.{variables_in, nodes_in};

@@ -1,6 +1,5 @@
 pub mod Framed
 pub mod Arrivals
-pub mod Steps
 pub mod Calls
 pub mod Behind
 pub mod Native

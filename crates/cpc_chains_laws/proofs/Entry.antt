@@ -3,8 +3,6 @@ pub mod Opening
 pub mod Standing
 pub mod Resuming
 pub mod Counting
-pub mod Boxes
-pub mod Marks
 pub mod Starting
 pub mod Begins
 pub mod Entries

@@ -1,6 +1,1 @@
-pub mod BoxStores
-pub mod BoxActs
-pub mod BoxRuns
-pub mod JobActs
-pub mod JobRuns
 pub mod Known

@@ -1,10 +1,7 @@
-mod Blocks
-mod Weights
-mod Threads
-mod Related
-mod Ended
-mod Ending
-mod Overs
-mod Runs
-mod Plain
+pub mod Blocks
+pub mod Weights
+pub mod Threads
+pub mod Related
+pub mod Overs
+pub mod Runs
 pub mod Theorem

@@ -1,4 +1,3 @@
-pub mod Sums
 pub mod Items
 pub mod Relation
 pub mod Setting

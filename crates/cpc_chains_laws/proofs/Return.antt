@@ -1,4 +1,3 @@
 pub mod Kept
-pub mod Unboxed
 pub mod Boxes
 pub mod Returns

@@ -1,13 +1,11 @@
 pub mod Labels
 pub mod Ways
 pub mod Gotos
-pub mod Occurring
 pub mod Inside
 pub mod Opening
 pub mod Moved
 pub mod Nodes
 pub mod Rowing
-pub mod Starts
 pub mod InPlace
 pub mod Framing
 pub mod Pausing

@@ -1,9 +1,4 @@
-pub mod Rows
-pub mod Items
-pub mod Names
-pub mod Source
 pub mod Kept
-pub mod Meant
 pub mod Types
 pub mod Made
 pub mod Tags

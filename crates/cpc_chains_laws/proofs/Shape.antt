@@ -1,6 +1,5 @@
 pub mod Strewn
 pub mod Images
-pub mod Calls
 pub mod Points
 pub mod Rows
 pub mod Owned

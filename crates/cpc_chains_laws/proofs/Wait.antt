@@ -1,7 +1,6 @@
 pub mod Meant
 pub mod Behind
 pub mod Suiting
-pub mod Given
 pub mod Storing
 pub mod Preparing
 pub mod Entering
@@ -11,4 +10,3 @@ pub mod Handing
 pub mod Pausing
 pub mod Submitting
 pub mod Waits
-pub mod Fitting

@@ -1,7 +1,2 @@
-pub mod Reads
-pub mod Sets
-pub mod Kept
-pub mod Steps
-pub mod Standing
 pub mod Flat
 pub mod Laws

@@ -1,3 +1,1 @@
-pub mod Instance
-pub mod Convertible
 pub mod Laws

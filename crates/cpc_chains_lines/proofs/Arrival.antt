@@ -17,11 +17,12 @@ use Rattle.cpc_forms_code.specs.declared.boxed.Manner.TheVariants as M
 use Rattle.cpc_forms_code.specs.declared.boxed.Stood.{Stood}
 use Rattle.cpc_forms_code.specs.declared.boxed.Stood.TheVariants as F
 use Rattle.cpc_chains_store_laws.specs.Driver.{value_field}
-use Rattle.cpc_chains_store_laws.specs.Frames.{Load, loads_one}
-use Rattle.cpc_chains_event.specs.Frames.{arriving_if, arriving_from, arriving_found, arriving_stood, arriving_type}
-use Rattle.cpc_chains_event.specs.Names.{frame_name, value_name}
-use Rattle.cpc_chains_event.specs.Pieces.{has_place, takes_stood, value_load}
-use Rattle.cpc_chains_event.specs.Routines.{Routine}
+use Rattle.cpc_convert_flat_laws.specs.Locals.{Load, loads_one}
+use Rattle.cpc_convert_routines.specs.Arriving.{arriving_if, arriving_from, arriving_found, arriving_stood, arriving_type}
+use Rattle.cpc_convert_routines.specs.Names.{frame_name, value_name}
+use Rattle.cpc_convert_routines.specs.Taken.{has_place, takes_stood}
+use Rattle.cpc_chains_event.specs.Pieces.{value_load}
+use Rattle.cpc_convert_routines.specs.Routines.{Routine}
 use Rattle.cpc_convert_names.specs.Book.{find}
 use Rattle.cpc_convert_names.specs.Called.{function_in}
 use Rattle.cpc_convert_names.specs.declared.called.Called.{Called}

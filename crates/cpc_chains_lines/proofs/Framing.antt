@@ -6,13 +6,14 @@ use Rattle.cpc_num.specs.declared.kinds.Kind.TheVariants as K
 use Rattle.cpc_tree.specs.Syntax as S
 use Rattle.cpc_convert_image_laws.specs.Images.{Readings, image}
 use Rattle.cpc_forms.specs.Flow.{At}
-use Rattle.cpc_chains_store_laws.specs.Boxes.{boxes_one, unboxes_one}
+use Rattle.cpc_convert_flat_laws.specs.Boxes.{boxes_one, unboxes_one}
 use Rattle.cpc_chains_store_laws.specs.Driver.{code_field, next_field}
-use Rattle.cpc_chains_store_laws.specs.Frames.{asks_block, fills_frame, frame_through, saves_one}
+use Rattle.cpc_chains_store_laws.specs.Frames.{asks_block, fills_frame, frame_through}
+use Rattle.cpc_convert_flat_laws.specs.Locals.{saves_one}
 use Rattle.cpc_chains_event.specs.Lines.{save_of, frame_lines, unbox_lines, patch_lines, leave_lines, hands_over}
-use Rattle.cpc_chains_event.specs.Names.{piece_name, box_tag, next_name, result_name}
+use Rattle.cpc_convert_routines.specs.Names.{piece_name, box_tag, next_name, result_name}
 use Rattle.cpc_chains_event.specs.Pieces.{fills_if, box_lines, boxing_lines}
-use Rattle.cpc_chains_event.specs.Routines.{Routine, closure_of, local_of, variable_of, is_parameter}
+use Rattle.cpc_convert_routines.specs.Routines.{Routine, closure_of, local_of, variable_of, is_parameter}
 use Rattle.cpc_tree.specs.Typing.{is_scalar}
 use Rattle.cpc_chains_lines.specs.Puts.{saves, unboxes}
 use Rattle.cpc_chains_lines.specs.Written.{Written, puts}

@@ -2,10 +2,10 @@
 use Rattle.std.proofs.Common.{◌≡◌, ℕ, Bool, true, false, List, [], ◌∷◌, ◌++◌, map, refl, sym, ap, ◌∙◌}
 use Rattle.cpc_base.specs.Bytes.{Text}
 use Rattle.cpc_tree.specs.Syntax.{Ty, Variable}
-use Rattle.cpc_chains_store_laws.specs.Frames.{loads_one, declares_one}
-use Rattle.cpc_chains_event.specs.Names.{frame_name, to_name, under_name, result_name}
+use Rattle.cpc_convert_flat_laws.specs.Locals.{loads_one, declares_one}
+use Rattle.cpc_convert_routines.specs.Names.{frame_name, to_name, under_name, result_name}
 use Rattle.cpc_chains_event.specs.Pieces.{load_of, called_so, to_frame, words_if}
-use Rattle.cpc_chains_event.specs.Routines.{Routine, local_of, locals_of, variable_if}
+use Rattle.cpc_convert_routines.specs.Routines.{Routine, local_of, locals_of, variable_if}
 use Rattle.cpc_chains_lines.specs.Puts.{loads, declares}
 use Rattle.cpc_chains_lines.specs.Written.{Written, puts}
 use Rattle.cpc_chains_lines.proofs.Puts.{behind, map_both}

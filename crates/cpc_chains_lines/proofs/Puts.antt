@@ -3,7 +3,7 @@ use Rattle.std.proofs.Common.{◌≡◌, ℕ, zero, suc, ◌<◌, ◌≤◌, tru
 use Rattle.cpc_base.proofs.Lists.{get_or_within}
 use Rattle.cpc_tree.specs.Syntax.{Stmt, Empty, Goto}
 use Rattle.cpc_forms_code.specs.declared.boxed.Variable.{Variable}
-use Rattle.cpc_chains_event.specs.Names.{node_label}
+use Rattle.cpc_convert_routines.specs.Names.{node_label}
 use Rattle.cpc_chains_event.specs.Lines.{Goes, Passes, all_do}
 use Rattle.cpc_chains_event.specs.Rows.{is_next, Plain, Jump, put_statement}
 use Rattle.cpc_chains_lines.specs.Puts.{statements_before}

@@ -6,7 +6,7 @@ use Rattle.cpc_tree.specs.Erase.{Names, Table}
 use Rattle.cpc_tree.specs.Registers as R
 use Rattle.cpc_tree.specs.Syntax as S
 use Rattle.cpc_forms_code.specs.declared.boxed.Variable as V
-use Rattle.cpc_chains_event.specs.Routines.{Routine, variable_of, variable_or}
+use Rattle.cpc_convert_routines.specs.Routines.{Routine, variable_of, variable_or}
 use Rattle.cpc_convert_names.specs.Called.{name_in, variables_in}
 use Rattle.cpc_chains_lines.specs.declared.around.Around.{Around}
 use Rattle.cpc_convert_needs.specs.Known.{plain_seen}

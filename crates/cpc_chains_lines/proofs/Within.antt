@@ -15,7 +15,7 @@ use Rattle.cpc_forms.specs.Graph as G
 use Rattle.cpc_forms_code.specs.Graphs.{node_seen}
 use Rattle.cpc_forms_code.specs.declared.graph.Node.{Node}
 use Rattle.cpc_lift_laws.specs.Search.{Link, keepers, closure_from}
-use Rattle.cpc_chains_event.specs.Routines.{Routine, closure_of}
+use Rattle.cpc_convert_routines.specs.Routines.{Routine, closure_of}
 use Rattle.cpc_convert_names.specs.Book.{find}
 use Rattle.cpc_convert_names.specs.Called.{name_in, variables_in, nodes_in}
 use Rattle.cpc_convert_names.specs.declared.called.Called.{Called}

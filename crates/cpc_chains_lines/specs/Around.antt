@@ -5,7 +5,7 @@ use Rattle.cpc_tree.specs.Syntax.{Program}
 use Rattle.cpc_check_rules.specs.Apart.{Spells}
 use Rattle.cpc_forms_code.specs.Seen.{scope_seen}
 use Rattle.cpc_convert_image_laws.specs.Images.{Readings}
-use Rattle.cpc_chains_event.specs.Routines.{Routine, readings_of}
+use Rattle.cpc_convert_routines.specs.Routines.{Routine, readings_of}
 use Rattle.cpc_convert_names.specs.Called.{AreCalled, variables_in, nodes_in}
 use Rattle.cpc_convert_names.specs.Book.{IsBook}
 use Rattle.cpc_forms_code.specs.declared.graph.Node.{Node}

@@ -5,10 +5,11 @@ use Rattle.cpc_tree.specs.Syntax.{Ty, Expr, Exprs, Stmt, Variable, Program}
 use Rattle.cpc_convert_image_laws.specs.Images.{Readings}
 use Rattle.cpc_forms.specs.Graph.{at_node}
 use Rattle.cpc_chains_store_laws.specs.Driver.{value_field}
-use Rattle.cpc_chains_store_laws.specs.Frames.{loads_one, gives_one, frame_through, saves_one, declares_one}
-use Rattle.cpc_chains_event.specs.Names.{frame_name, value_name, to_name}
-use Rattle.cpc_chains_store_laws.specs.Boxes.{unboxes_one}
-use Rattle.cpc_chains_event.specs.Routines.{Routine, local_of}
+use Rattle.cpc_convert_flat_laws.specs.Locals.{loads_one, saves_one, declares_one}
+use Rattle.cpc_chains_store_laws.specs.Frames.{gives_one, frame_through}
+use Rattle.cpc_convert_routines.specs.Names.{frame_name, value_name, to_name}
+use Rattle.cpc_convert_flat_laws.specs.Boxes.{unboxes_one}
+use Rattle.cpc_convert_routines.specs.Routines.{Routine, local_of}
 use Rattle.cpc_chains_event.specs.Lines.{Line, node_lines, gives_from, save_of}
 use Rattle.cpc_chains_event.specs.Pieces.{load_of}
 use Rattle.cpc_chains_event.specs.Rows.{put_lines, put_statement}

@@ -6,7 +6,7 @@ ghost use Rattle.cpc_tree.specs.Syntax as S;
 ghost use Rattle.cpc_forms.specs.Flow.{At};
 ghost use Rattle.cpc_chains_store_laws.specs.Frames as F;
 ghost use Rattle.cpc_chains_store_laws.specs.Driver.{code_field, next_field};
-ghost use Rattle.cpc_chains_event.specs.Routines.{Routine, local_of};
+ghost use Rattle.cpc_convert_routines.specs.Routines.{Routine, local_of};
 ghost use Rattle.cpc_chains_event.specs.Lines.{save_of, frame_lines};
 ghost use Rattle.cpc_convert_names.specs.Called.{variables_in, nodes_in};
 ghost use Rattle.cpc_convert_names.specs.Book.{IsBook};

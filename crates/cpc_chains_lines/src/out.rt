@@ -3,7 +3,7 @@ ghost use Rattle.std.specs.Prelude.{◌≡◌, ◌++◌, ◌∷◌, [], None, op
 ghost use Rattle.cpc_tree.specs.Erase as E;
 ghost use Rattle.cpc_tree.specs.Erase.{stmt_of};
 ghost use Rattle.cpc_tree.specs.Syntax as S;
-ghost use Rattle.cpc_chains_store_laws.specs.Flat.{before};
+ghost use Rattle.cpc_convert_flat_laws.specs.Flat.{before};
 ghost use Rattle.cpc_chains_lines.specs.Written.{Written, written, put};
 ghost use Rattle.cpc_tree.specs.declared.program.Word as W;
 

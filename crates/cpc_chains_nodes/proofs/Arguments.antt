@@ -7,7 +7,7 @@ use Rattle.cpc_tree.specs.Erase.{Names, expr_of, exprs_of}
 use Rattle.cpc_tree.specs.Syntax.{Expr, EArrow, Exprs, NoExpr, AndExpr, Stmt, Assign, Variable}
 use Rattle.cpc_convert_image_laws.specs.Images.{Readings, image, followed}
 use Rattle.cpc_chains_store_laws.specs.Frames.{Give, frame_through, gives_one}
-use Rattle.cpc_chains_event.specs.Names.{to_name, variable_name}
+use Rattle.cpc_convert_routines.specs.Names.{to_name, variable_name}
 use Rattle.cpc_chains_event.specs.Lines.{gives_from}
 use Rattle.cpc_chains_lines.specs.Written.{Written, puts}
 use Rattle.cpc_chains_lines.specs.Puts.{gives}

@@ -9,7 +9,7 @@ use Rattle.cpc_tree.specs.declared.program.Statement.{Statement}
 use Rattle.cpc_tree.specs.declared.program.Statement.TheVariants as T
 use Rattle.cpc_tree.specs.declared.program.Word.{Word}
 use Rattle.cpc_convert_image_laws.specs.Images.{Readings}
-use Rattle.cpc_chains_event.specs.Routines.{Routine}
+use Rattle.cpc_convert_routines.specs.Routines.{Routine}
 use Rattle.cpc_chains_event.specs.Lines.{passes, behind_arrival, simple_lines, framed_lines}
 
 -- in place of any other statement there is a way

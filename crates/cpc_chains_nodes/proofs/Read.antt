@@ -11,11 +11,11 @@ use Rattle.cpc_meaning.specs.Ways as W
 use Rattle.cpc_base.specs.Bytes.{Text}
 use Rattle.cpc_num.specs.declared.kinds.Op.{Op}
 use Rattle.cpc_convert_image_laws.specs.Images.{Readings, image}
-use Rattle.cpc_chains_event.specs.Names.{value_name}
+use Rattle.cpc_convert_routines.specs.Names.{value_name}
 use Rattle.cpc_forms_code.specs.declared.boxed.Stood.TheVariants as F
 use Rattle.cpc_forms_code.specs.declared.graph.Node.{Node}
 use Rattle.cpc_forms_code.specs.Seen.{stood_seen}
-use Rattle.cpc_chains_event.specs.Routines.{Routine}
+use Rattle.cpc_convert_routines.specs.Routines.{Routine}
 use Rattle.cpc_chains_event.specs.Lines as L
 use Rattle.cpc_chains_lines.specs.Written.{Written, puts}
 use Rattle.cpc_chains_lines.specs.Puts.{statements_before, place_in}

@@ -7,7 +7,7 @@ ghost use Rattle.cpc_tree.specs.Syntax as S;
 ghost use Rattle.cpc_meaning.specs.Act.{AtStatement, target_of};
 ghost use Rattle.cpc_forms_code.specs.Seen.{manner_seen, stood_seen};
 ghost use Rattle.cpc_forms_code.specs.declared.boxed.Stood.TheVariants as F;
-ghost use Rattle.cpc_chains_event.specs.Routines.{Routine};
+ghost use Rattle.cpc_convert_routines.specs.Routines.{Routine};
 ghost use Rattle.cpc_chains_event.specs.Lines as L;
 ghost use Rattle.cpc_chains_event.specs.Rows.{stub_lines};
 ghost use Rattle.cpc_chains_lines.specs.Written.{written, puts};

@@ -5,7 +5,7 @@ ghost use Rattle.cpc_tree.specs.Erase.{Table, in_table, expr_of, exprs_of, stmt_
 ghost use Rattle.cpc_base.specs.Bytes.{Text};
 ghost use Rattle.cpc_tree.specs.Syntax as S;
 ghost use Rattle.cpc_convert_image_laws.specs.Images as I;
-ghost use Rattle.cpc_chains_event.specs.Routines.{Routine};
+ghost use Rattle.cpc_convert_routines.specs.Routines.{Routine};
 ghost use Rattle.cpc_chains_event.specs.Lines as L;
 ghost use Rattle.cpc_chains_lines.specs.Written.{written, puts};
 ghost use Rattle.cpc_chains_lines.specs.Puts.{statements_before};

@@ -12,8 +12,8 @@ ghost use Rattle.cpc_convert_names.specs.Called.{AreCalled, function_in, variabl
 ghost use Rattle.cpc_convert_names.specs.declared.called.Called as C;
 ghost use Rattle.cpc_convert_image_laws.specs.Images as I;
 ghost use Rattle.cpc_chains_store_laws.specs.Frames as F;
-ghost use Rattle.cpc_chains_event.specs.Names.{to_name};
-ghost use Rattle.cpc_chains_event.specs.Routines.{Routine};
+ghost use Rattle.cpc_convert_routines.specs.Names.{to_name};
+ghost use Rattle.cpc_convert_routines.specs.Routines.{Routine};
 ghost use Rattle.cpc_chains_event.specs.Lines as L;
 ghost use Rattle.cpc_chains_lines.specs.Written.{written, puts};
 ghost use Rattle.cpc_chains_lines.specs.Puts.{gives};

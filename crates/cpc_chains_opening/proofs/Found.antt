@@ -15,8 +15,9 @@ use Rattle.cpc_forms.specs.Graph as G
 use Rattle.cpc_forms_code.specs.declared.boxed.Variable as V
 use Rattle.cpc_forms_code.specs.declared.graph.Node.{Node}
 use Rattle.cpc_forms_code.specs.Graphs.{node_seen}
-use Rattle.cpc_chains_event.specs.Pieces.{is_entry, any_node}
-use Rattle.cpc_chains_event.specs.Routines.{Routine}
+use Rattle.cpc_chains_event.specs.Pieces.{is_entry}
+use Rattle.cpc_convert_routines.specs.Taken.{any_node}
+use Rattle.cpc_convert_routines.specs.Routines.{Routine}
 use Rattle.cpc_convert_names.specs.Book.{find}
 use Rattle.cpc_convert_names.specs.declared.called.Called.{Called}
 

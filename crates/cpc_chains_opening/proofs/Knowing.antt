@@ -11,7 +11,7 @@ use Rattle.cpc_forms_code.specs.declared.split.Owner.{Owner}
 use Rattle.cpc_forms_code.specs.declared.split.Owner.TheVariants as O
 use Rattle.cpc_forms_code.specs.Graphs.{node_seen}
 use Rattle.cpc_forms_code.specs.Splits.{place_of}
-use Rattle.cpc_chains_event.specs.Routines.{Routine, owner_number, keeper, closure_of, number_before, chosen}
+use Rattle.cpc_convert_routines.specs.Routines.{Routine, owner_number, keeper, closure_of, number_before, chosen}
 use Rattle.cpc_chains_event.specs.Pieces.{loaded, begun}
 use Rattle.cpc_chains_event.specs.Rows.{number_where, numbers_of}
 use Rattle.cpc_convert_names.specs.Called.{function_in, variables_in, nodes_in, name_in}

@@ -10,13 +10,16 @@ use Rattle.cpc_tree.specs.Syntax.{Ty, TyPointer, TyStruct, ENamed, Stmt, Block, 
 use Rattle.cpc_convert_common.specs.Converted.{function_item}
 use Rattle.cpc_forms.specs.Flow.{Place, At}
 use Rattle.cpc_chains_store_laws.specs.Driver.{any_pointer}
-use Rattle.cpc_chains_store_laws.specs.Flat.{before}
-use Rattle.cpc_chains_store_laws.specs.Frames.{loads_one, declares_one, frees_frame}
-use Rattle.cpc_chains_store_laws.proofs.Rows.{before_append}
-use Rattle.cpc_chains_event.specs.Names.{frame_name, pointer_name, piece_name}
-use Rattle.cpc_chains_event.specs.Pieces.{any_node, is_wait, is_entry, is_result, words_if, words_of, begun, loads_of, boxing_of, parameter_of, called_so, piece_body, piece_function, leader_function}
-use Rattle.cpc_chains_event.specs.Routines.{Routine, locals_of}
-use Rattle.cpc_chains_event.specs.Rows.{rows_nodes, stubs_of, piece_statements}
+use Rattle.cpc_convert_flat_laws.specs.Flat.{before}
+use Rattle.cpc_convert_flat_laws.specs.Locals.{loads_one, declares_one}
+use Rattle.cpc_chains_store_laws.specs.Frames.{frees_frame}
+use Rattle.cpc_convert_flat_laws.proofs.Rows.{before_append}
+use Rattle.cpc_convert_routines.specs.Names.{frame_name, pointer_name, piece_name}
+use Rattle.cpc_convert_routines.specs.Taken.{any_node, is_result}
+use Rattle.cpc_chains_event.specs.Pieces.{is_wait, is_entry, words_if, words_of, begun, loads_of, boxing_of, parameter_of, called_so, piece_body, piece_function, leader_function}
+use Rattle.cpc_convert_routines.specs.Routines.{Routine, locals_of}
+use Rattle.cpc_convert_routines.specs.Nodes.{rows_nodes}
+use Rattle.cpc_chains_event.specs.Rows.{stubs_of, piece_statements}
 use Rattle.cpc_chains_lines.specs.Written.{Written, puts}
 use Rattle.cpc_chains_lines.proofs.Puts.{behind as two_written}
 use Rattle.cpc_chains_opening.specs.Parts.{loading_of, declaring_of, opening_of}

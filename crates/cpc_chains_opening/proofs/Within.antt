@@ -8,9 +8,10 @@ use Rattle.cpc_forms.specs.Flow.{Place, Start, At}
 use Rattle.cpc_forms.specs.Pieces.{is_owned_by, owned_from, without, fronted, piece_nodes, first_of}
 use Rattle.cpc_forms.specs.Split.{Split, number_if}
 use Rattle.cpc_forms_code.specs.declared.boxed.Variable as V
-use Rattle.cpc_chains_event.specs.Routines.{Routine, closure_of, is_parameter, is_plain, number_before, chosen}
+use Rattle.cpc_convert_routines.specs.Routines.{Routine, closure_of, is_parameter, is_plain, number_before, chosen}
 use Rattle.cpc_chains_event.specs.Pieces.{loaded, begun}
-use Rattle.cpc_chains_event.specs.Rows.{owner_at, is_own, has_row, turned, rows_nodes, reached, stubs_of, row_of, falls, number_where, stub_behind, numbers_from, numbers_of}
+use Rattle.cpc_chains_event.specs.Rows.{owner_at, reached, stubs_of, row_of, falls, number_where, stub_behind, numbers_from, numbers_of}
+use Rattle.cpc_convert_routines.specs.Nodes.{is_own, has_row, turned, rows_nodes}
 use Rattle.cpc_forms_code.specs.Lifts.{unless}
 use Rattle.cpc_chains_lines.specs.Known.{boxes_among}
 

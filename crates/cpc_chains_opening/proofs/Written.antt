@@ -4,7 +4,7 @@ use Rattle.std.proofs.lemmas.List.{append_assoc}
 use Rattle.cpc_base.specs.Bytes.{Text}
 use Rattle.cpc_base.proofs.Lists.{append_empty}
 use Rattle.cpc_tree.specs.Syntax.{Stmt, Label}
-use Rattle.cpc_chains_event.specs.Names.{node_label}
+use Rattle.cpc_convert_routines.specs.Names.{node_label}
 use Rattle.cpc_chains_event.specs.Rows.{label_if}
 use Rattle.cpc_chains_lines.specs.Written.{Written, put, puts}
 use Rattle.cpc_chains_lines.proofs.Puts.{behind}

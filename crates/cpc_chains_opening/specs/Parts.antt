@@ -2,10 +2,11 @@
 use Rattle.std.specs.Prelude.{List, [], ◌∷◌, ◌++◌, map, Some}
 use Rattle.cpc_tree.specs.Syntax.{Stmt, Declare, TyPointer, TyStruct, ENamed, Function, Program}
 use Rattle.cpc_forms.specs.Flow.{Place, Start}
-use Rattle.cpc_chains_store_laws.specs.Frames.{loads_one, declares_one, frees_frame}
-use Rattle.cpc_chains_event.specs.Names.{pointer_name, frame_name, piece_name}
+use Rattle.cpc_convert_flat_laws.specs.Locals.{loads_one, declares_one}
+use Rattle.cpc_chains_store_laws.specs.Frames.{frees_frame}
+use Rattle.cpc_convert_routines.specs.Names.{pointer_name, frame_name, piece_name}
 use Rattle.cpc_chains_event.specs.Pieces.{loads_of, declares_of, boxing_of, piece_function, leader_function}
-use Rattle.cpc_chains_event.specs.Routines.{Routine}
+use Rattle.cpc_convert_routines.specs.Routines.{Routine}
 
 -- a piece takes its frame, and loads what it keeps
 abbrev pub loading_of : Program → Routine → Place → List Stmt

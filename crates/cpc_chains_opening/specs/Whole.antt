@@ -5,7 +5,7 @@ use Rattle.cpc_tree.specs.Erase.{Names}
 use Rattle.cpc_tree.specs.Syntax.{Program}
 use Rattle.cpc_tree.specs.Typing.{function_named}
 use Rattle.cpc_meaning.specs.Threads.{is_cps}
-use Rattle.cpc_chains_event.specs.Routines.{Routine}
+use Rattle.cpc_convert_routines.specs.Routines.{Routine}
 use Rattle.cpc_convert_names.specs.Book.{find}
 use Rattle.cpc_chains_lines.specs.declared.around.Around.{Around}
 use Rattle.cpc_convert_rows.specs.Steps.{IsStepped}

@@ -8,7 +8,7 @@ ghost use Rattle.cpc_meaning.specs.Act.{AtStatement};
 ghost use Rattle.cpc_forms.specs.Graph.{at_node};
 ghost use Rattle.cpc_forms_code.specs.Seen.{stood_seen};
 ghost use Rattle.cpc_chains_event.specs.Pieces as P;
-ghost use Rattle.cpc_chains_event.specs.Routines.{Routine};
+ghost use Rattle.cpc_convert_routines.specs.Routines.{Routine};
 ghost use Rattle.cpc_chains_lines.specs.Around.{Stands};
 ghost use Rattle.cpc_chains_opening.specs.Whole.{AreEntries};
 

@@ -5,8 +5,8 @@ use Rattle.std.proofs.Math.Seq.{drop-cons}
 use Rattle.cpc_base.proofs.Lists.{append_empty}
 use Rattle.cpc_tree.specs.Syntax.{Stmt, Program}
 use Rattle.cpc_forms.specs.Flow.{Place}
-use Rattle.cpc_chains_event.specs.Names.{node_label}
-use Rattle.cpc_chains_event.specs.Routines.{Routine}
+use Rattle.cpc_convert_routines.specs.Names.{node_label}
+use Rattle.cpc_convert_routines.specs.Routines.{Routine}
 use Rattle.cpc_chains_event.specs.Rows.{PutRow, row_of, put_lines, put_rows, put_statement, is_wanted, label_if, rows_statements}
 use Rattle.cpc_convert_rows.proofs.Wanting.{first_left}
 use Rattle.cpc_chains_lines.specs.Written.{Written}

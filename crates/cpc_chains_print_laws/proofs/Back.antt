@@ -21,8 +21,8 @@ use Rattle.cpc_printer_laws.proofs.ProgramsRead.{prints_back}
 use Rattle.cpc_printer.specs.Style.{is_tight_for, printed_row, IsPrint, ReadsBack}
 use Rattle.cpc_printer.proofs.Back.{not_above, row_end}
 use Rattle.cpc_chains_event.specs.Converted.{converted}
-use Rattle.cpc_chains_laws.proofs.Accepted.Names.{accepted_has_names, accepted_is_named}
-use Rattle.cpc_chains_laws.proofs.Accepted.Points.{accepted_positions_known}
+use Rattle.cpc_lifted_laws.proofs.Accepted.Names.{accepted_has_names, accepted_is_named}
+use Rattle.cpc_lifted_laws.proofs.Accepted.Points.{accepted_positions_known}
 use Rattle.cpc_chains_print_laws.specs.Laws.{ConvertedReadsBack}
 use Rattle.cpc_chains_print_laws.proofs.Items.{Prints}
 use Rattle.cpc_chains_print_laws.proofs.Programs.{converted_prints}

@@ -19,12 +19,12 @@ use Rattle.cpc_forms.specs.Flow.{Start}
 use Rattle.cpc_forms.specs.Graph.{Node, graph_of, graph_if, graph_where, node_of, at_node}
 use Rattle.cpc_forms.specs.Order.{points_of, points_in, points_arm, points, within, one_later, number, number_in, number_arm, number_of, of_one}
 use Rattle.cpc_forms.proofs.Counts.{row_count}
-use Rattle.cpc_chains_event.specs.NameLaws.{IsCps}
-use Rattle.cpc_chains_event.specs.Routines.{routine_of}
+use Rattle.cpc_convert_routines.specs.Named.{IsCps}
+use Rattle.cpc_convert_routines.specs.Routines.{routine_of}
 use Rattle.cpc_chains_event.specs.Lines.{behind_arrival}
-use Rattle.cpc_chains_laws.specs.Accepted.Names.{HasNames}
-use Rattle.cpc_chains_laws.specs.Accepted.Points.{PositionsKnown}
-use Rattle.cpc_chains_laws.proofs.Accepted.Counts.{same_many}
+use Rattle.cpc_lifted_laws.specs.Accepted.Names.{HasNames}
+use Rattle.cpc_lifted_laws.specs.Accepted.Points.{PositionsKnown}
+use Rattle.cpc_lifted_laws.proofs.Accepted.Counts.{same_many}
 use Rattle.cpc_chains_print_laws.proofs.Known.{FunctionReads, StoodPrints, stood_prints}
 use Rattle.cpc_chains_print_laws.proofs.Lines.{AllNoCalls, SimpleSound, StoodSound, ScopeSmall, SmallIf}
 use Rattle.cpc_chains_print_laws.proofs.Rows.{NodePrints}

@@ -12,8 +12,8 @@ use Rattle.cpc_convert_common.specs.Members.{Has}
 use Rattle.cpc_meaning.specs.Act.{Stood, AtStatement, AtArrival, AtEnd}
 use Rattle.cpc_meaning.specs.Trees.{stood_at}
 use Rattle.cpc_convert_image_laws.specs.Locals.{local_type}
-use Rattle.cpc_chains_event.specs.Names.{box_tag, variable_name}
-use Rattle.cpc_chains_event.specs.Routines.{Routine, routine_of, is_plain, variable_or, stood_variable, variable_of, local_of}
+use Rattle.cpc_convert_routines.specs.Names.{box_tag, variable_name}
+use Rattle.cpc_convert_routines.specs.Routines.{Routine, routine_of, is_plain, variable_or, stood_variable, variable_of, local_of}
 use Rattle.cpc_chains_print_laws.proofs.Names.{variable_is_name, box_is_name}
 use Rattle.cpc_chains_print_laws.proofs.Images.{row_widened}
 use Rattle.cpc_chains_print_laws.proofs.Source.{FoundPrints}

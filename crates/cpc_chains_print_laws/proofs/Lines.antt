@@ -18,11 +18,12 @@ use Rattle.cpc_meaning.specs.Ways.{Manner, InPlace, ByFrame, AsCps}
 use Rattle.cpc_forms.specs.Flow.{Place, At}
 use Rattle.cpc_convert_image_laws.specs.Images.{Readings, image, images, followed}
 use Rattle.cpc_convert_image_laws.specs.Locals.{reading_of, readings_in}
-use Rattle.cpc_chains_store_laws.specs.Frames.{Save, asks_block, fills_frame, frame_through, saves_one, gives_one}
-use Rattle.cpc_chains_store_laws.specs.Boxes.{unboxes_one}
+use Rattle.cpc_convert_flat_laws.specs.Locals.{Save, saves_one}
+use Rattle.cpc_chains_store_laws.specs.Frames.{asks_block, fills_frame, frame_through, gives_one}
+use Rattle.cpc_convert_flat_laws.specs.Boxes.{unboxes_one}
 use Rattle.cpc_chains_store_laws.specs.Driver.{drive_name, code_field, next_field, value_field}
-use Rattle.cpc_chains_event.specs.Names.{start_name, variable_name, next_name, value_name, to_name, under_name, result_name}
-use Rattle.cpc_chains_event.specs.Routines.{Routine, routine_of, is_plain, readings_of, closure_of, local_of}
+use Rattle.cpc_convert_routines.specs.Names.{start_name, variable_name, next_name, value_name, to_name, under_name, result_name}
+use Rattle.cpc_convert_routines.specs.Routines.{Routine, routine_of, is_plain, readings_of, closure_of, local_of}
 use Rattle.cpc_chains_event.specs.Lines.{Line, Does, Goes, Tests, Passes, goes, passes, all_do, save_of, frame_lines, frame_lines_if, gives_from, call_lines, hands_over, hands_nothing, runtime_name, wait_lines, section_lines, enter_lines, waits_lines, unbox_lines, result_lines, patch_lines, leave_lines, simple_lines, cps_lines, test_lines, arrival_lines, behind_arrival, framed_lines, stood_lines}
 use Rattle.cpc_chains_print_laws.proofs.Names as N
 use Rattle.cpc_chains_print_laws.proofs.Names.{IsSmall, name_widened, spawner_is_name, start_is_name, piece_is_name, variable_is_name}

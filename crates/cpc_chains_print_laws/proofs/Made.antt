@@ -16,7 +16,7 @@ use Rattle.cpc_tree.specs.ExprPrint.{is_loose, tier_below, expr_row, expr_depth,
 use Rattle.cpc_tree.specs.StmtPrint.{assigning_mark, mark_row, call_row, stmt_row, block_row, stmt_depth, block_depth, is_local, HasMark, PrintableStmt, PrintableBlock}
 use Rattle.cpc_printer_laws.proofs.Fitting.{Spelled, spelled_both}
 use Rattle.cpc_convert_image_laws.specs.Images.{Readings, image, images, followed, image_stmt}
-use Rattle.cpc_chains_store_laws.specs.Flat.{before}
+use Rattle.cpc_convert_flat_laws.specs.Flat.{before}
 use Rattle.cpc_chains_store_laws.specs.Frames.{frame_through}
 use Rattle.cpc_chains_print_laws.proofs.Images.{ReadingsSpelled, spelled_round, image_spelled, image_printable, image_deep, image_no_call, round_one}
 use Rattle.cpc_chains_print_laws.proofs.Source.{ExprPrints, EachPrints, SimplePrints}

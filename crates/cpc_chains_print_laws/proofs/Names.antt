@@ -20,7 +20,7 @@ use Rattle.cpc_convert_common.specs.Converted.{marked, spawner_name}
 use Rattle.cpc_convert_common.specs.Marks.{has_marks}
 use Rattle.cpc_convert_common.proofs.Marks.{marked_differs}
 use Rattle.cpc_forms.specs.Flow.{Place, Start, At}
-use Rattle.cpc_chains_event.specs.Names.{start_name, leader_name, piece_name, value_tag, box_tag, variable_name, node_label}
+use Rattle.cpc_convert_routines.specs.Names.{start_name, leader_name, piece_name, value_tag, box_tag, variable_name, node_label}
 
 -- ---- no keyword
 

@@ -15,15 +15,18 @@ use Rattle.cpc_meaning.specs.Act.{Stood, AtStatement, AtArrival, AtEnd}
 use Rattle.cpc_meaning.specs.Ways.{Manner, InPlace, ByFrame, AsCps}
 use Rattle.cpc_forms.specs.Flow.{Place, Start, At}
 use Rattle.cpc_forms.specs.Graph.{Node, at_node}
-use Rattle.cpc_chains_store_laws.specs.Frames.{Load, loads_one, declares_one, frees_frame, saves_one, fills_frame, asks_block}
+use Rattle.cpc_convert_flat_laws.specs.Locals.{Load, loads_one, declares_one, saves_one}
+use Rattle.cpc_chains_store_laws.specs.Frames.{frees_frame, fills_frame, asks_block}
 use Rattle.cpc_chains_store_laws.specs.Driver.{drive_name, frame_tag, code_field, next_field, value_field, any_pointer, readies}
-use Rattle.cpc_chains_event.specs.Names.{start_name, piece_name, value_tag, box_tag, variable_name, pointer_name, frame_name, value_name, to_name, under_name, result_name}
-use Rattle.cpc_chains_event.specs.Routines.{Routine, routine_of, closure_of, variable_of, local_of, locals_of, variable_if, passed_from, passed, is_parameter}
-use Rattle.cpc_chains_event.specs.Frames.{arriving_if, arriving_from, arriving_found, arriving_stood, arriving_type, value_struct_if, start_struct, leader_struct, structs_of, box_of, boxes_of}
+use Rattle.cpc_convert_routines.specs.Names.{start_name, piece_name, value_tag, box_tag, variable_name, pointer_name, frame_name, value_name, to_name, under_name, result_name}
+use Rattle.cpc_convert_routines.specs.Routines.{Routine, routine_of, closure_of, variable_of, local_of, locals_of, variable_if, passed_from, passed, is_parameter}
+use Rattle.cpc_convert_routines.specs.Arriving.{arriving_if, arriving_from, arriving_found, arriving_stood, arriving_type}
+use Rattle.cpc_chains_event.specs.Frames.{value_struct_if, start_struct, leader_struct, structs_of, box_of, boxes_of}
 use Rattle.cpc_chains_event.specs.Lines.{save_of}
 use Rattle.cpc_chains_event.specs.Rows.{numbers_of, piece_statements}
-use Rattle.cpc_chains_event.specs.Pieces.{parameter_of, load_of, below_if, takes_value, value_load, loaded, loads_of, called_so, to_frame, words_if, words_of, begun, declares_of, fills_if, boxing_lines, boxing_of, piece_body, piece_function, spawner_function, leader_function, made_of}
-use Rattle.cpc_chains_event.proofs.Numbers.{AllBelow}
+use Rattle.cpc_chains_event.specs.Pieces.{parameter_of, load_of, below_if, value_load, loaded, loads_of, called_so, to_frame, words_if, words_of, begun, declares_of, fills_if, boxing_lines, boxing_of, piece_body, piece_function, spawner_function, leader_function, made_of}
+use Rattle.cpc_convert_routines.specs.Taken.{takes_value}
+use Rattle.cpc_convert_routines.proofs.Numbers.{AllBelow}
 use Rattle.cpc_printer_laws.proofs.LeastTypes.{starred_variable}
 use Rattle.cpc_chains_print_laws.proofs.Names as N
 use Rattle.cpc_chains_print_laws.proofs.Names.{IsSmall, name_widened, spawner_is_name, start_is_name, value_is_name, box_is_name, piece_is_name, variable_is_name}

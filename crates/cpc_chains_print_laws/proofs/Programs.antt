@@ -22,16 +22,17 @@ use Rattle.cpc_forms.specs.Graph.{graph_of, node_of}
 use Rattle.cpc_forms.specs.Split.{owners_from}
 use Rattle.cpc_lift_laws.specs.Lift.{variable_count}
 use Rattle.cpc_chains_store_laws.specs.Driver.{drive_name, frame_tag, code_field, value_field, any_pointer, taken_name, taken, is_taken, takes_up, drive_function}
-use Rattle.cpc_chains_event.specs.NameLaws.{IsNamed, IsCps}
-use Rattle.cpc_chains_event.specs.Routines.{Routine, routine_of, closure_of}
+use Rattle.cpc_convert_routines.specs.Named.{IsNamed, IsCps}
+use Rattle.cpc_convert_routines.specs.Routines.{Routine, routine_of, closure_of}
 use Rattle.cpc_chains_event.specs.Frames.{any_frame, structs_of, boxes_of}
 use Rattle.cpc_chains_event.specs.Pieces.{loaded, begun, called_so, made_of}
-use Rattle.cpc_chains_event.specs.Converted.{kept_function, item_unless, kept_items, routine_if, routines_in, routines, all_structs, all_boxes, all_made, main_function, main_if, converted_with, converted}
-use Rattle.cpc_chains_event.proofs.Numbers.{AllBelow, NoneBelow, OneBelow, rises_below, below_append, below_chosen}
+use Rattle.cpc_convert_routines.specs.Kept.{kept_function, item_unless, kept_items, routine_if, routines_in, routines}
+use Rattle.cpc_chains_event.specs.Converted.{all_structs, all_boxes, all_made, main_function, main_if, converted_with, converted}
+use Rattle.cpc_convert_routines.proofs.Numbers.{AllBelow, NoneBelow, OneBelow, rises_below, below_append, below_chosen}
 use Rattle.cpc_chains_event.proofs.Locals.{closure_rise, counted, loaded_below, boxes_rise}
 use Rattle.cpc_chains_event.specs.Rows.{numbers_of}
-use Rattle.cpc_chains_laws.specs.Accepted.Names.{HasNames}
-use Rattle.cpc_chains_laws.specs.Accepted.Points.{PositionsKnown}
+use Rattle.cpc_lifted_laws.specs.Accepted.Names.{HasNames}
+use Rattle.cpc_lifted_laws.specs.Accepted.Points.{PositionsKnown}
 use Rattle.cpc_chains_laws.proofs.Accepted.Below.{below_numbers}
 use Rattle.cpc_chains_print_laws.proofs.Names as N
 use Rattle.cpc_chains_print_laws.proofs.Images.{row_widened}

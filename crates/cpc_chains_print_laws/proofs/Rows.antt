@@ -7,11 +7,12 @@ use Rattle.cpc_tree.specs.Typing.{function_named}
 use Rattle.cpc_convert_common.specs.Members.{Has, OnTop, Below}
 use Rattle.cpc_forms.specs.Flow.{Place}
 use Rattle.cpc_forms.specs.Graph.{Node, at_node}
-use Rattle.cpc_chains_event.specs.Names.{node_label}
-use Rattle.cpc_chains_event.specs.Routines.{Routine, routine_of, closure_of}
+use Rattle.cpc_convert_routines.specs.Names.{node_label}
+use Rattle.cpc_convert_routines.specs.Routines.{Routine, routine_of, closure_of}
 use Rattle.cpc_chains_event.specs.Lines.{Line, Does, Goes, Tests, Passes, node_lines, behind_arrival}
-use Rattle.cpc_chains_event.specs.Rows.{is_own, Row, lines_by, row_of, numbers_of, rows_of, Put, Plain, Jump, JumpIf, is_next, put_line, put_lines, PutRow, first_number, put_rows, is_wanted, put_statement, label_if, row_statements, rows_statements, piece_statements}
-use Rattle.cpc_chains_event.proofs.Numbers.{AllBelow, NoneBelow, OneBelow}
+use Rattle.cpc_convert_routines.specs.Nodes.{is_own}
+use Rattle.cpc_chains_event.specs.Rows.{Row, lines_by, row_of, numbers_of, rows_of, Put, Plain, Jump, JumpIf, is_next, put_line, put_lines, PutRow, first_number, put_rows, is_wanted, put_statement, label_if, row_statements, rows_statements, piece_statements}
+use Rattle.cpc_convert_routines.proofs.Numbers.{AllBelow, NoneBelow, OneBelow}
 use Rattle.cpc_chains_print_laws.proofs.Names.{label_is_name}
 use Rattle.cpc_chains_print_laws.proofs.Known.{FunctionReads, StoodPrints}
 use Rattle.cpc_chains_print_laws.proofs.Made.{ExprMade, RowMade, EachIn, both_in, row_in, label_made, line_row, empty_made, goto_made, if_made}

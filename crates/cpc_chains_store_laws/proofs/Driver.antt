@@ -18,11 +18,11 @@ use Rattle.cpc_meaning.specs.Slots.{call_slots}
 use Rattle.cpc_meaning.specs.Trees.{first_point}
 use Rattle.cpc_meaning.specs.Machine.{next}
 use Rattle.cpc_meaning.specs.Events.{Callback, CallWith, callbacks}
-use Rattle.cpc_chains_store_laws.specs.Frames.{PointsTo, at}
-use Rattle.cpc_chains_store_laws.specs.Walks.{World, running, idle, frame_at, in_function}
+use Rattle.cpc_convert_flat_laws.specs.Locals.{PointsTo, at}
+use Rattle.cpc_convert_flat_laws.specs.Walks.{World, running, idle, frame_at, in_function}
 use Rattle.cpc_chains_store_laws.specs.Driver.{drive_name, frame_tag, code_field, value_field, piece_type, taken_name, taken, takes_up, drive_function, drive_slots, drive_test, drive_call, DriverFacts, with_round}
-use Rattle.cpc_chains_store_laws.proofs.Fields.{named_pointer, field_value, field_typed, field_assign}
-use Rattle.cpc_chains_store_laws.proofs.Steps.{step_enters}
+use Rattle.cpc_convert_flat_laws.proofs.Fields.{named_pointer, field_value, field_typed, field_assign}
+use Rattle.cpc_convert_flat_laws.proofs.Steps.{step_enters}
 
 -- a call of a value
 pub call_enters : (c : Context) (e : Expr) (es : Exprs) (v : Value) (t : Ty) (vs ws : List Value) (f : Function) → value c e ≡ Gives v → used_type c e ≡ Some t → values c es ≡ Gives vs

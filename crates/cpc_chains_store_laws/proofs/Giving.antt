@@ -12,12 +12,13 @@ use Rattle.cpc_meaning.specs.Answer.{Gives}
 use Rattle.cpc_chains_store_laws.specs.Chains.{frame_cells}
 use Rattle.cpc_tree.specs.declared.program.Mode.TheVariants.{Native}
 use Rattle.cpc_meaning.specs.Plain.{Frame as CallFrame}
-use Rattle.cpc_chains_store_laws.specs.Flat.{before, Stands, LineAt}
-use Rattle.cpc_chains_store_laws.specs.Frames.{at, PointsTo, Holds, asks_block, pointed_slots, fills_call, Give, gives_one, Giving, NoGiving, AndGiving, GivingFaults, FirstFaults, LaterFaults}
-use Rattle.cpc_chains_store_laws.specs.Walks.{World, Rise, Walk, at_line, FaultsAfter}
-use Rattle.cpc_chains_store_laws.proofs.Walks.{stay, rise_append, rise_more, rise_then_level, level_cons, walk_cons, walk_append}
-use Rattle.cpc_chains_store_laws.proofs.AtLine.{line_path, line_found, line_scope, line_passed}
-use Rattle.cpc_chains_store_laws.proofs.Steps.{step_faults}
+use Rattle.cpc_convert_flat_laws.specs.Flat.{before, Stands, LineAt}
+use Rattle.cpc_convert_flat_laws.specs.Locals.{at, PointsTo, Holds}
+use Rattle.cpc_chains_store_laws.specs.Frames.{asks_block, pointed_slots, fills_call, Give, gives_one, Giving, NoGiving, AndGiving, GivingFaults, FirstFaults, LaterFaults}
+use Rattle.cpc_convert_flat_laws.specs.Walks.{World, Rise, Walk, at_line, FaultsAfter}
+use Rattle.cpc_convert_flat_laws.proofs.Walks.{stay, rise_append, rise_more, rise_then_level, level_cons, walk_cons, walk_append}
+use Rattle.cpc_convert_flat_laws.proofs.AtLine.{line_path, line_found, line_scope, line_passed}
+use Rattle.cpc_convert_flat_laws.proofs.Steps.{step_faults}
 use Rattle.cpc_chains_store_laws.proofs.Making.{heads_frame, new_field_step, append_one, length_one}
 
 module _ (q : Program) (w : World) (fn : Text) (g : Function) (body : Stmts) (below : List (CallFrame Point)) (is_g : function_named q fn ≡ Some g) (scope : Scope) (n : ℕ) (rest : Stmts) (slots : List Slot) (s : Store) (f : Expr) (tag : Text) (points : (t : Store) → PointsTo q scope slots t f tag (next_block Frame s)) where

@@ -10,17 +10,18 @@ use Rattle.cpc_store.specs.Store.{Value, Unset, At, Store, next_block, alloc}
 use Rattle.cpc_meaning.specs.Answer.{Gives}
 use Rattle.cpc_meaning.specs.Eval.{Slot, value, assigned}
 use Rattle.cpc_chains_store_laws.specs.Chains.{Saved, frame_cells, Chain, Top}
-use Rattle.cpc_chains_store_laws.specs.Flat.{before, LineAt}
-use Rattle.cpc_chains_store_laws.specs.Frames.{at, Holds, Save, Saving, asks_block, fills_frame, frame_through, pointed_slots, register_slots, AreRegisters}
-use Rattle.cpc_chains_store_laws.specs.Boxes.{AllRegisters}
+use Rattle.cpc_convert_flat_laws.specs.Flat.{before, LineAt}
+use Rattle.cpc_convert_flat_laws.specs.Locals.{at, Holds, Save, Saving, register_slots, AreRegisters}
+use Rattle.cpc_chains_store_laws.specs.Frames.{asks_block, fills_frame, frame_through, pointed_slots}
+use Rattle.cpc_convert_flat_laws.specs.Boxes.{AllRegisters}
 use Rattle.cpc_chains_store_laws.specs.Driver.{any_pointer, DriverFacts, driving, entered, IsPiece}
 use Rattle.cpc_meaning_laws.specs.Cell.Cells.{call_cells}
-use Rattle.cpc_chains_store_laws.specs.Walks.{World, Rise, at_line}
+use Rattle.cpc_convert_flat_laws.specs.Walks.{World, Rise, at_line}
 use Rattle.cpc_chains_store_laws.proofs.Chains.{chain_push}
-use Rattle.cpc_chains_store_laws.proofs.Fields.{named_pointer, cast_pointer, held}
-use Rattle.cpc_chains_store_laws.proofs.Walks.{rise_append, rise_cons}
+use Rattle.cpc_convert_flat_laws.proofs.Fields.{named_pointer, cast_pointer, held}
+use Rattle.cpc_convert_flat_laws.proofs.Walks.{rise_append, rise_cons}
 use Rattle.cpc_chains_store_laws.proofs.Making.{makes_frame, past_made, holds_new}
-use Rattle.cpc_chains_store_laws.proofs.Boxes.{registers_set, free_all}
+use Rattle.cpc_convert_flat_laws.proofs.Boxes.{registers_set, free_all}
 use Rattle.cpc_chains_store_laws.proofs.Pieces.{registers_call, return_step, drive_goes_on}
 
 module _ (q : Program) (facts : DriverFacts q) (w : World) (fn : Text) (g : Function) (body : Stmts) (is_g : function_named q fn ≡ Some g) (gives_pointer : g.result ≡ any_pointer) (p0 r0 k0 : Value) (k : ℕ) (scope : Scope) (n : ℕ) (rest : Stmts) (slots : List Slot) (s : Store) (all : AllRegisters slots) (to tag head code next piece : Text) (lower : Expr) (ps : List Save) (vs : List Value) where

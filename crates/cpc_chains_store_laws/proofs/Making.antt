@@ -12,14 +12,15 @@ use Rattle.cpc_meaning.specs.Eval.{Slot, Register, value, assigned}
 use Rattle.cpc_meaning.specs.Plain.{Frame as CallFrame}
 use Rattle.cpc_meaning.proofs.Stores.{get_set, get_other, set_last, alloc_cells}
 use Rattle.cpc_chains_store_laws.specs.Chains.{frame_cells}
-use Rattle.cpc_chains_store_laws.specs.Flat.{before, Stands, LineAt}
-use Rattle.cpc_chains_store_laws.specs.Walks.{World, at_line, Rise, Walk}
-use Rattle.cpc_chains_store_laws.specs.Frames.{at, PointsTo, pointed_slots, Save, saves_one, asks_block, fills_frame, Holds, Saving, NoSaving, AndSaving}
-use Rattle.cpc_chains_store_laws.proofs.Fields.{held}
-use Rattle.cpc_chains_store_laws.proofs.Walks.{stay, rise_steps, rise_then_level, level_cons}
-use Rattle.cpc_chains_store_laws.proofs.AtLine.{line_passed}
-use Rattle.cpc_chains_store_laws.proofs.Scopes.{all_lines, past_lines}
-use Rattle.cpc_chains_store_laws.proofs.LineSteps.{frame_step, field_step}
+use Rattle.cpc_convert_flat_laws.specs.Flat.{before, Stands, LineAt}
+use Rattle.cpc_convert_flat_laws.specs.Walks.{World, at_line, Rise, Walk}
+use Rattle.cpc_convert_flat_laws.specs.Locals.{at, PointsTo, Save, saves_one, Holds, Saving, NoSaving, AndSaving}
+use Rattle.cpc_chains_store_laws.specs.Frames.{pointed_slots, asks_block, fills_frame}
+use Rattle.cpc_convert_flat_laws.proofs.Fields.{held}
+use Rattle.cpc_convert_flat_laws.proofs.Walks.{stay, rise_steps, rise_then_level, level_cons}
+use Rattle.cpc_convert_flat_laws.proofs.AtLine.{line_passed}
+use Rattle.cpc_convert_flat_laws.proofs.Scopes.{all_lines, past_lines}
+use Rattle.cpc_convert_flat_laws.proofs.LineSteps.{frame_step, field_step}
 
 -- ---- the newest block
 

@@ -16,19 +16,19 @@ use Rattle.cpc_meaning.specs.Slots.{call_slots, make_slots, free_slots}
 use Rattle.cpc_meaning.specs.Plain.{Frame as CallFrame}
 use Rattle.cpc_meaning.specs.Events.{Callback, CallWith}
 use Rattle.cpc_chains_store_laws.specs.Chains.{Saved, frame_cells, Top}
-use Rattle.cpc_chains_store_laws.specs.Flat.{LineAt}
-use Rattle.cpc_chains_store_laws.specs.Frames.{at, register_slots, AreRegisters, NoneAre, AndRegister, Scalars, NoScalars, AndScalar, blank}
+use Rattle.cpc_convert_flat_laws.specs.Flat.{LineAt}
+use Rattle.cpc_convert_flat_laws.specs.Locals.{at, register_slots, AreRegisters, NoneAre, AndRegister, Scalars, NoScalars, AndScalar, blank}
 use Rattle.cpc_meaning.proofs.Stores.{save_there}
 use Rattle.cpc_meaning.proofs.Functions.{scalar_size, register_scalar}
 use Rattle.cpc_store.proofs.CellLemmas.{store_cells-save}
 use Rattle.cpc_meaning_laws.specs.Cell.Cells.{call_cells}
 use Rattle.cpc_meaning_laws.proofs.Cell.Calls.{call_takes, leaving_gives_back}
-use Rattle.cpc_chains_store_laws.specs.Walks.{World, at_line, Rise, Walk, Finishes, running, idle}
+use Rattle.cpc_convert_flat_laws.specs.Walks.{World, at_line, Rise, Walk, Finishes, running, idle}
 use Rattle.cpc_chains_store_laws.specs.Driver.{drive_name, DriverFacts, with_round, driving, entered, patched, IsPiece}
-use Rattle.cpc_chains_store_laws.proofs.AtLine.{line_path, line_found, line_scope}
-use Rattle.cpc_chains_store_laws.proofs.Steps.{step_returns}
-use Rattle.cpc_chains_store_laws.proofs.Walks.{rise_one, rise_cons, level_cons, walk_one, walk_cons}
-use Rattle.cpc_chains_store_laws.proofs.Fits.{assigned_fits}
+use Rattle.cpc_convert_flat_laws.proofs.AtLine.{line_path, line_found, line_scope}
+use Rattle.cpc_convert_flat_laws.proofs.Steps.{step_returns}
+use Rattle.cpc_convert_flat_laws.proofs.Walks.{rise_one, rise_cons, level_cons, walk_one, walk_cons}
+use Rattle.cpc_convert_flat_laws.proofs.Fits.{assigned_fits}
 use Rattle.cpc_chains_store_laws.proofs.Chains.{chain_patched}
 use Rattle.cpc_chains_store_laws.proofs.Driver.{drive_taken, drive_declares, drive_writes, drive_tests, drive_calls, drive_arrives, drive_stops, drive_ends}
 

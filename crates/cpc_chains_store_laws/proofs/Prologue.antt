@@ -9,14 +9,15 @@ use Rattle.cpc_store.specs.Store.{Value, Unset, At, Store, blocks, with_blocks, 
 use Rattle.cpc_meaning.specs.Eval.{Slot, Register}
 use Rattle.cpc_meaning.specs.Plain.{Frame as CallFrame}
 use Rattle.cpc_meaning.proofs.Functions.{text_same}
-use Rattle.cpc_chains_store_laws.specs.Flat.{before, Stands, LineAt}
-use Rattle.cpc_chains_store_laws.specs.Frames.{Holds, Load, loads_one, Loading, loaded_scope, blank, declares_one, declared_scope, frees_frame, opens_frame, takes_frame, taken_scope}
-use Rattle.cpc_chains_store_laws.specs.Walks.{World, Rise, Walk, at_line}
-use Rattle.cpc_chains_store_laws.proofs.Fields.{held}
-use Rattle.cpc_chains_store_laws.proofs.Walks.{stay, rise_more, level_cons, rise_then_level}
-use Rattle.cpc_chains_store_laws.proofs.Flat.{passed}
-use Rattle.cpc_chains_store_laws.proofs.AtLine.{line_passed}
-use Rattle.cpc_chains_store_laws.proofs.LineSteps.{declares_step, frame_free_step}
+use Rattle.cpc_convert_flat_laws.specs.Flat.{before, Stands, LineAt}
+use Rattle.cpc_convert_flat_laws.specs.Locals.{Holds, Load, loads_one, Loading, loaded_scope, blank, declares_one, declared_scope}
+use Rattle.cpc_chains_store_laws.specs.Frames.{frees_frame, opens_frame, takes_frame, taken_scope}
+use Rattle.cpc_convert_flat_laws.specs.Walks.{World, Rise, Walk, at_line}
+use Rattle.cpc_convert_flat_laws.proofs.Fields.{held}
+use Rattle.cpc_convert_flat_laws.proofs.Walks.{stay, rise_more, level_cons, rise_then_level}
+use Rattle.cpc_convert_flat_laws.proofs.Flat.{passed}
+use Rattle.cpc_convert_flat_laws.proofs.AtLine.{line_passed}
+use Rattle.cpc_convert_flat_laws.proofs.LineSteps.{declares_step, frame_free_step}
 use Rattle.cpc_chains_store_laws.proofs.Taking.{get_front, get_next, slots_length, not_hidden, local_step, loads_walk, past_loads}
 
 -- ---- locals without a start

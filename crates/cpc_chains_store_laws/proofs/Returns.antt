@@ -9,19 +9,19 @@ use Rattle.cpc_store.specs.Store.{Value, Null, At, Store}
 use Rattle.cpc_meaning.specs.Answer.{Gives}
 use Rattle.cpc_meaning.specs.Eval.{Slot, value, assigned}
 use Rattle.cpc_chains_store_laws.specs.Chains.{Saved, Top}
-use Rattle.cpc_chains_store_laws.specs.Structs.{IsStruct}
-use Rattle.cpc_chains_store_laws.specs.Flat.{LineAt}
-use Rattle.cpc_chains_store_laws.specs.Frames.{at, Holds, register_slots, AreRegisters}
-use Rattle.cpc_chains_store_laws.specs.Boxes.{AllRegisters}
+use Rattle.cpc_convert_flat_laws.specs.Structs.{IsStruct}
+use Rattle.cpc_convert_flat_laws.specs.Flat.{LineAt}
+use Rattle.cpc_convert_flat_laws.specs.Locals.{at, Holds, register_slots, AreRegisters}
+use Rattle.cpc_convert_flat_laws.specs.Boxes.{AllRegisters}
 use Rattle.cpc_chains_store_laws.specs.Driver.{any_pointer, head_fields, patches, DriverFacts, driving, entered, patched, IsPiece}
 use Rattle.cpc_meaning_laws.specs.Cell.Cells.{call_cells}
-use Rattle.cpc_chains_store_laws.specs.Walks.{World, Rise, Walk, Finishes, at_line, idle}
+use Rattle.cpc_convert_flat_laws.specs.Walks.{World, Rise, Walk, Finishes, at_line, idle}
 use Rattle.cpc_chains_store_laws.proofs.Chains.{chain_patched}
-use Rattle.cpc_chains_store_laws.proofs.Fields.{held}
-use Rattle.cpc_chains_store_laws.proofs.Walks.{rise_append, rise_cons, finishes_after}
-use Rattle.cpc_chains_store_laws.proofs.AtLine.{line_passed}
-use Rattle.cpc_chains_store_laws.proofs.Boxes.{free_all}
-use Rattle.cpc_chains_store_laws.proofs.Jumps.{patch_none, patch_frame}
+use Rattle.cpc_convert_flat_laws.proofs.Fields.{held}
+use Rattle.cpc_convert_flat_laws.proofs.Walks.{rise_append, rise_cons, finishes_after}
+use Rattle.cpc_convert_flat_laws.proofs.AtLine.{line_passed}
+use Rattle.cpc_convert_flat_laws.proofs.Boxes.{free_all}
+use Rattle.cpc_chains_store_laws.proofs.Patches.{patch_none, patch_frame}
 use Rattle.cpc_chains_store_laws.proofs.Pieces.{registers_call, return_step, drive_goes_on, drive_finishes}
 
 module _ (q : Program) (facts : DriverFacts q) (w : World) (fn : Text) (g : Function) (body : Stmts) (is_g : function_named q fn ≡ Some g) (gives_pointer : g.result ≡ any_pointer) (p0 r0 k0 : Value) (k : ℕ) (scope : Scope) (n : ℕ) (rest : Stmts) (slots : List Slot) (s : Store) (all : AllRegisters slots) (next : Text) where

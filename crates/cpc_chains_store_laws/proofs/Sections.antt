@@ -22,13 +22,13 @@ use Rattle.cpc_meaning.specs.Section.{Job}
 use Rattle.cpc_meaning.specs.Machine.{next, ends, reply, submits}
 use Rattle.cpc_meaning.specs.Start.{before_underscores}
 use Rattle.cpc_meaning.specs.Events.{Callback, CallWith, callbacks}
-use Rattle.cpc_chains_store_laws.specs.Flat.{point_at, standing, LineAt}
-use Rattle.cpc_chains_store_laws.specs.Frames.{at, Holds}
-use Rattle.cpc_chains_store_laws.specs.Walks.{World, frame_at, at_line}
+use Rattle.cpc_convert_flat_laws.specs.Flat.{point_at, standing, LineAt}
+use Rattle.cpc_convert_flat_laws.specs.Locals.{at, Holds}
+use Rattle.cpc_convert_flat_laws.specs.Walks.{World, frame_at, at_line}
 use Rattle.cpc_chains_store_laws.specs.Driver.{drive_name, DriverMeant, sleeps, waits, detaches}
-use Rattle.cpc_chains_store_laws.proofs.Fields.{held}
-use Rattle.cpc_chains_store_laws.proofs.AtLine.{line_path, line_found, line_scope, line_next}
-use Rattle.cpc_chains_store_laws.proofs.Steps.{step_asks, step_fails, step_faults, replied}
+use Rattle.cpc_convert_flat_laws.proofs.Fields.{held}
+use Rattle.cpc_convert_flat_laws.proofs.AtLine.{line_path, line_found, line_scope, line_next}
+use Rattle.cpc_convert_flat_laws.proofs.Steps.{step_asks, step_fails, step_faults, replied}
 
 module _ (q : Program) (w : World) (fn : Text) (g : Function) (body : Stmts) (below : List (CallFrame Point)) (is_g : function_named q fn ≡ Some g) (k : ℕ) (scope : Scope) (n : ℕ) (rest : Stmts) (slots : List Slot) (s : Store) (x : Text) (t : Ty) (b : ℕ) (h : Holds q scope slots x t (At Frame b 0)) (is_drive : DriverMeant q scope) where
   -- a wait for a condition that is not live

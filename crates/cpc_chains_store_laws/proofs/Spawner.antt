@@ -14,19 +14,20 @@ use Rattle.cpc_meaning.specs.Plain.{Frame as CallFrame}
 use Rattle.cpc_meaning.specs.Events.{CallWith}
 use Rattle.cpc_meaning.proofs.Functions.{text_same}
 use Rattle.cpc_chains_store_laws.specs.Chains.{frame_cells}
-use Rattle.cpc_chains_store_laws.specs.Flat.{before, Stands, LineAt}
-use Rattle.cpc_chains_store_laws.specs.Frames.{Holds, Save, Saving, asks_block, fills_frame, pointed_slots}
-use Rattle.cpc_chains_store_laws.specs.Boxes.{AllRegisters}
+use Rattle.cpc_convert_flat_laws.specs.Flat.{before, Stands, LineAt}
+use Rattle.cpc_convert_flat_laws.specs.Locals.{Holds, Save, Saving}
+use Rattle.cpc_chains_store_laws.specs.Frames.{asks_block, fills_frame, pointed_slots}
+use Rattle.cpc_convert_flat_laws.specs.Boxes.{AllRegisters}
 use Rattle.cpc_chains_store_laws.specs.Driver.{drive_name, with_agenda, DriverMeant, readies, spawns}
-use Rattle.cpc_chains_store_laws.specs.Walks.{World, Walk, at_line, running}
-use Rattle.cpc_chains_store_laws.proofs.Fields.{named_pointer}
-use Rattle.cpc_chains_store_laws.proofs.Walks.{rise_more, walk_one, walk_cons, walk_append}
-use Rattle.cpc_chains_store_laws.proofs.Flat.{passed}
-use Rattle.cpc_chains_store_laws.proofs.LineSteps.{declares_step}
+use Rattle.cpc_convert_flat_laws.specs.Walks.{World, Walk, at_line, running}
+use Rattle.cpc_convert_flat_laws.proofs.Fields.{named_pointer}
+use Rattle.cpc_convert_flat_laws.proofs.Walks.{rise_more, walk_one, walk_cons, walk_append}
+use Rattle.cpc_convert_flat_laws.proofs.Flat.{passed}
+use Rattle.cpc_convert_flat_laws.proofs.LineSteps.{declares_step}
 use Rattle.cpc_chains_store_laws.proofs.Making.{makes_frame, past_made, holds_new}
 use Rattle.cpc_chains_store_laws.proofs.Taking.{get_next}
-use Rattle.cpc_chains_store_laws.proofs.Boxes.{registers_set, free_all}
-use Rattle.cpc_chains_store_laws.proofs.Steps.{step_leaves}
+use Rattle.cpc_convert_flat_laws.proofs.Boxes.{registers_set, free_all}
+use Rattle.cpc_convert_flat_laws.proofs.Steps.{step_leaves}
 use Rattle.cpc_chains_store_laws.proofs.Waits.{ready_step}
 
 module _ (q : Program) (w : World) (fn : Text) (g : Function) (body : Stmts) (frame : CallFrame Point) (others : List (CallFrame Point)) (is_g : function_named q fn ≡ Some g) (scope : Scope) (n : ℕ) (done : List Slot) (s : Store) (e tag code next piece : Text) (ps : List Save) (st : Stands g body 0 scope n (spawns e tag code next piece ps)) where

@@ -11,14 +11,14 @@ use Rattle.cpc_meaning.specs.Answer.{Gives}
 use Rattle.cpc_meaning.specs.Eval.{Slot, Register, value, assigned}
 use Rattle.cpc_meaning.specs.Plain.{Frame as CallFrame}
 use Rattle.cpc_meaning.proofs.Functions.{text_same}
-use Rattle.cpc_chains_store_laws.specs.Flat.{before, Stands}
-use Rattle.cpc_chains_store_laws.specs.Walks.{World, at_line, Rise}
-use Rattle.cpc_chains_store_laws.specs.Frames.{at, Load, loads_one, Holds, Loading, NoLoading, AndLoading, loaded_scope, blank}
-use Rattle.cpc_chains_store_laws.proofs.Fields.{named_pointer, field_value}
-use Rattle.cpc_chains_store_laws.proofs.Asking.{local_assign}
-use Rattle.cpc_chains_store_laws.proofs.Walks.{stay, level_cons}
-use Rattle.cpc_chains_store_laws.proofs.Flat.{passed}
-use Rattle.cpc_chains_store_laws.proofs.LineSteps.{declare_step}
+use Rattle.cpc_convert_flat_laws.specs.Flat.{before, Stands}
+use Rattle.cpc_convert_flat_laws.specs.Walks.{World, at_line, Rise}
+use Rattle.cpc_convert_flat_laws.specs.Locals.{at, Load, loads_one, Holds, Loading, NoLoading, AndLoading, loaded_scope, blank}
+use Rattle.cpc_convert_flat_laws.proofs.Fields.{named_pointer, field_value}
+use Rattle.cpc_convert_flat_laws.proofs.Asking.{local_assign}
+use Rattle.cpc_convert_flat_laws.proofs.Walks.{stay, level_cons}
+use Rattle.cpc_convert_flat_laws.proofs.Flat.{passed}
+use Rattle.cpc_convert_flat_laws.proofs.LineSteps.{declare_step}
 
 -- ---- slots
 

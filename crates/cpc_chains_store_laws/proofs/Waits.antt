@@ -18,14 +18,14 @@ use Rattle.cpc_meaning.specs.Trees.{trees}
 use Rattle.cpc_meaning.specs.Requests.{Request, Builtin, RtReady, RtSleep, RtIo, RtWait}
 use Rattle.cpc_meaning.specs.Machine.{next, asked_by, acts, direction_of}
 use Rattle.cpc_meaning.specs.Events.{Callback, CallWith, callbacks}
-use Rattle.cpc_chains_store_laws.specs.Flat.{point_at, LineAt}
-use Rattle.cpc_chains_store_laws.specs.Frames.{at, Holds}
-use Rattle.cpc_chains_store_laws.specs.Walks.{World, frame_at, at_line}
+use Rattle.cpc_convert_flat_laws.specs.Flat.{point_at, LineAt}
+use Rattle.cpc_convert_flat_laws.specs.Locals.{at, Holds}
+use Rattle.cpc_convert_flat_laws.specs.Walks.{World, frame_at, at_line}
 use Rattle.cpc_chains_store_laws.specs.Driver.{drive_name, with_marks, with_agenda, DriverMeant, readies, sleeps, waits, awaits}
-use Rattle.cpc_chains_store_laws.proofs.Fields.{held}
-use Rattle.cpc_chains_store_laws.proofs.Flat.{path_at}
-use Rattle.cpc_chains_store_laws.proofs.AtLine.{line_path, line_found, line_scope, line_next}
-use Rattle.cpc_chains_store_laws.proofs.Steps.{step_asks, replied}
+use Rattle.cpc_convert_flat_laws.proofs.Fields.{held}
+use Rattle.cpc_convert_flat_laws.proofs.Flat.{path_at}
+use Rattle.cpc_convert_flat_laws.proofs.AtLine.{line_path, line_found, line_scope, line_next}
+use Rattle.cpc_convert_flat_laws.proofs.Steps.{step_asks, replied}
 
 module _ (q : Program) (w : World) (fn : Text) (g : Function) (body : Stmts) (below : List (CallFrame Point)) (is_g : function_named q fn ≡ Some g) (k : ℕ) (scope : Scope) (n : ℕ) (rest : Stmts) (slots : List Slot) (s : Store) where
   -- a line that asks for an act on the agenda

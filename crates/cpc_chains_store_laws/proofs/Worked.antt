@@ -4,10 +4,10 @@ use Rattle.std.specs.Fmt.{digits}
 use Rattle.cpc_num.specs.Number.{settle, divided}
 use Rattle.cpc_tree.specs.Trace.{Output, Ended}
 use Rattle.cpc_meaning.specs.Events.{event}
-use Rattle.cpc_chains_store_laws.specs.Structs.{NoStruct, NoneHere, NotThis, NoneSo, NotSo, ScalarFields, NoFields, AndField}
+use Rattle.cpc_convert_flat_laws.specs.Structs.{NoStruct, NoneHere, NotThis, NoneSo, NotSo, ScalarFields, NoFields, AndField}
 use Rattle.cpc_chains_store_laws.specs.Driver.{frame_tag, head_fields, DriverFacts}
 use Rattle.cpc_chains_store_laws.specs.Worked.{int, others, program, quiet}
-use Rattle.cpc_chains_store_laws.proofs.Structs.{is_struct}
+use Rattle.cpc_convert_flat_laws.proofs.Structs.{is_struct}
 
 -- it prints 7
 pub worked_trace : (event program quiet 120).trace ≡ Output (55 ∷ 10 ∷ []) ∷ []

@@ -9,7 +9,7 @@ use Rattle.cpc_tree.specs.Syntax.{TyVoid, TyPointer, TyStruct, ENamed, EUnary, E
 use Rattle.cpc_tree.specs.Typing.{Scope}
 use Rattle.cpc_tree.specs.Registers.{variables}
 use Rattle.cpc_store.specs.Store.{Null, Code, Unset}
-use Rattle.cpc_chains_store_laws.specs.Boxes.{boxes_one, fills_box, Boxing, NoBoxing, PassRegister, BoxParameter}
+use Rattle.cpc_convert_flat_laws.specs.Boxes.{boxes_one, fills_box, Boxing, NoBoxing, PassRegister, BoxParameter}
 use Rattle.cpc_chains_store_laws.specs.Driver.{any_pointer}
 use Rattle.cpc_chains_store_laws.specs.Frames.{taken_scope}
 use Rattle.cpc_chains_store_laws.specs.Worked.{int, to_frame, field_of, load_of, n, to}

@@ -9,10 +9,11 @@ use Rattle.cpc_store.specs.declared.values.Class.TheVariants.{Frame}
 use Rattle.cpc_store.specs.Store.{Unset, Whole, At, next_block}
 use Rattle.cpc_meaning.specs.Eval.{Register}
 use Rattle.cpc_chains_store_laws.specs.Driver.{frame_tag, any_pointer, code_field, next_field}
-use Rattle.cpc_chains_store_laws.specs.Flat.{before, LineAt}
-use Rattle.cpc_chains_store_laws.specs.Frames.{NoSaving, AndSaving, Holds, asks_block, fills_frame, frame_through, takes_frame, taken_scope}
+use Rattle.cpc_convert_flat_laws.specs.Flat.{before, LineAt}
+use Rattle.cpc_convert_flat_laws.specs.Locals.{NoSaving, AndSaving, Holds}
+use Rattle.cpc_chains_store_laws.specs.Frames.{asks_block, fills_frame, frame_through, takes_frame, taken_scope}
 use Rattle.cpc_chains_store_laws.specs.Worked.{int, to_frame, to_value, field_of, load_of, save_of, frame_lines, a, to, program, behind, slots, FrameIsMade}
-use Rattle.cpc_chains_store_laws.proofs.Fields.{named_pointer, cast_pointer}
+use Rattle.cpc_convert_flat_laws.proofs.Fields.{named_pointer, cast_pointer}
 use Rattle.cpc_chains_store_laws.proofs.Making.{makes_frame, holds_new}
 
 abbrev body : Stmts

@@ -16,10 +16,11 @@ use Rattle.cpc_meaning.specs.Plain.{Frame as CallFrame}
 use Rattle.cpc_meaning.specs.Trees.{first_point}
 use Rattle.cpc_meaning.specs.Events.{Callback}
 use Rattle.cpc_chains_store_laws.specs.Chains.{Saved, frame_cells}
-use Rattle.cpc_chains_store_laws.specs.Structs.{IsStruct}
-use Rattle.cpc_chains_store_laws.specs.Frames.{Save, asks_block, fills_frame}
-use Rattle.cpc_chains_store_laws.specs.Flat.{before}
-use Rattle.cpc_chains_store_laws.specs.Walks.{World, Here, running, frame_at}
+use Rattle.cpc_convert_flat_laws.specs.Structs.{IsStruct}
+use Rattle.cpc_convert_flat_laws.specs.Locals.{Save}
+use Rattle.cpc_chains_store_laws.specs.Frames.{asks_block, fills_frame}
+use Rattle.cpc_convert_flat_laws.specs.Flat.{before}
+use Rattle.cpc_convert_flat_laws.specs.Walks.{World, Here, running, frame_at}
 
 -- the driver's name
 abbrev pub drive_name : Text

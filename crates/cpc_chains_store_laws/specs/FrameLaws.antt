@@ -1,27 +1,26 @@
--- The laws of frames, boxes and the driver, as statements: what a piece of a flat body does in so many steps.
-use Rattle.std.specs.Prelude.{◌≡◌, ℕ, suc, ◌+◌, ◌<◌, ◌^◌, List, [], ◌∷◌, ◌++◌, length, map, slice_get, Option, Some, codes}
+-- The laws of frames and the driver, as statements: what a piece of a flat body does in so many steps.
+use Rattle.std.specs.Prelude.{◌≡◌, ℕ, suc, ◌+◌, ◌<◌, ◌^◌, List, [], ◌∷◌, ◌++◌, length, map, slice_get, Some, codes}
 use Rattle.cpc_base.specs.Bytes.{Text}
-use Rattle.cpc_num.specs.declared.kinds.Fault.{Fault}
 use Rattle.cpc_num.specs.declared.kinds.Kind.TheVariants.{Int}
 use Rattle.cpc_tree.specs.declared.program.Mode.TheVariants.{Native}
-use Rattle.cpc_tree.specs.Syntax.{Ty, TyInt, TyPointer, TyCode, TyStruct, Tys, Expr, Stmt, Stmts, AndStmt, Variable, Function, Program}
+use Rattle.cpc_tree.specs.Syntax.{Ty, TyInt, TyPointer, TyCode, TyStruct, Tys, Expr, Stmts, AndStmt, Function, Program}
 use Rattle.cpc_tree.specs.Typing.{Scope, ALocal, NotMeant, AFunction, named, function_named, field, size}
 use Rattle.cpc_tree.specs.Points.{Point}
 use Rattle.cpc_store.specs.declared.values.Class.TheVariants.{Frame}
 use Rattle.cpc_store.specs.Store.{Value, Unset, Null, At, Store, next_block, alloc, cells_of}
-use Rattle.cpc_meaning.specs.Answer.{Gives, Faults}
+use Rattle.cpc_meaning.specs.Answer.{Gives}
 use Rattle.cpc_meaning.specs.Agenda.{Due}
 use Rattle.cpc_meaning.specs.Eval.{Slot, Register, value, assigned}
-use Rattle.cpc_meaning.specs.Slots.{call_slots, free_slots}
+use Rattle.cpc_meaning.specs.Slots.{call_slots}
 use Rattle.cpc_meaning.specs.Plain.{Frame as CallFrame}
 use Rattle.cpc_meaning.specs.Events.{Callback, CallWith}
 use Rattle.cpc_chains_store_laws.specs.Chains.{Saved, frame_cells, Top}
-use Rattle.cpc_chains_store_laws.specs.Structs.{IsStruct}
-use Rattle.cpc_chains_store_laws.specs.Flat.{before, Stands, LineAt}
+use Rattle.cpc_convert_flat_laws.specs.Structs.{IsStruct}
+use Rattle.cpc_convert_flat_laws.specs.Flat.{before, Stands, LineAt}
 use Rattle.cpc_meaning_laws.specs.Cell.Cells.{call_cells}
-use Rattle.cpc_chains_store_laws.specs.Walks.{World, Rise, Walk, Swell, Finishes, at_line, running, idle, FaultsAfter}
-use Rattle.cpc_chains_store_laws.specs.Frames.{at, PointsTo, Holds, Save, asks_block, fills_frame, Saving, pointed_slots, Load, loads_one, Loading, blank}
-use Rattle.cpc_chains_store_laws.specs.Boxes.{AllRegisters, Boxing, Made, Unboxing, unboxes_one}
+use Rattle.cpc_convert_flat_laws.specs.Walks.{World, Rise, Walk, Finishes, at_line, running, idle}
+use Rattle.cpc_convert_flat_laws.specs.Locals.{at, PointsTo, Holds, Save, Saving, Load, loads_one, Loading, blank}
+use Rattle.cpc_chains_store_laws.specs.Frames.{asks_block, fills_frame, pointed_slots}
 use Rattle.cpc_chains_store_laws.specs.Driver.{drive_name, head_fields, DriverFacts, with_round, driving, entered, patched, IsPiece, patches}
 
 -- a new frame of a piece, written through a pointer to it and one to what it begins as, over the frame below, with the values of some variables: three steps, and one for each variable
@@ -56,24 +55,6 @@ pub record FramesArePatched : Type 0 where
       → (next tag : Text) (e : Expr) (l : LineAt g body k scope n (patches next e) rest) → (u : Ty) (b : ℕ) → Holds q scope slots next (TyPointer (TyStruct tag)) (At Frame b 0) → IsStruct q tag (head_fields u [])
       → (f : Saved) (fs : List Saved) (lower old : Value) (owned : List ℕ) → Top s.frames f fs b lower old owned → (v v' : Value) → value (at q scope slots s) e ≡ Gives v → assigned u v ≡ Gives v'
       → Walk q w.trace 2 (at_line w fn below k (AndStmt l.statement rest) slots s) (at_line w fn below (suc k) rest slots (patched s b f lower v'))
-
--- the boxes of a call are made as the call makes them: the same blocks, and a pointer to each; a step for each statement
-abbrev pub BoxesAreMade : Type 0
-BoxesAreMade =
-    (p : Program) (f : Function) (q : Program) (w : World) (fn : Text) (g : Function) (body : Stmts) (below : List (CallFrame Point)) (is_g : function_named q fn ≡ Some g) (scope : Scope) (c : ℕ) (rest : Stmts) (count frame : ℕ) (tag e : Text) (b : ℕ) (cells : List Value)
-    (is_box : named q scope (codes "rt_box") ≡ NotMeant) (is_frame : named q scope e ≡ ALocal frame (TyPointer (TyStruct tag)))
-    (k n : ℕ) (xs : List Variable) (vs : List Value) (places : List (Option ℕ)) (ss : List Stmt) (slots : List Slot) (s : Store) → Boxing p f q scope count frame tag e cells n xs vs places ss
-    → AllRegisters slots → length slots ≡ count → slice_get slots frame ≡ Some (Register (At Frame b 0)) → cells_of Frame b s ≡ Some cells → Stands g body k scope c (before ss rest)
-    → Made p f n xs vs places slots s (λ slots' s'. Swell q w.trace (length ss) (at_line w fn below k (before ss rest) slots s) (at_line w fn below (k + length ss) rest slots' s'))
-
--- and given back as the call gives them back, a step for each, or with the same fault
-pub record BoxesAreFreed : Type 0 where
-  pub gives : (q : Program) (w : World) (fn : Text) (g : Function) (body : Stmts) (below : List (CallFrame Point)) (is_g : function_named q fn ≡ Some g) (scope : Scope) (n : ℕ) (rest : Stmts) (slots : List Slot) (is_named : named q scope (codes "rt_unbox") ≡ NotMeant)
-      (k : ℕ) (xs : List Slot) (ys : List Text) (s t : Store) → Unboxing q scope slots xs ys → free_slots xs s ≡ Gives t → Stands g body k scope n (before (map unboxes_one ys) rest)
-      → Walk q w.trace (length ys) (at_line w fn below k (before (map unboxes_one ys) rest) slots s) (at_line w fn below (k + length ys) rest slots t)
-  pub faults : (q : Program) (w : World) (fn : Text) (g : Function) (body : Stmts) (below : List (CallFrame Point)) (is_g : function_named q fn ≡ Some g) (scope : Scope) (n : ℕ) (rest : Stmts) (slots : List Slot) (is_named : named q scope (codes "rt_unbox") ≡ NotMeant)
-      (k : ℕ) (xs : List Slot) (ys : List Text) (s : Store) (fault : Fault) → Unboxing q scope slots xs ys → free_slots xs s ≡ Faults fault → Stands g body k scope n (before (map unboxes_one ys) rest)
-      → FaultsAfter q w.trace fn fault (at_line w fn below k (before (map unboxes_one ys) rest) slots s)
 
 -- the driver: from a callback to the piece of its frame, from a frame that a piece gave to its piece, and from null to nothing
 pub record Drives : Type 0 where

@@ -1,30 +1,29 @@
 -- The laws of whole pieces, as statements: how one begins, goes to a leader, and makes callbacks ready or wait.
-use Rattle.std.specs.Prelude.{◌≡◌, ℕ, suc, ◌+◌, ◌<◌, ◌^◌, Bool, false, true, ℤ, List, [], ◌∷◌, ◌++◌, length, map, slice_get, slice_set, bytes_eq, Some, None, Ok, codes}
+use Rattle.std.specs.Prelude.{◌≡◌, ℕ, suc, ◌+◌, ◌<◌, ◌^◌, false, ℤ, List, [], ◌∷◌, ◌++◌, length, map, slice_get, slice_set, bytes_eq, Some, None, Ok, codes}
 use Rattle.cpc_base.specs.Bytes.{Text}
 use Rattle.cpc_num.specs.declared.kinds.Kind.TheVariants.{Int, Long}
 use Rattle.cpc_tree.specs.declared.program.Mode.TheVariants.{Native}
-use Rattle.cpc_tree.specs.Syntax.{Ty, TyInt, TyCondvar, TyPointer, TyCode, TyStruct, Tys, Expr, ENamed, Block, Return, Stmts, AndStmt, Variable, Function, Program}
+use Rattle.cpc_tree.specs.Syntax.{Ty, TyInt, TyCondvar, TyPointer, TyCode, TyStruct, Tys, Expr, ENamed, Return, Stmts, AndStmt, Variable, Function, Program}
 use Rattle.cpc_tree.specs.Typing.{Scope, ALocal, NotMeant, AFunction, named, function_named, field, size}
 use Rattle.cpc_tree.specs.Points.{Point}
-use Rattle.cpc_tree.specs.Registers.{variables, addressed, outer_scope}
+use Rattle.cpc_tree.specs.Registers.{variables}
 use Rattle.cpc_tree.specs.Trace.{Sleeping, Waiting, Awaiting}
 use Rattle.cpc_store.specs.declared.values.Class.TheVariants.{Frame}
-use Rattle.cpc_store.specs.Store.{Value, Unset, Null, Whole, At, Cond, Blocks, Store, blocks, with_blocks, next_block, alloc, cells_of}
-use Rattle.cpc_meaning.specs.Answer.{Gives, ◌>>=◌}
+use Rattle.cpc_store.specs.Store.{Value, Unset, Null, Whole, At, Cond, Store, blocks, with_blocks, next_block, alloc, cells_of}
+use Rattle.cpc_meaning.specs.Answer.{Gives}
 use Rattle.cpc_meaning.specs.Agenda.{Agenda, ready_one, sleep, io, wait}
 use Rattle.cpc_meaning.specs.Eval.{Slot, Register, value, assigned, at_type}
-use Rattle.cpc_meaning.specs.Slots.{make_slots, free_slots}
 use Rattle.cpc_meaning.specs.Plain.{Frame as CallFrame}
 use Rattle.cpc_meaning.specs.Machine.{next, direction_of}
 use Rattle.cpc_meaning.specs.Events.{Callback, CallWith, callbacks}
-use Rattle.cpc_chains_store_laws.specs.Addresses.{Among, avoids_in}
-use Rattle.cpc_chains_store_laws.specs.Boxes.{AllRegisters}
-use Rattle.cpc_chains_store_laws.specs.Chains.{Saved, frame_cells, Chain, Top, beside, moved}
+use Rattle.cpc_convert_flat_laws.specs.Boxes.{AllRegisters}
+use Rattle.cpc_chains_store_laws.specs.Chains.{Saved, frame_cells, Chain, Top}
 use Rattle.cpc_chains_store_laws.specs.Driver.{drive_name, any_pointer, DriverFacts, driving, entered, IsPiece, with_agenda, with_marks, DriverMeant, readies, sleeps, waits, awaits, spawns}
-use Rattle.cpc_chains_store_laws.specs.Flat.{before, Stands, LineAt}
-use Rattle.cpc_chains_store_laws.specs.Frames.{at, Holds, Save, Saving, asks_block, fills_frame, frame_through, pointed_slots, Load, Loading, opens_frame, takes_frame, taken_scope, blank, register_slots, AreRegisters}
+use Rattle.cpc_convert_flat_laws.specs.Flat.{before, Stands, LineAt}
+use Rattle.cpc_convert_flat_laws.specs.Locals.{at, Holds, Save, Saving, Load, Loading, blank, register_slots, AreRegisters}
+use Rattle.cpc_chains_store_laws.specs.Frames.{asks_block, fills_frame, frame_through, pointed_slots, opens_frame, takes_frame, taken_scope}
 use Rattle.cpc_meaning_laws.specs.Cell.Cells.{call_cells}
-use Rattle.cpc_chains_store_laws.specs.Walks.{World, Rise, Walk, at_line, running}
+use Rattle.cpc_convert_flat_laws.specs.Walks.{World, Rise, Walk, at_line, running}
 
 -- a piece takes its frame: its locals have the values of the fields
 abbrev pub FramesAreOpened : Type 0
@@ -95,12 +94,3 @@ abbrev pub CallbacksMade : Type 0
 CallbacksMade =
     (q : Program) (w : World) (fn : Text) (g : Function) (body : Stmts) (below : List (CallFrame Point)) → function_named q fn ≡ Some g → (k : ℕ) (scope : Scope) (n : ℕ) (rest : Stmts) (slots : List Slot) (s : Store)
     → CallbacksAreMade q w fn g body below k scope n rest slots s
-
--- a call's slots are made and freed alike in a store with other frame blocks
-pub record FramesAreBeside : Type 0 where
-  pub made : (fr : Blocks) (p : Program) (f : Function) (n : ℕ) (xs : List Variable) (vs : List Value) (s : Store) → make_slots p f n xs vs (beside fr s) ≡ (make_slots p f n xs vs s >>= λ r. Gives (moved fr r))
-  pub freed : (fr : Blocks) (xs : List Slot) (s : Store) → free_slots xs (beside fr s) ≡ (free_slots xs s >>= λ t. Gives (beside fr t))
-
--- a flat function that applies `&` to no local addresses none
-abbrev pub NoneIsAddressed : Type 0
-NoneIsAddressed = (L : Text → Bool) (f : Function) (ss : Stmts) → f.body ≡ Block ss → Among L (outer_scope f) → avoids_in L ss ≡ true → addressed f ≡ []

@@ -1,36 +1,36 @@
 -- The laws of calls, returns, faults and sections of pieces, as statements.
-use Rattle.std.specs.Prelude.{◌≡◌, ℕ, suc, ◌+◌, ◌<◌, ◌^◌, ℤ, List, [], ◌∷◌, ◌++◌, length, slice_set, Option, Some, None, Err, codes}
+use Rattle.std.specs.Prelude.{◌≡◌, ℕ, suc, ◌+◌, ◌<◌, ◌^◌, ℤ, List, [], ◌∷◌, length, Some, Err, codes}
 use Rattle.cpc_base.specs.Bytes.{Text}
 use Rattle.cpc_num.specs.declared.kinds.Fault.{Fault}
 use Rattle.cpc_num.specs.declared.kinds.Kind.TheVariants.{Long}
 use Rattle.cpc_tree.specs.declared.program.Mode.TheVariants.{Native, Detached}
-use Rattle.cpc_tree.specs.Syntax.{Ty, TyInt, TyCondvar, TyPointer, TyCode, TyStruct, Tys, Expr, ENamed, Exprs, Stmt, Call, If, Absent, Return, Stmts, AndStmt, Function, Program}
+use Rattle.cpc_tree.specs.Syntax.{Ty, TyInt, TyCondvar, TyPointer, TyCode, TyStruct, Tys, Expr, ENamed, Exprs, Stmt, Return, Stmts, AndStmt, Function, Program}
 use Rattle.cpc_tree.specs.Typing.{Scope, NotMeant, AFunction, named, function_named, field, size}
 use Rattle.cpc_tree.specs.Points.{Point, Simple}
 use Rattle.cpc_tree.specs.Registers.{variables}
 use Rattle.cpc_tree.specs.Trace.{Mark, Failed}
 use Rattle.cpc_store.specs.declared.values.Class.TheVariants.{Frame}
-use Rattle.cpc_store.specs.Store.{Value, Unset, Null, Whole, At, Code, Cond, Blocks, Store, next_block, alloc}
+use Rattle.cpc_store.specs.Store.{Value, Unset, Null, Whole, At, Code, Cond, Store, next_block, alloc}
 use Rattle.cpc_meaning.specs.Answer.{Gives, Faults}
 use Rattle.cpc_meaning.specs.Agenda.{Agenda, sleep, wait}
 use Rattle.cpc_meaning.specs.Eval.{Slot, value, values, assigned, at_type}
-use Rattle.cpc_meaning.specs.Act.{Enters, AsksFor, simple_act, deliver}
-use Rattle.cpc_meaning.specs.Slots.{call_slots}
+use Rattle.cpc_meaning.specs.Act.{simple_act}
 use Rattle.cpc_meaning.specs.Plain.{Frame as CallFrame}
-use Rattle.cpc_meaning.specs.Trees.{trees, first_point}
-use Rattle.cpc_meaning.specs.Requests.{Request, all_taken, detach_takes}
+use Rattle.cpc_meaning.specs.Trees.{trees}
+use Rattle.cpc_meaning.specs.Requests.{all_taken, detach_takes}
 use Rattle.cpc_meaning.specs.Section.{Job}
-use Rattle.cpc_meaning.specs.Machine.{next, ends, asked_by, reply, settled, submits}
+use Rattle.cpc_meaning.specs.Machine.{next, ends, submits}
 use Rattle.cpc_meaning.specs.Start.{before_underscores}
 use Rattle.cpc_meaning.specs.Events.{Callback, CallWith, callbacks}
-use Rattle.cpc_chains_store_laws.specs.Boxes.{AllRegisters}
-use Rattle.cpc_chains_store_laws.specs.Chains.{Saved, frame_cells, count, Top, Owns}
+use Rattle.cpc_convert_flat_laws.specs.Boxes.{AllRegisters}
+use Rattle.cpc_chains_store_laws.specs.Chains.{Saved, frame_cells, Top}
 use Rattle.cpc_chains_store_laws.specs.Driver.{drive_name, any_pointer, head_fields, patches, DriverFacts, DriverMeant, driving, entered, patched, IsPiece, sleeps, waits, detaches}
-use Rattle.cpc_chains_store_laws.specs.Flat.{before, standing, LineAt}
-use Rattle.cpc_chains_store_laws.specs.Frames.{at, PointsTo, Holds, asks_block, pointed_slots, Give, fills_call, Giving, GivingFaults, register_slots, AreRegisters}
-use Rattle.cpc_chains_store_laws.specs.Structs.{IsStruct}
+use Rattle.cpc_convert_flat_laws.specs.Flat.{before, standing, LineAt}
+use Rattle.cpc_convert_flat_laws.specs.Locals.{at, PointsTo, Holds, register_slots, AreRegisters}
+use Rattle.cpc_chains_store_laws.specs.Frames.{asks_block, pointed_slots, Give, fills_call, Giving, GivingFaults}
+use Rattle.cpc_convert_flat_laws.specs.Structs.{IsStruct}
 use Rattle.cpc_meaning_laws.specs.Cell.Cells.{call_cells}
-use Rattle.cpc_chains_store_laws.specs.Walks.{World, Rise, Walk, Finishes, at_line, running, idle, frame_at, line_stack, arriving_at, FaultsAfter}
+use Rattle.cpc_convert_flat_laws.specs.Walks.{World, Rise, Walk, Finishes, at_line, idle, FaultsAfter}
 
 -- what is known where the start frame of a call is made
 pub record CallMade (q : Program) (g : Function) (body : Stmts) (k : ℕ) (scope : Scope) (n : ℕ) (rest : Stmts) (slots : List Slot) (s : Store) (to tag head code next piece : Text) (start f lower : Expr) (ps : List Give) (p : Value) : Type 0 where
@@ -106,27 +106,3 @@ abbrev pub LinesFaultAlike : Type 0
 LinesFaultAlike =
     (q : Program) (w : World) (fn : Text) (g : Function) (body : Stmts) (below : List (CallFrame Point)) → function_named q fn ≡ Some g → (k : ℕ) (scope : Scope) (n : ℕ) (rest : Stmts) (slots : List Slot) (s : Store) (x : Text) (t : Ty) (b : ℕ)
     → Holds q scope slots x t (At Frame b 0) → DriverMeant q scope → LinesFault q w fn g body below k scope n rest slots s x b
-
--- one chain among others: a frame is put before it, or taken from it, and its blocks are none of the others'
-pub record OneAmongOthers : Type 0 where
-  pub put : (bs : Blocks) (cells : List Value) (xs ys zs : List ℕ) → Owns bs (xs ++ (ys ++ zs)) → Owns (bs ++ Some cells ∷ []) (xs ++ ((length bs ∷ ys) ++ zs))
-  pub taken : (bs : Blocks) (c : ℕ) (xs ys zs : List ℕ) → Owns bs (xs ++ ((c ∷ ys) ++ zs)) → Owns (slice_set bs c None) (xs ++ (ys ++ zs))
-  pub alone : (bs : Blocks) (xs ys zs : List ℕ) → Owns bs (xs ++ (ys ++ zs)) → (b : ℕ) → 0 < count b ys → count b (xs ++ zs) ≡ 0
-
--- a line does what its act says: a function is entered, a value arrives, the machine is asked and answers, a test faults
-pub record LinesAct (q : Program) (w : World) (fn : Text) (g : Function) (body : Stmts) (below : List (CallFrame Point)) (k : ℕ) (scope : Scope) (n : ℕ) (rest : Stmts) (slots : List Slot) (s : Store) : Type 0 where
-  pub enters : (x : Stmt) (l : LineAt g body k scope n x rest) → standing x ≡ Simple x → (f : Function) (vs : List Value) (t : Store) (entered : List Slot) → simple_act (at q scope slots s) g.result x ≡ Gives (Enters f vs) → call_slots q f vs s ≡ Gives (entered, t)
-      → next (callbacks q) (at_line w fn below k (AndStmt l.statement rest) slots s) ≡ Some (running w t (frame_at f.called (first_point (function_named q f.called)) entered ∷ arriving_at fn k l.statement slots ∷ below) None)
-  pub arrives : (target : Option Expr) (f : Expr) (es : Exprs) (l : LineAt g body k scope n (Call target f es) rest) (v : Value) (t : Store) (slots' : List Slot) → deliver (at q scope slots s) target v ≡ Gives (slots', t)
-      → next (callbacks q) (running w s (arriving_at fn k l.statement slots ∷ below) (Some v)) ≡ Some (at_line w fn below (suc k) rest slots' t)
-  pub asks : (x : Stmt) (l : LineAt g body k scope n x rest) → standing x ≡ Simple x → (r : Request) → simple_act (at q scope slots s) g.result x ≡ Gives (AsksFor r)
-      → next (callbacks q) (at_line w fn below k (AndStmt l.statement rest) slots s) ≡ settled (callbacks q) (at_line w fn below k (AndStmt l.statement rest) slots s) (asked_by (callbacks q) (line_stack fn below k l.statement slots) (at_line w fn below k (AndStmt l.statement rest) slots s) r.asked r.arguments)
-  pub answers : (target : Option Expr) (f : Expr) (es : Exprs) (l : LineAt g body k scope n (Call target f es) rest) (v : Value) (t u : Store) (slots' : List Slot) → deliver (at q scope slots t) target v ≡ Gives (slots', u)
-      → reply (trees q) (line_stack fn below k l.statement slots) v (at_line w fn below k (AndStmt l.statement rest) slots t) ≡ Gives (at_line w fn below (suc k) rest slots' u)
-  pub faults : (t : Expr) (a : Stmt) (l : LineAt g body k scope n (If t a Absent) rest) (fault : Fault) → value (at q scope slots s) t ≡ Faults fault
-      → next (callbacks q) (at_line w fn below k (AndStmt l.statement rest) slots s) ≡ Some (ends (Failed fault (before_underscores fn)) (at_line w fn below k (AndStmt l.statement rest) slots s))
-
-abbrev pub LinesActInPlace : Type 0
-LinesActInPlace =
-    (q : Program) (w : World) (fn : Text) (g : Function) (body : Stmts) (below : List (CallFrame Point)) → function_named q fn ≡ Some g → (k : ℕ) (scope : Scope) (n : ℕ) (rest : Stmts) (slots : List Slot) (s : Store)
-    → LinesAct q w fn g body below k scope n rest slots s

@@ -14,9 +14,10 @@ use Rattle.cpc_store.specs.Store.{Unset, Whole, At, Store, next_block, alloc}
 use Rattle.cpc_meaning.specs.Eval.{Slot, Register}
 use Rattle.cpc_meaning.specs.Plain.{Frame as CallFrame}
 use Rattle.cpc_chains_store_laws.specs.Chains.{frame_cells}
-use Rattle.cpc_chains_store_laws.specs.Walks.{World, Walk, at_line}
-use Rattle.cpc_chains_store_laws.specs.Flat.{before}
-use Rattle.cpc_chains_store_laws.specs.Frames.{Save, Load, asks_block, fills_frame, frame_through, takes_frame}
+use Rattle.cpc_convert_flat_laws.specs.Walks.{World, Walk, at_line}
+use Rattle.cpc_convert_flat_laws.specs.Flat.{before}
+use Rattle.cpc_convert_flat_laws.specs.Locals.{Save, Load}
+use Rattle.cpc_chains_store_laws.specs.Frames.{asks_block, fills_frame, frame_through, takes_frame}
 use Rattle.cpc_chains_store_laws.specs.Driver.{drive_function, frame_tag, code_field, next_field, value_field, any_pointer, head_fields, patches, DriverFacts, readies, spawns}
 
 -- cps int g(int a) { cpc_yield(); return a + 1; }

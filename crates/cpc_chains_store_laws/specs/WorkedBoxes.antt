@@ -9,7 +9,7 @@ use Rattle.cpc_tree.specs.Syntax.{Ty, TyVoid, TyPointer, TyStruct, ENamed, EInte
 use Rattle.cpc_tree.specs.Trace.{Output, Ended}
 use Rattle.cpc_meaning.specs.Events.{event}
 use Rattle.cpc_chains_store_laws.specs.Frames.{opens_frame, frees_frame}
-use Rattle.cpc_chains_store_laws.specs.Boxes.{boxes_one, fills_box, unboxes_one}
+use Rattle.cpc_convert_flat_laws.specs.Boxes.{boxes_one, fills_box, unboxes_one}
 use Rattle.cpc_chains_store_laws.specs.Driver.{drive_function, frame_tag, code_field, next_field, any_pointer, head_fields, readies, spawns}
 use Rattle.cpc_chains_store_laws.specs.Worked.{int, to_frame, field_of, load_of, save_of, frame_lines, piece_of, n, to, quiet}
 

@@ -1,10 +1,11 @@
 //! The laws, each as the contract of a function that does nothing.
-ghost use Rattle.cpc_chains_store_laws.specs.FrameLaws.{FramesAreMade, FramesAreTaken, FramesArePatched, BoxesAreMade, BoxesAreFreed, Drives};
-ghost use Rattle.cpc_chains_store_laws.specs.PieceLaws.{FramesAreOpened, PiecesBegin, LeadersAreEntered, SpawnersSpawn, CallbacksMade, FramesAreBeside, NoneIsAddressed};
-ghost use Rattle.cpc_chains_store_laws.specs.RowLaws.{CallsAreFramed, PiecesAreLeft, LinesFaultAlike, OneAmongOthers, LinesActInPlace};
+ghost use Rattle.cpc_chains_store_laws.specs.FrameLaws.{FramesAreMade, FramesAreTaken, FramesArePatched, Drives};
+ghost use Rattle.cpc_chains_store_laws.specs.PieceLaws.{FramesAreOpened, PiecesBegin, LeadersAreEntered, SpawnersSpawn, CallbacksMade};
+ghost use Rattle.cpc_chains_store_laws.specs.RowLaws.{CallsAreFramed, PiecesAreLeft, LinesFaultAlike};
 ghost use Rattle.cpc_chains_store_laws.specs.Worked.{WorkedProgramRuns, FrameIsMade};
 ghost use Rattle.cpc_chains_store_laws.specs.WorkedBoxes.{BoxedProgramRuns};
-ghost use Rattle.cpc_chains_store_laws.specs.Laws.{ChainsAreKept, AllChainsAreKept, LiveBlocksAreOwned, ValuesFit, StructsHaveFields, FlatBodies, WalksArePaths};
+ghost use Rattle.cpc_chains_store_laws.specs.ChainLaws.{ChainsAreKept, AllChainsAreKept};
+ghost use Rattle.cpc_convert_flat_laws.specs.Laws.{LiveBlocksAreOwned};
 
 /// A chain of saved frames stays one while blocks that are not its own are made, written and freed; a frame is put before it, taken
 /// from it, and given the value that arrives.
@@ -12,26 +13,6 @@ pub fn chains_are_kept()
     ensures one { ChainsAreKept }
     ensures all { AllChainsAreKept }
     ensures live { LiveBlocksAreOwned }
-{}
-
-/// What a cell of a scalar type was assigned is read back as it is.
-pub fn values_fit()
-    ensures law { ValuesFit }
-{}
-
-/// The fields of a struct of scalar fields are its cells, in order.
-pub fn structs_have_fields()
-    ensures law { StructsHaveFields }
-{}
-
-/// What stands where in a flat body, with which scope, and where control goes.
-pub fn flat_bodies()
-    ensures law { FlatBodies }
-{}
-
-/// Steps that leave no mark and end no run are a path.
-pub fn walks_are_paths()
-    ensures law { WalksArePaths }
 {}
 
 /// A frame of a piece is made: its block, its code, the frame below it, and the values of any number of variables.
@@ -47,16 +28,6 @@ pub fn frames_are_taken()
 /// A value is written to the frame below, if there is one.
 pub fn frames_are_patched()
     ensures law { FramesArePatched }
-{}
-
-/// The boxes of a call are made in a piece as they are made in the call.
-pub fn boxes_are_made()
-    ensures law { BoxesAreMade }
-{}
-
-/// They are given back in a piece as they are in the call.
-pub fn boxes_are_freed()
-    ensures law { BoxesAreFreed }
 {}
 
 /// The driver takes up one frame after the other.
@@ -85,16 +56,6 @@ pub fn callbacks_are_made()
     ensures law { CallbacksMade }
 {}
 
-/// What frame blocks there are makes no difference to the slots of a call.
-pub fn frames_are_beside()
-    ensures law { FramesAreBeside }
-{}
-
-/// Where `&` is applied to no local, none has an address.
-pub fn none_is_addressed()
-    ensures law { NoneIsAddressed }
-{}
-
 /// A worked program of frames, pieces and the driver prints what it is to print, ends, and leaves no frame.
 pub fn worked_program_runs()
     ensures law { WorkedProgramRuns }
@@ -115,14 +76,4 @@ pub fn pieces_are_left()
 /// A line faults with its act; a wait that the agenda refuses faults; a section is submitted.
 pub fn lines_fault_alike()
     ensures law { LinesFaultAlike }
-{}
-
-/// One chain changes, and the others do not.
-pub fn one_among_others()
-    ensures law { OneAmongOthers }
-{}
-
-/// A line of a piece does what its act says.
-pub fn lines_act_in_place()
-    ensures law { LinesActInPlace }
 {}

@@ -8,7 +8,7 @@ use Rattle.cpc_base.specs.declared.names.Name.{Name}
 use Rattle.cpc_tree.specs.Erase.{Names, text_of}
 use Rattle.cpc_forms_code.specs.declared.boxed.Variable.{Variable}
 use Rattle.cpc_convert_common.specs.Converted.{spawner_name}
-use Rattle.cpc_chains_event.specs.Names.{variable_name}
+use Rattle.cpc_convert_routines.specs.Names.{variable_name}
 use Rattle.cpc_convert_names.specs.Counted.{counted, called_of, locals_from}
 
 -- ---- where they end

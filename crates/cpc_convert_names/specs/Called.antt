@@ -7,7 +7,7 @@ use Rattle.cpc_forms_code.specs.declared.boxed.Variable.{Variable}
 use Rattle.cpc_forms_code.specs.declared.graph.Node.{Node}
 use Rattle.cpc_forms_code.specs.declared.lifted.LiftedFunction.{LiftedFunction}
 use Rattle.cpc_convert_common.specs.Converted.{spawner_name}
-use Rattle.cpc_chains_event.specs.Names.{start_name, leader_name, value_tag, box_tag, node_label}
+use Rattle.cpc_convert_routines.specs.Names.{start_name, leader_name, value_tag, box_tag, node_label}
 use Rattle.cpc_convert_names.specs.Counted.{counted, called_of, locals_from}
 use Rattle.cpc_convert_names.specs.declared.called.Called.{Called}
 

@@ -4,7 +4,7 @@ use Rattle.cpc_base.specs.Bytes.{Text}
 use Rattle.cpc_tree.specs.Erase.{Names, text_of}
 use Rattle.cpc_tree.specs.Registers.{or_empty}
 use Rattle.cpc_forms_code.specs.declared.boxed.Variable.{Variable}
-use Rattle.cpc_chains_event.specs.Names.{variable_name}
+use Rattle.cpc_convert_routines.specs.Names.{variable_name}
 
 -- the names of n numbers from the k-th on
 abbrev pub counted : (ℕ → Text) → (k n : ℕ) → List Text

@@ -3,4 +3,4 @@ pub mod Counted
 pub mod Words
 pub mod Called
 pub mod Book
-pub use Rattle.cpc_chains_event.specs.Names
+pub use Rattle.cpc_convert_routines.specs.Names

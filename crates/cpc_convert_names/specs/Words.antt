@@ -2,7 +2,7 @@
 use Rattle.std.specs.Prelude.{◌≡◌, codes}
 use Rattle.cpc_tree.specs.Erase.{Names}
 use Rattle.cpc_chains_event.specs.Driver as D
-use Rattle.cpc_chains_event.specs.Names as N
+use Rattle.cpc_convert_routines.specs.Names as N
 use Rattle.cpc_convert_names.specs.declared.words.OwnWords.{OwnWords}
 use Rattle.cpc_convert_names.specs.declared.words.LoopWords.{LoopWords}
 

@@ -4,7 +4,7 @@ ghost use Rattle.cpc_tree.specs.Erase as E;
 ghost use Rattle.cpc_tree.specs.Erase.{Table, in_table, text_of};
 ghost use Rattle.cpc_tree.specs.Registers.{or_empty};
 ghost use Rattle.cpc_convert_common.specs.Converted.{marked};
-ghost use Rattle.cpc_chains_event.specs.Names.{variable_name, node_label, leader_name, start_name, value_tag, box_tag};
+ghost use Rattle.cpc_convert_routines.specs.Names.{variable_name, node_label, leader_name, start_name, value_tag, box_tag};
 ghost use Rattle.cpc_forms_code.specs.declared.boxed.Variable.{Variable};
 ghost use Rattle.cpc_convert_names.specs.Tables.{HasGrown, Spells};
 ghost use Rattle.cpc_convert_names.specs.Counted.{counted, called_of, locals_from};
@@ -76,7 +76,7 @@ fn numbered_names(
 }
 
 // The piece that a call of a function enters. `NoMemory` is want of memory.
-#[tactic(auto, unfolding(cpc_chains_event::specs::Names::start_name))]
+#[tactic(auto, unfolding(cpc_convert_routines::specs::Names::start_name))]
 fn start(alloc: Global, names: &mut Names, of: Name) -> Result<Name, NoMemory>
     ensures grown { OnOk result (HasGrown names.old names.new) }
     ensures is { IfOk result (λ n. (source : Table) (to : E.Names) → HasGrown source names.old → Spells names.new to → in_table source of ≡ to of → to n ≡ start_name (to of)) }
@@ -86,7 +86,7 @@ fn start(alloc: Global, names: &mut Names, of: Name) -> Result<Name, NoMemory>
 }
 
 // The tag of the frames at which the value of a function arrives. `NoMemory` is want of memory.
-#[tactic(auto, unfolding(cpc_chains_event::specs::Names::value_tag))]
+#[tactic(auto, unfolding(cpc_convert_routines::specs::Names::value_tag))]
 fn value(alloc: Global, names: &mut Names, of: Name) -> Result<Name, NoMemory>
     ensures grown { OnOk result (HasGrown names.old names.new) }
     ensures is { IfOk result (λ n. (source : Table) (to : E.Names) → HasGrown source names.old → Spells names.new to → in_table source of ≡ to of → to n ≡ value_tag (to of)) }
@@ -96,7 +96,7 @@ fn value(alloc: Global, names: &mut Names, of: Name) -> Result<Name, NoMemory>
 }
 
 // The pieces that so many nodes of a function would have. `NoMemory` is want of memory.
-#[tactic(auto, unfolding(cpc_chains_event::specs::Names::leader_name))]
+#[tactic(auto, unfolding(cpc_convert_routines::specs::Names::leader_name))]
 fn pieces(alloc: Global, names: &mut Names, of: Name, count: usize) -> Result<Vec<Name>, NoMemory>
     ensures grown { OnOk result (HasGrown names.old names.new) }
     ensures are { IfOk result (λ all. (source : Table) (to : E.Names) → HasGrown source names.old → Spells names.new to → in_table source of ≡ to of → map (text_of to) all.items ≡ counted (leader_name (to of)) 0 count) }
@@ -106,7 +106,7 @@ fn pieces(alloc: Global, names: &mut Names, of: Name, count: usize) -> Result<Ve
 }
 
 // The tags that the boxes of so many variables of a function would have. `NoMemory` is want of memory.
-#[tactic(auto, unfolding(cpc_chains_event::specs::Names::box_tag))]
+#[tactic(auto, unfolding(cpc_convert_routines::specs::Names::box_tag))]
 fn tags(alloc: Global, names: &mut Names, of: Name, count: usize) -> Result<Vec<Name>, NoMemory>
     ensures grown { OnOk result (HasGrown names.old names.new) }
     ensures are { IfOk result (λ all. (source : Table) (to : E.Names) → HasGrown source names.old → Spells names.new to → in_table source of ≡ to of → map (text_of to) all.items ≡ counted (box_tag (to of)) 0 count) }
@@ -116,7 +116,7 @@ fn tags(alloc: Global, names: &mut Names, of: Name, count: usize) -> Result<Vec<
 }
 
 // The label of a node. `NoMemory` is want of memory.
-#[tactic(auto, unfolding(cpc_chains_event::specs::Names::node_label))]
+#[tactic(auto, unfolding(cpc_convert_routines::specs::Names::node_label))]
 fn label(alloc: Global, names: &mut Names, number: usize) -> Result<Name, NoMemory>
     ensures grown { OnOk result (HasGrown names.old names.new) }
     ensures is { IfOk result (λ name. (to : E.Names) → Spells names.new to → to name ≡ node_label number) }
@@ -140,7 +140,7 @@ fn labels(alloc: Global, names: &mut Names, count: usize) -> Result<Vec<Name>, N
 }
 
 // The local of a variable of this number, which may have no name. `NoMemory` is want of memory.
-#[tactic(auto, unfolding(cpc_chains_event::specs::Names::variable_name))]
+#[tactic(auto, unfolding(cpc_convert_routines::specs::Names::variable_name))]
 fn local(
     alloc: Global,
     names: &mut Names,

@@ -8,8 +8,8 @@ use Rattle.cpc_forms.specs.Flow.{Place, Start, Flow, owner_of, owner_by}
 use Rattle.cpc_forms.specs.Pieces.{is_owned_by}
 use Rattle.cpc_forms.specs.Split.{owners_from, owner_or}
 use Rattle.cpc_lift_laws.specs.Search.{Link, keepers, closure_from}
-use Rattle.cpc_chains_event.specs.Routines.{owner_number}
-use Rattle.cpc_chains_event.specs.Rows.{owner_at}
+use Rattle.cpc_convert_routines.specs.Routines.{owner_number}
+use Rattle.cpc_forms.specs.Spread.{known as owner_at}
 use Rattle.cpc_convert_needs_laws.proofs.Marks.{IsBelow}
 
 -- ---- elements

@@ -20,7 +20,7 @@ use Rattle.cpc_lift_laws.proofs.Boxes.{programs_have_marks}
 use Rattle.cpc_forms_code.specs.Lifts as L
 use Rattle.cpc_forms_code.specs.Points.{marked_from, variable_seen}
 use Rattle.cpc_forms_code.specs.declared.boxed.Variable as V
-use Rattle.cpc_chains_event.specs.Routines as R
+use Rattle.cpc_convert_routines.specs.Routines as R
 use Rattle.cpc_convert_needs.specs.Known as K
 
 -- ---- boxes

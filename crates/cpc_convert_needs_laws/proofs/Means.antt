@@ -22,7 +22,7 @@ use Rattle.cpc_meaning.specs.Ways as W
 use Rattle.cpc_meaning.specs.Ways.{meant_manner, manner_of, manner_at}
 use Rattle.cpc_meaning.proofs.Functions.{same_text}
 use Rattle.cpc_convert_common.specs.Members.{Has, OnTop, Below}
-use Rattle.cpc_chains_laws.specs.Accepted.Names.{HasNames}
+use Rattle.cpc_lifted_laws.specs.Accepted.Names.{HasNames}
 use Rattle.cpc_forms.specs.Graph.{manner_from}
 use Rattle.cpc_forms_code.specs.Programs.{program_by, function_if, cps_functions}
 use Rattle.cpc_convert_names.specs.Called.{function_in, name_in}

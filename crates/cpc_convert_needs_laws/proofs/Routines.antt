@@ -18,7 +18,7 @@ use Rattle.cpc_tree.specs.declared.program.Program as GProgram
 use Rattle.cpc_meaning.specs.Threads.{is_cps, is_cps_mode}
 use Rattle.cpc_meaning.specs.Ways as W
 use Rattle.cpc_meaning.specs.Ways.{is_cps_statement}
-use Rattle.cpc_chains_laws.specs.Accepted.Names.{HasNames, IsFound}
+use Rattle.cpc_lifted_laws.specs.Accepted.Names.{HasNames, IsFound}
 use Rattle.cpc_forms.specs.Flow.{Place, Start, flow_of, is_leader}
 use Rattle.cpc_forms.specs.Order.{points}
 use Rattle.cpc_forms.specs.Graph as F
@@ -40,10 +40,10 @@ use Rattle.cpc_forms_code.specs.declared.boxed.Variable as V
 use Rattle.cpc_forms_code.specs.declared.graph.Node.{Node}
 use Rattle.cpc_forms_code.specs.declared.lifted.LiftedFunction.{LiftedFunction}
 use Rattle.cpc_forms_code.specs.declared.lifted.LiftedProgram.{LiftedProgram}
-use Rattle.cpc_chains_event.specs.Converted.{routine_if, routines_in}
-use Rattle.cpc_chains_event.specs.Routines as R
-use Rattle.cpc_chains_event.specs.Routines.{Routine, is_plain, routine_of, keeper, closure_of}
-use Rattle.cpc_chains_event.specs.Rows.{is_own}
+use Rattle.cpc_convert_routines.specs.Kept.{routine_if, routines_in}
+use Rattle.cpc_convert_routines.specs.Routines as R
+use Rattle.cpc_convert_routines.specs.Routines.{Routine, is_plain, routine_of, keeper, closure_of}
+use Rattle.cpc_convert_routines.specs.Nodes.{is_own}
 use Rattle.cpc_convert_names.specs.Called.{function_in, variables_in, nodes_in}
 use Rattle.cpc_convert_names.specs.Book.{find}
 use Rattle.cpc_convert_names.specs.declared.called.Called.{Called}

@@ -8,9 +8,9 @@ use Rattle.cpc_tree.specs.declared.program.Program as G
 use Rattle.cpc_meaning.specs.Threads.{is_cps}
 use Rattle.cpc_convert_names.specs.Tables as T
 use Rattle.cpc_convert_names.specs.Tables.{AreWithin}
-use Rattle.cpc_chains_laws.specs.Accepted.Names.{HasNames}
-use Rattle.cpc_chains_event.specs.Routines.{Routine, routine_of}
-use Rattle.cpc_chains_event.specs.Converted.{routines}
+use Rattle.cpc_lifted_laws.specs.Accepted.Names.{HasNames}
+use Rattle.cpc_convert_routines.specs.Routines.{Routine, routine_of}
+use Rattle.cpc_convert_routines.specs.Kept.{routines}
 use Rattle.cpc_forms_code.specs.Programs.{IsSpelling}
 use Rattle.cpc_forms_code.specs.declared.lifted.LiftedFunction.{LiftedFunction}
 use Rattle.cpc_forms_code.specs.declared.lifted.LiftedProgram.{LiftedProgram}

@@ -7,7 +7,7 @@ use Rattle.cpc_meaning.specs.Act.{Stood, AtStatement, AtArrival, AtEnd, target_o
 use Rattle.cpc_meaning.specs.Ways.{Manner, InPlace, ByFrame, AsCps}
 use Rattle.cpc_chains_event.specs.Images.{Readings}
 use Rattle.cpc_forms.specs.Graph.{Node}
-use Rattle.cpc_chains_event.specs.Routines.{Routine, readings_of}
+use Rattle.cpc_convert_routines.specs.Routines.{Routine, readings_of}
 use Rattle.cpc_chains_event.specs.Lines as L
 use Rattle.cpc_chains_event.specs.Lines.{Line, Does, Goes, Tests, Passes, all_do, goes, passes, node_lines, stood_lines, behind_arrival}
 use Rattle.cpc_chains_event.specs.Rows.{Plain, Jump, falls, put_lines, any_leads, is_next}

@@ -9,7 +9,7 @@ use Rattle.cpc_forms.specs.Pieces.{same_place, is_owned_by, owned_from}
 use Rattle.cpc_forms.specs.Split.{number_if}
 use Rattle.cpc_forms_code.specs.declared.split.Owner.{Owner}
 use Rattle.cpc_forms_code.specs.Splits.{place_of, places_of}
-use Rattle.cpc_chains_event.specs.Routines.{owner_number}
+use Rattle.cpc_convert_routines.specs.Routines.{owner_number}
 use Rattle.cpc_chains_event.specs.Rows.{number_where}
 use Rattle.cpc_convert_rows.proofs.Marking.{unequal}
 

@@ -11,9 +11,10 @@ use Rattle.cpc_forms.specs.Graph.{Node, at_node}
 use Rattle.cpc_forms.specs.Flow.{Place}
 use Rattle.cpc_forms.specs.Pieces.{owned_from, piece_nodes, first_of}
 use Rattle.cpc_forms.specs.Split.{Split}
-use Rattle.cpc_chains_event.specs.Routines.{Routine, number_before, chosen}
+use Rattle.cpc_convert_routines.specs.Routines.{Routine, number_before, chosen}
 use Rattle.cpc_chains_event.specs.Lines.{node_lines}
-use Rattle.cpc_chains_event.specs.Rows.{is_own, has_row, rows_nodes, reached, stubs_of, row_of, lines_by, falls, number_where, stub_behind, numbers_from, completed, numbers_of}
+use Rattle.cpc_convert_routines.specs.Nodes.{is_own, has_row, rows_nodes}
+use Rattle.cpc_chains_event.specs.Rows.{reached, stubs_of, row_of, lines_by, falls, number_where, stub_behind, numbers_from, completed, numbers_of}
 use Rattle.cpc_chains_event.proofs.Labels.{fronted_is, turned_is}
 use Rattle.cpc_convert_rows.specs.declared.stepped.Stepped.{Stepped}
 use Rattle.cpc_convert_rows.specs.Numbers.{AreLeaders}

@@ -5,8 +5,9 @@ use Rattle.std.proofs.lemmas.Option.{slice_get-map}
 use Rattle.cpc_base.proofs.Lists.{append_empty}
 use Rattle.cpc_forms.specs.Graph.{Node, at_node}
 use Rattle.cpc_forms.specs.Flow.{as_list}
-use Rattle.cpc_chains_event.specs.Routines.{Routine}
-use Rattle.cpc_chains_event.specs.Rows.{onwards, onwards_all, has_row, stands_with}
+use Rattle.cpc_convert_routines.specs.Routines.{Routine}
+use Rattle.cpc_chains_event.specs.Rows.{onwards, onwards_all}
+use Rattle.cpc_convert_routines.specs.Nodes.{has_row, stands_with}
 use Rattle.cpc_convert_rows.specs.declared.steps.Step.{Step}
 use Rattle.cpc_convert_rows.specs.declared.stepped.Stepped.{Stepped}
 use Rattle.cpc_convert_rows.specs.Marks.{AreMarked}

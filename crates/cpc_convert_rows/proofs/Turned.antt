@@ -7,8 +7,9 @@ use Rattle.cpc_tree.specs.Lists.{holds_number}
 use Rattle.cpc_forms.specs.Flow.{Place}
 use Rattle.cpc_forms.specs.Pieces.{is_owned_by, owned_from, without, fronted, first_of}
 use Rattle.cpc_forms.specs.Split.{Split, number_if}
-use Rattle.cpc_chains_event.specs.Routines.{Routine, number_before, chosen}
-use Rattle.cpc_chains_event.specs.Rows.{number_where, turned, owner_at, is_own, has_row, rows_nodes, reached, onwards_all}
+use Rattle.cpc_convert_routines.specs.Routines.{Routine, number_before, chosen}
+use Rattle.cpc_chains_event.specs.Rows.{number_where, owner_at, reached, onwards_all}
+use Rattle.cpc_convert_routines.specs.Nodes.{turned, is_own, has_row, rows_nodes}
 use Rattle.cpc_convert_rows.specs.Marks.{AreMarked}
 use Rattle.cpc_convert_rows.proofs.Marking.{unequal}
 

@@ -5,10 +5,11 @@ use Rattle.cpc_base.proofs.Truth.{or_regrouped, or_with_false}
 use Rattle.cpc_tree.specs.Syntax.{Program}
 use Rattle.cpc_forms.specs.Graph.{Node, at_node}
 use Rattle.cpc_forms.specs.Flow.{Place, At}
-use Rattle.cpc_chains_event.specs.Routines.{Routine}
+use Rattle.cpc_convert_routines.specs.Routines.{Routine}
 use Rattle.cpc_chains_event.specs.Lines.{node_lines, frame_lines, hands_over}
-use Rattle.cpc_chains_event.specs.Names.{to_name}
-use Rattle.cpc_chains_event.specs.Rows.{is_own, row_of, lines_by, any_leads, is_next, put_lines, put_rows, first_number, is_wanted}
+use Rattle.cpc_convert_routines.specs.Names.{to_name}
+use Rattle.cpc_convert_routines.specs.Nodes.{is_own}
+use Rattle.cpc_chains_event.specs.Rows.{row_of, lines_by, any_leads, is_next, put_lines, put_rows, first_number, is_wanted}
 use Rattle.cpc_convert_rows.specs.declared.steps.Step.{Step}
 use Rattle.cpc_convert_rows.specs.Ways.{jumps_to, ways_lead}
 use Rattle.cpc_convert_rows.specs.Steps.{step_at, no_step, step_of}

@@ -2,7 +2,7 @@
 use Rattle.std.specs.Prelude.{◌≡◌, ℕ, Option}
 use Rattle.cpc_tree.specs.Syntax.{Program}
 use Rattle.cpc_forms.specs.Graph.{Node}
-use Rattle.cpc_chains_event.specs.Routines.{Routine}
+use Rattle.cpc_convert_routines.specs.Routines.{Routine}
 use Rattle.cpc_chains_event.specs.Lines.{node_lines}
 use Rattle.cpc_chains_event.specs.Rows.{falls, put_lines, any_leads}
 use Rattle.cpc_convert_rows.specs.Ways.{test_of, falls_of, ways_lead}

@@ -9,9 +9,11 @@ use Rattle.cpc_forms_code.specs.declared.split.SplitFunction.{SplitFunction}
 use Rattle.cpc_forms_code.specs.declared.split.Owner.{Owner}
 use Rattle.cpc_forms_code.specs.Graphs.{node_seen}
 use Rattle.cpc_forms_code.specs.Splits.{place_of, places_of}
-use Rattle.cpc_chains_event.specs.Routines.{Routine, owner_number}
-use Rattle.cpc_chains_event.specs.Rows.{stands_with, behind_call}
-use Rattle.cpc_chains_event.specs.Pieces.{is_wait, is_result}
+use Rattle.cpc_convert_routines.specs.Routines.{Routine, owner_number}
+use Rattle.cpc_convert_routines.specs.Nodes.{stands_with}
+use Rattle.cpc_chains_event.specs.Rows.{behind_call}
+use Rattle.cpc_chains_event.specs.Pieces.{is_wait}
+use Rattle.cpc_convert_routines.specs.Taken.{is_result}
 use Rattle.cpc_convert_rows.specs.Ways.{test_of, falls_of}
 use Rattle.cpc_convert_rows.specs.declared.steps.Step.{Step}
 use Rattle.cpc_convert_rows.specs.declared.stepped.Stepped.{Stepped}

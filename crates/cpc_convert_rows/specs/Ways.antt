@@ -5,7 +5,7 @@ use Rattle.cpc_tree.specs.Points.{Simple, Test, Nothing}
 use Rattle.cpc_meaning.specs.Act.{Stood, AtStatement, AtArrival, AtEnd}
 use Rattle.cpc_meaning.specs.Ways.{Manner, InPlace, ByFrame, AsCps}
 use Rattle.cpc_forms.specs.Graph.{Node}
-use Rattle.cpc_chains_event.specs.Routines.{Routine}
+use Rattle.cpc_convert_routines.specs.Routines.{Routine}
 use Rattle.cpc_chains_event.specs.Lines.{behind_arrival}
 use Rattle.cpc_chains_event.specs.Rows.{is_next}
 

@@ -1,7 +1,7 @@
 //! What stands among the nodes of a piece.
 ghost use Rattle.std.specs.Prelude.{◌≡◌};
 ghost use Rattle.cpc_chains_event.specs.Pieces as P;
-ghost use Rattle.cpc_chains_event.specs.Routines.{Routine};
+ghost use Rattle.cpc_convert_routines.specs.Routines.{Routine};
 ghost use Rattle.cpc_convert_rows.specs.Steps.{IsStepped};
 
 use crate::stepped::Stepped;

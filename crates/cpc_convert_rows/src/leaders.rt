@@ -4,7 +4,7 @@ ghost use Rattle.cpc_tree.specs.Lists.{holds_number};
 ghost use Rattle.cpc_forms.specs.Graph.{at_node};
 ghost use Rattle.cpc_forms.specs.Pieces as F;
 ghost use Rattle.cpc_forms_code.specs.Splits.{place_of};
-ghost use Rattle.cpc_chains_event.specs.Routines.{Routine};
+ghost use Rattle.cpc_convert_routines.specs.Routines.{Routine};
 ghost use Rattle.cpc_chains_event.specs.Rows as R;
 ghost use Rattle.cpc_convert_rows.specs.Marks.{AreMarked};
 ghost use Rattle.cpc_convert_rows.specs.Steps.{IsStepped};

@@ -2,7 +2,7 @@
 ghost use Rattle.std.specs.Prelude.{◌≡◌, ℕ, List, Some, ◌++◌, ◌∷◌, [], length, IfOk, OnOk};
 ghost use Rattle.cpc_forms.specs.Flow.{Place};
 ghost use Rattle.cpc_tree.specs.Syntax.{Program};
-ghost use Rattle.cpc_chains_event.specs.Routines.{Routine};
+ghost use Rattle.cpc_convert_routines.specs.Routines.{Routine};
 ghost use Rattle.cpc_chains_event.specs.Rows as R;
 ghost use Rattle.cpc_convert_rows.specs.Marks.{AreMarked};
 ghost use Rattle.cpc_convert_rows.specs.Numbers.{AreLeaders};

@@ -2,8 +2,8 @@
 ghost use Rattle.std.specs.Prelude.{◌≡◌, ℕ, ◌&&◌, ◌++◌, nat_lt, IfOk, OnOk};
 ghost use Rattle.cpc_forms.specs.Pieces.{owned_from};
 ghost use Rattle.cpc_forms_code.specs.Splits.{place_of};
-ghost use Rattle.cpc_chains_event.specs.Routines.{Routine, chosen};
-ghost use Rattle.cpc_chains_event.specs.Rows as R;
+ghost use Rattle.cpc_convert_routines.specs.Routines.{Routine, chosen};
+ghost use Rattle.cpc_convert_routines.specs.Nodes as R;
 ghost use Rattle.cpc_convert_rows.specs.Steps.{IsStepped, IsOwner};
 
 use crate::marks::add_if;

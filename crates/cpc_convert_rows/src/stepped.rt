@@ -5,8 +5,8 @@ ghost use Rattle.cpc_forms.specs.Flow.{Place};
 ghost use Rattle.cpc_forms.specs.Pieces as F;
 ghost use Rattle.cpc_forms.specs.Pieces.{is_owned_by, owned_from};
 ghost use Rattle.cpc_forms_code.specs.Splits.{place_of, places_of};
-ghost use Rattle.cpc_chains_event.specs.Routines.{Routine, owner_number};
-ghost use Rattle.cpc_chains_event.specs.Rows as R;
+ghost use Rattle.cpc_convert_routines.specs.Routines.{Routine, owner_number};
+ghost use Rattle.cpc_convert_routines.specs.Nodes as R;
 ghost use Rattle.cpc_chains_event.specs.Rows.{number_where};
 ghost use Rattle.cpc_convert_rows.specs.Steps.{IsOf, IsStepped, step_at, step_of};
 

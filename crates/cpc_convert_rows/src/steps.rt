@@ -5,7 +5,7 @@ ghost use Rattle.cpc_forms_code.specs.Seen.{manner_seen, stood_seen};
 ghost use Rattle.cpc_forms_code.specs.Graphs.{node_seen};
 ghost use Rattle.cpc_chains_event.specs.Lines as L;
 ghost use Rattle.cpc_chains_event.specs.Pieces as P;
-ghost use Rattle.cpc_chains_event.specs.Routines.{Routine};
+ghost use Rattle.cpc_convert_routines.specs.Routines.{Routine};
 ghost use Rattle.cpc_chains_event.specs.Rows as R;
 ghost use Rattle.cpc_convert_rows.specs.Steps.{IsOf, no_step, step_of};
 ghost use Rattle.cpc_convert_rows.specs.Ways as W;

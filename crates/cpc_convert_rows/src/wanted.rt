@@ -2,7 +2,7 @@
 ghost use Rattle.std.specs.Prelude.{◌≡◌, ℕ, suc, slice_get, ◌<◌, ◌||◌, map, length, IfOk};
 ghost use Rattle.cpc_tree.specs.Syntax.{Program};
 ghost use Rattle.cpc_forms_code.specs.Splits.{place_of};
-ghost use Rattle.cpc_chains_event.specs.Routines.{Routine};
+ghost use Rattle.cpc_convert_routines.specs.Routines.{Routine};
 ghost use Rattle.cpc_chains_event.specs.Rows as R;
 ghost use Rattle.cpc_convert_rows.specs.Marks.{is_set};
 ghost use Rattle.cpc_convert_rows.specs.Steps.{IsStepped};

@@ -11,9 +11,9 @@ use Rattle.cpc_tree.proofs.Places.{bare_program}
 use Rattle.cpc_printer.specs.Style.{IsPrint}
 use Rattle.cpc_meaning.specs.Runs.{SameRuns, Within}
 use Rattle.cpc_chains_event.specs.Converted.{converted}
-use Rattle.cpc_chains_laws.specs.Accepted.Accepted.{OfAccepted}
-use Rattle.cpc_chains_laws.specs.Accepted.Names.{HasNames}
-use Rattle.cpc_chains_laws.proofs.Accepted.Names.{accepted_has_names}
+use Rattle.cpc_lifted_laws.specs.Accepted.Accepted.{OfAccepted}
+use Rattle.cpc_lifted_laws.specs.Accepted.Names.{HasNames}
+use Rattle.cpc_lifted_laws.proofs.Accepted.Names.{accepted_has_names}
 use Rattle.cpc_chains_laws.specs.Runs.Laws.{ConvertedHasSameRuns}
 use Rattle.cpc_chains_print_laws.proofs.Back.{converted_reads_back}
 use Rattle.cpc_chains_laws.specs.Rules.Laws.{Unbroken}

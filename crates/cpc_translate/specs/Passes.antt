@@ -2,7 +2,7 @@
 use Rattle.std.specs.Prelude.{◌≡◌, All}
 use Rattle.cpc_tree.specs.Erase.{program_of}
 use Rattle.cpc_tree.specs.declared.program.Program.{Program}
-use Rattle.cpc_chains_laws.specs.Accepted.Names.{HasNames}
+use Rattle.cpc_lifted_laws.specs.Accepted.Names.{HasNames}
 use Rattle.cpc_convert_names.specs.Tables.{AreWithin}
 use Rattle.cpc_forms_code.specs.Programs.{IsSpeakable}
 use Rattle.cpc_forms_code.specs.declared.boxed.Boxed.{Boxed}

@@ -6,9 +6,10 @@ use Rattle.cpc_tree.specs.Syntax.{Program}
 use Rattle.cpc_forms.specs.Flow.{Place}
 use Rattle.cpc_forms.specs.Split.{number_if}
 use Rattle.cpc_forms.specs.Pieces.{is_owned_by, owned_from, without, fronted, first_of}
-use Rattle.cpc_chains_event.specs.Routines.{Routine, chosen}
-use Rattle.cpc_chains_event.specs.Rows.{is_own, has_row, turned, rows_nodes, reached, stubs_of, row_of, falls, number_where, stub_behind, numbers_from, numbers_of}
-use Rattle.cpc_chains_event.proofs.Numbers.{AllBelow, NoneBelow, OneBelow, below_append, below_chosen}
+use Rattle.cpc_convert_routines.specs.Routines.{Routine, chosen}
+use Rattle.cpc_convert_routines.specs.Nodes.{is_own, has_row, turned, rows_nodes}
+use Rattle.cpc_chains_event.specs.Rows.{reached, stubs_of, row_of, falls, number_where, stub_behind, numbers_from, numbers_of}
+use Rattle.cpc_convert_routines.proofs.Numbers.{AllBelow, NoneBelow, OneBelow, below_append, below_chosen}
 
 -- a number that is held is below what all are below
 pub below_held : (high : ℕ) (ns : List ℕ) (n : ℕ) → AllBelow high ns → holds_number ns n ≡ true → n < high

@@ -23,23 +23,24 @@ use Rattle.cpc_meaning.proofs.Functions.{text_same, texts_differ}
 use Rattle.cpc_convert_common.specs.Marks.{has_marks}
 use Rattle.cpc_convert_common.specs.Converted.{function_item}
 use Rattle.cpc_forms.specs.Flow.{Start}
-use Rattle.cpc_chains_store_laws.specs.Flat.{before}
-use Rattle.cpc_chains_store_laws.specs.Structs.{NotCalled, NoneSo, NotSo, ScalarFields, AndField, IsStruct}
-use Rattle.cpc_chains_store_laws.specs.Frames.{Save, saves_one, asks_block, fills_frame}
+use Rattle.cpc_convert_flat_laws.specs.Flat.{before}
+use Rattle.cpc_convert_flat_laws.specs.Structs.{NotCalled, NoneSo, NotSo, ScalarFields, AndField, IsStruct}
+use Rattle.cpc_convert_flat_laws.specs.Locals.{Save, saves_one}
+use Rattle.cpc_chains_store_laws.specs.Frames.{asks_block, fills_frame}
 use Rattle.cpc_chains_store_laws.specs.Driver.{drive_name, code_field, next_field, head_fields, readies}
-use Rattle.cpc_chains_store_laws.proofs.Structs.{field_at}
-use Rattle.cpc_chains_store_laws.proofs.Rows.{before_append}
+use Rattle.cpc_convert_flat_laws.proofs.Structs.{field_at}
+use Rattle.cpc_convert_flat_laws.proofs.Rows.{before_append}
 use Rattle.cpc_chains_laws.specs.Complete.Laws.{FlatFine}
 use Rattle.cpc_chains_laws.specs.Complete.Flat.{Runs, AndDeclare, named_at, called, Savable, NoSave, AndSave, Distinct, NoneDistinct, AllOf, NoneAsked, NoneKept, NoneIsKept, AndUnkept, all_flat, labels_of, gotos_of, locals_of}
 use Rattle.cpc_chains_laws.proofs.Complete.Flat.{rows_fine, flat_fine, first_meant, later_meant}
 use Rattle.cpc_chains_laws.proofs.Complete.FrameRows.{PrimitivesFree, free_more, spawner_run}
-use Rattle.cpc_chains_laws.proofs.Complete.Kept.{over}
-use Rattle.cpc_chains_event.specs.Names.{piece_name, frame_name, variable_name}
+use Rattle.cpc_lifted_laws.proofs.Complete.Kept.{over}
+use Rattle.cpc_convert_routines.specs.Names.{piece_name, frame_name, variable_name}
 use Rattle.cpc_chains_event.specs.Lines.{save_of}
 use Rattle.cpc_chains_event.specs.Pieces.{parameter_of, spawner_function}
-use Rattle.cpc_chains_event.specs.Routines.{passed_from, passed, variable_if}
+use Rattle.cpc_convert_routines.specs.Routines.{passed_from, passed, variable_if}
 use Rattle.cpc_chains_event.specs.Converted.{converted}
-use Rattle.cpc_chains_event.specs.NameLaws.{IsCps, TheStart}
+use Rattle.cpc_convert_routines.specs.Named.{IsCps, TheStart}
 use Rattle.cpc_chains_event.proofs.BoxesThere.{structs_there}
 use Rattle.cpc_chains_event.proofs.Fields.{Rising, passed_rise, frame_fields, fields_behind}
 use Rattle.cpc_chains_laws.proofs.Native.SpawnerCall.{passed_few}

@@ -11,9 +11,10 @@ use Rattle.cpc_meaning.specs.Ways.{ways}
 use Rattle.cpc_forms.specs.Flow.{Place}
 use Rattle.cpc_forms.specs.Graph.{Node, graph_of, graph_if, graph_where, at_node}
 use Rattle.cpc_forms.specs.Split.{InGraph, split_of, splits, position_stood, split_form}
-use Rattle.cpc_chains_event.specs.Routines.{routine_of}
+use Rattle.cpc_convert_routines.specs.Routines.{routine_of}
 use Rattle.cpc_chains_laws.specs.Piece.Rows.{RowAt}
-use Rattle.cpc_chains_laws.specs.Piece.Stood.{IsFound, NodeAt, CallAt, Stood, AtRow, AtCall}
+use Rattle.cpc_lifted_laws.specs.Piece.Known.{IsFound}
+use Rattle.cpc_chains_laws.specs.Piece.Stood.{NodeAt, CallAt, Stood, AtRow, AtCall}
 use Rattle.cpc_chains_laws.specs.Call.Laws.{FramedNode}
 use Rattle.cpc_chains_laws.proofs.Call.Framed.{framed_calls_arrive}
 

@@ -36,25 +36,27 @@ use Rattle.cpc_forms.specs.Split.{Position, InGraph, split_form}
 use Rattle.cpc_graph_laws.proofs.Formed.{in_left, in_right}
 use Rattle.cpc_lift_laws.specs.Used.{used_in, used_among, used_if}
 use Rattle.cpc_chains_store_laws.specs.Driver.{driving}
-use Rattle.cpc_chains_store_laws.specs.Flat.{point_at}
-use Rattle.cpc_chains_store_laws.specs.Frames.{at as Here_at}
-use Rattle.cpc_chains_store_laws.proofs.Walks.{stay}
-use Rattle.cpc_chains_store_laws.specs.Walks.{frame_at}
-use Rattle.cpc_chains_store_laws.proofs.AtLine.{line_path, line_found, line_scope, line_next}
+use Rattle.cpc_convert_flat_laws.specs.Flat.{point_at}
+use Rattle.cpc_convert_flat_laws.specs.Locals.{at as Here_at}
+use Rattle.cpc_convert_flat_laws.proofs.Walks.{stay}
+use Rattle.cpc_convert_flat_laws.specs.Walks.{frame_at}
+use Rattle.cpc_convert_flat_laws.proofs.AtLine.{line_path, line_found, line_scope, line_next}
 use Rattle.cpc_chains_event.specs.FlatLaws.{piece_count}
 use Rattle.cpc_chains_event.specs.Lines.{Does, goes, node_lines}
-use Rattle.cpc_chains_event.specs.NameLaws.{IsOwner}
-use Rattle.cpc_chains_event.specs.Names.{piece_name}
-use Rattle.cpc_chains_event.specs.Routines.{Routine, routine_of, readings_of}
-use Rattle.cpc_chains_event.specs.Rows.{has_row, Plain}
-use Rattle.cpc_chains_laws.specs.Accepted.Known.{Stays}
-use Rattle.cpc_chains_laws.specs.Accepted.Points.{UsedName, StatementKnown, StaysItself}
-use Rattle.cpc_chains_laws.specs.Related.Bounds.{Bounds}
+use Rattle.cpc_convert_routines.specs.Named.{IsOwner}
+use Rattle.cpc_convert_routines.specs.Names.{piece_name}
+use Rattle.cpc_convert_routines.specs.Routines.{Routine, routine_of, readings_of}
+use Rattle.cpc_convert_routines.specs.Nodes.{has_row}
+use Rattle.cpc_chains_event.specs.Rows.{Plain}
+use Rattle.cpc_lifted_laws.specs.Accepted.Known.{Stays}
+use Rattle.cpc_lifted_laws.specs.Accepted.Points.{UsedName, StatementKnown, StaysItself}
+use Rattle.cpc_lifted_laws.specs.Related.Bounds.{Bounds}
 use Rattle.cpc_chains_laws.proofs.Related.Inside.{Sticks, Breaks, Requests, Replied, ReplyStuck, ReplyFaults, ReplyGoes}
 use Rattle.cpc_chains_laws.proofs.Related.Relation.{Shared, world_of}
-use Rattle.cpc_chains_laws.specs.Native.Convertible.{Convertible}
-use Rattle.cpc_chains_laws.specs.Native.Instance.{StaysAs}
-use Rattle.cpc_chains_laws.specs.Piece.Known.{CpsKnown, ProgramKnown}
+use Rattle.cpc_lifted_laws.specs.Native.Convertible.{Convertible}
+use Rattle.cpc_lifted_laws.specs.Native.Instance.{StaysAs}
+use Rattle.cpc_lifted_laws.specs.Piece.Known.{CpsKnown}
+use Rattle.cpc_chains_laws.specs.Piece.Known.{ProgramKnown}
 use Rattle.cpc_chains_laws.specs.Piece.Rows.{RowAt, row_index}
 use Rattle.cpc_chains_laws.specs.Piece.Stood.{NodeAt, LocalsStand}
 use Rattle.cpc_chains_laws.proofs.Piece.Acting.{given_only, found_known, kept_here, source_act, lines_are, found_typed}
@@ -66,7 +68,7 @@ use Rattle.cpc_chains_laws.proofs.Piece.Rowed.{OnlyGoes, DoesHere, standing_piec
 use Rattle.cpc_chains_laws.proofs.Piece.Uses.{names_kept, names_kept_if, names_kept_among, use_kept, IsKept, stood_is}
 use Rattle.cpc_chains_laws.proofs.Call.Calls.{IsRequest, placed_asks, call_itself}
 use Rattle.cpc_chains_laws.proofs.Call.Framed.{nodes_have_manners}
-use Rattle.cpc_chains_laws.proofs.Call.Steps.{statement_asks, answer_goes, answer_faults}
+use Rattle.cpc_lifted_laws.proofs.Call.Steps.{statement_asks, answer_goes, answer_faults}
 
 -- what is asked stands at a statement
 asked_is : (x y : Found) → asking (AtStatement x) ≡ Some y → x ≡ y

@@ -24,22 +24,23 @@ use Rattle.cpc_graph_laws.proofs.Splits.{owner_there}
 use Rattle.cpc_convert_image_laws.specs.Held.{beside}
 use Rattle.cpc_chains_store_laws.specs.Chains.{frame_cells}
 use Rattle.cpc_chains_store_laws.specs.Driver.{driving}
-use Rattle.cpc_chains_store_laws.specs.Flat.{before, point_at, bare, is_line}
-use Rattle.cpc_chains_store_laws.specs.Walks.{Walk, running, frame_at}
-use Rattle.cpc_chains_store_laws.proofs.AtLine.{line_passed}
-use Rattle.cpc_chains_store_laws.proofs.Walks.{walk_append}
+use Rattle.cpc_convert_flat_laws.specs.Flat.{before, point_at, bare, is_line}
+use Rattle.cpc_convert_flat_laws.specs.Walks.{Walk, running, frame_at}
+use Rattle.cpc_convert_flat_laws.proofs.AtLine.{line_passed}
+use Rattle.cpc_convert_flat_laws.proofs.Walks.{walk_append}
 use Rattle.cpc_chains_event.specs.FlatLaws.{piece_count}
 use Rattle.cpc_chains_event.specs.LabelLaws.{put_in}
 use Rattle.cpc_chains_event.specs.Lines.{Does, Goes, goes, save_of, behind_arrival, node_lines}
-use Rattle.cpc_chains_event.specs.NameLaws.{IsOwner}
-use Rattle.cpc_chains_event.specs.Names.{piece_name}
-use Rattle.cpc_chains_event.specs.Routines.{Routine, routine_of, closure_of, local_of}
-use Rattle.cpc_chains_event.specs.Rows.{is_own, has_row, behind_call, onwards, Plain, Jump, is_next, put_line, put_lines, put_statement, leads, any_leads, is_wanted, row_statements}
-use Rattle.cpc_chains_laws.specs.Related.Bounds.{Bounds}
-use Rattle.cpc_chains_laws.specs.Related.Items.{copied}
+use Rattle.cpc_convert_routines.specs.Named.{IsOwner}
+use Rattle.cpc_convert_routines.specs.Names.{piece_name}
+use Rattle.cpc_convert_routines.specs.Routines.{Routine, routine_of, closure_of, local_of}
+use Rattle.cpc_convert_routines.specs.Nodes.{is_own, has_row}
+use Rattle.cpc_chains_event.specs.Rows.{behind_call, onwards, Plain, Jump, is_next, put_line, put_lines, put_statement, leads, any_leads, is_wanted, row_statements}
+use Rattle.cpc_lifted_laws.specs.Related.Bounds.{Bounds}
+use Rattle.cpc_lifted_laws.specs.Related.Cut.{copied}
 use Rattle.cpc_chains_laws.proofs.Related.Inside.{Onward, Stays, Jumps}
-use Rattle.cpc_chains_laws.specs.Native.Instance.{keeps_in}
-use Rattle.cpc_chains_laws.specs.Piece.Known.{CpsKnown}
+use Rattle.cpc_lifted_laws.specs.Native.Instance.{keeps_in}
+use Rattle.cpc_lifted_laws.specs.Piece.Known.{CpsKnown}
 use Rattle.cpc_chains_laws.specs.Piece.Rows.{next_number, put_row, RowAt, row_index, row_point}
 use Rattle.cpc_chains_laws.specs.Piece.Stood.{NodeAt, LocalsStand, NoneArrives, AtRow}
 use Rattle.cpc_chains_laws.proofs.Piece.Filled.{row_filled}

@@ -16,9 +16,9 @@ use Rattle.cpc_meaning.specs.Requests.{Primitive, Yield, Sleep, IoWait, Wait, Rt
 use Rattle.cpc_meaning.specs.Ways.{InPlace, ByFrame, AsCps, primitive_manner, meant_manner, manner_of}
 use Rattle.cpc_meaning_laws.proofs.Pointer.Blocks.{Only, any_then}
 use Rattle.cpc_convert_image_laws.specs.InPlace.{is_cps}
-use Rattle.cpc_chains_laws.specs.Accepted.Names.{HasNames}
-use Rattle.cpc_chains_laws.specs.Accepted.Points.{StaysItself, in_scope}
-use Rattle.cpc_chains_laws.proofs.Accepted.Statements.{called_primitive}
+use Rattle.cpc_lifted_laws.specs.Accepted.Names.{HasNames}
+use Rattle.cpc_lifted_laws.specs.Accepted.Points.{StaysItself, in_scope}
+use Rattle.cpc_lifted_laws.proofs.Accepted.Statements.{called_primitive}
 use Rattle.cpc_chains_laws.proofs.Related.Setting.{is_common, is_answered}
 
 -- an act that enters a function

@@ -16,9 +16,9 @@ use Rattle.cpc_convert_image_laws.specs.Stacks.{EntersAlike}
 use Rattle.cpc_convert_image_laws.proofs.Answers.{meets_gives}
 use Rattle.cpc_convert_image_laws.proofs.Entering.{slots_beside}
 use Rattle.cpc_chains_event.specs.Converted.{converted}
-use Rattle.cpc_chains_laws.specs.Accepted.Known.{Stays}
+use Rattle.cpc_lifted_laws.specs.Accepted.Known.{Stays}
 use Rattle.cpc_chains_laws.specs.Related.Running.{SamePoint}
-use Rattle.cpc_chains_laws.specs.Native.Instance.{StaysAs, cut_of}
+use Rattle.cpc_lifted_laws.specs.Native.Instance.{StaysAs, cut_of}
 
 -- the slots are the same, and so is the store beside the frames
 same_entered : (C : Text → Type 0) (bs : Blocks) (a b : List Slot × Store) → Entered C bs a b → (b ≡ (a.0, beside bs a.1)) × All (IsHeldSlot C) a.0

@@ -30,24 +30,25 @@ use Rattle.cpc_forms.specs.Flow.{Place}
 use Rattle.cpc_forms.specs.Graph.{at_node}
 use Rattle.cpc_forms.specs.Split.{Position, InGraph, split_form}
 use Rattle.cpc_chains_store_laws.specs.Driver.{driving}
-use Rattle.cpc_chains_store_laws.specs.Flat.{point_at}
-use Rattle.cpc_chains_store_laws.specs.Frames.{at as Here_at}
-use Rattle.cpc_chains_store_laws.proofs.Walks.{stay}
-use Rattle.cpc_chains_store_laws.specs.Walks.{running, frame_at}
-use Rattle.cpc_chains_store_laws.proofs.AtLine.{line_path, line_found, line_scope, line_next}
+use Rattle.cpc_convert_flat_laws.specs.Flat.{point_at}
+use Rattle.cpc_convert_flat_laws.specs.Locals.{at as Here_at}
+use Rattle.cpc_convert_flat_laws.proofs.Walks.{stay}
+use Rattle.cpc_convert_flat_laws.specs.Walks.{running, frame_at}
+use Rattle.cpc_convert_flat_laws.proofs.AtLine.{line_path, line_found, line_scope, line_next}
 use Rattle.cpc_chains_event.specs.FlatLaws.{piece_count}
 use Rattle.cpc_chains_event.specs.Lines.{Does, goes, behind_arrival, node_lines}
-use Rattle.cpc_chains_event.specs.NameLaws.{IsOwner}
-use Rattle.cpc_chains_event.specs.Names.{piece_name}
-use Rattle.cpc_chains_event.specs.Routines.{Routine, routine_of, readings_of}
-use Rattle.cpc_chains_event.specs.Rows.{stands_with, has_row}
-use Rattle.cpc_chains_laws.specs.Accepted.Known.{Stays}
-use Rattle.cpc_chains_laws.specs.Accepted.Points.{UsedName, FoundKnown, StatementKnown, in_scope}
-use Rattle.cpc_chains_laws.specs.Related.Bounds.{Bounds}
+use Rattle.cpc_convert_routines.specs.Named.{IsOwner}
+use Rattle.cpc_convert_routines.specs.Names.{piece_name}
+use Rattle.cpc_convert_routines.specs.Routines.{Routine, routine_of, readings_of}
+use Rattle.cpc_convert_routines.specs.Nodes.{stands_with, has_row}
+use Rattle.cpc_lifted_laws.specs.Accepted.Known.{Stays}
+use Rattle.cpc_lifted_laws.specs.Accepted.Points.{UsedName, FoundKnown, StatementKnown, in_scope}
+use Rattle.cpc_lifted_laws.specs.Related.Bounds.{Bounds}
 use Rattle.cpc_chains_laws.proofs.Related.Inside.{Does as Performs, Sticks, Breaks, Moves, PieceAt}
 use Rattle.cpc_chains_laws.proofs.Related.Relation.{Shared, world_of}
-use Rattle.cpc_chains_laws.specs.Native.Instance.{StaysAs}
-use Rattle.cpc_chains_laws.specs.Piece.Known.{CpsKnown, ProgramKnown}
+use Rattle.cpc_lifted_laws.specs.Native.Instance.{StaysAs}
+use Rattle.cpc_lifted_laws.specs.Piece.Known.{CpsKnown}
+use Rattle.cpc_chains_laws.specs.Piece.Known.{ProgramKnown}
 use Rattle.cpc_chains_laws.specs.Piece.Rows.{RowAt, row_index}
 use Rattle.cpc_chains_laws.specs.Piece.Stood.{NodeAt, LocalsStand, CallAt, call_point}
 use Rattle.cpc_chains_laws.proofs.Piece.Acting.{given_only, kept_here, source_act, lines_are}
@@ -60,7 +61,7 @@ use Rattle.cpc_chains_laws.proofs.Piece.Rowed.{OnlyGoes}
 use Rattle.cpc_chains_laws.proofs.Piece.Uses.{names_kept_if, use_kept, IsKept, stood_is}
 use Rattle.cpc_chains_laws.proofs.Call.Arrivals.{arrives_there, scope_there}
 use Rattle.cpc_chains_laws.proofs.Call.Behind.{left_over, more, call_line, behind_framed}
-use Rattle.cpc_chains_laws.proofs.Call.Steps.{arrival_goes, arrival_faults}
+use Rattle.cpc_lifted_laws.proofs.Call.Steps.{arrival_goes, arrival_faults}
 
 -- the place of a call is known
 place_known : (p : Program) (sc : Scope) (to : Option Expr) (g : Expr) (es : Exprs) → StatementKnown p sc (Call to g es) → AllNamesIf (UsedName p sc) to × ((slots : List Slot) (t : Store) → IsWrittenIf (in_scope p sc slots t) to)

@@ -16,20 +16,21 @@ use Rattle.cpc_graph_laws.proofs.Formed.{in_either}
 use Rattle.cpc_lift_laws.proofs.Boxes.{boxes_are_below}
 use Rattle.cpc_lift_laws.proofs.Lift.{boxes_exact}
 use Rattle.cpc_chains_store_laws.specs.Driver.{any_pointer}
-use Rattle.cpc_chains_store_laws.proofs.Scopes.{NotLoaded, NoneLoaded, NotThisLoad, loaded_other}
+use Rattle.cpc_convert_flat_laws.proofs.Scopes.{NotLoaded, NoneLoaded, NotThisLoad, loaded_other}
 use Rattle.cpc_chains_event.specs.Converted.{converted}
 use Rattle.cpc_chains_event.specs.FlatLaws.{piece_scope}
-use Rattle.cpc_chains_event.specs.Frames.{arriving_type}
-use Rattle.cpc_chains_event.specs.NameLaws.{IsCps, IsOwner}
-use Rattle.cpc_chains_event.specs.Names.{piece_name, variable_name}
-use Rattle.cpc_chains_event.specs.Pieces.{parameter_of, takes_value, value_load, loaded, loads_of, words_if, words_of, begun, declares_of, piece_function}
-use Rattle.cpc_chains_event.specs.Routines.{Routine, routine_of, closure_of, is_plain, is_parameter, passed, variable_of, locals_of, chosen}
+use Rattle.cpc_convert_routines.specs.Arriving.{arriving_type}
+use Rattle.cpc_convert_routines.specs.Named.{IsCps, IsOwner}
+use Rattle.cpc_convert_routines.specs.Names.{piece_name, variable_name}
+use Rattle.cpc_chains_event.specs.Pieces.{parameter_of, value_load, loaded, loads_of, words_if, words_of, begun, declares_of, piece_function}
+use Rattle.cpc_convert_routines.specs.Taken.{takes_value}
+use Rattle.cpc_convert_routines.specs.Routines.{Routine, routine_of, closure_of, is_plain, is_parameter, passed, variable_of, locals_of, chosen}
 use Rattle.cpc_chains_event.proofs.Apart.{spawner_is, no_bar_nothing, spawn_nothing}
 use Rattle.cpc_chains_event.proofs.Locals.{NoneCalled, none_append, passes}
 use Rattle.cpc_chains_event.proofs.Meanings.{items_meant}
-use Rattle.cpc_chains_event.proofs.Numbers.{chosen_is}
+use Rattle.cpc_convert_routines.proofs.Numbers.{chosen_is}
 use Rattle.cpc_chains_event.proofs.Fields.{variable_is}
-use Rattle.cpc_chains_laws.specs.Piece.Known.{CpsKnown}
+use Rattle.cpc_lifted_laws.specs.Piece.Known.{CpsKnown}
 use Rattle.cpc_chains_laws.proofs.Piece.Frames.{kept_small}
 use Rattle.cpc_chains_laws.proofs.Piece.Scopes.{unmarked_name, loads_none, loads_append}
 

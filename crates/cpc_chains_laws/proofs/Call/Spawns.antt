@@ -36,32 +36,35 @@ use Rattle.cpc_convert_image_laws.proofs.Statements.{spawn_alike}
 use Rattle.cpc_forms.specs.Flow.{Place}
 use Rattle.cpc_forms.specs.Split.{Position, InGraph, split_form}
 use Rattle.cpc_chains_store_laws.specs.Driver.{drive_name, driving}
-use Rattle.cpc_chains_store_laws.specs.Flat.{point_at}
-use Rattle.cpc_chains_store_laws.specs.Frames.{at as Here_at}
-use Rattle.cpc_chains_store_laws.specs.Walks.{Rise, running, frame_at}
-use Rattle.cpc_chains_store_laws.proofs.AtLine.{line_path, line_found, line_scope, line_next}
-use Rattle.cpc_chains_store_laws.proofs.Steps.{step_enters}
-use Rattle.cpc_chains_store_laws.proofs.Walks.{stay, rise_one, rise_cons, rise_append}
-use Rattle.cpc_chains_event.specs.FillLaws.{AllFit}
+use Rattle.cpc_convert_flat_laws.specs.Flat.{point_at}
+use Rattle.cpc_convert_flat_laws.specs.Locals.{at as Here_at}
+use Rattle.cpc_convert_flat_laws.specs.Walks.{Rise, running, frame_at}
+use Rattle.cpc_convert_flat_laws.proofs.AtLine.{line_path, line_found, line_scope, line_next}
+use Rattle.cpc_convert_flat_laws.proofs.Steps.{step_enters}
+use Rattle.cpc_convert_flat_laws.proofs.Walks.{stay, rise_one, rise_cons, rise_append}
+use Rattle.cpc_convert_routines.specs.Given.{AllFit}
 use Rattle.cpc_chains_event.specs.FlatLaws.{piece_count}
 use Rattle.cpc_chains_event.specs.Lines.{Does, goes, save_of, node_lines}
-use Rattle.cpc_chains_event.specs.NameLaws.{IsCps, IsOwner}
-use Rattle.cpc_chains_event.specs.Names.{piece_name}
+use Rattle.cpc_convert_routines.specs.Named.{IsCps, IsOwner}
+use Rattle.cpc_convert_routines.specs.Names.{piece_name}
 use Rattle.cpc_chains_event.specs.Pieces.{parameter_of, spawner_function}
-use Rattle.cpc_chains_event.specs.Routines.{Routine, routine_of, passed, readings_of}
-use Rattle.cpc_chains_event.specs.Rows.{has_row, Plain}
+use Rattle.cpc_convert_routines.specs.Routines.{Routine, routine_of, passed, readings_of}
+use Rattle.cpc_convert_routines.specs.Nodes.{has_row}
+use Rattle.cpc_chains_event.specs.Rows.{Plain}
 use Rattle.cpc_chains_event.proofs.Lookups.{functions_found}
-use Rattle.cpc_chains_laws.specs.Accepted.Known.{Stays, AreScalar}
-use Rattle.cpc_chains_laws.specs.Accepted.Points.{UsedName, StatementKnown}
-use Rattle.cpc_chains_laws.specs.Related.Bounds.{Bounds}
+use Rattle.cpc_lifted_laws.specs.Accepted.Known.{Stays, AreScalar}
+use Rattle.cpc_lifted_laws.specs.Accepted.Points.{UsedName, StatementKnown}
+use Rattle.cpc_lifted_laws.specs.Related.Bounds.{Bounds}
 use Rattle.cpc_chains_laws.proofs.Related.Inside.{Sticks, Breaks, SpawnsOne, with_spawned}
 use Rattle.cpc_chains_laws.proofs.Related.Relation.{Shared, world_of}
 use Rattle.cpc_chains_laws.proofs.Related.Spawning.{SpawnerRuns}
-use Rattle.cpc_chains_laws.specs.Native.Convertible.{Convertible}
-use Rattle.cpc_chains_laws.specs.Native.Instance.{StaysAs}
-use Rattle.cpc_chains_laws.proofs.Native.SpawnerCall.{get_scalar, passed_types, spawner_takes, passed_few, fit_all}
+use Rattle.cpc_lifted_laws.specs.Native.Convertible.{Convertible}
+use Rattle.cpc_lifted_laws.specs.Native.Instance.{StaysAs}
+use Rattle.cpc_lifted_laws.proofs.Accepted.Pieces.{all_scalar}
+use Rattle.cpc_chains_laws.proofs.Native.SpawnerCall.{passed_types, spawner_takes, passed_few, fit_all}
 use Rattle.cpc_chains_laws.proofs.Native.Spawners.{spawner_runs, cps_mode, asked_same}
-use Rattle.cpc_chains_laws.specs.Piece.Known.{CpsKnown, ProgramKnown}
+use Rattle.cpc_lifted_laws.specs.Piece.Known.{CpsKnown}
+use Rattle.cpc_chains_laws.specs.Piece.Known.{ProgramKnown}
 use Rattle.cpc_chains_laws.specs.Piece.Rows.{RowAt, row_index}
 use Rattle.cpc_chains_laws.specs.Piece.Stood.{NodeAt, LocalsStand, Stood}
 use Rattle.cpc_chains_laws.proofs.Piece.Acting.{found_known, kept_here, source_act, lines_are, found_typed}
@@ -72,7 +75,7 @@ use Rattle.cpc_chains_laws.proofs.Piece.Places.{FirstLine}
 use Rattle.cpc_chains_laws.proofs.Piece.Rowed.{DoesHere, standing_piece, row_puts, others, rest, first, first_fault, behind}
 use Rattle.cpc_chains_laws.proofs.Piece.Uses.{names_kept_among, use_kept, IsKept, stood_is}
 use Rattle.cpc_chains_laws.proofs.Call.Shown.{spawner_meant}
-use Rattle.cpc_chains_laws.proofs.Call.Steps.{arrival_goes}
+use Rattle.cpc_lifted_laws.proofs.Call.Steps.{arrival_goes}
 
 -- the steps of a spawn are few
 few_steps : (n v steps leads : ℕ) → n ≤ v → steps ≡ suc (suc (suc (suc n)) + 2) → 16 + 3 * v ≤ leads → steps + 1 < leads
@@ -156,11 +159,11 @@ module _ (p : Program) (facts : ProgramKnown p) (h : Convertible p) (fine : Call
     typed : IsTyped D.Cpc p f sc s
     typed = found_typed p facts f known l owner n at slots slots' lower stands (Simple s) stood
 
-    all_scalar : AreScalar (parameter_types g)
-    all_scalar =
+    takes_scalar : AreScalar (parameter_types g)
+    takes_scalar =
         let i : Some typed.1.0 ≡ Some g = sym typed.1.1 ∙ named_g in
         let j : typed.1.0 ≡ g = cc in
-        get_scalar p sc (parameter_types g) es (subst (λ t. AllGet p sc (parameter_types t) es) j typed.1.2)
+        all_scalar p sc (parameter_types g) es (subst (λ t. AllGet p sc (parameter_types t) es) j typed.1.2)
 
     abbrev asked : Answer Act
     asked = spawns (Here_at p sc slots w.store) g.called es
@@ -172,7 +175,7 @@ module _ (p : Program) (facts : ProgramKnown p) (h : Convertible p) (fine : Call
     alike =
         spawn_alike (Stays p) (StaysAs p) (InLocal p f known l owner) p q facts.common Names names sc here slots slots' (names_mean p f known l owner n at slots slots' lower stands) w.store store held (λ y. read_live w.store slots (names y) live) bs
         g.called (spawner_name g.called) es (spawner_function g) TyVoid (map parameter_type (map parameter_of (passed g))) (spawner_meant p f known l owner g cps) ((functions_found p known.names).spawners g cps)
-        (λ t i. let j : Some t ≡ Some g = sym i ∙ named_g in let e : t ≡ g = cc in ap parameter_types e ∙ spawner_takes g all_scalar) argument_names
+        (λ t i. let j : Some t ≡ Some g = sym i ∙ named_g in let e : t ≡ g = cc in ap parameter_types e ∙ spawner_takes g takes_scalar) argument_names
 
     -- the arguments are converted, and fit what is passed
     as_arguments : (vs : List Value) → asked ≡ Gives (AsksFor (record { asked = ToSpawn g.called; arguments = vs })) → (us : List Value) × (arguments (parameter_types g) us ≡ Gives vs)
@@ -184,7 +187,7 @@ module _ (p : Program) (facts : ProgramKnown p) (h : Convertible p) (fine : Call
         (b.0, d.1 ∙ ap (λ vs. Gives vs) (asked_same g.called d.0 vs d.2))
 
     fitting : (vs : List Value) → asked ≡ Gives (AsksFor (record { asked = ToSpawn g.called; arguments = vs })) → AllFit (passed g) vs
-    fitting vs e = let a = as_arguments vs e in fit_all (passed g) a.0 vs (ap (λ ts. arguments ts a.0) (passed_types g all_scalar) ∙ a.1)
+    fitting vs e = let a = as_arguments vs e in fit_all (passed g) a.0 vs (ap (λ ts. arguments ts a.0) (passed_types g takes_scalar) ∙ a.1)
 
     -- ---- the spawner runs
 

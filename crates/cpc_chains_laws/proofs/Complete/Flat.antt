@@ -20,14 +20,15 @@ use Rattle.cpc_check_rules.specs.StmtRules.{behind, stmts_breaks}
 use Rattle.cpc_check_rules.specs.FunctionRules.{among, repeated, missing, labels, labels_in, gotos, gotos_in, stray_breaks, stray_in, reserved_breaks, parameter_names, locals, locals_in, first_of}
 use Rattle.cpc_check_laws.proofs.Native.NativeValues.{both_none}
 use Rattle.cpc_check_laws.proofs.Native.OnePlace.{here, ident_here, stmt_here, stmts_here}
-use Rattle.cpc_chains_store_laws.specs.Flat.{before, is_plain, is_line, is_flat}
-use Rattle.cpc_chains_store_laws.specs.Frames.{Load, loads_one, declares_one, opens_frame}
-use Rattle.cpc_chains_store_laws.proofs.Rows.{before_append}
-use Rattle.cpc_chains_laws.specs.Complete.Sets.{Sets}
+use Rattle.cpc_convert_flat_laws.specs.Flat.{before, is_plain, is_line, is_flat}
+use Rattle.cpc_convert_flat_laws.specs.Locals.{Load, loads_one, declares_one}
+use Rattle.cpc_chains_store_laws.specs.Frames.{opens_frame}
+use Rattle.cpc_convert_flat_laws.proofs.Rows.{before_append}
+use Rattle.cpc_lifted_laws.specs.Complete.Sets.{Sets}
 use Rattle.cpc_chains_laws.specs.Complete.Flat.{named_at, all_named_at, called, Runs, NoRow, AndDeclare, AndLine, NoneOf, NoText, AndOther, Distinct, AndDistinct, OneOf, IsFirst, IsLater, AllOf, NoneAsked, AndKnown, names_of, line_labels, plain_gotos, line_gotos, labels_of, gotos_of, line_locals, locals_of, all_flat, NoneKept, NoneIsKept, AndUnkept, loaded, Loadable, NoLoad, AndLoad, AllHaveCells, NoCells, AndCells, Fresh, NoFresh, AndFresh}
 use Rattle.cpc_chains_laws.specs.Complete.Laws.{FlatFine}
-use Rattle.cpc_chains_laws.proofs.Complete.Makers.{scalar_used, local_has, arrow_has}
-use Rattle.cpc_chains_laws.proofs.Complete.Rows.{start_fine}
+use Rattle.cpc_lifted_laws.proofs.Complete.Makers.{scalar_used, local_has, arrow_has}
+use Rattle.cpc_lifted_laws.proofs.Complete.Rows.{start_fine}
 
 -- ---- texts
 

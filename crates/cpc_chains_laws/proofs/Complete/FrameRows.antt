@@ -19,12 +19,13 @@ use Rattle.cpc_check_laws.proofs.Sound.Answers.{no_some}
 use Rattle.cpc_meaning.proofs.Functions.{same_text}
 use Rattle.cpc_check_laws.proofs.Native.NativeValues.{both_none}
 use Rattle.cpc_check_laws.proofs.Native.OnePlace.{here, expr_here, exprs_here, stmt_here}
-use Rattle.cpc_chains_store_laws.specs.Frames.{Save, saves_one, frame_through, asks_block, fills_frame, Give, gives_one, fills_call}
-use Rattle.cpc_chains_store_laws.specs.Boxes.{unboxes_one}
+use Rattle.cpc_convert_flat_laws.specs.Locals.{Save, saves_one}
+use Rattle.cpc_chains_store_laws.specs.Frames.{frame_through, asks_block, fills_frame, Give, gives_one, fills_call}
+use Rattle.cpc_convert_flat_laws.specs.Boxes.{unboxes_one}
 use Rattle.cpc_chains_store_laws.specs.Driver.{code_field, next_field, piece_type, frame_tag, readies}
-use Rattle.cpc_chains_laws.specs.Complete.Sets.{Has, Sets, Gives, AllSet}
+use Rattle.cpc_lifted_laws.specs.Complete.Sets.{Has, Sets, Gives, AllSet}
 use Rattle.cpc_chains_laws.specs.Complete.Flat.{named_at, Runs, NoRow, AndLine, Savable, NoSave, AndSave, Givable, NoGive, AndGive, Unboxable, NoUnbox, AndUnbox, BeginsAsFrame}
-use Rattle.cpc_chains_laws.proofs.Complete.Makers.{type_here, local_has, arrow_has, null_sets, to_fine, all_sets_suit, args_fine, number_fine}
+use Rattle.cpc_lifted_laws.proofs.Complete.Makers.{type_here, local_has, arrow_has, null_sets, to_fine, all_sets_suit, args_fine, number_fine}
 use Rattle.cpc_chains_laws.proofs.Complete.Flat.{later_meant, runs_both}
 use Rattle.cpc_chains_laws.proofs.Complete.Frames.{pointer_sets, through_has, asks_fine, unboxes_fine, gives_fine, saves_fine, code_fine, next_fine, readies_fine}
 

@@ -14,12 +14,13 @@ use Rattle.cpc_check_rules.specs.Calls.{Wanted, Of, Callback, wanted_of, gives, 
 use Rattle.cpc_check_rules.specs.StmtRules.{is_writable, is_void, stmt_breaks}
 use Rattle.cpc_check_laws.proofs.Native.OnePlace.{stmt_here}
 use Rattle.cpc_convert_image_laws.specs.Images.{followed}
-use Rattle.cpc_chains_store_laws.specs.Frames.{Save, saves_one, frame_through, asks_block, frees_frame, Give, gives_one}
-use Rattle.cpc_chains_store_laws.specs.Boxes.{boxes_one, fills_box, unboxes_one}
+use Rattle.cpc_convert_flat_laws.specs.Locals.{Save, saves_one}
+use Rattle.cpc_chains_store_laws.specs.Frames.{frame_through, asks_block, frees_frame, Give, gives_one}
+use Rattle.cpc_convert_flat_laws.specs.Boxes.{boxes_one, fills_box, unboxes_one}
 use Rattle.cpc_chains_store_laws.specs.Driver.{code_field, next_field, value_field, piece_type, is_set, patches, readies}
-use Rattle.cpc_chains_laws.specs.Complete.Sets.{Has, Sets, Writes, Suits, AllSuit, NoneSuits, AndSuits, is_simple}
-use Rattle.cpc_chains_laws.proofs.Complete.Makers.{scalar_used, takes_itself, local_has, code_has, arrow_has, cast_has, size_has, set_has, local_sets, null_sets, test_fine, sets_suits, callback_suits}
-use Rattle.cpc_chains_laws.proofs.Complete.Rows.{assign_fine, if_fine, return_fine, primitive_fine}
+use Rattle.cpc_lifted_laws.specs.Complete.Sets.{Has, Sets, Writes, Suits, AllSuit, NoneSuits, AndSuits, is_simple}
+use Rattle.cpc_lifted_laws.proofs.Complete.Makers.{scalar_used, takes_itself, local_has, code_has, arrow_has, cast_has, size_has, set_has, local_sets, null_sets, test_fine, sets_suits, callback_suits}
+use Rattle.cpc_lifted_laws.proofs.Complete.Rows.{assign_fine, if_fine, return_fine, primitive_fine}
 
 -- the primitive of the dialect Event that stands for a wait
 abbrev pub runtime : Primitive → Primitive

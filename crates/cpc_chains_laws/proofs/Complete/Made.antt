@@ -15,15 +15,15 @@ use Rattle.cpc_check_rules.specs.FunctionRules.{is_kept, reserved_breaks, label_
 use Rattle.cpc_check_rules.specs.ItemRules.{declared_breaks, parameters_breaks, sized_breaks, outside, parameter_block, in_body, body_breaks, function_breaks}
 use Rattle.cpc_check_laws.proofs.Native.NativeValues.{both_none, event}
 use Rattle.cpc_check_laws.proofs.Native.OnePlace.{here, ident_here, stmt_here, stmts_here, parameter_here, function_here, item_again}
-use Rattle.cpc_chains_store_laws.specs.Flat.{before}
+use Rattle.cpc_convert_flat_laws.specs.Flat.{before}
 use Rattle.cpc_chains_store_laws.specs.Driver.{code_field, value_field, piece_type, frame_tag, taken_name, taken, is_taken, takes_up, drive_function}
 use Rattle.cpc_chains_laws.specs.Complete.Laws.{FlatFine}
-use Rattle.cpc_chains_laws.specs.Complete.Sets.{Has, NoneSet, AndSet}
+use Rattle.cpc_lifted_laws.specs.Complete.Sets.{Has, NoneSet, AndSet}
 use Rattle.cpc_chains_laws.specs.Complete.Flat.{named_at, called}
-use Rattle.cpc_chains_laws.proofs.Complete.Kept.{over}
-use Rattle.cpc_chains_laws.proofs.Complete.KeptFunctions.{defined_signature}
-use Rattle.cpc_chains_laws.proofs.Complete.Makers.{local_has, local_sets, set_has, test_fine}
-use Rattle.cpc_chains_laws.proofs.Complete.Rows.{assign_fine}
+use Rattle.cpc_lifted_laws.proofs.Complete.Kept.{over}
+use Rattle.cpc_lifted_laws.proofs.Complete.KeptFunctions.{defined_signature}
+use Rattle.cpc_lifted_laws.proofs.Complete.Makers.{local_has, local_sets, set_has, test_fine}
+use Rattle.cpc_lifted_laws.proofs.Complete.Rows.{assign_fine}
 use Rattle.cpc_chains_laws.proofs.Complete.Frames.{pointer_sets, pointer_writes, field_writes}
 use Rattle.cpc_chains_laws.proofs.Complete.FrameRows.{PrimitivesFree, free_more, field_call}
 

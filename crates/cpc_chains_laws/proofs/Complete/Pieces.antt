@@ -16,18 +16,19 @@ use Rattle.cpc_check_laws.proofs.Native.OnePlace.{stmt_here}
 use Rattle.cpc_check_laws.specs.Sound.Suits.{converts}
 use Rattle.cpc_check_laws.proofs.Sound.Agreement.{takes_converts}
 use Rattle.cpc_convert_image_laws.specs.Images.{Readings}
-use Rattle.cpc_chains_store_laws.specs.Frames.{Load, loaded_scope, declared_scope, taken_scope}
-use Rattle.cpc_chains_laws.specs.Complete.Reads.{Reads, Carries}
-use Rattle.cpc_chains_laws.specs.Complete.Sets.{Sets, Gives}
-use Rattle.cpc_chains_laws.specs.Complete.Kept.{KeptName, KeepsItems}
-use Rattle.cpc_chains_laws.specs.Complete.Standing.{local_named, local_or, Tells}
+use Rattle.cpc_convert_flat_laws.specs.Locals.{Load, loaded_scope, declared_scope}
+use Rattle.cpc_chains_store_laws.specs.Frames.{taken_scope}
+use Rattle.cpc_lifted_laws.specs.Complete.Reads.{Reads, Carries}
+use Rattle.cpc_lifted_laws.specs.Complete.Sets.{Sets, Gives}
+use Rattle.cpc_lifted_laws.specs.Complete.Kept.{KeptName, KeepsItems}
+use Rattle.cpc_lifted_laws.specs.Complete.Standing.{local_named, local_or, Tells}
 use Rattle.cpc_chains_laws.specs.Complete.Flat.{named_at, all_named_at, called, loaded}
-use Rattle.cpc_chains_laws.proofs.Complete.Names.{stays}
-use Rattle.cpc_chains_laws.proofs.Complete.Kept.{over}
-use Rattle.cpc_chains_laws.proofs.Complete.Standing.{tells_more}
+use Rattle.cpc_lifted_laws.proofs.Complete.Names.{stays}
+use Rattle.cpc_lifted_laws.proofs.Complete.Kept.{over}
+use Rattle.cpc_lifted_laws.proofs.Complete.Standing.{tells_more}
 use Rattle.cpc_chains_laws.proofs.Complete.Flat.{named_both, opened}
-use Rattle.cpc_chains_laws.proofs.Complete.Makers.{scalar_used, local_has}
-use Rattle.cpc_chains_laws.proofs.Complete.Rows.{assign_fine}
+use Rattle.cpc_lifted_laws.proofs.Complete.Makers.{scalar_used, local_has}
+use Rattle.cpc_lifted_laws.proofs.Complete.Rows.{assign_fine}
 
 -- ---- names in a scope
 

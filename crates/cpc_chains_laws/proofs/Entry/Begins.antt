@@ -31,25 +31,27 @@ use Rattle.cpc_convert_image_laws.specs.Held.{beside}
 use Rattle.cpc_chains_store_laws.specs.Chains.{Saved, frame_cells, Top}
 use Rattle.cpc_chains_store_laws.specs.Driver.{any_pointer, DriverFacts, driving, entered}
 use Rattle.cpc_meaning.specs.Eval.{Fits}
-use Rattle.cpc_chains_store_laws.specs.Walks.{World, Walk, Climbs, running, frame_at}
-use Rattle.cpc_chains_store_laws.proofs.Walks.{rise_climbs, climbs_append}
+use Rattle.cpc_convert_flat_laws.specs.Walks.{World, Walk, Climbs, running, frame_at}
+use Rattle.cpc_convert_flat_laws.proofs.Walks.{rise_climbs, climbs_append}
 use Rattle.cpc_chains_event.specs.BoxingLaws.{VariablesHaveSizes}
 use Rattle.cpc_chains_event.specs.Lines.{save_of}
-use Rattle.cpc_chains_event.specs.NameLaws.{TheStart}
-use Rattle.cpc_chains_event.specs.Names.{piece_name}
-use Rattle.cpc_chains_event.specs.Routines.{Routine, routine_of, closure_of, is_plain, variable_of, local_of, passed, owner_number}
-use Rattle.cpc_chains_event.specs.Rows.{owner_at, is_own, onwards_all, rows_nodes, reached, stubs_of}
+use Rattle.cpc_convert_routines.specs.Named.{TheStart}
+use Rattle.cpc_convert_routines.specs.Names.{piece_name}
+use Rattle.cpc_convert_routines.specs.Routines.{Routine, routine_of, closure_of, is_plain, variable_of, local_of, passed, owner_number}
+use Rattle.cpc_chains_event.specs.Rows.{owner_at, onwards_all, reached, stubs_of}
+use Rattle.cpc_convert_routines.specs.Nodes.{is_own, rows_nodes}
 use Rattle.cpc_chains_event.proofs.Heads.{pieces_begin}
-use Rattle.cpc_chains_event.proofs.Numbers.{chosen_has}
-use Rattle.cpc_chains_laws.specs.Related.Items.{value_in, copied, first_saved, saved_at}
+use Rattle.cpc_convert_routines.proofs.Numbers.{chosen_has}
+use Rattle.cpc_lifted_laws.specs.Related.Cut.{value_in, copied}
+use Rattle.cpc_chains_laws.specs.Related.Items.{first_saved, saved_at}
 use Rattle.cpc_chains_laws.proofs.Related.Entry.{Opens}
 use Rattle.cpc_chains_laws.proofs.Related.Setting.{Setting}
 use Rattle.cpc_chains_laws.proofs.Related.Starting.{StartLeads, start_opens}
 use Rattle.cpc_chains_laws.proofs.Related.Tidy.{slot_kept}
-use Rattle.cpc_chains_laws.specs.Native.Instance.{cut_of}
-use Rattle.cpc_chains_laws.specs.Accepted.Lifted.{kept_of}
+use Rattle.cpc_lifted_laws.specs.Native.Instance.{cut_of}
+use Rattle.cpc_lifted_laws.specs.Accepted.Lifted.{kept_of}
 use Rattle.cpc_chains_laws.proofs.Native.SpawnerCall.{passed_few}
-use Rattle.cpc_chains_laws.specs.Piece.Known.{CpsKnown}
+use Rattle.cpc_lifted_laws.specs.Piece.Known.{CpsKnown}
 use Rattle.cpc_chains_laws.specs.Piece.Rows.{row_point}
 use Rattle.cpc_chains_laws.specs.Piece.Stood.{NodeAt, NoneArrives, AtRow}
 use Rattle.cpc_chains_laws.proofs.Piece.Frames.{registers_all, code, saves_of, kept_number, with_frame}

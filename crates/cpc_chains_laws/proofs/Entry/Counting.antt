@@ -12,9 +12,9 @@ use Rattle.cpc_lift_laws.specs.Boxes.{is_box}
 use Rattle.cpc_lift_laws.specs.Lift.{boxes_from}
 use Rattle.cpc_lift_laws.specs.Search.{Link, keepers, closure_from}
 use Rattle.cpc_lift_laws.proofs.Lift.{boxes_exact}
-use Rattle.cpc_chains_event.specs.NameLaws.{IsNamed, IsCps}
+use Rattle.cpc_convert_routines.specs.Named.{IsNamed, IsCps}
 use Rattle.cpc_chains_event.specs.Pieces.{load_of, loads_of, loaded, words_of, begun, declares_of, box_lines, fills_if, boxing_lines, boxing_of}
-use Rattle.cpc_chains_event.specs.Routines.{Routine, routine_of, is_plain, is_parameter, number_before, chosen, closure_of, owner_number, keeper, locals_of, local_of, variable_of}
+use Rattle.cpc_convert_routines.specs.Routines.{Routine, routine_of, is_plain, is_parameter, number_before, chosen, closure_of, owner_number, keeper, locals_of, local_of, variable_of}
 use Rattle.cpc_chains_event.proofs.Locals.{counted}
 use Rattle.cpc_chains_laws.proofs.Entry.Resuming.{words_of_number}
 

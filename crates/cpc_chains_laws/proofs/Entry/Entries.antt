@@ -13,20 +13,20 @@ use Rattle.cpc_forms.specs.Split.{Position, InGraph}
 use Rattle.cpc_lift_laws.specs.Lifted.{tidy_slots}
 use Rattle.cpc_chains_store_laws.specs.Chains.{Saved, Top}
 use Rattle.cpc_chains_store_laws.specs.Driver.{DriverFacts}
-use Rattle.cpc_chains_store_laws.specs.Walks.{World}
+use Rattle.cpc_convert_flat_laws.specs.Walks.{World}
 use Rattle.cpc_chains_event.specs.BoxingLaws.{VariablesHaveSizes}
 use Rattle.cpc_chains_event.specs.Converted.{converted}
-use Rattle.cpc_chains_event.specs.NameLaws.{IsNamed, IsCps}
-use Rattle.cpc_chains_event.specs.Names.{piece_name}
+use Rattle.cpc_convert_routines.specs.Named.{IsNamed, IsCps}
+use Rattle.cpc_convert_routines.specs.Names.{piece_name}
 use Rattle.cpc_chains_event.proofs.BoxesThere.{structs_there}
 use Rattle.cpc_chains_event.proofs.Lookups.{functions_found}
-use Rattle.cpc_chains_laws.specs.Related.Bounds.{Bounds}
+use Rattle.cpc_lifted_laws.specs.Related.Bounds.{Bounds}
 use Rattle.cpc_chains_laws.specs.Related.Items.{saved_at, first_saved}
 use Rattle.cpc_chains_laws.proofs.Related.Entry.{Opens, EntryFacts}
 use Rattle.cpc_chains_laws.proofs.Related.Setting.{Setting, from_form}
-use Rattle.cpc_chains_laws.specs.Native.Instance.{cut_of}
+use Rattle.cpc_lifted_laws.specs.Native.Instance.{cut_of}
 use Rattle.cpc_chains_laws.proofs.Native.Instance.{setting_of}
-use Rattle.cpc_chains_laws.specs.Piece.Known.{CpsKnown}
+use Rattle.cpc_lifted_laws.specs.Piece.Known.{CpsKnown}
 use Rattle.cpc_chains_laws.specs.Piece.Stood.{Stood}
 use Rattle.cpc_chains_laws.specs.Entry.Taken.{LeaderTaken, CallTaken, FramesTaken, CallsTaken}
 use Rattle.cpc_chains_laws.proofs.Entry.Begins.{call_opens}

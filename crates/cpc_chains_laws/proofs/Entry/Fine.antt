@@ -18,23 +18,23 @@ use Rattle.cpc_forms.specs.Split.{InGraph, split_of}
 use Rattle.cpc_convert_image_laws.specs.Stacks.{frame_of}
 use Rattle.cpc_meaning.specs.Eval.{Fits}
 use Rattle.cpc_chains_event.specs.BoxingLaws.{VariablesHaveSizes}
-use Rattle.cpc_chains_event.specs.ClosureLaws.{may_stand, lifting}
-use Rattle.cpc_chains_event.specs.FillLaws.{AllFit, NoneFit, OneFits}
-use Rattle.cpc_chains_event.specs.Frames.{arriving_type}
-use Rattle.cpc_chains_event.specs.NameLaws.{IsCps, TheStart}
-use Rattle.cpc_chains_event.specs.Names.{variable_name}
-use Rattle.cpc_chains_event.specs.Pieces.{takes_value}
-use Rattle.cpc_chains_event.specs.Routines.{routine_of, closure_of, is_plain, variable_of, variable_or, variable_if, passed_from}
-use Rattle.cpc_chains_event.specs.Rows.{is_own}
-use Rattle.cpc_chains_laws.specs.Accepted.Known.{KeptSlot, IsRegister, IsBox, FineFrame, AreScalar}
-use Rattle.cpc_chains_laws.specs.Accepted.Lifted.{kept_of}
-use Rattle.cpc_chains_laws.specs.Accepted.Names.{HasNames}
-use Rattle.cpc_chains_laws.specs.Accepted.Pieces.{VariablesHaveCells, SuitsPieces}
-use Rattle.cpc_chains_laws.specs.Piece.Known.{CpsKnown}
+use Rattle.cpc_convert_routines.specs.ClosureLaws.{may_stand, lifting}
+use Rattle.cpc_convert_routines.specs.Given.{AllFit, NoneFit, OneFits}
+use Rattle.cpc_convert_routines.specs.Arriving.{arriving_type}
+use Rattle.cpc_convert_routines.specs.Named.{IsCps, TheStart}
+use Rattle.cpc_convert_routines.specs.Names.{variable_name}
+use Rattle.cpc_convert_routines.specs.Taken.{takes_value}
+use Rattle.cpc_convert_routines.specs.Routines.{routine_of, closure_of, is_plain, variable_of, variable_or, variable_if, passed_from}
+use Rattle.cpc_convert_routines.specs.Nodes.{is_own}
+use Rattle.cpc_lifted_laws.specs.Accepted.Known.{KeptSlot, IsRegister, IsBox, FineFrame, AreScalar}
+use Rattle.cpc_lifted_laws.specs.Accepted.Lifted.{kept_of}
+use Rattle.cpc_lifted_laws.specs.Accepted.Names.{HasNames}
+use Rattle.cpc_lifted_laws.specs.Accepted.Pieces.{VariablesHaveCells, SuitsPieces}
+use Rattle.cpc_lifted_laws.specs.Piece.Known.{CpsKnown}
 use Rattle.cpc_chains_laws.proofs.Piece.Frames.{kept_small}
 use Rattle.cpc_chains_laws.proofs.Piece.Tidied.{closure_kept}
 use Rattle.cpc_chains_laws.specs.Entry.Taken.{KeptIn, IsValue, IsBlock, LeaderTaken, CallTaken}
-use Rattle.cpc_chains_laws.proofs.Entry.Marks.{plain_is}
+use Rattle.cpc_lifted_laws.proofs.Entry.Marks.{plain_is}
 
 -- variables that have cells have sizes that can be told
 pub sizes_known : (p : Program) (f : Function) → VariablesHaveCells p f → VariablesHaveSizes p f

@@ -23,9 +23,10 @@ use Rattle.cpc_graph_laws.proofs.Marked.{leaders_are_listed}
 use Rattle.cpc_graph_laws.proofs.MoreFacts.{entries_are_first, owners_lead}
 use Rattle.cpc_graph_laws.proofs.Splits.{owner_there}
 use Rattle.cpc_graph_laws.proofs.Standing.{begin_is_in}
-use Rattle.cpc_chains_event.specs.NameLaws.{ALeader}
-use Rattle.cpc_chains_event.specs.Routines.{Routine, routine_of}
-use Rattle.cpc_chains_event.specs.Rows.{owner_at, is_own, stands_with, has_row}
+use Rattle.cpc_convert_routines.specs.Named.{ALeader}
+use Rattle.cpc_convert_routines.specs.Routines.{Routine, routine_of}
+use Rattle.cpc_chains_event.specs.Rows.{owner_at}
+use Rattle.cpc_convert_routines.specs.Nodes.{is_own, stands_with, has_row}
 use Rattle.cpc_chains_event.proofs.Boxing.{held_has}
 use Rattle.cpc_chains_laws.specs.Piece.Stood.{NodeAt}
 use Rattle.cpc_chains_laws.specs.Entry.Laws.{LeadersHaveRows}

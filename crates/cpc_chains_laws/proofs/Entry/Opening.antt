@@ -20,29 +20,32 @@ use Rattle.cpc_meaning_laws.specs.Cell.Cells.{call_cells}
 use Rattle.cpc_meaning_laws.proofs.Cell.Calls.{call_takes}
 use Rattle.cpc_forms.specs.Flow.{Place}
 use Rattle.cpc_chains_store_laws.specs.Driver.{any_pointer, driving, entered, IsPiece}
-use Rattle.cpc_chains_store_laws.specs.Flat.{before, point_at, Stands, LineAt}
-use Rattle.cpc_chains_store_laws.specs.Frames.{Holds, Load, Loading, blank, register_slots, frees_frame, opens_frame, AreRegisters}
-use Rattle.cpc_chains_store_laws.specs.Walks.{World, Rise, Climbs, Swell, at_line, running, frame_at}
-use Rattle.cpc_chains_store_laws.proofs.Fields.{held}
-use Rattle.cpc_chains_store_laws.proofs.Flat.{at_first}
-use Rattle.cpc_chains_store_laws.proofs.LineSteps.{frame_free_step}
+use Rattle.cpc_convert_flat_laws.specs.Flat.{before, point_at, Stands, LineAt}
+use Rattle.cpc_convert_flat_laws.specs.Locals.{Holds, Load, Loading, blank, register_slots, AreRegisters}
+use Rattle.cpc_chains_store_laws.specs.Frames.{frees_frame, opens_frame}
+use Rattle.cpc_convert_flat_laws.specs.Walks.{World, Rise, Climbs, Swell, at_line, running, frame_at}
+use Rattle.cpc_convert_flat_laws.proofs.Fields.{held}
+use Rattle.cpc_convert_flat_laws.proofs.Flat.{at_first}
+use Rattle.cpc_convert_flat_laws.proofs.LineSteps.{frame_free_step}
 use Rattle.cpc_chains_store_laws.proofs.Pieces.{registers_call, blank_slots}
 use Rattle.cpc_chains_store_laws.proofs.Prologue.{opens_walk, past_opened}
-use Rattle.cpc_chains_store_laws.proofs.Scopes.{past_lines}
-use Rattle.cpc_chains_store_laws.proofs.Walks.{rise_climbs, rise_then, climbs_more, climbs_append, swell_climbs}
+use Rattle.cpc_convert_flat_laws.proofs.Scopes.{past_lines}
+use Rattle.cpc_convert_flat_laws.proofs.Walks.{rise_climbs, rise_then, climbs_more, climbs_append, swell_climbs}
 use Rattle.cpc_chains_event.specs.FlatLaws.{opening, piece_scope, piece_count}
-use Rattle.cpc_chains_event.specs.Frames.{arriving_type}
+use Rattle.cpc_convert_routines.specs.Arriving.{arriving_type}
 use Rattle.cpc_chains_event.specs.LabelLaws.{put_in}
 use Rattle.cpc_chains_event.specs.LocalLaws.{piece_locals}
-use Rattle.cpc_chains_event.specs.NameLaws.{IsOwner}
-use Rattle.cpc_chains_event.specs.Names.{piece_name, pointer_name, frame_name, value_name}
-use Rattle.cpc_chains_event.specs.Pieces.{load_of, called_so, takes_value, loaded, loads_of, declares_of, boxing_of}
-use Rattle.cpc_chains_event.specs.Routines.{Routine, routine_of, locals_of, variable_if}
-use Rattle.cpc_chains_event.specs.Rows.{row_of, numbers_of, is_own, lines_by, put_lines, put_rows, rows_statements, piece_statements}
+use Rattle.cpc_convert_routines.specs.Named.{IsOwner}
+use Rattle.cpc_convert_routines.specs.Names.{piece_name, pointer_name, frame_name, value_name}
+use Rattle.cpc_chains_event.specs.Pieces.{load_of, called_so, loaded, loads_of, declares_of, boxing_of}
+use Rattle.cpc_convert_routines.specs.Taken.{takes_value}
+use Rattle.cpc_convert_routines.specs.Routines.{Routine, routine_of, locals_of, variable_if}
+use Rattle.cpc_chains_event.specs.Rows.{row_of, numbers_of, lines_by, put_lines, put_rows, rows_statements, piece_statements}
+use Rattle.cpc_convert_routines.specs.Nodes.{is_own}
 use Rattle.cpc_chains_event.proofs.Addresses.{variables_are_registers}
 use Rattle.cpc_chains_event.proofs.Flat.{boxes_done, pieces_flat, all_true}
 use Rattle.cpc_chains_event.proofs.Lines.{bare_lines}
-use Rattle.cpc_chains_laws.specs.Piece.Known.{CpsKnown}
+use Rattle.cpc_lifted_laws.specs.Piece.Known.{CpsKnown}
 use Rattle.cpc_chains_laws.specs.Piece.Rows.{put_row, RowAt, row_index, row_rest, row_point}
 use Rattle.cpc_chains_laws.proofs.Piece.Frames.{Target, code, body, is_code}
 use Rattle.cpc_chains_laws.proofs.Piece.Scopes.{meant, primitive_meant}

@@ -13,30 +13,33 @@ use Rattle.cpc_convert_common.specs.Members.{Has}
 use Rattle.cpc_forms.specs.Flow.{Place, At}
 use Rattle.cpc_forms.specs.Split.{Position}
 use Rattle.cpc_convert_image_laws.specs.Held.{beside}
-use Rattle.cpc_chains_store_laws.specs.Boxes.{AndSlot}
+use Rattle.cpc_convert_flat_laws.specs.Boxes.{AndSlot}
 use Rattle.cpc_chains_store_laws.specs.Chains.{Saved, frame_cells, Chain, NoChain, AndChain, Top}
 use Rattle.cpc_chains_store_laws.specs.Driver.{any_pointer}
 use Rattle.cpc_meaning.specs.Eval.{Fits}
-use Rattle.cpc_chains_store_laws.specs.Flat.{before}
-use Rattle.cpc_chains_store_laws.specs.Frames.{Loading, blank, frees_frame}
-use Rattle.cpc_chains_store_laws.proofs.Walks.{swell_stay}
-use Rattle.cpc_chains_store_laws.specs.Walks.{World, Swell, at_line, frame_at}
-use Rattle.cpc_chains_event.specs.FillLaws.{value_before}
-use Rattle.cpc_chains_event.specs.Frames.{arriving_type}
+use Rattle.cpc_convert_flat_laws.specs.Flat.{before}
+use Rattle.cpc_convert_flat_laws.specs.Locals.{Loading, blank}
+use Rattle.cpc_chains_store_laws.specs.Frames.{frees_frame}
+use Rattle.cpc_convert_flat_laws.proofs.Walks.{swell_stay}
+use Rattle.cpc_convert_flat_laws.specs.Walks.{World, Swell, at_line, frame_at}
+use Rattle.cpc_convert_routines.specs.Given.{value_before}
+use Rattle.cpc_convert_routines.specs.Arriving.{arriving_type}
 use Rattle.cpc_chains_event.specs.LocalLaws.{piece_locals}
-use Rattle.cpc_chains_event.specs.NameLaws.{IsOwner, ALeader}
-use Rattle.cpc_chains_event.specs.Names.{piece_name, pointer_name, frame_name, value_name}
-use Rattle.cpc_chains_event.specs.Pieces.{called_so, load_of, takes_value, loads_of, words_of, declares_of}
-use Rattle.cpc_chains_event.specs.Routines.{Routine, routine_of, closure_of, local_of, locals_of}
+use Rattle.cpc_convert_routines.specs.Named.{IsOwner, ALeader}
+use Rattle.cpc_convert_routines.specs.Names.{piece_name, pointer_name, frame_name, value_name}
+use Rattle.cpc_chains_event.specs.Pieces.{called_so, load_of, loads_of, words_of, declares_of}
+use Rattle.cpc_convert_routines.specs.Taken.{takes_value}
+use Rattle.cpc_convert_routines.specs.Routines.{Routine, routine_of, closure_of, local_of, locals_of}
 use Rattle.cpc_chains_event.specs.Rows.{piece_statements}
 use Rattle.cpc_chains_event.proofs.Filling.{frames_filled}
 use Rattle.cpc_chains_event.proofs.Heads.{pieces_begin}
-use Rattle.cpc_chains_laws.specs.Related.Items.{value_in, copied, saved_at}
+use Rattle.cpc_lifted_laws.specs.Related.Cut.{value_in, copied}
+use Rattle.cpc_chains_laws.specs.Related.Items.{saved_at}
 use Rattle.cpc_chains_laws.proofs.Related.Entry.{Opens}
 use Rattle.cpc_chains_laws.proofs.Related.Setting.{Setting}
-use Rattle.cpc_chains_laws.specs.Native.Instance.{keeps_in, cut_of}
+use Rattle.cpc_lifted_laws.specs.Native.Instance.{keeps_in, cut_of}
 use Rattle.cpc_chains_laws.proofs.Native.Instance.{setting_of}
-use Rattle.cpc_chains_laws.specs.Piece.Known.{CpsKnown}
+use Rattle.cpc_lifted_laws.specs.Piece.Known.{CpsKnown}
 use Rattle.cpc_chains_laws.specs.Piece.Rows.{row_point}
 use Rattle.cpc_chains_laws.specs.Piece.Stood.{LocalsStand, Arrives, NoneArrives, OneArrives, Stood, AtRow}
 use Rattle.cpc_chains_laws.proofs.Piece.Arrivals.{value_index}

@@ -9,16 +9,16 @@ use Rattle.cpc_store.specs.Store.{Value, Unset}
 use Rattle.cpc_meaning.specs.Eval.{Slot, Register}
 use Rattle.cpc_forms.specs.Flow.{Place}
 use Rattle.cpc_convert_image_laws.specs.Locals.{Stands, AsValue, AsBlock, FitsAt, local_type}
-use Rattle.cpc_chains_store_laws.specs.Boxes.{AllRegisters, NoSlot, AndSlot}
+use Rattle.cpc_convert_flat_laws.specs.Boxes.{AllRegisters, NoSlot, AndSlot}
 use Rattle.cpc_chains_store_laws.specs.Driver.{any_pointer}
 use Rattle.cpc_meaning.specs.Eval.{Fits}
-use Rattle.cpc_chains_store_laws.specs.Frames.{Load, Loading, NoLoading, AndLoading, blank}
-use Rattle.cpc_chains_event.specs.FillLaws.{AllFit, NoneFit, OneFits, value_before}
+use Rattle.cpc_convert_flat_laws.specs.Locals.{Load, Loading, NoLoading, AndLoading, blank}
+use Rattle.cpc_convert_routines.specs.Given.{AllFit, NoneFit, OneFits, value_before}
 use Rattle.cpc_chains_event.specs.LocalLaws.{piece_locals}
-use Rattle.cpc_chains_event.specs.NameLaws.{IsOwner}
-use Rattle.cpc_chains_event.specs.Routines.{Routine, routine_of, closure_of, is_plain, variable_of, local_of, locals_of, variable_if}
-use Rattle.cpc_chains_laws.specs.Related.Items.{value_in, copied}
-use Rattle.cpc_chains_laws.specs.Piece.Known.{CpsKnown}
+use Rattle.cpc_convert_routines.specs.Named.{IsOwner}
+use Rattle.cpc_convert_routines.specs.Routines.{Routine, routine_of, closure_of, is_plain, variable_of, local_of, locals_of, variable_if}
+use Rattle.cpc_lifted_laws.specs.Related.Cut.{value_in, copied}
+use Rattle.cpc_lifted_laws.specs.Piece.Known.{CpsKnown}
 use Rattle.cpc_chains_laws.specs.Piece.Stood.{LocalsStand}
 use Rattle.cpc_chains_laws.proofs.Piece.Scopes.{q, meant}
 use Rattle.cpc_chains_laws.specs.Entry.Taken.{KeptIn, IsValue, IsBlock}

@@ -19,37 +19,39 @@ use Rattle.cpc_convert_common.specs.Converted.{marked}
 use Rattle.cpc_forms.specs.Flow.{Start}
 use Rattle.cpc_graph_laws.proofs.Formed.{in_left}
 use Rattle.cpc_convert_image_laws.specs.Held.{beside}
-use Rattle.cpc_chains_store_laws.specs.Boxes.{AllRegisters, AndSlot, with_boxes}
-use Rattle.cpc_chains_store_laws.specs.Chains.{frame_cells, moved}
+use Rattle.cpc_convert_flat_laws.specs.Boxes.{AllRegisters, AndSlot, with_boxes}
+use Rattle.cpc_chains_store_laws.specs.Chains.{frame_cells}
+use Rattle.cpc_convert_flat_laws.specs.Blocks.{moved}
 use Rattle.cpc_chains_store_laws.specs.Driver.{any_pointer}
 use Rattle.cpc_meaning.specs.Eval.{Fits}
-use Rattle.cpc_chains_store_laws.specs.Flat.{before}
-use Rattle.cpc_chains_store_laws.specs.Frames.{Loading, blank, frees_frame}
-use Rattle.cpc_chains_store_laws.specs.Walks.{World, Swell, at_line}
-use Rattle.cpc_chains_store_laws.proofs.Beside.{slots_beside}
-use Rattle.cpc_chains_store_laws.proofs.Boxes.{boxes_walk}
+use Rattle.cpc_convert_flat_laws.specs.Flat.{before}
+use Rattle.cpc_convert_flat_laws.specs.Locals.{Loading, blank}
+use Rattle.cpc_chains_store_laws.specs.Frames.{frees_frame}
+use Rattle.cpc_convert_flat_laws.specs.Walks.{World, Swell, at_line}
+use Rattle.cpc_convert_flat_laws.proofs.Beside.{slots_beside}
+use Rattle.cpc_convert_flat_laws.proofs.Boxes.{boxes_walk}
 use Rattle.cpc_chains_event.specs.BoxingLaws.{VariablesHaveSizes, ArePlaces, StartBoxes}
-use Rattle.cpc_chains_event.specs.FillLaws.{AllFit, NoneFit, OneFits}
+use Rattle.cpc_convert_routines.specs.Given.{AllFit, NoneFit, OneFits}
 use Rattle.cpc_chains_event.specs.FlatLaws.{piece_scope, piece_count}
 use Rattle.cpc_chains_event.specs.LocalLaws.{piece_locals}
-use Rattle.cpc_chains_event.specs.NameLaws.{IsOwner, TheStart}
-use Rattle.cpc_chains_event.specs.Names.{piece_name, pointer_name, frame_name}
+use Rattle.cpc_convert_routines.specs.Named.{IsOwner, TheStart}
+use Rattle.cpc_convert_routines.specs.Names.{piece_name, pointer_name, frame_name}
 use Rattle.cpc_chains_event.specs.Pieces.{called_so, loaded, loads_of, words_of, begun, declares_of, boxing_of}
-use Rattle.cpc_chains_event.specs.Routines.{Routine, routine_of, closure_of, is_plain, variable_of, variable_or, local_of, locals_of, variable_if, passed_from, passed, is_parameter, chosen}
+use Rattle.cpc_convert_routines.specs.Routines.{Routine, routine_of, closure_of, is_plain, variable_of, variable_or, local_of, locals_of, variable_if, passed_from, passed, is_parameter, chosen}
 use Rattle.cpc_chains_event.specs.Rows.{piece_statements}
 use Rattle.cpc_chains_event.proofs.Boxing.{starts_box}
 use Rattle.cpc_chains_event.proofs.Fields.{variables_apart, word_apart}
 use Rattle.cpc_chains_event.proofs.Filling.{frames_filled, passed_at, fit_at}
-use Rattle.cpc_chains_event.proofs.Numbers.{chosen_has}
+use Rattle.cpc_convert_routines.proofs.Numbers.{chosen_has}
 use Rattle.cpc_chains_event.proofs.Locals.{in_back}
-use Rattle.cpc_chains_laws.specs.Related.Items.{value_in}
-use Rattle.cpc_chains_laws.specs.Piece.Known.{CpsKnown}
+use Rattle.cpc_lifted_laws.specs.Related.Cut.{value_in}
+use Rattle.cpc_lifted_laws.specs.Piece.Known.{CpsKnown}
 use Rattle.cpc_chains_laws.specs.Piece.Stood.{LocalsStand}
 use Rattle.cpc_chains_laws.proofs.Piece.Frames.{code, body, is_code, kept_small}
 use Rattle.cpc_chains_laws.proofs.Piece.Scopes.{q, unmarked_name, primitive_meant, meant}
 use Rattle.cpc_chains_laws.specs.Entry.Taken.{KeptIn, IsValue, IsBlock, CallTaken}
-use Rattle.cpc_chains_laws.proofs.Entry.Boxes.{none_beyond, AtPlace, PassedAt, BoxedAt, places_number, places_at, boxes_other, boxes_at, boxes_registers, boxes_number}
-use Rattle.cpc_chains_laws.proofs.Entry.Marks.{plain_is}
+use Rattle.cpc_lifted_laws.proofs.Entry.Boxes.{none_beyond, AtPlace, PassedAt, BoxedAt, places_number, places_at, boxes_other, boxes_at, boxes_registers, boxes_number}
+use Rattle.cpc_lifted_laws.proofs.Entry.Marks.{plain_is}
 use Rattle.cpc_chains_laws.proofs.Entry.Opening.{locals_number, opened, before_boxes, Boxed as BoxesLead, under, boxes_stand}
 use Rattle.cpc_chains_laws.proofs.Entry.Standing.{got_register, all_registers, registers_number, loading_number, KeptOf, value_at, HasValue, locals_stand}
 

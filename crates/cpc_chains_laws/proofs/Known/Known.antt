@@ -38,15 +38,15 @@ use Rattle.cpc_lift_laws.specs.Lifted.{tidy, lifted_system, TidyRunning}
 use Rattle.cpc_lift_laws.proofs.Frames.{StacksAgree, stacks_go}
 use Rattle.cpc_lift_laws.proofs.Lifting.{tidied, run_tidy}
 use Rattle.cpc_convert_image_laws.specs.Held.{IsHeld}
-use Rattle.cpc_chains_laws.specs.Related.Boxes.{OwnsBoxes}
-use Rattle.cpc_chains_laws.specs.Related.Bounds.{Bounds, Enough}
+use Rattle.cpc_lifted_laws.specs.Related.Boxes.{OwnsBoxes}
+use Rattle.cpc_lifted_laws.specs.Related.Bounds.{Bounds, Enough}
 use Rattle.cpc_chains_laws.proofs.Related.Joined.{RowFacts}
 use Rattle.cpc_chains_laws.proofs.Related.Pass.{follows_lifted}
 use Rattle.cpc_chains_laws.proofs.Related.Relation.{Source}
 use Rattle.cpc_chains_laws.proofs.Related.Setting.{Setting, from_form, to_form, HeldJob, Known}
-use Rattle.cpc_chains_laws.specs.Known.Jobs.{SectionsTake, IsNoCode, JobsFine}
-use Rattle.cpc_chains_laws.proofs.Known.BoxRuns.{lifted_boxes_stay}
-use Rattle.cpc_chains_laws.proofs.Known.JobRuns.{jobs_fine}
+use Rattle.cpc_lifted_laws.specs.Known.Jobs.{SectionsTake, IsNoCode, JobsFine}
+use Rattle.cpc_lifted_laws.proofs.Known.BoxRuns.{lifted_boxes_stay}
+use Rattle.cpc_lifted_laws.proofs.Known.JobRuns.{jobs_fine}
 
 -- the first of two lists whose elements correspond, where the second has one
 first_of : {X Y : Type 0} (R : X → Y → Type 0) (xs : List X) (ys : List Y) (y : Y) (us : List Y) → Both R xs ys → ys ≡ y ∷ us → (x : X) × (ws : List X) × (xs ≡ x ∷ ws) × R x y

@@ -3,8 +3,9 @@ use Rattle.std.proofs.Common.{◌≡◌, ℕ, zero, suc, ◌+◌, ◌≤◌, Lis
 use Rattle.std.specs.List.{sum_by}
 use Rattle.std.proofs.lemmas.List.Sums.{sum_by-cons}
 use Rattle.cpc_store.specs.Store.{Value, Blocks}
-use Rattle.cpc_chains_store_laws.specs.Chains.{Saved, frame_cells, block, one_if, same, count, Chain, NoChain, AndChain, Owns}
-use Rattle.cpc_chains_laws.specs.Related.Sums.{sum}
+use Rattle.cpc_chains_store_laws.specs.Chains.{Saved, frame_cells, Chain, NoChain, AndChain}
+use Rattle.cpc_convert_flat_laws.specs.Blocks.{block, one_if, same, count, Owns}
+use Rattle.cpc_lifted_laws.specs.Related.Sums.{sum}
 
 -- ---- sums over the numbers below a bound
 

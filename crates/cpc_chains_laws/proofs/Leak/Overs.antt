@@ -22,15 +22,16 @@ use Rattle.cpc_forms.specs.Split.{Position}
 use Rattle.cpc_convert_image_laws.specs.Held.{beside}
 use Rattle.cpc_convert_image_laws.specs.Relations.{Meets, BothGive, BothFault, Stuck}
 use Rattle.cpc_convert_image_laws.specs.Stacks.{frame_of}
-use Rattle.cpc_chains_store_laws.specs.Chains.{Owns}
+use Rattle.cpc_convert_flat_laws.specs.Blocks.{Owns}
 use Rattle.cpc_chains_laws.specs.Related.Fresh.{AllFresh}
-use Rattle.cpc_chains_laws.specs.Related.Items.{Tagged, ItemFor, IsUntagged, owned_in}
+use Rattle.cpc_lifted_laws.specs.Related.Cut.{Tagged, IsUntagged, owned_in}
+use Rattle.cpc_chains_laws.specs.Related.Items.{ItemFor}
 use Rattle.cpc_chains_laws.proofs.Related.Idle.{fine_slots}
 use Rattle.cpc_chains_laws.proofs.Related.Pass.{related_shows}
 use Rattle.cpc_chains_laws.proofs.Related.Relation.{Source, Target, Shared, AgendaFor, source_state, target_state, Related, IsOver}
 use Rattle.cpc_chains_laws.proofs.Related.Setting.{Setting, from_form, NativeFacts, Known}
 use Rattle.cpc_chains_laws.proofs.Related.Turns.{turns_meet}
-use Rattle.cpc_chains_laws.proofs.Leak.Ended.{KeptIfOver, IsKept, turns_kept}
+use Rattle.cpc_lifted_laws.proofs.Leak.Ended.{KeptIfOver, IsKept, turns_kept}
 
 -- an item that is taken runs
 module _ (z : Setting) (w : Shared) (a : Agenda (Thread Position)) (s : Source) (none : s.running ≡ None) where

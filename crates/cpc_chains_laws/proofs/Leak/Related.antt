@@ -15,17 +15,19 @@ use Rattle.cpc_meaning.specs.Threads.{Thread, is_cps_mode, is_cps}
 use Rattle.cpc_forms.specs.Flow.{At}
 use Rattle.cpc_forms.specs.Split.{Position}
 use Rattle.cpc_tree.specs.Typing.{function_named}
-use Rattle.cpc_chains_store_laws.specs.Chains.{Saved, block, one_if, Owns}
-use Rattle.cpc_chains_laws.specs.Related.Items.{FramesWait, NoneWait, OneWaits, value_in, Tagged, ItemFor, owned_in}
+use Rattle.cpc_chains_store_laws.specs.Chains.{Saved}
+use Rattle.cpc_convert_flat_laws.specs.Blocks.{block, one_if, Owns}
+use Rattle.cpc_chains_laws.specs.Related.Items.{FramesWait, NoneWait, OneWaits, ItemFor}
+use Rattle.cpc_lifted_laws.specs.Related.Cut.{value_in, Tagged, owned_in}
 use Rattle.cpc_convert_image_laws.specs.Held.{beside}
 use Rattle.cpc_convert_image_laws.specs.Stacks.{Native, NoMore, OneMore}
 use Rattle.cpc_chains_laws.specs.Related.Running.{SamePoint, Places, InPiece, AtNode, Under, Bottom, PieceWaits, RunningFor, NothingRuns, NativeRuns, PieceRuns}
-use Rattle.cpc_chains_laws.specs.Related.Sums.{sum, total}
+use Rattle.cpc_lifted_laws.specs.Related.Sums.{sum, total}
 use Rattle.cpc_chains_laws.proofs.Related.Relation.{Source, Target, Shared, AgendaFor, source_state, target_state, Related, MainIsReady, MainIsNext, Goes, IsOver}
 use Rattle.cpc_chains_laws.proofs.Related.Rows.{Near, MainWaits, with_first}
 use Rattle.cpc_chains_laws.proofs.Related.Setting.{Setting}
 use Rattle.cpc_meaning.proofs.Agendas.{SameAgenda}
-use Rattle.cpc_chains_laws.specs.Native.Instance.{stays_whole, cut_of, keeps_in}
+use Rattle.cpc_lifted_laws.specs.Native.Instance.{stays_whole, cut_of, keeps_in}
 use Rattle.cpc_chains_laws.proofs.Runs.Locals.{ArePlacesThin}
 use Rattle.cpc_chains_laws.specs.Leak.Need.{where_so, thread_weight, stack_weight, native_registers}
 use Rattle.cpc_chains_laws.specs.Leak.Held.{live_blocks}

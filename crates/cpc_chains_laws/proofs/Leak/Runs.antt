@@ -28,27 +28,28 @@ use Rattle.cpc_lift_laws.specs.Lifted.{tidy, tidy_running}
 use Rattle.cpc_lift_laws.proofs.Lifting.{lifted_ends}
 use Rattle.cpc_convert_image_laws.specs.Held.{beside}
 use Rattle.cpc_convert_image_laws.specs.Relations.{Found, BothFound}
-use Rattle.cpc_chains_event.specs.Converted.{kept_function, converted}
+use Rattle.cpc_convert_routines.specs.Kept.{kept_function}
+use Rattle.cpc_chains_event.specs.Converted.{converted}
 use Rattle.cpc_chains_laws.proofs.Related.Beginning.{main_row}
 use Rattle.cpc_chains_laws.proofs.Related.Joined.{RowFacts, row}
-use Rattle.cpc_chains_store_laws.specs.Chains.{Owns}
+use Rattle.cpc_convert_flat_laws.specs.Blocks.{Owns}
 use Rattle.cpc_chains_laws.specs.Related.Fresh.{AllFresh}
-use Rattle.cpc_chains_laws.specs.Related.Items.{Tagged, owned_in}
+use Rattle.cpc_lifted_laws.specs.Related.Cut.{Tagged, owned_in}
 use Rattle.cpc_chains_laws.specs.Related.Running.{RunningFor, NothingRuns, NativeRuns, PieceRuns}
-use Rattle.cpc_chains_laws.specs.Related.Sums.{total}
+use Rattle.cpc_lifted_laws.specs.Related.Sums.{total}
 use Rattle.cpc_chains_laws.proofs.Related.Tidy.{related_tidied}
 use Rattle.cpc_chains_laws.proofs.Related.Relation.{Source, Target, Shared, AgendaFor, going, source_state, target_state, with_main, Related, MainIsReady, MainIsNext, Goes, IsOver}
 use Rattle.cpc_chains_laws.proofs.Related.Rows.{Shows, Near, Midway, AtFirst, AtLast, MainWaits, RowFor, midway_near}
 use Rattle.cpc_chains_laws.proofs.Related.Setting.{Setting, from_form, Known}
-use Rattle.cpc_chains_laws.specs.Accepted.Functions.{HasMain}
-use Rattle.cpc_chains_laws.specs.Accepted.Lifted.{kept_of, lifted_threads, lifted_after}
-use Rattle.cpc_chains_laws.specs.Native.Instance.{StaysAs}
+use Rattle.cpc_lifted_laws.specs.Accepted.Functions.{HasMain}
+use Rattle.cpc_lifted_laws.specs.Accepted.Lifted.{kept_of, lifted_threads, lifted_after}
+use Rattle.cpc_lifted_laws.specs.Native.Instance.{StaysAs}
 use Rattle.cpc_chains_laws.proofs.Native.Wholes.{kept_there, kept_named}
-use Rattle.cpc_chains_laws.specs.Arrival.Taken.{IsFine}
-use Rattle.cpc_chains_laws.specs.Runs.Bounds.{bounds_of}
-use Rattle.cpc_chains_laws.specs.Runs.Runs.{CallsCps}
-use Rattle.cpc_chains_laws.proofs.Runs.Bounds.{bounds_enough}
-use Rattle.cpc_chains_laws.proofs.Runs.Called.{cps_from_then, OfCps, AllCpsIn}
+use Rattle.cpc_lifted_laws.specs.Arrival.Taken.{IsFine}
+use Rattle.cpc_lifted_laws.specs.Runs.Bounds.{bounds_of}
+use Rattle.cpc_lifted_laws.specs.Runs.Runs.{CallsCps}
+use Rattle.cpc_lifted_laws.proofs.Runs.Bounds.{bounds_enough}
+use Rattle.cpc_lifted_laws.proofs.Runs.Called.{cps_from_then, OfCps, AllCpsIn}
 use Rattle.cpc_chains_laws.proofs.Runs.Had.{Had}
 use Rattle.cpc_chains_laws.proofs.Runs.Join.{setting, PiecesDo, FineSays, rows}
 use Rattle.cpc_chains_laws.proofs.Runs.Known.{state_known}
@@ -58,7 +59,7 @@ use Rattle.cpc_chains_laws.specs.Leak.Held.{live_blocks}
 use Rattle.cpc_chains_laws.proofs.Related.Pass.{related_shows}
 use Rattle.cpc_chains_laws.proofs.Runs.Pass.{next_along}
 use Rattle.cpc_chains_laws.proofs.Runs.Theorem.{cps_known}
-use Rattle.cpc_chains_laws.proofs.Leak.Ended.{thread_idle, callback_idle, idle_rests}
+use Rattle.cpc_lifted_laws.proofs.Leak.Ended.{thread_idle, callback_idle, idle_rests}
 use Rattle.cpc_chains_laws.proofs.Leak.Overs.{round_over, ends_both}
 use Rattle.cpc_chains_laws.proofs.Leak.Related.{Bounded, wide, split_measure, bounded_live, going_bounded, main_bounded, related_bounded}
 use Rattle.cpc_chains_laws.proofs.Leak.Threads.{split_count, split_need}

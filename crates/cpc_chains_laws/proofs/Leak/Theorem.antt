@@ -21,30 +21,31 @@ use Rattle.cpc_meaning.specs.Start.{main_name}
 use Rattle.cpc_meaning.specs.Threads.{Pending, is_cps, threaded, threads_of}
 use Rattle.cpc_meaning.specs.Trees.{trees}
 use Rattle.cpc_meaning.proofs.Connect.{machine_ends}
-use Rattle.cpc_chains_event.specs.Converted.{routines, converted}
+use Rattle.cpc_convert_routines.specs.Kept.{routines}
+use Rattle.cpc_chains_event.specs.Converted.{converted}
 use Rattle.cpc_chains_laws.proofs.Related.Relation.{Source, Target}
-use Rattle.cpc_chains_laws.specs.Accepted.Accepted.{OfAccepted}
-use Rattle.cpc_chains_laws.specs.Accepted.Lifted.{lifted_threads, lifted_after}
-use Rattle.cpc_chains_laws.proofs.Accepted.Lifted.{threads_follow}
-use Rattle.cpc_chains_laws.specs.Arrival.Taken.{IsFine}
+use Rattle.cpc_lifted_laws.specs.Accepted.Accepted.{OfAccepted}
+use Rattle.cpc_lifted_laws.specs.Accepted.Lifted.{lifted_threads, lifted_after}
+use Rattle.cpc_lifted_laws.proofs.Accepted.Lifted.{threads_follow}
+use Rattle.cpc_lifted_laws.specs.Arrival.Taken.{IsFine}
 use Rattle.cpc_check_laws.specs.Run.Plain.{is_plain}
 use Rattle.cpc_check_laws.proofs.Run.Stands.{function_plain}
-use Rattle.cpc_chains_laws.proofs.Accepted.Known.{accepted_is_fine}
-use Rattle.cpc_chains_laws.proofs.Accepted.Counts.{cps_same}
+use Rattle.cpc_lifted_laws.proofs.Accepted.Known.{accepted_is_fine}
+use Rattle.cpc_lifted_laws.proofs.Accepted.Counts.{cps_same}
 use Rattle.cpc_chains_laws.specs.Runs.Laws.{IsNative}
-use Rattle.cpc_chains_laws.specs.Runs.Runs.{CallsCps}
+use Rattle.cpc_lifted_laws.specs.Runs.Runs.{CallsCps}
 use Rattle.cpc_chains_laws.proofs.Runs.Natives.{CpsAmong, some_cps, native_converted}
 use Rattle.cpc_chains_laws.proofs.Runs.Pieces.{pieces_do}
 use Rattle.cpc_chains_laws.proofs.Runs.Had.{Had, accepted_had}
 use Rattle.cpc_chains_laws.proofs.Runs.Join.{PiecesDo}
 use Rattle.cpc_chains_laws.specs.Leak.Held.{live_blocks, GoesOrRests, FramesHeld}
 use Rattle.cpc_chains_laws.specs.Leak.Laws.{ComesTo, ComesFrom, Rests, Measured, ConvertedComesTo, ConvertedComesFrom, ConvertedRests}
-use Rattle.cpc_chains_laws.specs.Related.Sums.{sum}
+use Rattle.cpc_lifted_laws.specs.Related.Sums.{sum}
 use Rattle.cpc_chains_laws.specs.Leak.Need.{where_so, stack_weight, native_registers, measure}
 use Rattle.cpc_chains_laws.proofs.Runs.Locals.{stood_thin}
-use Rattle.cpc_chains_laws.proofs.Leak.Plain.{plain_same}
+use Rattle.cpc_lifted_laws.proofs.Leak.Plain.{plain_same}
 use Rattle.cpc_chains_laws.proofs.Leak.Related.{Bounded, split_measure, related_bounded}
-use Rattle.cpc_chains_laws.proofs.Leak.Ending.{step_ends}
+use Rattle.cpc_lifted_laws.proofs.Leak.Ending.{step_ends}
 use Rattle.cpc_chains_laws.proofs.Leak.Runs.{z, RunsStand, runs_stand, holds_inside, going_of}
 use Rattle.cpc_chains_laws.proofs.Leak.Threads.{lifted_rest, lifted_count, lifted_needs, lifted_registers}
 

@@ -36,11 +36,11 @@ use Rattle.cpc_lift_laws.proofs.Slots.{SlotMeets, SlotsMeet}
 use Rattle.cpc_lift_laws.proofs.Boxes.{programs_have_marks}
 use Rattle.cpc_lift_laws.proofs.Frames.{FramesAgree, FrameAgrees, StacksAgree, StackAgrees}
 use Rattle.cpc_lift_laws.proofs.Standing.{run_agrees}
-use Rattle.cpc_chains_event.specs.ClosureLaws.{lifting}
-use Rattle.cpc_chains_laws.specs.Accepted.Lifted.{kept_of, lifted_after}
-use Rattle.cpc_chains_laws.proofs.Accepted.Lifted.{programs_are_closed}
-use Rattle.cpc_chains_laws.specs.Native.Instance.{keeps_in}
-use Rattle.cpc_chains_laws.specs.Related.Sums.{sum, total}
+use Rattle.cpc_convert_routines.specs.ClosureLaws.{lifting}
+use Rattle.cpc_lifted_laws.specs.Accepted.Lifted.{kept_of, lifted_after}
+use Rattle.cpc_lifted_laws.proofs.Accepted.Lifted.{programs_are_closed}
+use Rattle.cpc_lifted_laws.specs.Native.Instance.{keeps_in}
+use Rattle.cpc_lifted_laws.specs.Related.Sums.{sum, total}
 use Rattle.cpc_chains_laws.specs.Leak.Need.{where_so, closure_at, thread_weight, stack_weight, frame_count, frame_need, running_need, frames_in, need, native_slots, native_registers}
 use Rattle.cpc_chains_laws.proofs.Leak.Weights.{both_weigh, agendas_weigh}
 

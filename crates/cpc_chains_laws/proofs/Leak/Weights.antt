@@ -9,10 +9,12 @@ use Rattle.cpc_meaning.specs.Threads.{Thread, Pending, Suspended}
 use Rattle.cpc_meaning.proofs.Both.{Both, Ends, Goes}
 use Rattle.cpc_meaning.proofs.Agendas.{SameAgenda}
 use Rattle.cpc_forms.specs.Split.{Position}
-use Rattle.cpc_chains_store_laws.specs.Chains.{Saved, frame_cells, block, Owns}
-use Rattle.cpc_chains_laws.specs.Related.Items.{Cut, FramesWait, first_saved, Tagged, ItemFor, ForPending, ForSuspended, owned_in}
-use Rattle.cpc_chains_laws.specs.Related.Sums.{sum, total, joined, all_joined}
-use Rattle.cpc_chains_laws.proofs.Related.Sums.{sum_append}
+use Rattle.cpc_chains_store_laws.specs.Chains.{Saved, frame_cells}
+use Rattle.cpc_convert_flat_laws.specs.Blocks.{block, Owns}
+use Rattle.cpc_lifted_laws.specs.Related.Cut.{Cut, Tagged, owned_in}
+use Rattle.cpc_chains_laws.specs.Related.Items.{FramesWait, first_saved, ItemFor, ForPending, ForSuspended}
+use Rattle.cpc_lifted_laws.specs.Related.Sums.{sum, total, joined, all_joined}
+use Rattle.cpc_lifted_laws.proofs.Related.Sums.{sum_append}
 use Rattle.cpc_chains_laws.proofs.Leak.Blocks.{owned_weigh, chain_weighs}
 
 -- ---- items that correspond

@@ -16,17 +16,18 @@ use Rattle.cpc_convert_common.proofs.Listed.{skip_prototypes, pass_functions}
 use Rattle.cpc_chains_store_laws.specs.Driver.{drive_name, drive_function}
 use Rattle.cpc_convert_image_laws.specs.InPlace as I
 use Rattle.cpc_convert_image_laws.specs.Relations.{Found, BothFound, NoneFound}
-use Rattle.cpc_chains_event.specs.Converted.{kept_function, item_unless, kept_items, routines, all_structs, all_boxes, all_made, main_function, main_if, converted_with, converted}
-use Rattle.cpc_chains_event.specs.NameLaws.{IsNamed}
-use Rattle.cpc_chains_event.specs.Routines.{Routine}
+use Rattle.cpc_convert_routines.specs.Kept.{kept_function, item_unless, kept_items, routines}
+use Rattle.cpc_chains_event.specs.Converted.{all_structs, all_boxes, all_made, main_function, main_if, converted_with, converted}
+use Rattle.cpc_convert_routines.specs.Named.{IsNamed}
+use Rattle.cpc_convert_routines.specs.Routines.{Routine}
 use Rattle.cpc_chains_event.proofs.Apart.{unlike_driver}
 use Rattle.cpc_chains_event.proofs.Made.{made_marked}
 use Rattle.cpc_chains_event.proofs.Structs.{skip_functions, all_structs_are, all_boxes_are}
 use Rattle.cpc_chains_event.proofs.StructsThere.{behind_boxes}
 use Rattle.cpc_chains_event.proofs.Lookups.{behind_driver}
-use Rattle.cpc_chains_laws.specs.Accepted.Known.{Stays}
-use Rattle.cpc_chains_laws.specs.Accepted.Names.{HasNames}
-use Rattle.cpc_chains_laws.specs.Native.Instance.{StaysAs}
+use Rattle.cpc_lifted_laws.specs.Accepted.Known.{Stays}
+use Rattle.cpc_lifted_laws.specs.Accepted.Names.{HasNames}
+use Rattle.cpc_lifted_laws.specs.Native.Instance.{StaysAs}
 use Rattle.cpc_chains_laws.proofs.Native.Wholes.{kept_there, kept_named}
 
 -- ---- names that no function has

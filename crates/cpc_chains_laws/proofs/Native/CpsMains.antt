@@ -23,26 +23,26 @@ use Rattle.cpc_forms.specs.Split.{Position}
 use Rattle.std.proofs.Common.{Option}
 use Rattle.cpc_convert_image_laws.specs.Held.{beside}
 use Rattle.cpc_chains_store_laws.specs.Driver.{drive_name}
-use Rattle.cpc_chains_store_laws.specs.Walks.{World, Finishes, frame_at, running, idle, in_function}
-use Rattle.cpc_chains_store_laws.proofs.Steps.{step_enters, step_arrives}
-use Rattle.cpc_chains_store_laws.proofs.Walks.{rise_one, rise_more, level_cons, rise_append, rise_cons}
+use Rattle.cpc_convert_flat_laws.specs.Walks.{World, Finishes, frame_at, running, idle, in_function}
+use Rattle.cpc_convert_flat_laws.proofs.Steps.{step_enters, step_arrives}
+use Rattle.cpc_convert_flat_laws.proofs.Walks.{rise_one, rise_more, level_cons, rise_append, rise_cons}
 use Rattle.cpc_chains_event.specs.Converted.{main_function, converted}
-use Rattle.cpc_chains_event.specs.FillLaws.{AllFit, NoneFit}
+use Rattle.cpc_convert_routines.specs.Given.{AllFit, NoneFit}
 use Rattle.cpc_chains_event.specs.Lines.{save_of}
-use Rattle.cpc_chains_event.specs.NameLaws.{IsCps}
+use Rattle.cpc_convert_routines.specs.Named.{IsCps}
 use Rattle.cpc_chains_event.specs.Pieces.{parameter_of, spawner_function}
-use Rattle.cpc_chains_event.specs.Routines.{passed_from, passed}
+use Rattle.cpc_convert_routines.specs.Routines.{passed_from, passed}
 use Rattle.cpc_chains_event.proofs.Lookups.{functions_found}
 use Rattle.cpc_chains_event.proofs.Meanings.{items_meant}
 use Rattle.cpc_tree.specs.Registers.{variables}
-use Rattle.cpc_chains_laws.specs.Related.Bounds.{Bounds}
+use Rattle.cpc_lifted_laws.specs.Related.Bounds.{Bounds}
 use Rattle.cpc_chains_laws.specs.Related.Running.{Places}
 use Rattle.cpc_chains_laws.proofs.Related.Joined.{MainIs, ACpsMain}
 use Rattle.cpc_chains_laws.proofs.Related.Rows.{with_first}
 use Rattle.cpc_chains_laws.proofs.Related.Relation.{Shared, target_state, with_main, world_of}
 use Rattle.cpc_chains_laws.proofs.Related.Setting.{Setting}
 use Rattle.cpc_chains_laws.proofs.Related.Spawning.{SpawnerRuns}
-use Rattle.cpc_chains_laws.specs.Native.Convertible.{Convertible}
+use Rattle.cpc_lifted_laws.specs.Native.Convertible.{Convertible}
 use Rattle.cpc_chains_laws.proofs.Native.Instance.{setting_of}
 use Rattle.cpc_chains_laws.proofs.Native.Spawners.{spawner_runs}
 

@@ -11,9 +11,10 @@ use Rattle.cpc_convert_common.proofs.Respawn.{enters, same_locals, takes}
 use Rattle.cpc_forms.specs.Graph.{graph_where, graph_if}
 use Rattle.cpc_forms.specs.Split.{split_of, splits, Position, InTree, first_position, split_form}
 use Rattle.cpc_convert_image_laws.specs.Stacks.{EntersAlike}
-use Rattle.cpc_chains_event.specs.Converted.{kept_function, converted}
-use Rattle.cpc_chains_laws.specs.Accepted.Names.{HasNames}
-use Rattle.cpc_chains_event.specs.NameLaws.{IsNamed, IsKept}
+use Rattle.cpc_convert_routines.specs.Kept.{kept_function}
+use Rattle.cpc_chains_event.specs.Converted.{converted}
+use Rattle.cpc_lifted_laws.specs.Accepted.Names.{HasNames}
+use Rattle.cpc_convert_routines.specs.Named.{IsNamed, IsKept}
 use Rattle.cpc_chains_laws.proofs.Native.Wholes.{kept_named}
 
 -- no graph is of a function that is not cps

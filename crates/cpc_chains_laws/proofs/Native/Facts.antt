@@ -19,21 +19,22 @@ use Rattle.cpc_forms.specs.Split.{Position, InTree, split_form}
 use Rattle.cpc_lift_laws.specs.Lift.{closure_in}
 use Rattle.cpc_convert_image_laws.specs.Relations as R
 use Rattle.cpc_convert_image_laws.specs.Stacks.{EntersAlike}
-use Rattle.cpc_chains_event.specs.ClosureLaws.{lifting}
-use Rattle.cpc_chains_event.specs.Converted.{kept_function, converted}
+use Rattle.cpc_convert_routines.specs.ClosureLaws.{lifting}
+use Rattle.cpc_convert_routines.specs.Kept.{kept_function}
+use Rattle.cpc_chains_event.specs.Converted.{converted}
 use Rattle.cpc_chains_event.proofs.BoxesThere.{structs_there}
-use Rattle.cpc_chains_laws.specs.Accepted.Lifted.{kept_of}
+use Rattle.cpc_lifted_laws.specs.Accepted.Lifted.{kept_of}
 use Rattle.cpc_chains_laws.specs.Related.Running.{Places, SamePoint}
 use Rattle.cpc_chains_laws.proofs.Related.Sections.{InSection, SectionFacts, sections_alike}
 use Rattle.cpc_chains_laws.proofs.Related.Setting.{Setting, NativeFacts}
-use Rattle.cpc_chains_laws.specs.Native.Convertible.{Convertible}
-use Rattle.cpc_chains_laws.specs.Native.Instance.{stays_whole, is_whole, StaysAs, NamesDetached, DetachedAs, cut_of}
+use Rattle.cpc_lifted_laws.specs.Native.Convertible.{Convertible}
+use Rattle.cpc_lifted_laws.specs.Native.Instance.{stays_whole, is_whole, StaysAs, NamesDetached, DetachedAs, cut_of}
 use Rattle.cpc_chains_laws.proofs.Native.Codes.{codes_found}
 use Rattle.cpc_chains_laws.proofs.Native.Entering.{no_graph, entered_alike}
 use Rattle.cpc_chains_laws.proofs.Native.Instance.{setting_of}
 use Rattle.cpc_chains_laws.proofs.Native.Names.{used_kept}
 use Rattle.cpc_chains_laws.proofs.Native.Points.{Good, good_here, good_arrival, good_end, native_point}
-use Rattle.cpc_chains_laws.proofs.Native.Respawned.{Kind, ASpawn, Another, kind_of}
+use Rattle.cpc_lifted_laws.proofs.Native.Respawned.{Kind, ASpawn, Another, kind_of}
 use Rattle.cpc_chains_laws.proofs.Native.Wholes.{kept_there, kept_named, wholes_are_found}
 
 -- a detached function is not cps

@@ -15,13 +15,14 @@ use Rattle.cpc_convert_common.specs.Converted.{function_item, prototype}
 use Rattle.cpc_convert_common.specs.Members.{Has, OnTop, Below}
 use Rattle.cpc_convert_image_laws.specs.Held.{beside}
 use Rattle.cpc_convert_image_laws.specs.Relations.{Extends}
-use Rattle.cpc_chains_event.specs.Converted.{kept_function, item_unless, kept_items, routines, all_structs, all_boxes, all_made, main_if, converted_with, converted}
-use Rattle.cpc_chains_event.specs.Routines.{Routine}
+use Rattle.cpc_convert_routines.specs.Kept.{kept_function, item_unless, kept_items, routines}
+use Rattle.cpc_chains_event.specs.Converted.{all_structs, all_boxes, all_made, main_if, converted_with, converted}
+use Rattle.cpc_convert_routines.specs.Routines.{Routine}
 use Rattle.cpc_chains_event.proofs.BoxesThere.{structs_there}
 use Rattle.cpc_chains_event.proofs.Structs.{AreStructs, NoneAre, OneIs, all_structs_are, all_boxes_are}
-use Rattle.cpc_chains_laws.specs.Native.Convertible.{GlobalsComplete}
+use Rattle.cpc_lifted_laws.specs.Native.Convertible.{GlobalsComplete}
 use Rattle.cpc_chains_laws.specs.Native.Laws.{GlobalsStay}
-use Rattle.cpc_chains_laws.proofs.Native.Layouts.{layout_same}
+use Rattle.cpc_lifted_laws.proofs.Native.Layouts.{layout_same}
 
 -- ---- what is made has no globals
 

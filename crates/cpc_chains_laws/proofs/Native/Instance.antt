@@ -8,9 +8,9 @@ use Rattle.cpc_forms.specs.Split.{Position}
 use Rattle.cpc_chains_event.specs.Converted.{converted}
 use Rattle.cpc_chains_laws.specs.Related.Running.{Places}
 use Rattle.cpc_chains_laws.proofs.Related.Setting.{Setting}
-use Rattle.cpc_chains_laws.specs.Accepted.Known.{Stays}
-use Rattle.cpc_chains_laws.specs.Accepted.Lifted.{kept_of}
-use Rattle.cpc_chains_laws.specs.Native.Instance.{StaysAs, NamesDetached, cut_of, UsedAt}
+use Rattle.cpc_lifted_laws.specs.Accepted.Known.{Stays}
+use Rattle.cpc_lifted_laws.specs.Accepted.Lifted.{kept_of}
+use Rattle.cpc_lifted_laws.specs.Native.Instance.{StaysAs, NamesDetached, cut_of, UsedAt}
 
 -- a program and its event program; codes are names that stay, and sections run detached functions
 abbrev pub setting_of : Program → Places → (fine : Frame Position → Option Value → Type 0) → (given : Text → List Value → Type 0) → Setting

@@ -14,8 +14,8 @@ use Rattle.cpc_meaning.specs.Runs.{slots_registers}
 use Rattle.cpc_meaning.specs.Threads.{Thread, is_cps_mode}
 use Rattle.cpc_forms.specs.Flow.{Place}
 use Rattle.cpc_forms.specs.Split.{Position, InGraph}
-use Rattle.cpc_chains_event.specs.NameLaws.{IsCps}
-use Rattle.cpc_chains_laws.specs.Related.Bounds.{Bounds}
+use Rattle.cpc_convert_routines.specs.Named.{IsCps}
+use Rattle.cpc_lifted_laws.specs.Related.Bounds.{Bounds}
 use Rattle.cpc_chains_laws.specs.Related.Running.{Places}
 use Rattle.cpc_chains_laws.proofs.Related.Entry.{EntryFacts}
 use Rattle.cpc_chains_laws.proofs.Related.Inside.{PieceAt}
@@ -24,8 +24,8 @@ use Rattle.cpc_chains_laws.proofs.Related.Onwards.{Beside}
 use Rattle.cpc_chains_laws.proofs.Related.Relation.{Shared}
 use Rattle.cpc_chains_laws.proofs.Related.Setting.{Setting, from_form, KeepsFacts, Known}
 use Rattle.cpc_chains_laws.proofs.Related.Standing.{here}
-use Rattle.cpc_chains_laws.specs.Native.Convertible.{Convertible}
-use Rattle.cpc_chains_laws.specs.Native.Instance.{may_be}
+use Rattle.cpc_lifted_laws.specs.Native.Convertible.{Convertible}
+use Rattle.cpc_lifted_laws.specs.Native.Instance.{may_be}
 use Rattle.cpc_chains_laws.proofs.Native.CpsMains.{cps_main_is}
 use Rattle.cpc_chains_laws.proofs.Native.Facts.{native_facts}
 use Rattle.cpc_chains_laws.proofs.Native.Globals.{globals_stay}

@@ -9,11 +9,11 @@ use Rattle.cpc_meaning.specs.Names.{AllNames, AllNamesIf, AllNamesAmong, AllName
 use Rattle.cpc_convert_image_laws.specs.Native.{KeptItem, KeptGlobal, KeptFunction, KeptNothing, KeptName, KeptLocal, KeptAsItem}
 use Rattle.cpc_convert_image_laws.proofs.Names.{names_more_if, names_more_of}
 use Rattle.cpc_chains_event.specs.Converted.{converted}
-use Rattle.cpc_chains_event.specs.NameLaws.{IsNamed}
+use Rattle.cpc_convert_routines.specs.Named.{IsNamed}
 use Rattle.cpc_chains_event.proofs.Meanings.{items_meant}
-use Rattle.cpc_chains_laws.specs.Accepted.Known.{Stays}
-use Rattle.cpc_chains_laws.specs.Accepted.Points.{UsedName, IsVariable, IsItem}
-use Rattle.cpc_chains_laws.proofs.Accepted.Scoped.{is_local, item_no_local}
+use Rattle.cpc_lifted_laws.specs.Accepted.Known.{Stays}
+use Rattle.cpc_lifted_laws.specs.Accepted.Points.{UsedName, IsVariable, IsItem}
+use Rattle.cpc_lifted_laws.proofs.Accepted.Scoped.{is_local, item_no_local}
 
 -- ---- items
 

@@ -23,22 +23,23 @@ use Rattle.cpc_forms.specs.Split.{Position, InTree, split_form}
 use Rattle.cpc_convert_image_laws.specs.Held.{IsHeldSlot}
 use Rattle.cpc_convert_image_laws.specs.Relations as R
 use Rattle.cpc_convert_image_laws.specs.Stacks.{frame_of}
-use Rattle.cpc_chains_event.specs.Converted.{kept_function, converted}
-use Rattle.cpc_chains_laws.specs.Accepted.Known.{Stays}
-use Rattle.cpc_chains_laws.specs.Accepted.Points.{IsAskedByNative}
-use Rattle.cpc_chains_laws.proofs.Accepted.Counts.{not_cps}
-use Rattle.cpc_chains_laws.specs.Related.Bounds.{Bounds}
+use Rattle.cpc_convert_routines.specs.Kept.{kept_function}
+use Rattle.cpc_chains_event.specs.Converted.{converted}
+use Rattle.cpc_lifted_laws.specs.Accepted.Known.{Stays}
+use Rattle.cpc_lifted_laws.specs.Accepted.Points.{IsAskedByNative}
+use Rattle.cpc_lifted_laws.proofs.Accepted.Counts.{not_cps}
+use Rattle.cpc_lifted_laws.specs.Related.Bounds.{Bounds}
 use Rattle.cpc_chains_laws.specs.Related.Running.{Places, SamePoint}
 use Rattle.cpc_chains_laws.proofs.Related.Joined.{NativeDoes, Plainly, Spawning, MainIs, NativeMain}
 use Rattle.cpc_chains_laws.proofs.Related.Relation.{Shared, source_state}
 use Rattle.cpc_chains_laws.proofs.Related.Setting.{Setting, Known, NativeAt, is_common, is_answered}
 use Rattle.cpc_chains_laws.proofs.Related.Spawning.{SpawnAt}
-use Rattle.cpc_chains_laws.specs.Native.Convertible.{Convertible}
-use Rattle.cpc_chains_laws.specs.Native.Instance.{is_whole, StaysAs, cut_of, may_be_at, may_be}
+use Rattle.cpc_lifted_laws.specs.Native.Convertible.{Convertible}
+use Rattle.cpc_lifted_laws.specs.Native.Instance.{is_whole, StaysAs, cut_of, may_be_at, may_be}
 use Rattle.cpc_chains_laws.proofs.Native.Instance.{setting_of}
 use Rattle.cpc_chains_laws.proofs.Native.Names.{used_kept}
 use Rattle.cpc_chains_laws.proofs.Native.Points.{Good, good_here, good_arrival, good_end, native_point}
-use Rattle.cpc_chains_laws.proofs.Native.Respawned.{Kind, ASpawn, Another, kind_of}
+use Rattle.cpc_lifted_laws.proofs.Native.Respawned.{Kind, ASpawn, Another, kind_of}
 use Rattle.cpc_chains_laws.proofs.Native.Wholes.{kept_there, kept_named, wholes_are_found}
 
 -- ---- what is asked

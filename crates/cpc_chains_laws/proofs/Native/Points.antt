@@ -20,13 +20,14 @@ use Rattle.cpc_meaning.specs.Names.{AllNamesFound, AllNamesStood}
 use Rattle.cpc_convert_image_laws.specs.Native.{KeptName, IsArrival, IsNativeStood}
 use Rattle.cpc_convert_image_laws.specs.Relations as R
 use Rattle.cpc_convert_image_laws.specs.Stacks.{frame_of, Onwards, BothGoTo, GoesNowhere, NativePoint}
-use Rattle.cpc_chains_event.specs.Converted.{kept_function, converted}
-use Rattle.cpc_chains_laws.specs.Accepted.Points.{UsedName, StaysItself, FoundKnown, IsSpawn}
-use Rattle.cpc_chains_laws.proofs.Accepted.Counts.{not_cps}
-use Rattle.cpc_chains_laws.specs.Native.Convertible.{Convertible}
-use Rattle.cpc_chains_laws.specs.Native.Instance.{ClosedName, UsedAt}
+use Rattle.cpc_convert_routines.specs.Kept.{kept_function}
+use Rattle.cpc_chains_event.specs.Converted.{converted}
+use Rattle.cpc_lifted_laws.specs.Accepted.Points.{UsedName, StaysItself, FoundKnown, IsSpawn}
+use Rattle.cpc_lifted_laws.proofs.Accepted.Counts.{not_cps}
+use Rattle.cpc_lifted_laws.specs.Native.Convertible.{Convertible}
+use Rattle.cpc_lifted_laws.specs.Native.Instance.{ClosedName, UsedAt}
 use Rattle.cpc_chains_laws.proofs.Native.Names.{names_grow, names_join}
-use Rattle.cpc_chains_laws.proofs.Native.Respawned.{same_next, same_scope_from}
+use Rattle.cpc_lifted_laws.proofs.Native.Respawned.{same_next, same_scope_from}
 use Rattle.cpc_chains_laws.proofs.Native.Wholes.{kept_named}
 
 -- a spawn is not the same as a call

@@ -1,45 +1,35 @@
 -- The call of a spawner: its variables are registers that hold the arguments, each found by its name.
 use Rattle.std.proofs.Common.{◌≡◌, ℕ, suc, ◌+◌, ◌≤◌, true, cond, List, [], ◌∷◌, ◌++◌, map, length, slice_get, Some, refl, sym, ◌∙◌, ap, subst, arith}
 use Rattle.cpc_base.specs.Bytes.{Text}
-use Rattle.cpc_check_laws.specs.Sound.Suits.{converts}
-use Rattle.cpc_check_laws.specs.Sound.Typed.{AllGet}
 use Rattle.cpc_store.specs.Store.{Value, Unset, Store}
 use Rattle.cpc_tree.specs.Points.{locals_in, declared}
 use Rattle.cpc_tree.specs.Registers.{as_variable, variables, addresses_in, addressed, parameter_scope, or_empty}
-use Rattle.cpc_tree.specs.Syntax.{Ty, TyPointer, TyStruct, Expr, ENamed, Exprs, NoExpr, AndExpr, Stmts, NoStmt, AndStmt, Variable, Parameter, Function, Program}
+use Rattle.cpc_tree.specs.Syntax.{Ty, TyPointer, TyStruct, Expr, ENamed, Stmts, NoStmt, AndStmt, Variable, Parameter, Function, Program}
 use Rattle.cpc_tree.specs.Typing.{Local, Scope, ALocal, named, field, parameter_type, parameter_types}
 use Rattle.cpc_meaning.specs.Answer.{Gives}
 use Rattle.cpc_meaning.specs.Eval.{Slot, Register, assigned}
 use Rattle.cpc_meaning.specs.Requests.{arguments}
 use Rattle.cpc_meaning.specs.Slots.{call_slots}
 use Rattle.cpc_meaning.proofs.Functions.{text_same, gives_then}
-use Rattle.cpc_chains_store_laws.specs.Boxes.{AllRegisters, NoSlot, AndSlot}
+use Rattle.cpc_convert_flat_laws.specs.Boxes.{AllRegisters, NoSlot, AndSlot}
 use Rattle.cpc_chains_store_laws.specs.Driver.{head_fields, readies}
-use Rattle.cpc_chains_store_laws.specs.Flat.{before, are_flat}
-use Rattle.cpc_chains_store_laws.specs.Frames.{Save, Saving, saves_one, register_slots, Scalars, NoScalars, AndScalar}
-use Rattle.cpc_chains_store_laws.specs.Structs.{NotCalled, NotSo, ScalarFields, AndField, IsStruct}
-use Rattle.cpc_chains_store_laws.proofs.Fits.{assigned_fits}
+use Rattle.cpc_convert_flat_laws.specs.Flat.{before, are_flat}
+use Rattle.cpc_convert_flat_laws.specs.Locals.{Save, Saving, saves_one, register_slots, Scalars, NoScalars, AndScalar}
+use Rattle.cpc_convert_flat_laws.specs.Structs.{NotCalled, NotSo, ScalarFields, AndField, IsStruct}
+use Rattle.cpc_convert_flat_laws.proofs.Fits.{assigned_fits}
 use Rattle.cpc_chains_store_laws.proofs.Pieces.{registers_call, registers_unaddressed}
-use Rattle.cpc_chains_store_laws.proofs.Structs.{type_of}
-use Rattle.cpc_chains_event.specs.FillLaws.{AllFit, NoneFit, OneFits, AllHold, NoneHold, OneHolds}
+use Rattle.cpc_convert_flat_laws.proofs.Structs.{type_of}
+use Rattle.cpc_convert_routines.specs.Given.{AllFit, NoneFit, OneFits, AllHold, NoneHold, OneHolds}
 use Rattle.cpc_chains_event.specs.Lines.{save_of}
-use Rattle.cpc_chains_event.specs.Names.{start_name, frame_name, variable_name}
+use Rattle.cpc_convert_routines.specs.Names.{start_name, frame_name, variable_name}
 use Rattle.cpc_chains_event.specs.Pieces.{parameter_of, spawner_function}
-use Rattle.cpc_chains_event.specs.Routines.{variable_if, passed_from, passed}
+use Rattle.cpc_convert_routines.specs.Routines.{variable_if, passed_from, passed}
 use Rattle.cpc_chains_event.proofs.Fields.{Rising, NoneRises, OneRises, passed_length}
 use Rattle.cpc_chains_event.proofs.Filling.{saving_from}
-use Rattle.cpc_chains_laws.specs.Accepted.Known.{AreScalar}
-use Rattle.cpc_chains_laws.proofs.Accepted.Pieces.{converts_scalar}
+use Rattle.cpc_lifted_laws.specs.Accepted.Known.{AreScalar}
 use Rattle.cpc_chains_laws.proofs.Native.SpawnerScope.{past}
 
 -- ---- what is passed
-
--- where all have arguments they are
-pub get_scalar : (p : Program) (scope : Scope) (ts : List Ty) (es : Exprs) → AllGet p scope ts es → AreScalar ts
-get_scalar p scope [] NoExpr h = tt
-get_scalar p scope (t ∷ ts) (AndExpr e es) h = (converts_scalar t h.0.type h.0.converts, get_scalar p scope ts es h.1)
-get_scalar p scope [] (AndExpr e es) h = absurd h
-get_scalar p scope (t ∷ ts) NoExpr h = absurd h
 
 -- then all are passed
 types_passed : (k : ℕ) (ps : List Parameter) (rest : List Variable) → AreScalar (map parameter_type ps) → map type_of (passed_from k (length ps) (map as_variable ps ++ rest)) ≡ map parameter_type ps

@@ -12,8 +12,8 @@ use Rattle.cpc_convert_common.specs.Converted.{marked}
 use Rattle.cpc_convert_common.proofs.Marks.{differs_marked, marked_is, no_bar_decimal, not_digits}
 use Rattle.cpc_forms.specs.Flow.{Start}
 use Rattle.cpc_chains_store_laws.specs.Driver.{drive_name}
-use Rattle.cpc_chains_store_laws.specs.Structs.{NotCalled, NoneSo, NotSo}
-use Rattle.cpc_chains_event.specs.Names.{piece_name, frame_name, variable_name}
+use Rattle.cpc_convert_flat_laws.specs.Structs.{NotCalled, NoneSo, NotSo}
+use Rattle.cpc_convert_routines.specs.Names.{piece_name, frame_name, variable_name}
 use Rattle.cpc_chains_event.specs.Pieces.{parameter_of}
 use Rattle.cpc_chains_event.proofs.Apart.{behind, piece_is, driver_is, no_underscore_behind, no_bar_nothing, piece_nothing}
 use Rattle.cpc_chains_event.proofs.Fields.{word_apart, Rising, NoneRises, OneRises, variable_is}

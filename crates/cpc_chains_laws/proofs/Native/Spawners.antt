@@ -43,40 +43,42 @@ use Rattle.cpc_convert_image_laws.proofs.Natives.{native_spawn}
 use Rattle.cpc_chains_store_laws.specs.Chains.{frame_cells}
 use Rattle.cpc_chains_store_laws.specs.Driver.{drive_name, code_field, next_field, any_pointer, DriverMeant}
 use Rattle.cpc_chains_store_laws.specs.Driver as Lines
-use Rattle.cpc_chains_store_laws.specs.Flat.{Stands}
-use Rattle.cpc_chains_store_laws.specs.Structs.{ScalarFields}
-use Rattle.cpc_chains_store_laws.specs.Walks.{Walk, running}
+use Rattle.cpc_convert_flat_laws.specs.Flat.{Stands}
+use Rattle.cpc_convert_flat_laws.specs.Structs.{ScalarFields}
+use Rattle.cpc_convert_flat_laws.specs.Walks.{Walk, running}
 use Rattle.cpc_chains_store_laws.proofs.Spawner.{spawner_walk}
 use Rattle.cpc_chains_store_laws.proofs.Taking.{set_next}
-use Rattle.cpc_chains_event.specs.Converted.{kept_function, converted}
-use Rattle.cpc_chains_event.specs.FillLaws.{AllFit}
+use Rattle.cpc_convert_routines.specs.Kept.{kept_function}
+use Rattle.cpc_chains_event.specs.Converted.{converted}
+use Rattle.cpc_convert_routines.specs.Given.{AllFit}
 use Rattle.cpc_chains_event.specs.Lines.{save_of}
-use Rattle.cpc_chains_event.specs.NameLaws.{IsCps, TheStart}
-use Rattle.cpc_chains_event.specs.Names.{start_name, piece_name, frame_name}
+use Rattle.cpc_convert_routines.specs.Named.{IsCps, TheStart}
+use Rattle.cpc_convert_routines.specs.Names.{start_name, piece_name, frame_name}
 use Rattle.cpc_chains_event.specs.Pieces.{parameter_of, spawner_function}
-use Rattle.cpc_chains_event.specs.Routines.{passed}
+use Rattle.cpc_convert_routines.specs.Routines.{passed}
 use Rattle.cpc_chains_event.proofs.Apart.{spawner_is}
 use Rattle.cpc_chains_event.proofs.BoxesThere.{structs_there}
 use Rattle.cpc_chains_event.proofs.Fields.{Rising, frame_fields, fields_behind, passed_rise}
 use Rattle.cpc_chains_event.proofs.Lookups.{functions_found}
 use Rattle.cpc_chains_event.proofs.Meanings.{items_meant}
-use Rattle.cpc_chains_laws.specs.Accepted.Known.{Stays, AreScalar}
-use Rattle.cpc_chains_laws.specs.Accepted.Points.{UsedName}
-use Rattle.cpc_chains_laws.proofs.Accepted.Functions.{scopes_mean_variables}
-use Rattle.cpc_chains_laws.specs.Related.Bounds.{Bounds}
+use Rattle.cpc_lifted_laws.specs.Accepted.Known.{Stays, AreScalar}
+use Rattle.cpc_lifted_laws.specs.Accepted.Points.{UsedName}
+use Rattle.cpc_lifted_laws.proofs.Accepted.Functions.{scopes_mean_variables}
+use Rattle.cpc_lifted_laws.specs.Related.Bounds.{Bounds}
 use Rattle.cpc_chains_laws.specs.Related.Items.{first_saved}
 use Rattle.cpc_chains_laws.specs.Related.Running.{Places}
 use Rattle.cpc_chains_laws.proofs.Related.Relation.{Shared, source_state, world_of}
 use Rattle.cpc_chains_laws.proofs.Related.Setting.{Setting, Known}
 use Rattle.cpc_chains_laws.proofs.Related.Spawning.{SpawnerRuns, SpawnAt}
-use Rattle.cpc_chains_laws.specs.Native.Convertible.{Convertible}
-use Rattle.cpc_chains_laws.specs.Native.Instance.{StaysAs, cut_of}
+use Rattle.cpc_lifted_laws.specs.Native.Convertible.{Convertible}
+use Rattle.cpc_lifted_laws.specs.Native.Instance.{StaysAs, cut_of}
 use Rattle.cpc_chains_laws.proofs.Native.Codes.{codes_found}
 use Rattle.cpc_chains_laws.proofs.Native.Instance.{setting_of}
 use Rattle.cpc_chains_laws.proofs.Native.Names.{used_kept}
 use Rattle.cpc_chains_laws.proofs.Native.Natives.{AllSpawn}
-use Rattle.cpc_chains_laws.proofs.Native.Respawned.{same_next, same_scope_from}
-use Rattle.cpc_chains_laws.proofs.Native.SpawnerCall.{get_scalar, passed_types, spawner_takes, passed_few, fit_all, same_number, all_registers, flat_saves, spawner_called, holds_all, saves_all}
+use Rattle.cpc_lifted_laws.proofs.Native.Respawned.{same_next, same_scope_from}
+use Rattle.cpc_lifted_laws.proofs.Accepted.Pieces.{all_scalar}
+use Rattle.cpc_chains_laws.proofs.Native.SpawnerCall.{passed_types, spawner_takes, passed_few, fit_all, same_number, all_registers, flat_saves, spawner_called, holds_all, saves_all}
 use Rattle.cpc_chains_laws.proofs.Native.SpawnerScope.{no_plain, no_frame, no_driver, no_piece, frame_piece, past_both, unhidden}
 use Rattle.cpc_chains_laws.proofs.Native.Wholes.{kept_named}
 
@@ -257,11 +259,11 @@ module _ (p : Program) (h : Convertible p) (there : Places) (fine : CallFrame Po
     typed : (t : Function) × (function_named p k.called ≡ Some t) × AllGet p scope_here (parameter_types t) es × (O.is_cps t.mode ≡ true)
     typed = (h.positions.typed f fn (InTree (Here path)) (Simple (Spawn k.called es)) is stood).1
 
-    all_scalar : AreScalar (parameter_types k)
-    all_scalar =
+    takes_scalar : AreScalar (parameter_types k)
+    takes_scalar =
         let i : Some typed.0 ≡ Some k = sym typed.1 ∙ is_k in
         let j : typed.0 ≡ k = cc in
-        get_scalar p scope_here (parameter_types k) es (subst (λ t. AllGet p scope_here (parameter_types t) es) j typed.2)
+        all_scalar p scope_here (parameter_types k) es (subst (λ t. AllGet p scope_here (parameter_types t) es) j typed.2)
 
     beside_names : AllNamesAmong (UsedName p scope_here) es
     beside_names = (h.positions.known f fn (InTree (Here path)) (Simple (Spawn k.called es)) is stood).beside
@@ -270,7 +272,7 @@ module _ (p : Program) (h : Convertible p) (there : Places) (fine : CallFrame Po
     acts_alike =
         native_spawn (Stays p) (StaysAs p) p (converted p) (record { types = (structs_there p h.named).types; codes = codes_found p h.names h.named }) (UsedName p scope_here) scope_here slots
         (λ x u. used_kept (Stays p) p h.named scope_here x u (λ mode r ps s i. s)) w.store known.store held bs k.called (spawner_name k.called) es (spawner_function k) TyVoid (map parameter_type (map parameter_of (passed k))) spawner_means ((functions_found p h.named).spawners k cps)
-        (λ t i. let j : Some t ≡ Some k = sym i ∙ is_k in let l : t ≡ k = cc in ap parameter_types l ∙ spawner_takes k all_scalar) beside_names
+        (λ t i. let j : Some t ≡ Some k = sym i ∙ is_k in let l : t ≡ k = cc in ap parameter_types l ∙ spawner_takes k takes_scalar) beside_names
 
     -- control goes on alike
     goes_on : (to : Position) → option_map (λ b. InTree b) (next_point fn.body (Here path) true) ≡ Some to → (b : Point) × (to ≡ InTree b) × (next_point fn.body (Here path) true ≡ Some b)
@@ -290,7 +292,7 @@ module _ (p : Program) (h : Convertible p) (there : Places) (fine : CallFrame Po
     fitting : (vs : List Value) → spawns (at p scope_here slots w.store) k.called es ≡ Gives (AsksFor (record { asked = ToSpawn k.called; arguments = vs })) → AllFit (passed k) vs
     fitting vs i =
         let a = spawns_converted (at p scope_here slots w.store) k.called es k vs is_k i in
-        fit_all (passed k) a.0 vs (ap (λ ts. arguments ts a.0) (passed_types k all_scalar) ∙ a.1)
+        fit_all (passed k) a.0 vs (ap (λ ts. arguments ts a.0) (passed_types k takes_scalar) ∙ a.1)
 
     pub spawn_at : SpawnAt z bounds f (Here path) slots ys o w bs c
     spawn_at = record {

@@ -5,11 +5,12 @@ use Rattle.cpc_base.proofs.Truth.{not_holds}
 use Rattle.cpc_tree.specs.Syntax.{Function, Program}
 use Rattle.cpc_tree.specs.Typing.{function_named}
 use Rattle.cpc_meaning.specs.Threads.{is_cps_mode}
-use Rattle.cpc_chains_event.specs.Converted.{kept_function, converted}
-use Rattle.cpc_chains_event.specs.NameLaws.{IsNamed, IsKept}
+use Rattle.cpc_convert_routines.specs.Kept.{kept_function}
+use Rattle.cpc_chains_event.specs.Converted.{converted}
+use Rattle.cpc_convert_routines.specs.Named.{IsNamed, IsKept}
 use Rattle.cpc_chains_event.proofs.Lookups.{functions_found}
-use Rattle.cpc_chains_laws.specs.Accepted.Names.{HasNames}
-use Rattle.cpc_chains_laws.specs.Native.Instance.{stays_whole}
+use Rattle.cpc_lifted_laws.specs.Accepted.Names.{HasNames}
+use Rattle.cpc_lifted_laws.specs.Native.Instance.{stays_whole}
 use Rattle.cpc_chains_laws.specs.Native.Laws.{IsWhole, WholesAreFound}
 
 -- a function that is there and not cps stays

@@ -15,13 +15,14 @@ use Rattle.cpc_convert_image_laws.specs.Stacks.{frame_of}
 use Rattle.cpc_forms.specs.Flow.{Place}
 use Rattle.cpc_forms.specs.Split.{InGraph, split_form}
 use Rattle.cpc_lift_laws.specs.Used.{used_at}
-use Rattle.cpc_chains_store_laws.specs.Frames.{at as Here_at}
+use Rattle.cpc_convert_flat_laws.specs.Locals.{at as Here_at}
 use Rattle.cpc_chains_event.specs.Lines.{node_lines, stood_lines}
-use Rattle.cpc_chains_event.specs.NameLaws.{IsOwner}
-use Rattle.cpc_chains_event.specs.Routines.{Routine, routine_of, closure_of, readings_of}
-use Rattle.cpc_chains_laws.specs.Accepted.Points.{FoundKnown}
+use Rattle.cpc_convert_routines.specs.Named.{IsOwner}
+use Rattle.cpc_convert_routines.specs.Routines.{Routine, routine_of, closure_of, readings_of}
+use Rattle.cpc_lifted_laws.specs.Accepted.Points.{FoundKnown}
 use Rattle.cpc_chains_laws.proofs.Related.Relation.{Shared}
-use Rattle.cpc_chains_laws.specs.Piece.Known.{CpsKnown, ProgramKnown}
+use Rattle.cpc_lifted_laws.specs.Piece.Known.{CpsKnown}
+use Rattle.cpc_chains_laws.specs.Piece.Known.{ProgramKnown}
 use Rattle.cpc_chains_laws.specs.Piece.Stood.{NodeAt, LocalsStand}
 use Rattle.cpc_chains_laws.proofs.Piece.Environment.{scope_is}
 use Rattle.cpc_chains_laws.proofs.Piece.Rowed.{OnlyGoes}

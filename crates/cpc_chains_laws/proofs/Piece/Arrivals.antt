@@ -28,22 +28,24 @@ use Rattle.cpc_forms.specs.Flow.{Place, At}
 use Rattle.cpc_forms.specs.Graph.{at_node}
 use Rattle.cpc_forms.specs.Split.{Position, InGraph, split_form}
 use Rattle.cpc_lift_laws.specs.Used.{used_place}
-use Rattle.cpc_chains_store_laws.specs.Frames.{at as Here_at}
-use Rattle.cpc_chains_event.specs.Frames.{arriving_type}
+use Rattle.cpc_convert_flat_laws.specs.Locals.{at as Here_at}
+use Rattle.cpc_convert_routines.specs.Arriving.{arriving_type}
 use Rattle.cpc_chains_event.specs.Lines.{arrival_lines}
 use Rattle.cpc_chains_event.specs.LocalLaws.{piece_locals}
-use Rattle.cpc_chains_event.specs.NameLaws.{IsOwner}
-use Rattle.cpc_chains_event.specs.Names.{piece_name, value_name}
-use Rattle.cpc_chains_event.specs.Pieces.{takes_stood, takes_value, has_place, loaded, words_of, begun, called_so}
-use Rattle.cpc_chains_event.specs.Routines.{Routine, routine_of, locals_of, variable_if, readings_of}
-use Rattle.cpc_chains_event.specs.Rows.{has_row}
-use Rattle.cpc_chains_laws.specs.Accepted.Known.{Stays}
-use Rattle.cpc_chains_laws.specs.Accepted.Points.{UsedName, FoundKnown, in_scope}
-use Rattle.cpc_chains_laws.specs.Related.Bounds.{Bounds}
+use Rattle.cpc_convert_routines.specs.Named.{IsOwner}
+use Rattle.cpc_convert_routines.specs.Names.{piece_name, value_name}
+use Rattle.cpc_convert_routines.specs.Taken.{takes_stood, takes_value, has_place}
+use Rattle.cpc_chains_event.specs.Pieces.{loaded, words_of, begun, called_so}
+use Rattle.cpc_convert_routines.specs.Routines.{Routine, routine_of, locals_of, variable_if, readings_of}
+use Rattle.cpc_convert_routines.specs.Nodes.{has_row}
+use Rattle.cpc_lifted_laws.specs.Accepted.Known.{Stays}
+use Rattle.cpc_lifted_laws.specs.Accepted.Points.{UsedName, FoundKnown, in_scope}
+use Rattle.cpc_lifted_laws.specs.Related.Bounds.{Bounds}
 use Rattle.cpc_chains_laws.proofs.Related.Inside.{Sticks}
 use Rattle.cpc_chains_laws.proofs.Related.Relation.{Shared}
-use Rattle.cpc_chains_laws.specs.Native.Instance.{StaysAs}
-use Rattle.cpc_chains_laws.specs.Piece.Known.{CpsKnown, ProgramKnown}
+use Rattle.cpc_lifted_laws.specs.Native.Instance.{StaysAs}
+use Rattle.cpc_lifted_laws.specs.Piece.Known.{CpsKnown}
+use Rattle.cpc_chains_laws.specs.Piece.Known.{ProgramKnown}
 use Rattle.cpc_chains_laws.specs.Piece.Rows.{RowAt}
 use Rattle.cpc_chains_laws.specs.Piece.Stood.{NodeAt, LocalsStand, Arrives, NoneArrives, OneArrives}
 use Rattle.cpc_chains_laws.proofs.Piece.Acting.{given_only, kept_here, source_act, lines_are}

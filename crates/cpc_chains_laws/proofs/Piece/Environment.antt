@@ -22,22 +22,22 @@ use Rattle.cpc_convert_image_laws.proofs.Slots.{got_other}
 use Rattle.cpc_forms.specs.Flow.{Place}
 use Rattle.cpc_forms.specs.Graph.{at_node}
 use Rattle.cpc_forms.specs.Split.{InGraph, split_form, position_scope}
-use Rattle.cpc_chains_store_laws.specs.Boxes.{AllRegisters}
-use Rattle.cpc_chains_store_laws.proofs.Boxes.{registers_set, slots_length}
+use Rattle.cpc_convert_flat_laws.specs.Boxes.{AllRegisters}
+use Rattle.cpc_convert_flat_laws.proofs.Boxes.{registers_set, slots_length}
 use Rattle.cpc_chains_event.specs.LocalLaws.{piece_locals}
-use Rattle.cpc_chains_event.specs.NameLaws.{IsOwner}
-use Rattle.cpc_chains_event.specs.Names.{box_tag, next_name, variable_name}
+use Rattle.cpc_convert_routines.specs.Named.{IsOwner}
+use Rattle.cpc_convert_routines.specs.Names.{box_tag, next_name, variable_name}
 use Rattle.cpc_chains_event.specs.Pieces.{called_so, below_if}
-use Rattle.cpc_chains_event.specs.Routines.{Routine, routine_of, closure_of, is_plain, variable_of, variable_or, local_of, readings_of}
+use Rattle.cpc_convert_routines.specs.Routines.{Routine, routine_of, closure_of, is_plain, variable_of, variable_or, local_of, readings_of}
 use Rattle.cpc_chains_event.proofs.BoxesThere.{structs_there}
 use Rattle.cpc_chains_event.proofs.Fields.{variables_apart, word_apart}
 use Rattle.cpc_chains_event.proofs.Meanings.{items_meant}
 use Rattle.cpc_chains_event.proofs.Scopes.{nothing_hidden}
 use Rattle.cpc_chains_event.proofs.Boxing.{held_has}
-use Rattle.cpc_chains_laws.specs.Accepted.Known.{Stays}
-use Rattle.cpc_chains_laws.specs.Accepted.Points.{UsedName, IsVariable, IsItem}
-use Rattle.cpc_chains_laws.proofs.Accepted.Functions.{scopes_mean_variables}
-use Rattle.cpc_chains_laws.specs.Piece.Known.{CpsKnown}
+use Rattle.cpc_lifted_laws.specs.Accepted.Known.{Stays}
+use Rattle.cpc_lifted_laws.specs.Accepted.Points.{UsedName, IsVariable, IsItem}
+use Rattle.cpc_lifted_laws.proofs.Accepted.Functions.{scopes_mean_variables}
+use Rattle.cpc_lifted_laws.specs.Piece.Known.{CpsKnown}
 use Rattle.cpc_chains_laws.specs.Piece.Stood.{NodeAt, LocalsStand}
 use Rattle.cpc_chains_laws.proofs.Piece.Frames.{Target, scope, kept_small}
 use Rattle.cpc_chains_laws.proofs.Piece.Scopes.{unmarked_name, meant}

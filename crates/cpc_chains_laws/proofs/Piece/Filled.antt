@@ -11,9 +11,10 @@ use Rattle.cpc_forms.specs.Flow.{Place, At}
 use Rattle.cpc_forms.specs.Graph.{Node, node_of, graph_of, at_node}
 use Rattle.cpc_graph_laws.proofs.Formed.{node_comes}
 use Rattle.cpc_chains_event.specs.Lines.{Line, passes, all_do, frame_lines, frame_lines_if, hands_over, hands_nothing, waits_lines, cps_lines, unbox_lines, result_lines, patch_lines, leave_lines, simple_lines, test_lines, arrival_lines, behind_arrival, framed_lines, stood_lines, node_lines}
-use Rattle.cpc_chains_event.specs.Names.{next_name, to_name, under_name}
-use Rattle.cpc_chains_event.specs.Routines.{Routine, routine_of, readings_of}
-use Rattle.cpc_chains_event.specs.Rows.{Put, Plain, Jump, JumpIf, is_next, put_lines, is_own, lines_by}
+use Rattle.cpc_convert_routines.specs.Names.{next_name, to_name, under_name}
+use Rattle.cpc_convert_routines.specs.Routines.{Routine, routine_of, readings_of}
+use Rattle.cpc_chains_event.specs.Rows.{Put, Plain, Jump, JumpIf, is_next, put_lines, lines_by}
+use Rattle.cpc_convert_routines.specs.Nodes.{is_own}
 use Rattle.cpc_chains_laws.specs.Piece.Rows.{next_number, RowAt}
 use Rattle.cpc_chains_laws.proofs.Piece.Places.{IsFilled}
 

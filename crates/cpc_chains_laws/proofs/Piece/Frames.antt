@@ -22,33 +22,34 @@ use Rattle.cpc_convert_image_laws.specs.Locals.{Stands, AsValue, AsBlock, local_
 use Rattle.cpc_convert_image_laws.proofs.Locals.{stands_apart}
 use Rattle.cpc_convert_image_laws.proofs.Slots.{got_other}
 use Rattle.cpc_forms.specs.Flow.{Place, At}
-use Rattle.cpc_chains_store_laws.specs.Boxes.{AllRegisters, NoSlot, AndSlot}
+use Rattle.cpc_convert_flat_laws.specs.Boxes.{AllRegisters, NoSlot, AndSlot}
 use Rattle.cpc_chains_store_laws.specs.Chains.{frame_cells}
 use Rattle.cpc_chains_store_laws.specs.Driver.{code_field, next_field, any_pointer, frame_tag}
 use Rattle.cpc_meaning.specs.Eval.{Fits}
-use Rattle.cpc_chains_store_laws.specs.Flat.{before, LineAt}
-use Rattle.cpc_chains_store_laws.specs.Frames.{Holds, Save, asks_block, fills_frame, frame_through, pointed_slots}
-use Rattle.cpc_chains_store_laws.specs.Walks.{World, Walk, at_line}
-use Rattle.cpc_chains_store_laws.proofs.Boxes.{registers_set, slots_length}
-use Rattle.cpc_chains_store_laws.proofs.Fields.{held, named_pointer, cast_pointer}
+use Rattle.cpc_convert_flat_laws.specs.Flat.{before, LineAt}
+use Rattle.cpc_convert_flat_laws.specs.Locals.{Holds, Save}
+use Rattle.cpc_chains_store_laws.specs.Frames.{asks_block, fills_frame, frame_through, pointed_slots}
+use Rattle.cpc_convert_flat_laws.specs.Walks.{World, Walk, at_line}
+use Rattle.cpc_convert_flat_laws.proofs.Boxes.{registers_set, slots_length}
+use Rattle.cpc_convert_flat_laws.proofs.Fields.{held, named_pointer, cast_pointer}
 use Rattle.cpc_chains_store_laws.proofs.Making.{makes_frame, past_made, holds_new}
-use Rattle.cpc_chains_event.specs.FillLaws.{AllHold, NoneHold, OneHolds}
+use Rattle.cpc_convert_routines.specs.Given.{AllHold, NoneHold, OneHolds}
 use Rattle.cpc_chains_event.specs.FlatLaws.{piece_scope, piece_count}
 use Rattle.cpc_chains_event.specs.Lines.{save_of, all_do}
 use Rattle.cpc_chains_event.specs.LocalLaws.{piece_locals}
-use Rattle.cpc_chains_event.specs.NameLaws.{IsOwner, ALeader}
-use Rattle.cpc_chains_event.specs.Names.{piece_name, box_tag, next_name, variable_name}
+use Rattle.cpc_convert_routines.specs.Named.{IsOwner, ALeader}
+use Rattle.cpc_convert_routines.specs.Names.{piece_name, box_tag, next_name, variable_name}
 use Rattle.cpc_chains_event.specs.Pieces.{called_so, to_frame, below_if, piece_body, piece_function}
-use Rattle.cpc_chains_event.specs.Routines.{Routine, routine_of, closure_of, is_plain, variable_of, local_of, locals_of}
+use Rattle.cpc_convert_routines.specs.Routines.{Routine, routine_of, closure_of, is_plain, variable_of, local_of, locals_of}
 use Rattle.cpc_chains_event.specs.Rows.{put_lines, put_statement}
 use Rattle.cpc_chains_event.proofs.Filling.{frames_filled}
 use Rattle.cpc_chains_event.proofs.Locals.{closure_rise}
 use Rattle.cpc_chains_event.proofs.Lookups.{functions_found}
 use Rattle.cpc_chains_event.proofs.BoxesThere.{structs_there}
-use Rattle.cpc_chains_event.proofs.Numbers.{Rises, NoneRise, OneRise, rises_below}
-use Rattle.cpc_chains_laws.specs.Related.Items.{value_in, copied}
+use Rattle.cpc_convert_routines.proofs.Numbers.{Rises, NoneRise, OneRise, rises_below}
+use Rattle.cpc_lifted_laws.specs.Related.Cut.{value_in, copied}
 use Rattle.cpc_chains_laws.proofs.Accepted.Below.{below_held}
-use Rattle.cpc_chains_laws.specs.Piece.Known.{CpsKnown}
+use Rattle.cpc_lifted_laws.specs.Piece.Known.{CpsKnown}
 use Rattle.cpc_chains_laws.specs.Piece.Stood.{LocalsStand}
 use Rattle.cpc_chains_laws.proofs.Piece.Places.{Before}
 use Rattle.cpc_chains_laws.proofs.Piece.Scopes.{q, unmarked_name, piece_meant, primitive_meant, meant, local_slot, next_holds}

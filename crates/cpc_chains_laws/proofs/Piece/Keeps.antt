@@ -11,14 +11,14 @@ use Rattle.cpc_forms.specs.Flow.{At}
 use Rattle.cpc_forms.specs.Graph.{graph_if, graph_where}
 use Rattle.cpc_forms.specs.Split.{Position, InGraph, split_of, split_form}
 use Rattle.cpc_lift_laws.specs.Lift.{closure_in}
-use Rattle.cpc_chains_event.specs.ClosureLaws.{lifting}
-use Rattle.cpc_chains_event.specs.NameLaws.{IsNamed}
-use Rattle.cpc_chains_event.specs.Routines.{routine_of, closure_of, owner_number}
-use Rattle.cpc_chains_laws.specs.Accepted.Lifted.{kept_of}
-use Rattle.cpc_chains_laws.specs.Accepted.Names.{HasNames}
-use Rattle.cpc_chains_laws.specs.Related.Bounds.{Bounds}
+use Rattle.cpc_convert_routines.specs.ClosureLaws.{lifting}
+use Rattle.cpc_convert_routines.specs.Named.{IsNamed}
+use Rattle.cpc_convert_routines.specs.Routines.{routine_of, closure_of, owner_number}
+use Rattle.cpc_lifted_laws.specs.Accepted.Lifted.{kept_of}
+use Rattle.cpc_lifted_laws.specs.Accepted.Names.{HasNames}
+use Rattle.cpc_lifted_laws.specs.Related.Bounds.{Bounds}
 use Rattle.cpc_chains_laws.proofs.Related.Setting.{KeepsFacts}
-use Rattle.cpc_chains_laws.specs.Native.Instance.{keeps_in}
+use Rattle.cpc_lifted_laws.specs.Native.Instance.{keeps_in}
 use Rattle.cpc_chains_laws.proofs.Piece.Onwards.{z}
 use Rattle.cpc_chains_laws.proofs.Piece.Tidied.{closure_kept, stood_tidied}
 

@@ -5,10 +5,10 @@ use Rattle.cpc_store.specs.Store.{Value, Blocks, Store}
 use Rattle.cpc_meaning.specs.Eval.{Slot, Register, Boxed}
 use Rattle.cpc_meaning.specs.Plain.{Frame as CallFrame}
 use Rattle.cpc_convert_image_laws.specs.Held.{IsLiveSlot, BoxesLive}
-use Rattle.cpc_chains_store_laws.specs.Chains.{count, lives, block, one_if}
-use Rattle.cpc_chains_store_laws.proofs.Chains.{count_append, same_number}
-use Rattle.cpc_chains_laws.specs.Related.Boxes.{slots_boxes, frames_boxes, running_boxes, thread_boxes, OwnsBoxes}
-use Rattle.cpc_chains_laws.specs.Related.Sums.{all_joined}
+use Rattle.cpc_convert_flat_laws.specs.Blocks.{count, lives, block, one_if}
+use Rattle.cpc_convert_flat_laws.proofs.Blocks.{count_append, same_number}
+use Rattle.cpc_lifted_laws.specs.Related.Boxes.{slots_boxes, frames_boxes, running_boxes, thread_boxes, OwnsBoxes}
+use Rattle.cpc_lifted_laws.specs.Related.Sums.{all_joined}
 use Rattle.cpc_forms.specs.Split.{Position}
 use Rattle.cpc_chains_laws.proofs.Related.Relation.{Source}
 

@@ -21,20 +21,22 @@ use Rattle.cpc_convert_image_laws.specs.Stacks.{frame_of}
 use Rattle.cpc_forms.specs.Flow.{Place, is_leader, owner_by}
 use Rattle.cpc_forms.specs.Split.{Position, InGraph, split_form}
 use Rattle.cpc_graph_laws.specs.Laws.{flow_in}
-use Rattle.cpc_chains_store_laws.specs.Flat.{dropped, point_at}
-use Rattle.cpc_chains_store_laws.specs.Walks.{frame_at}
-use Rattle.cpc_chains_store_laws.proofs.AtLine.{line_next, line_goes}
+use Rattle.cpc_convert_flat_laws.specs.Flat.{dropped, point_at}
+use Rattle.cpc_convert_flat_laws.specs.Walks.{frame_at}
+use Rattle.cpc_convert_flat_laws.proofs.AtLine.{line_next, line_goes}
 use Rattle.cpc_chains_event.specs.FlatLaws.{piece_count}
 use Rattle.cpc_chains_event.specs.LabelLaws.{put_in}
 use Rattle.cpc_chains_event.specs.Lines.{Passes, passes, simple_lines, node_lines}
-use Rattle.cpc_chains_event.specs.NameLaws.{IsOwner}
-use Rattle.cpc_chains_event.specs.Names.{piece_name, node_label}
-use Rattle.cpc_chains_event.specs.Routines.{Routine, routine_of, readings_of}
-use Rattle.cpc_chains_event.specs.Rows.{has_row, Plain, Jump, is_next, put_lines, any_leads, is_wanted}
-use Rattle.cpc_chains_laws.specs.Related.Bounds.{Bounds}
+use Rattle.cpc_convert_routines.specs.Named.{IsOwner}
+use Rattle.cpc_convert_routines.specs.Names.{piece_name, node_label}
+use Rattle.cpc_convert_routines.specs.Routines.{Routine, routine_of, readings_of}
+use Rattle.cpc_convert_routines.specs.Nodes.{has_row}
+use Rattle.cpc_chains_event.specs.Rows.{Plain, Jump, is_next, put_lines, any_leads, is_wanted}
+use Rattle.cpc_lifted_laws.specs.Related.Bounds.{Bounds}
 use Rattle.cpc_chains_laws.proofs.Related.Inside.{Onward, Moves}
 use Rattle.cpc_chains_laws.proofs.Related.Relation.{Shared, world_of}
-use Rattle.cpc_chains_laws.specs.Piece.Known.{CpsKnown, ProgramKnown}
+use Rattle.cpc_lifted_laws.specs.Piece.Known.{CpsKnown}
+use Rattle.cpc_chains_laws.specs.Piece.Known.{ProgramKnown}
 use Rattle.cpc_chains_laws.specs.Piece.Rows.{next_number, put_row, RowAt, row_index}
 use Rattle.cpc_chains_laws.specs.Piece.Stood.{NodeAt, LocalsStand}
 use Rattle.cpc_chains_laws.proofs.Piece.Acting.{source_act, lines_are}

@@ -11,13 +11,13 @@ use Rattle.cpc_meaning.specs.Eval.{Slot}
 use Rattle.cpc_meaning.specs.Plain.{Frame}
 use Rattle.cpc_forms.specs.Flow.{Place}
 use Rattle.cpc_forms.specs.Graph.{graph_of}
-use Rattle.cpc_chains_store_laws.specs.Flat.{before, point_at, bare, is_line, label_in, Stands, LineAt}
-use Rattle.cpc_chains_store_laws.proofs.Walks.{stay}
-use Rattle.cpc_chains_store_laws.specs.Walks.{World, Walk, at_line, running, frame_at}
-use Rattle.cpc_chains_store_laws.proofs.Jumps.{goto_step}
-use Rattle.cpc_chains_store_laws.proofs.Rows.{before_append}
-use Rattle.cpc_chains_event.specs.Names.{piece_name, node_label}
-use Rattle.cpc_chains_event.specs.Routines.{Routine, routine_of}
+use Rattle.cpc_convert_flat_laws.specs.Flat.{before, point_at, bare, is_line, label_in, Stands, LineAt}
+use Rattle.cpc_convert_flat_laws.proofs.Walks.{stay}
+use Rattle.cpc_convert_flat_laws.specs.Walks.{World, Walk, at_line, running, frame_at}
+use Rattle.cpc_convert_flat_laws.proofs.Jumps.{goto_step}
+use Rattle.cpc_convert_flat_laws.proofs.Rows.{before_append}
+use Rattle.cpc_convert_routines.specs.Names.{piece_name, node_label}
+use Rattle.cpc_convert_routines.specs.Routines.{Routine, routine_of}
 use Rattle.cpc_chains_event.specs.Lines.{Goes}
 use Rattle.cpc_chains_event.specs.Rows.{Put, Jump, is_next, put_line, PutRow, any_leads, is_wanted, put_statement, label_if, row_statements, rows_statements}
 use Rattle.cpc_chains_event.specs.Pieces.{piece_body, piece_function}

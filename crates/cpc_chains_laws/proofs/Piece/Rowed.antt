@@ -28,25 +28,26 @@ use Rattle.cpc_graph_laws.specs.Laws.{flow_in}
 use Rattle.cpc_graph_laws.proofs.Formed.{mapped}
 use Rattle.cpc_graph_laws.proofs.Owning.{place_self}
 use Rattle.cpc_chains_store_laws.specs.Driver.{driving}
-use Rattle.cpc_chains_store_laws.specs.Flat.{before, point_at, bare, is_line, is_test, standing, onward}
-use Rattle.cpc_chains_store_laws.specs.Frames.{at as Here_at}
-use Rattle.cpc_chains_store_laws.proofs.Walks.{stay}
-use Rattle.cpc_chains_store_laws.specs.Walks.{World, running, frame_at}
-use Rattle.cpc_chains_store_laws.proofs.AtLine.{line_path, line_found, line_scope, line_next, line_passed}
-use Rattle.cpc_chains_store_laws.proofs.Steps.{step_on, step_faults}
+use Rattle.cpc_convert_flat_laws.specs.Flat.{before, point_at, bare, is_line, is_test, standing, onward}
+use Rattle.cpc_convert_flat_laws.specs.Locals.{at as Here_at}
+use Rattle.cpc_convert_flat_laws.proofs.Walks.{stay}
+use Rattle.cpc_convert_flat_laws.specs.Walks.{World, running, frame_at}
+use Rattle.cpc_convert_flat_laws.proofs.AtLine.{line_path, line_found, line_scope, line_next, line_passed}
+use Rattle.cpc_convert_flat_laws.proofs.Steps.{step_on, step_faults}
 use Rattle.cpc_chains_event.specs.FlatLaws.{piece_count}
 use Rattle.cpc_chains_event.specs.LabelLaws.{put_in}
 use Rattle.cpc_chains_event.specs.Lines.{Line, Does, Goes, goes, node_lines}
-use Rattle.cpc_chains_event.specs.NameLaws.{IsOwner}
-use Rattle.cpc_chains_event.specs.Names.{piece_name}
-use Rattle.cpc_chains_event.specs.Routines.{Routine, routine_of}
-use Rattle.cpc_chains_event.specs.Rows.{owner_at, is_own, has_row, lines_by, Put, Plain, Jump, is_next, put_line, put_lines, put_statement, leads, any_leads, is_wanted, row_statements, rows_statements}
-use Rattle.cpc_chains_laws.specs.Accepted.Known.{Stays}
-use Rattle.cpc_chains_laws.specs.Related.Bounds.{Bounds}
+use Rattle.cpc_convert_routines.specs.Named.{IsOwner}
+use Rattle.cpc_convert_routines.specs.Names.{piece_name}
+use Rattle.cpc_convert_routines.specs.Routines.{Routine, routine_of}
+use Rattle.cpc_chains_event.specs.Rows.{owner_at, lines_by, Put, Plain, Jump, is_next, put_line, put_lines, put_statement, leads, any_leads, is_wanted, row_statements, rows_statements}
+use Rattle.cpc_convert_routines.specs.Nodes.{is_own, has_row}
+use Rattle.cpc_lifted_laws.specs.Accepted.Known.{Stays}
+use Rattle.cpc_lifted_laws.specs.Related.Bounds.{Bounds}
 use Rattle.cpc_chains_laws.proofs.Related.Inside.{Onward, Does as Performs, Sticks, Breaks, Moves}
 use Rattle.cpc_chains_laws.proofs.Related.Relation.{Shared, world_of}
-use Rattle.cpc_chains_laws.specs.Native.Instance.{StaysAs}
-use Rattle.cpc_chains_laws.specs.Piece.Known.{CpsKnown}
+use Rattle.cpc_lifted_laws.specs.Native.Instance.{StaysAs}
+use Rattle.cpc_lifted_laws.specs.Piece.Known.{CpsKnown}
 use Rattle.cpc_chains_laws.specs.Piece.Rows.{next_number, put_row, RowAt, row_index, row_point}
 use Rattle.cpc_chains_laws.specs.Piece.Stood.{NodeAt, LocalsStand}
 use Rattle.cpc_chains_laws.proofs.Piece.Environment.{InLocal, changed_stand}

@@ -5,8 +5,9 @@ use Rattle.cpc_tree.specs.Lists.{holds_number}
 use Rattle.cpc_tree.specs.Syntax.{Function, Program}
 use Rattle.cpc_forms.specs.Flow.{Place}
 use Rattle.cpc_forms.specs.Pieces.{Once, AndOther}
-use Rattle.cpc_chains_event.specs.Routines.{Routine, routine_of}
-use Rattle.cpc_chains_event.specs.Rows.{is_own, lines_by, Row, row_of, numbers_of, first_number, put_lines, PutRow, put_rows}
+use Rattle.cpc_convert_routines.specs.Routines.{Routine, routine_of}
+use Rattle.cpc_convert_routines.specs.Nodes.{is_own}
+use Rattle.cpc_chains_event.specs.Rows.{lines_by, Row, row_of, numbers_of, first_number, put_lines, PutRow, put_rows}
 use Rattle.cpc_chains_event.specs.LabelLaws.{put_in}
 use Rattle.cpc_chains_event.proofs.Labels.{rows_stand_once, numbers}
 use Rattle.cpc_chains_laws.specs.Piece.Rows.{next_number, put_row, RowAt}

@@ -18,26 +18,27 @@ use Rattle.cpc_convert_common.proofs.Marks.{marked_is, no_bar_decimal, not_digit
 use Rattle.cpc_convert_image_laws.specs.InPlace.{is_cps}
 use Rattle.cpc_forms.specs.Flow.{Place, Start, At}
 use Rattle.cpc_lift_laws.specs.Lift.{variables_in, variable_count}
-use Rattle.cpc_chains_store_laws.specs.Boxes.{AllRegisters}
+use Rattle.cpc_convert_flat_laws.specs.Boxes.{AllRegisters}
 use Rattle.cpc_chains_store_laws.specs.Driver.{any_pointer}
-use Rattle.cpc_chains_store_laws.specs.Frames.{Holds, Load}
-use Rattle.cpc_chains_store_laws.proofs.Boxes.{register_at}
-use Rattle.cpc_chains_store_laws.proofs.Scopes.{NotLoaded, NoneLoaded, NotThisLoad, loaded_other}
-use Rattle.cpc_chains_event.specs.Names.{piece_name, variable_name, next_name}
-use Rattle.cpc_chains_event.specs.Routines.{Routine, routine_of, variable_of, variable_or, locals_of}
-use Rattle.cpc_chains_event.specs.Pieces.{load_of, takes_value, value_load, loaded, loads_of, words_if, words_of, begun, declares_of, below_if, called_so, piece_function}
-use Rattle.cpc_chains_event.specs.Frames.{arriving_type}
+use Rattle.cpc_convert_flat_laws.specs.Locals.{Holds, Load}
+use Rattle.cpc_convert_flat_laws.proofs.Boxes.{register_at}
+use Rattle.cpc_convert_flat_laws.proofs.Scopes.{NotLoaded, NoneLoaded, NotThisLoad, loaded_other}
+use Rattle.cpc_convert_routines.specs.Names.{piece_name, variable_name, next_name}
+use Rattle.cpc_convert_routines.specs.Routines.{Routine, routine_of, variable_of, variable_or, locals_of}
+use Rattle.cpc_chains_event.specs.Pieces.{load_of, value_load, loaded, loads_of, words_if, words_of, begun, declares_of, below_if, called_so, piece_function}
+use Rattle.cpc_convert_routines.specs.Taken.{takes_value}
+use Rattle.cpc_convert_routines.specs.Arriving.{arriving_type}
 use Rattle.cpc_chains_event.specs.Converted.{converted}
 use Rattle.cpc_chains_event.specs.FlatLaws.{piece_scope}
 use Rattle.cpc_chains_event.specs.LocalLaws.{piece_locals, MeansLocals}
-use Rattle.cpc_chains_event.specs.NameLaws.{IsCps, IsOwner}
+use Rattle.cpc_convert_routines.specs.Named.{IsCps, IsOwner}
 use Rattle.cpc_chains_event.proofs.Apart.{behind, piece_is, no_underscore_behind, no_bar_nothing, piece_nothing}
 use Rattle.cpc_chains_event.proofs.Locals.{NoneCalled, closure_rise, loaded_below, locals_meant, boxes_rise, none_append, passes}
 use Rattle.cpc_chains_event.proofs.Meanings.{items_meant}
-use Rattle.cpc_chains_event.proofs.Numbers.{AllBelow, NoneBelow, OneBelow, below_append, below_chosen, Rises, rises_below}
+use Rattle.cpc_convert_routines.proofs.Numbers.{AllBelow, NoneBelow, OneBelow, below_append, below_chosen, Rises, rises_below}
 use Rattle.cpc_chains_event.proofs.Scopes.{nothing_hidden}
 use Rattle.cpc_chains_event.proofs.Fields.{variable_is}
-use Rattle.cpc_chains_laws.specs.Piece.Known.{CpsKnown}
+use Rattle.cpc_lifted_laws.specs.Piece.Known.{CpsKnown}
 use Rattle.cpc_chains_laws.specs.Piece.Stood.{LocalsStand}
 
 -- ---- names that are made, apart

@@ -11,27 +11,30 @@ use Rattle.cpc_convert_image_laws.specs.Held.{beside}
 use Rattle.cpc_convert_image_laws.proofs.Slots.{got_set}
 use Rattle.cpc_forms.specs.Flow.{Place, At}
 use Rattle.cpc_chains_store_laws.specs.Driver.{driving}
-use Rattle.cpc_chains_store_laws.specs.Flat.{before, LineAt}
-use Rattle.cpc_chains_store_laws.specs.Frames.{Holds, asks_block, pointed_slots}
-use Rattle.cpc_chains_store_laws.specs.Walks.{World, Walk, at_line, running, frame_at}
-use Rattle.cpc_chains_store_laws.proofs.Boxes.{free_all}
-use Rattle.cpc_chains_store_laws.proofs.Fields.{held}
+use Rattle.cpc_convert_flat_laws.specs.Flat.{before, LineAt}
+use Rattle.cpc_convert_flat_laws.specs.Locals.{Holds}
+use Rattle.cpc_chains_store_laws.specs.Frames.{asks_block, pointed_slots}
+use Rattle.cpc_convert_flat_laws.specs.Walks.{World, Walk, at_line, running, frame_at}
+use Rattle.cpc_convert_flat_laws.proofs.Boxes.{free_all}
+use Rattle.cpc_convert_flat_laws.proofs.Fields.{held}
 use Rattle.cpc_chains_store_laws.proofs.Pieces.{return_step}
-use Rattle.cpc_chains_store_laws.proofs.Rows.{before_append}
-use Rattle.cpc_chains_store_laws.proofs.Walks.{walk_append}
+use Rattle.cpc_convert_flat_laws.proofs.Rows.{before_append}
+use Rattle.cpc_convert_flat_laws.proofs.Walks.{walk_append}
 use Rattle.cpc_chains_event.specs.FlatLaws.{piece_count}
 use Rattle.cpc_chains_event.specs.LabelLaws.{put_in}
 use Rattle.cpc_chains_event.specs.Lines.{hands_over, frame_lines}
 use Rattle.cpc_chains_event.specs.LocalLaws.{piece_locals, StandsIn}
-use Rattle.cpc_chains_event.specs.NameLaws.{IsOwner}
-use Rattle.cpc_chains_event.specs.Names.{piece_name, to_name}
-use Rattle.cpc_chains_event.specs.Pieces.{called_so, to_frame, words_if, any_node, is_wait, is_entry, is_result}
-use Rattle.cpc_chains_event.specs.Routines.{Routine, routine_of, closure_of}
-use Rattle.cpc_chains_event.specs.Rows.{rows_nodes, stubs_of, reached, is_own, lines_by, put_lines, put_statement, rows_statements}
+use Rattle.cpc_convert_routines.specs.Named.{IsOwner}
+use Rattle.cpc_convert_routines.specs.Names.{piece_name, to_name}
+use Rattle.cpc_chains_event.specs.Pieces.{called_so, to_frame, words_if, is_wait, is_entry}
+use Rattle.cpc_convert_routines.specs.Taken.{any_node, is_result}
+use Rattle.cpc_convert_routines.specs.Routines.{Routine, routine_of, closure_of}
+use Rattle.cpc_convert_routines.specs.Nodes.{rows_nodes, is_own}
+use Rattle.cpc_chains_event.specs.Rows.{stubs_of, reached, lines_by, put_lines, put_statement, rows_statements}
 use Rattle.cpc_chains_event.proofs.Fields.{word_apart}
-use Rattle.cpc_chains_event.proofs.Numbers.{chosen_is}
+use Rattle.cpc_convert_routines.proofs.Numbers.{chosen_is}
 use Rattle.cpc_chains_event.proofs.Boxing.{held_has}
-use Rattle.cpc_chains_laws.specs.Piece.Known.{CpsKnown}
+use Rattle.cpc_lifted_laws.specs.Piece.Known.{CpsKnown}
 use Rattle.cpc_chains_laws.specs.Piece.Rows.{next_number, put_row, RowAt, row_index, row_point}
 use Rattle.cpc_chains_laws.specs.Piece.Stood.{LocalsStand}
 use Rattle.cpc_chains_laws.proofs.Piece.Places.{first_line}

@@ -9,12 +9,12 @@ use Rattle.cpc_forms.specs.Split.{InGraph, split_form}
 use Rattle.cpc_lift_laws.specs.Lift.{closure_in}
 use Rattle.cpc_lift_laws.specs.Lifted.{tidy_slots}
 use Rattle.cpc_convert_image_laws.specs.Locals.{Stands, AsValue, AsBlock}
-use Rattle.cpc_chains_event.specs.Routines.{routine_of, closure_of, keeper, owner_number}
-use Rattle.cpc_chains_event.specs.ClosureLaws.{lifting}
-use Rattle.cpc_chains_event.specs.NameLaws.{IsNamed, IsCps}
-use Rattle.cpc_chains_event.proofs.Closures.{closures_lifted}
+use Rattle.cpc_convert_routines.specs.Routines.{routine_of, closure_of, keeper, owner_number}
+use Rattle.cpc_convert_routines.specs.ClosureLaws.{lifting}
+use Rattle.cpc_convert_routines.specs.Named.{IsNamed, IsCps}
+use Rattle.cpc_convert_routines.proofs.Closures.{closures_lifted}
 use Rattle.cpc_chains_laws.proofs.Related.Tidy.{slot_kept}
-use Rattle.cpc_chains_laws.specs.Accepted.Lifted.{kept_of}
+use Rattle.cpc_lifted_laws.specs.Accepted.Lifted.{kept_of}
 use Rattle.cpc_chains_laws.specs.Piece.Stood.{LocalsStand, AtRow, AtCall}
 use Rattle.cpc_chains_laws.specs.Piece.Laws.{StoodIsTidied}
 

@@ -17,11 +17,11 @@ use Rattle.cpc_graph_laws.proofs.Formed.{in_left, in_right}
 use Rattle.cpc_lift_laws.specs.Used.{used_in, used_among, used_if, used_at}
 use Rattle.cpc_lift_laws.proofs.Kept.{number_of}
 use Rattle.cpc_meaning.specs.Names.{AllNames, AllNamesIf, AllNamesAmong}
-use Rattle.cpc_chains_event.specs.NameLaws.{IsOwner}
-use Rattle.cpc_chains_event.specs.Routines.{routine_of, closure_of}
-use Rattle.cpc_chains_laws.specs.Accepted.Points.{UsedName}
-use Rattle.cpc_chains_laws.proofs.Accepted.Lifted.{programs_are_closed}
-use Rattle.cpc_chains_laws.specs.Piece.Known.{CpsKnown}
+use Rattle.cpc_convert_routines.specs.Named.{IsOwner}
+use Rattle.cpc_convert_routines.specs.Routines.{routine_of, closure_of}
+use Rattle.cpc_lifted_laws.specs.Accepted.Points.{UsedName}
+use Rattle.cpc_lifted_laws.proofs.Accepted.Lifted.{programs_are_closed}
+use Rattle.cpc_lifted_laws.specs.Piece.Known.{CpsKnown}
 use Rattle.cpc_chains_laws.specs.Piece.Stood.{NodeAt, LocalsStand}
 use Rattle.cpc_chains_laws.proofs.Piece.Environment.{Used, scope_is}
 use Rattle.cpc_chains_laws.proofs.Piece.Ways.{is_split, kept_is, stands_there}

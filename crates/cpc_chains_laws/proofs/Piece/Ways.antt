@@ -22,15 +22,16 @@ use Rattle.cpc_graph_laws.proofs.Owning.{pieces_hold_theirs, place_self, place_s
 use Rattle.cpc_graph_laws.proofs.Splits.{owner_there}
 use Rattle.cpc_graph_laws.proofs.Standing.{IsIn, IsNoArrival, way_is_in, way_no_arrival}
 use Rattle.cpc_lift_laws.specs.Lift.{closure_in}
-use Rattle.cpc_chains_event.specs.ClosureLaws.{may_stand, lifting}
-use Rattle.cpc_chains_event.specs.Routines.{Routine, routine_of, keeper, closure_of, owner_number, chosen}
-use Rattle.cpc_chains_event.specs.Rows.{owner_at, is_own, stands_with, has_row, turned, rows_nodes, onwards, onwards_all, reached, stubs_of}
-use Rattle.cpc_chains_event.proofs.Closures.{closures_lifted}
+use Rattle.cpc_convert_routines.specs.ClosureLaws.{may_stand, lifting}
+use Rattle.cpc_convert_routines.specs.Routines.{Routine, routine_of, keeper, closure_of, owner_number, chosen}
+use Rattle.cpc_chains_event.specs.Rows.{owner_at, onwards, onwards_all, reached, stubs_of}
+use Rattle.cpc_convert_routines.specs.Nodes.{is_own, stands_with, has_row, turned, rows_nodes}
+use Rattle.cpc_convert_routines.proofs.Closures.{closures_lifted}
 use Rattle.cpc_chains_event.proofs.Labels.{rows_stand_once}
-use Rattle.cpc_chains_event.proofs.Numbers.{chosen_has}
-use Rattle.cpc_chains_laws.specs.Accepted.Lifted.{kept_of}
-use Rattle.cpc_chains_laws.proofs.Accepted.Lifted.{programs_are_closed}
-use Rattle.cpc_chains_laws.specs.Piece.Known.{CpsKnown}
+use Rattle.cpc_convert_routines.proofs.Numbers.{chosen_has}
+use Rattle.cpc_lifted_laws.specs.Accepted.Lifted.{kept_of}
+use Rattle.cpc_lifted_laws.proofs.Accepted.Lifted.{programs_are_closed}
+use Rattle.cpc_lifted_laws.specs.Piece.Known.{CpsKnown}
 use Rattle.cpc_chains_laws.specs.Piece.Rows.{RowAt}
 use Rattle.cpc_chains_laws.specs.Piece.Stood.{NodeAt}
 use Rattle.cpc_chains_laws.proofs.Piece.Rows.{rows_stand}

@@ -6,13 +6,15 @@ use Rattle.cpc_tree.specs.Syntax.{Ty, Function, Program}
 use Rattle.cpc_forms.specs.Flow.{Place}
 use Rattle.cpc_forms.specs.Graph.{Node, at_node}
 use Rattle.cpc_chains_event.specs.LocalLaws.{piece_locals, StandsIn}
-use Rattle.cpc_chains_event.specs.NameLaws.{IsOwner}
-use Rattle.cpc_chains_event.specs.Names.{to_name, under_name, result_name}
-use Rattle.cpc_chains_event.specs.Pieces.{called_so, to_frame, words_if, any_node, is_wait, is_entry, is_result}
-use Rattle.cpc_chains_event.specs.Routines.{Routine, routine_of}
-use Rattle.cpc_chains_event.specs.Rows.{has_row, rows_nodes, stubs_of}
+use Rattle.cpc_convert_routines.specs.Named.{IsOwner}
+use Rattle.cpc_convert_routines.specs.Names.{to_name, under_name, result_name}
+use Rattle.cpc_chains_event.specs.Pieces.{called_so, to_frame, words_if, is_wait, is_entry}
+use Rattle.cpc_convert_routines.specs.Taken.{any_node, is_result}
+use Rattle.cpc_convert_routines.specs.Routines.{Routine, routine_of}
+use Rattle.cpc_convert_routines.specs.Nodes.{has_row, rows_nodes}
+use Rattle.cpc_chains_event.specs.Rows.{stubs_of}
 use Rattle.cpc_chains_event.proofs.Fields.{word_apart}
-use Rattle.cpc_chains_laws.specs.Piece.Known.{CpsKnown}
+use Rattle.cpc_lifted_laws.specs.Piece.Known.{CpsKnown}
 use Rattle.cpc_chains_laws.specs.Piece.Stood.{NodeAt}
 use Rattle.cpc_chains_laws.proofs.Piece.Frames.{Word}
 use Rattle.cpc_chains_laws.proofs.Piece.Scopes.{meant}

@@ -19,7 +19,7 @@ use Rattle.cpc_convert_image_laws.specs.Relations.{Meets, BothGive, Stuck}
 use Rattle.cpc_convert_image_laws.specs.Stacks.{frame_of, Native, DoneAlike, BothWent, BothReturned, BothAsked}
 use Rattle.cpc_convert_image_laws.proofs.Answers.{meets_then}
 use Rattle.cpc_convert_image_laws.proofs.Stacks.{native_answered}
-use Rattle.cpc_chains_laws.specs.Related.Items.{Cut, Tagged}
+use Rattle.cpc_lifted_laws.specs.Related.Cut.{Cut, Tagged}
 use Rattle.cpc_chains_laws.specs.Related.Running.{Places, SamePoint, InPiece, AtNode, Under, Bottom, PieceWaits, NativeRuns}
 use Rattle.cpc_chains_laws.proofs.Related.Relation.{Source, Target, Shared, source_state, target_state, Related, Goes, IsOver}
 use Rattle.cpc_chains_laws.proofs.Related.Setting.{Setting, from_form, to_form, NativeFacts, NativeAt, is_answered}

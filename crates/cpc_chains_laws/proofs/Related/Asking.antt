@@ -25,11 +25,12 @@ use Rattle.cpc_convert_image_laws.specs.Held.{IsHeld, IsHeldStore}
 use Rattle.cpc_convert_image_laws.specs.Relations.{Meets, BothGive, BothFault, Stuck, Answered, BothAnswer}
 use Rattle.cpc_convert_image_laws.proofs.Answers.{self_then}
 use Rattle.cpc_convert_image_laws.proofs.Beside as S
-use Rattle.cpc_chains_store_laws.specs.Chains.{count, Owns}
+use Rattle.cpc_convert_flat_laws.specs.Blocks.{count, Owns}
 use Rattle.cpc_chains_laws.specs.Related.Fresh.{AllFresh}
-use Rattle.cpc_chains_laws.specs.Related.Sums.{total}
-use Rattle.cpc_chains_laws.specs.Related.Items.{Tagged, ItemFor, IsUntagged, owned_in}
-use Rattle.cpc_chains_laws.proofs.Related.Sums.{total_signal, total_signal_all, total_freed}
+use Rattle.cpc_lifted_laws.specs.Related.Sums.{total}
+use Rattle.cpc_lifted_laws.specs.Related.Cut.{Tagged, IsUntagged, owned_in}
+use Rattle.cpc_chains_laws.specs.Related.Items.{ItemFor}
+use Rattle.cpc_lifted_laws.proofs.Related.Sums.{total_signal, total_signal_all, total_freed}
 use Rattle.cpc_chains_laws.proofs.Related.Relation.{Source, Target, Shared, AgendaFor, source_state, target_state}
 use Rattle.cpc_chains_laws.proofs.Related.Setting.{Setting, from_form, to_form, is_common, is_answered}
 use Rattle.cpc_chains_laws.proofs.Related.Turns.{owns_again}

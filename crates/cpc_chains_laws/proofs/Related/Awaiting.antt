@@ -9,10 +9,10 @@ use Rattle.cpc_meaning.specs.Requests.{Primitive, Print, Putc, Puts, Now, CondNe
 use Rattle.cpc_meaning.specs.Threads.{Thread, Suspended, suspends, threads_of}
 use Rattle.cpc_meaning.proofs.Agendas.{SameAgenda, SameResult, BothOk, readies_all, ios, waits, slept}
 use Rattle.cpc_meaning.proofs.Both as B
-use Rattle.cpc_chains_laws.specs.Related.Sums.{total}
+use Rattle.cpc_lifted_laws.specs.Related.Sums.{total}
 use Rattle.cpc_chains_laws.specs.Related.Waits.{Awaited, ATurn, ATime, ADescriptor, ACondition, awaited, put_waiting, wait_marks}
 use Rattle.cpc_chains_laws.proofs.Related.Setting.{is_common}
-use Rattle.cpc_chains_laws.proofs.Related.Sums.{total_ready, total_io, total_sleep, total_wait}
+use Rattle.cpc_lifted_laws.proofs.Related.Sums.{total_ready, total_io, total_sleep, total_wait}
 
 -- ---- the primitives of threads
 

@@ -22,7 +22,7 @@ use Rattle.cpc_convert_image_laws.specs.Held.{IsHeldStore, beside}
 use Rattle.cpc_convert_image_laws.specs.Relations.{Found, BothFound, NoneFound, Meets, BothGive, BothFault, Stuck, Entered, SlotsMade}
 use Rattle.cpc_convert_image_laws.specs.Stacks.{frame_of, NoMore, OneMore, EntersAlike}
 use Rattle.cpc_convert_image_laws.proofs.Entering.{slots_beside}
-use Rattle.cpc_chains_store_laws.specs.Chains.{Owns}
+use Rattle.cpc_convert_flat_laws.specs.Blocks.{Owns}
 use Rattle.cpc_chains_laws.specs.Related.Running.{SamePoint, Bottom, NativeRuns}
 use Rattle.cpc_chains_laws.proofs.Related.Relation.{Source, Target, Shared, AgendaFor, going, source_state, target_state, with_main, Related, MainIsNext, Goes}
 use Rattle.cpc_chains_laws.proofs.Related.Setting.{Setting, from_form, to_form, NativeFacts, KeepsFacts}

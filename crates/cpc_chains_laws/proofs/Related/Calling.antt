@@ -22,11 +22,12 @@ use Rattle.cpc_convert_image_laws.specs.Held.{beside}
 use Rattle.cpc_convert_image_laws.specs.Stacks.{frame_of, NoMore, OneMore}
 use Rattle.cpc_chains_store_laws.specs.Chains.{Saved, Top, frame_cells}
 use Rattle.cpc_chains_store_laws.specs.Driver.{driving}
-use Rattle.cpc_chains_store_laws.specs.Walks.{running}
+use Rattle.cpc_convert_flat_laws.specs.Walks.{running}
 use Rattle.cpc_chains_store_laws.proofs.Chains.{chain_push, chain_closed}
-use Rattle.cpc_chains_store_laws.proofs.Owned.{owns_alloc}
-use Rattle.cpc_chains_laws.specs.Related.Bounds.{Bounds, Enough}
-use Rattle.cpc_chains_laws.specs.Related.Items.{OneWaits, saved_at, first_saved, owned_in}
+use Rattle.cpc_convert_flat_laws.proofs.Owned.{owns_alloc}
+use Rattle.cpc_lifted_laws.specs.Related.Bounds.{Bounds, Enough}
+use Rattle.cpc_chains_laws.specs.Related.Items.{OneWaits, saved_at, first_saved}
+use Rattle.cpc_lifted_laws.specs.Related.Cut.{owned_in}
 use Rattle.cpc_chains_laws.specs.Related.Running.{AtNode, PieceWaits, NativeRuns}
 use Rattle.cpc_chains_laws.proofs.Related.Entry.{EntryFacts}
 use Rattle.cpc_chains_laws.proofs.Related.Fresh.{fresh_freed, fresh_more}

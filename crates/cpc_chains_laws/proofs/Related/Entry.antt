@@ -17,9 +17,9 @@ use Rattle.cpc_convert_image_laws.specs.Held.{beside}
 use Rattle.cpc_convert_image_laws.specs.Stacks.{frame_of}
 use Rattle.cpc_chains_store_laws.specs.Chains.{Saved, Top}
 use Rattle.cpc_chains_store_laws.specs.Driver.{DriverFacts, IsPiece, driving, entered}
-use Rattle.cpc_chains_store_laws.specs.Walks.{World, Climbs, running}
+use Rattle.cpc_convert_flat_laws.specs.Walks.{World, Climbs, running}
 use Rattle.cpc_meaning_laws.specs.Cell.Cells.{call_cells}
-use Rattle.cpc_chains_laws.specs.Related.Bounds.{Bounds}
+use Rattle.cpc_lifted_laws.specs.Related.Bounds.{Bounds}
 use Rattle.cpc_chains_laws.specs.Related.Fresh.{beyond}
 use Rattle.cpc_chains_laws.specs.Related.Items.{saved_at, first_saved}
 use Rattle.cpc_chains_laws.proofs.Related.Setting.{Setting, from_form}

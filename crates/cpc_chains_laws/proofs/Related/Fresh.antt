@@ -6,10 +6,11 @@ use Rattle.cpc_meaning.specs.Agenda.{Agenda}
 use Rattle.cpc_meaning.specs.Threads.{Thread}
 use Rattle.cpc_meaning.specs.Events.{Callback}
 use Rattle.cpc_forms.specs.Split.{Position}
-use Rattle.cpc_chains_store_laws.specs.Chains.{Saved, Chain, Top, Owns, block, lives, frame_cells}
+use Rattle.cpc_chains_store_laws.specs.Chains.{Saved, Chain, Top, frame_cells}
+use Rattle.cpc_convert_flat_laws.specs.Blocks.{Owns, block, lives}
 use Rattle.cpc_chains_store_laws.proofs.Chains.{chain_alloc}
 use Rattle.cpc_chains_laws.specs.Related.Fresh.{IsFresh, AllFresh, beyond}
-use Rattle.cpc_chains_laws.specs.Related.Items.{Cut, Tagged}
+use Rattle.cpc_lifted_laws.specs.Related.Cut.{Cut, Tagged}
 use Rattle.cpc_chains_laws.proofs.Related.Relation.{AgendaFor}
 use Rattle.cpc_chains_laws.proofs.Related.Putting.{agenda_alloc}
 

@@ -23,19 +23,22 @@ use Rattle.cpc_forms.specs.Flow.{At}
 use Rattle.cpc_forms.specs.Split.{Position, InGraph}
 use Rattle.cpc_lift_laws.specs.Lifted.{tidy, tidy_slots, tidy_frame}
 use Rattle.cpc_convert_image_laws.specs.Stacks.{frame_of}
-use Rattle.cpc_chains_store_laws.specs.Chains.{Saved, Chain, AndChain, Top, Owns}
+use Rattle.cpc_chains_store_laws.specs.Chains.{Saved, Chain, AndChain, Top}
+use Rattle.cpc_convert_flat_laws.specs.Blocks.{Owns}
 use Rattle.cpc_chains_store_laws.specs.Driver.{drive_name, with_round}
 use Rattle.cpc_chains_store_laws.proofs.Chains.{chain_patched}
-use Rattle.cpc_chains_laws.specs.Related.Bounds.{Bounds}
+use Rattle.cpc_lifted_laws.specs.Related.Bounds.{Bounds}
 use Rattle.cpc_chains_laws.specs.Related.Fresh.{AllFresh}
-use Rattle.cpc_chains_laws.specs.Related.Items.{FramesWait, NoneWait, OneWaits, saved_at, first_saved, Tagged, driven, ItemFor, ForPending, ForSuspended, IsUntagged, owned_in}
+use Rattle.cpc_chains_laws.specs.Related.Items.{FramesWait, NoneWait, OneWaits, saved_at, first_saved, driven, ItemFor, ForPending, ForSuspended}
+use Rattle.cpc_lifted_laws.specs.Related.Cut.{Tagged, IsUntagged, owned_in}
 use Rattle.cpc_chains_laws.proofs.Related.Relation.{Source, Target, Shared, AgendaFor, source_state, target_state}
 use Rattle.cpc_chains_laws.proofs.Related.Setting.{Setting, from_form, NativeFacts, KeepsFacts, Known}
 use Rattle.cpc_chains_laws.proofs.Related.Entry.{EntryFacts}
 use Rattle.cpc_chains_laws.proofs.Related.Rows.{RowFor, settled_alike, one_step}
 use Rattle.cpc_chains_laws.proofs.Related.Turns.{turns_meet}
 use Rattle.cpc_chains_laws.proofs.Related.Tidy.{saved_tidied, waits_tidied}
-use Rattle.cpc_chains_laws.proofs.Related.Taking.{given_value, with_rest, takes_up}
+use Rattle.cpc_chains_laws.proofs.Related.Taking.{given_value, takes_up}
+use Rattle.cpc_lifted_laws.proofs.Related.Owned.{with_rest}
 
 -- ---- the variables of a call are made without a fault
 

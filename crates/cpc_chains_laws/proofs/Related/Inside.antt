@@ -29,8 +29,8 @@ use Rattle.cpc_convert_image_laws.specs.Held.{IsHeld, IsHeldSlot, IsHeldStore, b
 use Rattle.cpc_convert_image_laws.specs.Stacks.{frame_of}
 use Rattle.cpc_chains_store_laws.specs.Chains.{Saved, Top, frame_cells}
 use Rattle.cpc_chains_store_laws.specs.Driver.{drive_name, driving}
-use Rattle.cpc_chains_store_laws.specs.Walks.{World, Rise, Walk, FaultsAfter, running}
-use Rattle.cpc_chains_laws.specs.Related.Bounds.{Bounds}
+use Rattle.cpc_convert_flat_laws.specs.Walks.{World, Rise, Walk, FaultsAfter, running}
+use Rattle.cpc_lifted_laws.specs.Related.Bounds.{Bounds}
 use Rattle.cpc_chains_laws.specs.Related.Items.{saved_at, first_saved}
 use Rattle.cpc_chains_laws.specs.Related.Running.{SamePoint}
 use Rattle.cpc_chains_laws.specs.Related.Waits.{Awaited, awaited, put_waiting, wait_marks}

@@ -25,11 +25,11 @@ use Rattle.cpc_convert_image_laws.specs.Held.{IsHeldSlot, beside}
 use Rattle.cpc_convert_image_laws.specs.Native.{IsHeldIf}
 use Rattle.cpc_convert_image_laws.specs.Relations.{Found as FoundAlike}
 use Rattle.cpc_convert_image_laws.specs.Stacks.{frame_of, Native, NoMore, OneMore}
-use Rattle.cpc_chains_store_laws.specs.Chains.{Owns}
+use Rattle.cpc_convert_flat_laws.specs.Blocks.{Owns}
 use Rattle.cpc_chains_store_laws.specs.Driver.{driving}
-use Rattle.cpc_chains_laws.specs.Related.Bounds.{Bounds, Enough}
+use Rattle.cpc_lifted_laws.specs.Related.Bounds.{Bounds, Enough}
 use Rattle.cpc_chains_laws.specs.Related.Fresh.{AllFresh}
-use Rattle.cpc_chains_laws.specs.Related.Items.{Tagged, owned_in}
+use Rattle.cpc_lifted_laws.specs.Related.Cut.{Tagged, owned_in}
 use Rattle.cpc_chains_laws.specs.Related.Running.{SamePoint, InPiece, AtNode, Under, Bottom, PieceWaits, RunningFor, NothingRuns, NativeRuns, PieceRuns}
 use Rattle.cpc_chains_laws.proofs.Related.Beginning.{first_row, main_row}
 use Rattle.cpc_chains_laws.proofs.Related.Entry.{EntryFacts}

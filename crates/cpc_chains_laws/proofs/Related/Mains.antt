@@ -12,12 +12,14 @@ use Rattle.cpc_meaning.specs.Events.{CallMain, CallWith}
 use Rattle.cpc_meaning.proofs.Both as B
 use Rattle.cpc_lift_laws.specs.Lifted.{tidy}
 use Rattle.cpc_convert_image_laws.specs.Held.{beside}
-use Rattle.cpc_chains_store_laws.specs.Chains.{Owns, frame_cells}
+use Rattle.cpc_convert_flat_laws.specs.Blocks.{Owns}
+use Rattle.cpc_chains_store_laws.specs.Chains.{frame_cells}
 use Rattle.cpc_chains_store_laws.specs.Driver.{drive_name}
-use Rattle.cpc_chains_store_laws.specs.Walks.{Finishes}
-use Rattle.cpc_chains_store_laws.proofs.Walks.{climb_then, whole_climb}
-use Rattle.cpc_chains_laws.specs.Related.Bounds.{Bounds, Enough}
-use Rattle.cpc_chains_laws.specs.Related.Items.{first_saved, Tagged, driven, owned_in}
+use Rattle.cpc_convert_flat_laws.specs.Walks.{Finishes}
+use Rattle.cpc_convert_flat_laws.proofs.Walks.{climb_then, whole_climb}
+use Rattle.cpc_lifted_laws.specs.Related.Bounds.{Bounds, Enough}
+use Rattle.cpc_chains_laws.specs.Related.Items.{first_saved, driven}
+use Rattle.cpc_lifted_laws.specs.Related.Cut.{Tagged, owned_in}
 use Rattle.cpc_chains_laws.proofs.Related.Entry.{EntryFacts}
 use Rattle.cpc_chains_laws.proofs.Related.Idle.{idle_row}
 use Rattle.cpc_chains_laws.proofs.Related.Putting.{agenda_ready, owns_ready, pending_put}

@@ -26,10 +26,11 @@ use Rattle.cpc_lift_laws.specs.Lifted.{tidy}
 use Rattle.cpc_convert_image_laws.specs.Held.{IsHeld, IsHeldStore, beside}
 use Rattle.cpc_convert_image_laws.specs.Relations.{Meets, BothGive, BothFault, Stuck}
 use Rattle.cpc_chains_store_laws.specs.Chains.{frame_cells}
-use Rattle.cpc_chains_store_laws.specs.Walks.{Quiet, FaultsAfter, running}
+use Rattle.cpc_convert_flat_laws.specs.Walks.{Quiet, FaultsAfter, running}
 use Rattle.cpc_chains_store_laws.proofs.Chains.{chain_alloc}
-use Rattle.cpc_chains_laws.specs.Related.Bounds.{Bounds, Enough}
-use Rattle.cpc_chains_laws.specs.Related.Items.{first_saved, Tagged, driven}
+use Rattle.cpc_lifted_laws.specs.Related.Bounds.{Bounds, Enough}
+use Rattle.cpc_chains_laws.specs.Related.Items.{first_saved, driven}
+use Rattle.cpc_lifted_laws.specs.Related.Cut.{Tagged}
 use Rattle.cpc_chains_laws.proofs.Related.Asking.{Agendas, asked_alike}
 use Rattle.cpc_chains_laws.proofs.Related.Entry.{EntryFacts}
 use Rattle.cpc_chains_laws.proofs.Related.Fresh.{fresh_more}

@@ -21,8 +21,8 @@ use Rattle.cpc_convert_image_laws.specs.Native.{IsHeldIf}
 use Rattle.cpc_convert_image_laws.specs.Relations.{Meets, BothGive, BothFault, Stuck}
 use Rattle.cpc_convert_image_laws.specs.Stacks.{frame_of, Native, NoMore, OneMore, DoneAlike, BothWent, BothReturned, BothAsked}
 use Rattle.cpc_convert_image_laws.proofs.Stacks.{native_step}
-use Rattle.cpc_chains_laws.specs.Related.Items.{Cut, Tagged, owned_in}
-use Rattle.cpc_chains_store_laws.specs.Chains.{Owns}
+use Rattle.cpc_lifted_laws.specs.Related.Cut.{Cut, Tagged, owned_in}
+use Rattle.cpc_convert_flat_laws.specs.Blocks.{Owns}
 use Rattle.cpc_chains_laws.specs.Related.Running.{Places, SamePoint, InPiece, AtNode, Under, Bottom, PieceWaits, NothingRuns, NativeRuns}
 use Rattle.cpc_chains_laws.proofs.Related.Relation.{Source, Target, Shared, source_state, target_state, Related, Goes}
 use Rattle.cpc_chains_laws.proofs.Related.Setting.{Setting, from_form, to_form, NativeFacts, KeepsFacts, NativeAt}

@@ -16,14 +16,16 @@ use Rattle.cpc_forms.specs.Split.{Position, InGraph}
 use Rattle.cpc_lift_laws.specs.Lifted.{tidy, tidy_slots, tidy_frame}
 use Rattle.cpc_convert_image_laws.specs.Held.{beside}
 use Rattle.cpc_convert_image_laws.specs.Stacks.{frame_of}
-use Rattle.cpc_chains_store_laws.specs.Chains.{Saved, Chain, Top, Owns, frame_cells}
-use Rattle.cpc_chains_store_laws.specs.Walks.{Walk, running}
+use Rattle.cpc_chains_store_laws.specs.Chains.{Saved, Chain, Top, frame_cells}
+use Rattle.cpc_convert_flat_laws.specs.Blocks.{Owns}
+use Rattle.cpc_convert_flat_laws.specs.Walks.{Walk, running}
 use Rattle.cpc_chains_store_laws.proofs.Chains.{chain_push}
-use Rattle.cpc_chains_store_laws.proofs.Owned.{owns_alloc}
-use Rattle.cpc_chains_store_laws.proofs.Walks.{rise_climbs, climbs_more}
-use Rattle.cpc_chains_laws.specs.Related.Bounds.{Bounds}
+use Rattle.cpc_convert_flat_laws.proofs.Owned.{owns_alloc}
+use Rattle.cpc_convert_flat_laws.proofs.Walks.{rise_climbs, climbs_more}
+use Rattle.cpc_lifted_laws.specs.Related.Bounds.{Bounds}
 use Rattle.cpc_chains_laws.specs.Related.Fresh.{AllFresh, beyond}
-use Rattle.cpc_chains_laws.specs.Related.Items.{FramesWait, saved_at, Tagged, owned_in}
+use Rattle.cpc_chains_laws.specs.Related.Items.{FramesWait, saved_at}
+use Rattle.cpc_lifted_laws.specs.Related.Cut.{Tagged, owned_in}
 use Rattle.cpc_chains_laws.specs.Related.Running.{AtNode, PieceRuns}
 use Rattle.cpc_chains_laws.proofs.Related.Fresh.{fresh_freed, fresh_more, beyond_cells}
 use Rattle.cpc_chains_laws.proofs.Related.Inside.{over, alone, Onward, Stays, Jumps}

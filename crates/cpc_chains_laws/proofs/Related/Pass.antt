@@ -15,7 +15,7 @@ use Rattle.cpc_forms.specs.Split.{Position}
 use Rattle.cpc_lift_laws.specs.Lifted.{lifted_system}
 use Rattle.cpc_lift_laws.proofs.Along.{matches_along}
 use Rattle.cpc_lift_laws.proofs.Lifting.{lifted_ends}
-use Rattle.cpc_chains_laws.specs.Related.Bounds.{Bounds, Enough}
+use Rattle.cpc_lifted_laws.specs.Related.Bounds.{Bounds, Enough}
 use Rattle.cpc_chains_laws.proofs.Related.Joined.{RowFacts, row}
 use Rattle.cpc_chains_laws.proofs.Related.Relation.{Source, Target, Shared, going, with_main, Related, MainIsReady, MainIsNext, Goes, IsOver}
 use Rattle.cpc_chains_laws.proofs.Related.Rows.{Near, midway_near, Shows}

@@ -28,30 +28,33 @@ use Rattle.cpc_forms.specs.Split.{Position, InGraph}
 use Rattle.cpc_lift_laws.specs.Lifted.{tidy}
 use Rattle.cpc_convert_image_laws.specs.Held.{beside}
 use Rattle.cpc_convert_image_laws.specs.Stacks.{frame_of}
-use Rattle.cpc_chains_store_laws.specs.Chains.{Owns, count, frame_cells}
+use Rattle.cpc_convert_flat_laws.specs.Blocks.{Owns, count}
+use Rattle.cpc_chains_store_laws.specs.Chains.{frame_cells}
 use Rattle.cpc_chains_store_laws.specs.Driver.{driving}
-use Rattle.cpc_chains_store_laws.specs.Walks.{running, idle, FaultsAfter}
-use Rattle.cpc_chains_store_laws.proofs.Chains.{count_append, chain_push, chain_closed}
-use Rattle.cpc_chains_store_laws.proofs.Owned.{owns_alloc, owns_order}
+use Rattle.cpc_convert_flat_laws.specs.Walks.{running, idle, FaultsAfter}
+use Rattle.cpc_convert_flat_laws.proofs.Blocks.{count_append}
+use Rattle.cpc_chains_store_laws.proofs.Chains.{chain_push, chain_closed}
+use Rattle.cpc_convert_flat_laws.proofs.Owned.{owns_alloc, owns_order}
 use Rattle.cpc_chains_store_laws.proofs.Pieces.{drive_finishes}
-use Rattle.cpc_chains_store_laws.proofs.Walks.{finishes_after}
-use Rattle.cpc_chains_laws.specs.Related.Bounds.{Bounds, Enough}
-use Rattle.cpc_chains_laws.specs.Related.Sums.{total}
-use Rattle.cpc_chains_laws.specs.Related.Items.{OneWaits, saved_at, Tagged, driven, ItemFor, ForSuspended, IsUntagged, owned_in}
+use Rattle.cpc_convert_flat_laws.proofs.Walks.{finishes_after}
+use Rattle.cpc_lifted_laws.specs.Related.Bounds.{Bounds, Enough}
+use Rattle.cpc_lifted_laws.specs.Related.Sums.{total}
+use Rattle.cpc_chains_laws.specs.Related.Items.{OneWaits, saved_at, driven, ItemFor, ForSuspended}
+use Rattle.cpc_lifted_laws.specs.Related.Cut.{Tagged, IsUntagged, owned_in}
 use Rattle.cpc_chains_laws.specs.Related.Running.{NothingRuns}
 use Rattle.cpc_chains_laws.specs.Related.Waits.{Awaited, awaited, put_waiting, wait_marks}
 use Rattle.cpc_chains_laws.proofs.Related.Awaiting.{waits_by, primitive_waits, put_same, total_put}
 use Rattle.cpc_chains_laws.proofs.Related.Entry.{EntryFacts}
 use Rattle.cpc_chains_laws.proofs.Related.Fresh.{fresh_more}
 use Rattle.cpc_chains_laws.proofs.Related.Inside.{inside, Prepares, HasAsked, FaultsAsking, WaitsFor, SubmitsSection, section_cells}
-use Rattle.cpc_chains_laws.proofs.Related.Items.{count_owned}
+use Rattle.cpc_lifted_laws.proofs.Related.Owned.{count_owned}
 use Rattle.cpc_chains_laws.proofs.Related.Onwards.{Beside}
 use Rattle.cpc_chains_laws.proofs.Related.Putting.{agenda_alloc}
 use Rattle.cpc_chains_laws.proofs.Related.Relation.{Source, Target, Shared, AgendaFor, source_state, world_of, Goes}
 use Rattle.cpc_chains_laws.proofs.Related.Rows.{RowFor, marked_finished}
 use Rattle.cpc_chains_laws.proofs.Related.Setting.{Setting, from_form, NativeFacts, KeepsFacts, is_common}
 use Rattle.cpc_chains_laws.proofs.Related.Standing.{stack, here, comes_of, settles, to_state, no_state}
-use Rattle.cpc_chains_laws.proofs.Related.Sums.{total_section}
+use Rattle.cpc_lifted_laws.proofs.Related.Sums.{total_section}
 use Rattle.cpc_chains_laws.proofs.Related.Walking.{fault_row}
 
 -- the three agendas take an item each, and no item is lost or doubled besides; or both sides refuse it

@@ -17,7 +17,7 @@ use Rattle.cpc_meaning.specs.Runs.{slots_registers}
 use Rattle.cpc_forms.specs.Flow.{Place}
 use Rattle.cpc_forms.specs.Split.{Position, InGraph}
 use Rattle.cpc_lift_laws.specs.Lifted.{tidy}
-use Rattle.cpc_chains_laws.specs.Related.Bounds.{Bounds, Enough}
+use Rattle.cpc_lifted_laws.specs.Related.Bounds.{Bounds, Enough}
 use Rattle.cpc_chains_laws.proofs.Related.Calling.{calls_row, enters_row}
 use Rattle.cpc_chains_laws.proofs.Related.Entry.{EntryFacts}
 use Rattle.cpc_chains_laws.proofs.Related.Inside.{inside, Does, Sticks, Breaks, Moves, Requests, SpawnsOne, Pauses, Submits, EntersWhole, EntersCut, GivesUp, PieceAt}

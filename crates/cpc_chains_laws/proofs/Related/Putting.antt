@@ -12,14 +12,18 @@ use Rattle.cpc_meaning.proofs.Both as B
 use Rattle.cpc_meaning.proofs.Agendas.{readies_all}
 use Rattle.cpc_forms.specs.Split.{Position}
 use Rattle.cpc_convert_image_laws.specs.Stacks.{Native, NoMore, OneMore}
-use Rattle.cpc_chains_store_laws.specs.Chains.{NoChain, Owns, count, frame_cells}
-use Rattle.cpc_chains_store_laws.proofs.Chains.{count_append, chain_alloc, chain_push, chain_closed}
-use Rattle.cpc_chains_store_laws.proofs.Owned.{owns_alloc, owns_order}
-use Rattle.cpc_chains_laws.specs.Related.Sums.{sum, total}
-use Rattle.cpc_chains_laws.specs.Related.Items.{Cut, first_saved, Tagged, driven, ItemFor, ForPending, IsUntagged, owned_in}
+use Rattle.cpc_chains_store_laws.specs.Chains.{NoChain, frame_cells}
+use Rattle.cpc_convert_flat_laws.specs.Blocks.{Owns, count}
+use Rattle.cpc_convert_flat_laws.proofs.Blocks.{count_append}
+use Rattle.cpc_chains_store_laws.proofs.Chains.{chain_alloc, chain_push, chain_closed}
+use Rattle.cpc_convert_flat_laws.proofs.Owned.{owns_alloc, owns_order}
+use Rattle.cpc_lifted_laws.specs.Related.Sums.{sum, total}
+use Rattle.cpc_lifted_laws.specs.Related.Cut.{Cut, Tagged, IsUntagged, owned_in}
+use Rattle.cpc_chains_laws.specs.Related.Items.{first_saved, driven, ItemFor, ForPending}
 use Rattle.cpc_chains_laws.specs.Related.Running.{Places, SamePoint, InPiece, AtNode, Under, Bottom, PieceWaits, RunningFor, NothingRuns, NativeRuns, PieceRuns}
-use Rattle.cpc_chains_laws.proofs.Related.Sums.{total_ready}
-use Rattle.cpc_chains_laws.proofs.Related.Items.{count_owned, agenda_changed, item_kept}
+use Rattle.cpc_lifted_laws.proofs.Related.Sums.{total_ready}
+use Rattle.cpc_lifted_laws.proofs.Related.Owned.{count_owned}
+use Rattle.cpc_chains_laws.proofs.Related.Items.{agenda_changed, item_kept}
 use Rattle.cpc_chains_laws.proofs.Related.Relation.{AgendaFor}
 
 -- ---- agendas

@@ -15,10 +15,11 @@ use Rattle.cpc_meaning.specs.Events.{Callback, CallMain}
 use Rattle.cpc_meaning.proofs.Agendas.{SameAgenda}
 use Rattle.cpc_forms.specs.Split.{Position}
 use Rattle.cpc_convert_image_laws.specs.Held.{beside}
-use Rattle.cpc_chains_store_laws.specs.Chains.{Owns}
-use Rattle.cpc_chains_store_laws.specs.Walks.{World}
+use Rattle.cpc_convert_flat_laws.specs.Blocks.{Owns}
+use Rattle.cpc_convert_flat_laws.specs.Walks.{World}
 use Rattle.cpc_chains_laws.specs.Related.Fresh.{AllFresh}
-use Rattle.cpc_chains_laws.specs.Related.Items.{Cut, Tagged, ItemFor, IsUntagged, owned_in}
+use Rattle.cpc_lifted_laws.specs.Related.Cut.{Cut, Tagged, IsUntagged, owned_in}
+use Rattle.cpc_chains_laws.specs.Related.Items.{ItemFor}
 use Rattle.cpc_chains_laws.specs.Related.Running.{Places, RunningFor}
 
 -- a state of the source, and one of the target

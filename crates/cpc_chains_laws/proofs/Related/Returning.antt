@@ -18,20 +18,24 @@ use Rattle.cpc_forms.specs.Split.{Position, InGraph}
 use Rattle.cpc_lift_laws.specs.Lifted.{tidy, tidy_slots, tidy_frame}
 use Rattle.cpc_convert_image_laws.specs.Held.{beside}
 use Rattle.cpc_convert_image_laws.specs.Stacks.{frame_of}
-use Rattle.cpc_chains_store_laws.specs.Chains.{Saved, Chain, Top, Owns, count, frame_cells}
+use Rattle.cpc_chains_store_laws.specs.Chains.{Saved, Chain, Top, frame_cells}
+use Rattle.cpc_convert_flat_laws.specs.Blocks.{Owns, count}
 use Rattle.cpc_chains_store_laws.specs.Driver.{driving}
-use Rattle.cpc_chains_store_laws.specs.Walks.{Walk, running, idle}
-use Rattle.cpc_chains_store_laws.proofs.Chains.{same_number, count_append, chain_set, chain_opened, chain_ended, chain_patched, Opened}
-use Rattle.cpc_chains_store_laws.proofs.Owned.{lives_there, owns_set, owns_once}
+use Rattle.cpc_convert_flat_laws.specs.Walks.{Walk, running, idle}
+use Rattle.cpc_convert_flat_laws.proofs.Blocks.{same_number, count_append}
+use Rattle.cpc_chains_store_laws.proofs.Chains.{chain_set, chain_opened, chain_ended, chain_patched, Opened}
+use Rattle.cpc_convert_flat_laws.proofs.Owned.{lives_there, owns_set, owns_once}
 use Rattle.cpc_chains_store_laws.proofs.Pieces.{drive_finishes}
-use Rattle.cpc_chains_laws.specs.Related.Bounds.{Bounds, Enough}
-use Rattle.cpc_chains_laws.specs.Related.Sums.{total}
-use Rattle.cpc_chains_laws.specs.Related.Items.{Cut, FramesWait, NoneWait, OneWaits, saved_at, Tagged, owned_in}
+use Rattle.cpc_lifted_laws.specs.Related.Bounds.{Bounds, Enough}
+use Rattle.cpc_lifted_laws.specs.Related.Sums.{total}
+use Rattle.cpc_lifted_laws.specs.Related.Cut.{Cut, Tagged, owned_in}
+use Rattle.cpc_chains_laws.specs.Related.Items.{FramesWait, NoneWait, OneWaits, saved_at}
 use Rattle.cpc_chains_laws.specs.Related.Running.{NothingRuns}
 use Rattle.cpc_chains_laws.proofs.Related.Entry.{EntryFacts}
 use Rattle.cpc_chains_laws.proofs.Related.Fresh.{fresh_top, fresh_taken}
 use Rattle.cpc_chains_laws.proofs.Related.Inside.{inside, GivesBack, ReturnsValue}
-use Rattle.cpc_chains_laws.proofs.Related.Items.{count_owned, agenda_changed, item_kept}
+use Rattle.cpc_lifted_laws.proofs.Related.Owned.{count_owned}
+use Rattle.cpc_chains_laws.proofs.Related.Items.{agenda_changed, item_kept}
 use Rattle.cpc_chains_laws.proofs.Related.Onwards.{Beside}
 use Rattle.cpc_chains_laws.proofs.Related.Relation.{Source, Target, Shared, AgendaFor, source_state, world_of, Related, Goes}
 use Rattle.cpc_chains_laws.proofs.Related.Rows.{RowFor, Reached, row_reached, row_finished}

@@ -15,8 +15,8 @@ use Rattle.cpc_lift_laws.specs.Lifted.{tidy}
 use Rattle.cpc_convert_image_laws.specs.Held.{beside}
 use Rattle.cpc_convert_image_laws.specs.Relations.{Meets, BothGive, BothFault, Stuck}
 use Rattle.cpc_chains_store_laws.specs.Chains.{frame_cells}
-use Rattle.cpc_chains_store_laws.specs.Walks.{Quiet, Climb, Rest, Go, Rise, Walk, Climbs, Finishes}
-use Rattle.cpc_chains_store_laws.proofs.Walks.{rise_then, climbs_more, climb_then, climb_ends, whole_climb, walk_append}
+use Rattle.cpc_convert_flat_laws.specs.Walks.{Quiet, Climb, Rest, Go, Rise, Walk, Climbs, Finishes}
+use Rattle.cpc_convert_flat_laws.proofs.Walks.{rise_then, climbs_more, climb_then, climb_ends, whole_climb, walk_append}
 use Rattle.cpc_chains_laws.specs.Related.Items.{first_saved}
 use Rattle.cpc_chains_laws.proofs.Related.Relation.{Source, Target, Shared, source_state, with_main, Related, IsOver}
 use Rattle.cpc_chains_laws.proofs.Related.Setting.{Setting, from_form, NativeFacts, KeepsFacts}

@@ -26,8 +26,8 @@ use Rattle.cpc_lift_laws.specs.Lifted.{tidy_slots}
 use Rattle.cpc_convert_image_laws.specs.Held.{IsHeld, IsHeldStore, beside}
 use Rattle.cpc_convert_image_laws.specs.Relations.{Common}
 use Rattle.cpc_convert_image_laws.specs.Stacks.{frame_of, EntersAlike, NativePoint}
-use Rattle.cpc_chains_laws.specs.Related.Boxes.{OwnsBoxes}
-use Rattle.cpc_chains_laws.specs.Related.Items.{Cut}
+use Rattle.cpc_lifted_laws.specs.Related.Boxes.{OwnsBoxes}
+use Rattle.cpc_lifted_laws.specs.Related.Cut.{Cut}
 use Rattle.cpc_chains_laws.specs.Related.Running.{Places, SamePoint}
 use Rattle.cpc_chains_laws.proofs.Related.Relation.{Source}
 

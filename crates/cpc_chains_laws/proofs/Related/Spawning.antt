@@ -26,13 +26,15 @@ use Rattle.cpc_lift_laws.specs.Lifted.{tidy}
 use Rattle.cpc_convert_image_laws.specs.Held.{IsHeldSlot, beside}
 use Rattle.cpc_convert_image_laws.specs.Relations.{Meets, BothGive, BothFault, Stuck, SpawnAct, Spawned}
 use Rattle.cpc_convert_image_laws.specs.Stacks.{frame_of, Native}
-use Rattle.cpc_chains_store_laws.specs.Chains.{Owns, frame_cells}
+use Rattle.cpc_convert_flat_laws.specs.Blocks.{Owns}
+use Rattle.cpc_chains_store_laws.specs.Chains.{frame_cells}
 use Rattle.cpc_chains_store_laws.specs.Driver.{drive_name}
-use Rattle.cpc_chains_store_laws.specs.Walks.{World, Walk, running}
-use Rattle.cpc_chains_store_laws.proofs.Walks.{stay, rise_one, rise_append, rise_cons}
-use Rattle.cpc_chains_laws.specs.Related.Bounds.{Bounds, Enough}
+use Rattle.cpc_convert_flat_laws.specs.Walks.{World, Walk, running}
+use Rattle.cpc_convert_flat_laws.proofs.Walks.{stay, rise_one, rise_append, rise_cons}
+use Rattle.cpc_lifted_laws.specs.Related.Bounds.{Bounds, Enough}
 use Rattle.cpc_chains_laws.specs.Related.Fresh.{AllFresh}
-use Rattle.cpc_chains_laws.specs.Related.Items.{first_saved, Tagged, owned_in}
+use Rattle.cpc_chains_laws.specs.Related.Items.{first_saved}
+use Rattle.cpc_lifted_laws.specs.Related.Cut.{Tagged, owned_in}
 use Rattle.cpc_chains_laws.specs.Related.Running.{SamePoint, Under}
 use Rattle.cpc_chains_laws.proofs.Related.Relation.{Source, Target, Shared, AgendaFor, target_state, world_of}
 use Rattle.cpc_chains_laws.proofs.Related.Rows.{RowFor}

@@ -14,10 +14,10 @@ use Rattle.cpc_convert_image_laws.specs.Held.{beside}
 use Rattle.cpc_chains_store_laws.specs.Chains.{Saved, Top, frame_cells}
 use Rattle.cpc_chains_store_laws.specs.Driver.{DriverFacts, IsPiece, driving, entered}
 use Rattle.cpc_meaning_laws.specs.Cell.Cells.{call_cells}
-use Rattle.cpc_chains_store_laws.specs.Walks.{World, Here, Climbs, running}
+use Rattle.cpc_convert_flat_laws.specs.Walks.{World, Here, Climbs, running}
 use Rattle.cpc_chains_store_laws.proofs.Chains.{chain_push, chain_taken}
 use Rattle.cpc_chains_store_laws.proofs.Pieces.{drive_goes_on}
-use Rattle.cpc_chains_store_laws.proofs.Walks.{rise_then, climbs_append}
+use Rattle.cpc_convert_flat_laws.proofs.Walks.{rise_then, climbs_append}
 use Rattle.cpc_chains_laws.specs.Related.Fresh.{beyond}
 use Rattle.cpc_chains_laws.specs.Related.Items.{saved_at}
 use Rattle.cpc_chains_laws.proofs.Related.Fresh.{beyond_cells}

@@ -1,5 +1,5 @@
 -- A frame is taken up by its piece: where a thread is taken, and where a piece gives a frame to the driver.
-use Rattle.std.proofs.Common.{◌≡◌, ℕ, ◌+◌, ◌≤◌, List, [], ◌∷◌, ◌++◌, slice_set, Option, Some, None, refl, ap, arith}
+use Rattle.std.proofs.Common.{◌≡◌, ℕ, ◌+◌, ◌≤◌, List, [], ◌∷◌, ◌++◌, slice_set, Option, Some, None, refl, arith}
 use Rattle.cpc_base.specs.Bytes.{Text}
 use Rattle.cpc_num.specs.declared.kinds.Kind.TheVariants.{Int}
 use Rattle.cpc_store.specs.declared.values.Class.TheVariants.{Frame}
@@ -17,18 +17,22 @@ use Rattle.cpc_forms.specs.Flow.{Place}
 use Rattle.cpc_forms.specs.Split.{Position, InGraph}
 use Rattle.cpc_convert_image_laws.specs.Held.{beside}
 use Rattle.cpc_convert_image_laws.specs.Stacks.{frame_of}
-use Rattle.cpc_chains_store_laws.specs.Chains.{Saved, Top, Owns, count, frame_cells}
+use Rattle.cpc_chains_store_laws.specs.Chains.{Saved, Top, frame_cells}
+use Rattle.cpc_convert_flat_laws.specs.Blocks.{Owns, count}
 use Rattle.cpc_chains_store_laws.specs.Driver.{DriverFacts, drive_name, driving, entered, with_round}
-use Rattle.cpc_chains_store_laws.specs.Walks.{running}
-use Rattle.cpc_chains_store_laws.proofs.Chains.{same_number, count_append, chain_set, chain_patched, chain_taken}
-use Rattle.cpc_chains_store_laws.proofs.Owned.{lives_there, owns_free, owns_set, owns_order, owns_once}
+use Rattle.cpc_convert_flat_laws.specs.Walks.{running}
+use Rattle.cpc_convert_flat_laws.proofs.Blocks.{same_number, count_append}
+use Rattle.cpc_chains_store_laws.proofs.Chains.{chain_set, chain_patched, chain_taken}
+use Rattle.cpc_convert_flat_laws.proofs.Owned.{lives_there, owns_free, owns_set, owns_order, owns_once}
 use Rattle.cpc_chains_store_laws.proofs.Pieces.{drive_begins, drive_goes_on}
 use Rattle.cpc_chains_laws.specs.Related.Fresh.{AllFresh, beyond}
-use Rattle.cpc_chains_laws.specs.Related.Sums.{sum, total}
-use Rattle.cpc_chains_laws.specs.Related.Items.{Cut, FramesWait, Tagged, ItemFor, IsUntagged, owned_in}
+use Rattle.cpc_lifted_laws.specs.Related.Sums.{total}
+use Rattle.cpc_lifted_laws.specs.Related.Cut.{Cut, Tagged, IsUntagged, owned_in}
+use Rattle.cpc_chains_laws.specs.Related.Items.{FramesWait, ItemFor}
 use Rattle.cpc_chains_laws.specs.Related.Running.{AtNode, PieceRuns}
 use Rattle.cpc_chains_laws.proofs.Related.Fresh.{beyond_cells, agenda_beyond, chain_beyond, owns_beyond, fresh_beyond, fresh_taken, set_same}
-use Rattle.cpc_chains_laws.proofs.Related.Items.{count_owned, agenda_changed, item_kept}
+use Rattle.cpc_lifted_laws.proofs.Related.Owned.{count_owned, with_rest, owned_rest}
+use Rattle.cpc_chains_laws.proofs.Related.Items.{agenda_changed, item_kept}
 use Rattle.cpc_chains_laws.proofs.Related.Relation.{Source, Shared, AgendaFor, source_state, target_state, world_of, Goes}
 use Rattle.cpc_meaning_laws.specs.Cell.Cells.{call_cells}
 use Rattle.cpc_chains_laws.proofs.Related.Rows.{RowFor, few_cells, Reached, reached_after, reached_within, row_reached}
@@ -44,9 +48,6 @@ pub unset_given : (bs : Blocks) (f : Saved) (fs : List Saved) (b : ℕ) (next : 
 unset_given bs f fs b next owned top = set_same bs b (frame_cells f next Unset) top.cells
 
 -- ---- the agenda without the first of its round
-
-abbrev pub with_rest : {T : Type 0} → Agenda T → List (Due T) → Agenda T
-with_rest a ds = record a { round = ds }
 
 pub rest_alike : (cut : Cut) (bs : Blocks) (a : Agenda (Thread Position)) (tags : Agenda Tagged) (b : Agenda Callback) (ds : List (Due (Thread Position))) (ts : List (Due Tagged)) (es : List (Due Callback))
     → Both (SameDue (ItemFor cut bs)) ds ts → Both (SameDue IsUntagged) ts es → AgendaFor cut bs a tags b → AgendaFor cut bs (with_rest a ds) (with_rest tags ts) (with_rest b es)
@@ -78,18 +79,6 @@ rest_alike cut bs a tags b ds ts es h i g = record {
     sections_made = g.untagged.sections_made;
   };
 }
-
-pub total_rest : {T : Type 0} (w : T → ℕ) (a : Agenda T) (d : Due T) (ds : List (Due T)) → a.round ≡ d ∷ ds → total w a ≡ w d.item + total w (with_rest a ds)
-total_rest w a d ds e = let h : sum (λ (d : Due _). w d.item) a.round ≡ w d.item + sum (λ (d : Due _). w d.item) ds = ap (sum (λ (d : Due _). w d.item)) e in omega (arith, h)
-
--- what is owned apart from the first item of the round
-pub owned_rest : (tags : Agenda Tagged) (d : Due Tagged) (ds : List (Due Tagged)) → tags.round ≡ d ∷ ds → (n : ℕ) → count n (owned_in tags) ≡ count n (d.item.owned ++ owned_in (with_rest tags ds))
-owned_rest tags d ds e n =
-    let f = count_owned n tags in
-    let g = count_owned n (with_rest tags ds) in
-    let h = total_rest (λ (t : Tagged). count n t.owned) tags d ds e in
-    let i = count_append n d.item.owned (owned_in (with_rest tags ds)) in
-    omega (arith, f, g, h, i)
 
 -- ---- the rows
 

@@ -12,7 +12,8 @@ use Rattle.cpc_lift_laws.specs.Lifted.{tidy_slot, tidy_slots, tidy_frame, tidy_r
 use Rattle.cpc_lift_laws.proofs.Search.{at_first, further}
 use Rattle.cpc_convert_image_laws.specs.Stacks.{frame_of, Native, NoMore, OneMore}
 use Rattle.cpc_chains_store_laws.specs.Chains.{Saved}
-use Rattle.cpc_chains_laws.specs.Related.Items.{value_in, copied, saved_at, FramesWait, NoneWait, OneWaits}
+use Rattle.cpc_lifted_laws.specs.Related.Cut.{value_in, copied}
+use Rattle.cpc_chains_laws.specs.Related.Items.{saved_at, FramesWait, NoneWait, OneWaits}
 use Rattle.cpc_chains_laws.specs.Related.Running.{SamePoint, InPiece, AtNode, Under, Bottom, PieceWaits, RunningFor, NothingRuns, NativeRuns, PieceRuns}
 use Rattle.cpc_chains_laws.proofs.Related.Relation.{Source, Target, Related, MainIsReady, MainIsNext, Goes, IsOver}
 use Rattle.cpc_chains_laws.proofs.Related.Setting.{Setting, NativeFacts, KeepsFacts}

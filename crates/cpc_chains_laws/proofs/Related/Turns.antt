@@ -14,14 +14,15 @@ use Rattle.cpc_meaning.proofs.Agendas.{begins, polls_same, polled as same_polled
 use Rattle.cpc_forms.specs.Split.{Position}
 use Rattle.cpc_convert_image_laws.specs.Held.{beside}
 use Rattle.cpc_convert_image_laws.specs.Relations.{Meets, BothGive, Stuck}
-use Rattle.cpc_chains_store_laws.specs.Chains.{count, Owns}
-use Rattle.cpc_chains_store_laws.proofs.Chains.{count_append}
+use Rattle.cpc_convert_flat_laws.specs.Blocks.{count, Owns}
+use Rattle.cpc_convert_flat_laws.proofs.Blocks.{count_append}
 use Rattle.cpc_chains_laws.specs.Related.Fresh.{AllFresh}
-use Rattle.cpc_chains_laws.specs.Related.Sums.{total}
-use Rattle.cpc_chains_laws.specs.Related.Items.{Cut, Tagged, ItemFor, IsUntagged, owned_in}
+use Rattle.cpc_lifted_laws.specs.Related.Sums.{total}
+use Rattle.cpc_lifted_laws.specs.Related.Cut.{Cut, Tagged, IsUntagged, owned_in}
+use Rattle.cpc_chains_laws.specs.Related.Items.{ItemFor}
 use Rattle.cpc_chains_laws.specs.Related.Running.{NothingRuns}
-use Rattle.cpc_chains_laws.proofs.Related.Items.{count_owned}
-use Rattle.cpc_chains_laws.proofs.Related.Sums.{total_begins, total_polled, round_polled}
+use Rattle.cpc_lifted_laws.proofs.Related.Owned.{count_owned}
+use Rattle.cpc_lifted_laws.proofs.Related.Sums.{total_begins, total_polled, round_polled}
 use Rattle.cpc_chains_laws.proofs.Related.Relation.{Source, Target, Shared, AgendaFor, source_state, target_state, Related, Goes, IsOver}
 use Rattle.cpc_chains_laws.proofs.Related.Setting.{Setting, from_form, to_form, NativeFacts, Known, CollectedAlike, BothGave, BothFailed, SourceStuck}
 

@@ -20,12 +20,14 @@ use Rattle.cpc_forms.specs.Split.{Position, InTree}
 use Rattle.cpc_lift_laws.specs.Lifted.{tidy}
 use Rattle.cpc_convert_image_laws.specs.Held.{IsHeldSlot}
 use Rattle.cpc_convert_image_laws.specs.Stacks.{frame_of, Native, OneMore}
-use Rattle.cpc_chains_store_laws.specs.Chains.{Owns, frame_cells}
+use Rattle.cpc_convert_flat_laws.specs.Blocks.{Owns}
+use Rattle.cpc_chains_store_laws.specs.Chains.{frame_cells}
 use Rattle.cpc_chains_store_laws.specs.Driver.{drive_name}
-use Rattle.cpc_chains_store_laws.specs.Walks.{Here, Quiet, Climb, Rest, Go, Rise, Walk, FaultsAfter}
-use Rattle.cpc_chains_store_laws.proofs.Walks.{whole_climb, climb_then}
+use Rattle.cpc_convert_flat_laws.specs.Walks.{Here, Quiet, Climb, Rest, Go, Rise, Walk, FaultsAfter}
+use Rattle.cpc_convert_flat_laws.proofs.Walks.{whole_climb, climb_then}
 use Rattle.cpc_chains_laws.specs.Related.Fresh.{AllFresh}
-use Rattle.cpc_chains_laws.specs.Related.Items.{first_saved, Tagged, driven, owned_in}
+use Rattle.cpc_chains_laws.specs.Related.Items.{first_saved, driven}
+use Rattle.cpc_lifted_laws.specs.Related.Cut.{Tagged, owned_in}
 use Rattle.cpc_chains_laws.specs.Related.Running.{SamePoint, Under, NativeRuns}
 use Rattle.cpc_chains_laws.proofs.Related.Relation.{Source, Target, Shared, AgendaFor, source_state, target_state, Related, Goes, IsOver}
 use Rattle.cpc_chains_laws.proofs.Related.Setting.{Setting, from_form, NativeFacts, KeepsFacts}

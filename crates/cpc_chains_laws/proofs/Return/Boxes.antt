@@ -11,15 +11,15 @@ use Rattle.cpc_forms.specs.Flow.{Place}
 use Rattle.cpc_forms.specs.Split.{InGraph}
 use Rattle.cpc_lift_laws.specs.Used.{is_left}
 use Rattle.cpc_lift_laws.proofs.Lift.{boxes_exact}
-use Rattle.cpc_chains_store_laws.specs.Boxes.{Unboxing}
-use Rattle.cpc_chains_store_laws.specs.Frames.{Holds}
+use Rattle.cpc_convert_flat_laws.specs.Boxes.{Unboxing}
+use Rattle.cpc_convert_flat_laws.specs.Locals.{Holds}
 use Rattle.cpc_chains_event.specs.CallLaws.{BoxesStand}
 use Rattle.cpc_chains_event.specs.LocalLaws.{piece_locals}
-use Rattle.cpc_chains_event.specs.NameLaws.{IsOwner}
-use Rattle.cpc_chains_event.specs.Routines.{Routine, routine_of, closure_of, is_plain, local_of}
+use Rattle.cpc_convert_routines.specs.Named.{IsOwner}
+use Rattle.cpc_convert_routines.specs.Routines.{Routine, routine_of, closure_of, is_plain, local_of}
 use Rattle.cpc_chains_event.proofs.Calls.{boxes_returned}
-use Rattle.cpc_chains_laws.proofs.Accepted.Lifted.{programs_are_closed}
-use Rattle.cpc_chains_laws.specs.Piece.Known.{CpsKnown}
+use Rattle.cpc_lifted_laws.proofs.Accepted.Lifted.{programs_are_closed}
+use Rattle.cpc_lifted_laws.specs.Piece.Known.{CpsKnown}
 use Rattle.cpc_chains_laws.specs.Piece.Stood.{NodeAt, LocalsStand}
 use Rattle.cpc_chains_laws.proofs.Piece.Frames.{Target, scope}
 use Rattle.cpc_chains_laws.proofs.Piece.Scopes.{meant}

@@ -5,7 +5,7 @@ use Rattle.cpc_tree.specs.Registers.{variables}
 use Rattle.cpc_tree.specs.Syntax.{Function}
 use Rattle.cpc_store.specs.Store.{Unset}
 use Rattle.cpc_meaning.specs.Eval.{Register, Boxed}
-use Rattle.cpc_chains_event.specs.Routines.{routine_of, closure_of}
+use Rattle.cpc_convert_routines.specs.Routines.{routine_of, closure_of}
 use Rattle.cpc_chains_laws.proofs.Piece.Ways.{kept_is}
 use Rattle.cpc_chains_laws.specs.Return.Laws.{BoxesAreKept, FineBoxesAreKept}
 

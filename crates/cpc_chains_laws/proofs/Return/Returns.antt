@@ -1,35 +1,37 @@
 -- What a piece does where its function is left: it evaluates the value, gives back the boxes, writes the value to the frame below, and gives this to the driver.
 use Rattle.cpc_base.specs.Bytes.{Text}
 use Rattle.cpc_base.proofs.Lists.{length_of_map}
-use Rattle.cpc_chains_laws.specs.Accepted.Known.{Stays}
-use Rattle.cpc_chains_laws.specs.Accepted.Points.{UsedName}
-use Rattle.cpc_chains_store_laws.proofs.AtLine.{line_next, line_passed}
-use Rattle.cpc_chains_store_laws.proofs.Beside.{freed_beside}
-use Rattle.cpc_chains_store_laws.proofs.Boxes.{free_all}
-use Rattle.cpc_chains_store_laws.proofs.Fields.{held as read_held}
-use Rattle.cpc_chains_store_laws.proofs.Fits.{assigned_fits}
-use Rattle.cpc_chains_store_laws.proofs.Jumps.{patch_frame, patch_none}
+use Rattle.cpc_lifted_laws.specs.Accepted.Known.{Stays}
+use Rattle.cpc_lifted_laws.specs.Accepted.Points.{UsedName}
+use Rattle.cpc_convert_flat_laws.proofs.AtLine.{line_next, line_passed}
+use Rattle.cpc_convert_flat_laws.proofs.Beside.{freed_beside}
+use Rattle.cpc_convert_flat_laws.proofs.Boxes.{free_all}
+use Rattle.cpc_convert_flat_laws.proofs.Fields.{held as read_held}
+use Rattle.cpc_convert_flat_laws.proofs.Fits.{assigned_fits}
+use Rattle.cpc_chains_store_laws.proofs.Patches.{patch_frame, patch_none}
 use Rattle.cpc_chains_store_laws.proofs.Pieces.{return_step}
-use Rattle.cpc_chains_store_laws.proofs.Rows.{before_append}
-use Rattle.cpc_chains_store_laws.proofs.Scopes.{all_lines, past_lines}
+use Rattle.cpc_convert_flat_laws.proofs.Rows.{before_append}
+use Rattle.cpc_convert_flat_laws.proofs.Scopes.{all_lines, past_lines}
 use Rattle.cpc_meaning_laws.proofs.Cell.Going.{going_on_keeps}
-use Rattle.cpc_chains_store_laws.proofs.Walks.{stay, rise_cons, walk_append, walk_as, walk_cons, walk_one}
-use Rattle.cpc_chains_store_laws.specs.Boxes.{Unboxing, unboxes_one}
+use Rattle.cpc_convert_flat_laws.proofs.Walks.{stay, rise_cons, walk_append, walk_as, walk_cons, walk_one}
+use Rattle.cpc_convert_flat_laws.specs.Boxes.{Unboxing, unboxes_one}
 use Rattle.cpc_chains_store_laws.specs.Driver.{driving, patches}
 use Rattle.cpc_meaning.specs.Eval.{Fits}
-use Rattle.cpc_chains_store_laws.specs.Flat.{LineAt, Stands, before, point_at}
-use Rattle.cpc_chains_store_laws.specs.Frames.{Holds, at as Here_at}
-use Rattle.cpc_chains_store_laws.specs.Walks.{FaultsAfter, Here, Walk, World, at_line, frame_at, running}
+use Rattle.cpc_convert_flat_laws.specs.Flat.{LineAt, Stands, before, point_at}
+use Rattle.cpc_convert_flat_laws.specs.Locals.{Holds, at as Here_at}
+use Rattle.cpc_convert_flat_laws.specs.Walks.{FaultsAfter, Here, Walk, World, at_line, frame_at, running}
 use Rattle.cpc_chains_event.proofs.BoxesThere.{structs_there}
 use Rattle.cpc_chains_event.proofs.Locals.{counted}
 use Rattle.cpc_chains_event.specs.FlatLaws.{piece_count}
 use Rattle.cpc_chains_event.specs.Lines.{all_do, hands_over, node_lines, unbox_lines}
 use Rattle.cpc_chains_event.specs.LocalLaws.{StandsIn, piece_locals}
-use Rattle.cpc_chains_event.specs.NameLaws.{IsOwner}
-use Rattle.cpc_chains_event.specs.Names.{next_name, piece_name, result_name, value_tag}
-use Rattle.cpc_chains_event.specs.Pieces.{below_if, called_so, is_result}
-use Rattle.cpc_chains_event.specs.Routines.{Routine, local_of, readings_of, routine_of}
-use Rattle.cpc_chains_event.specs.Rows.{has_row, put_statement, rows_nodes}
+use Rattle.cpc_convert_routines.specs.Named.{IsOwner}
+use Rattle.cpc_convert_routines.specs.Names.{next_name, piece_name, result_name, value_tag}
+use Rattle.cpc_chains_event.specs.Pieces.{below_if, called_so}
+use Rattle.cpc_convert_routines.specs.Taken.{is_result}
+use Rattle.cpc_convert_routines.specs.Routines.{Routine, local_of, readings_of, routine_of}
+use Rattle.cpc_convert_routines.specs.Nodes.{has_row, rows_nodes}
+use Rattle.cpc_chains_event.specs.Rows.{put_statement}
 use Rattle.cpc_convert_image_laws.proofs.Live.{read_live}
 use Rattle.cpc_convert_image_laws.proofs.Rows.{returns_by_value, stored_alike}
 use Rattle.cpc_convert_image_laws.proofs.Slots.{got_set}
@@ -40,8 +42,8 @@ use Rattle.cpc_convert_image_laws.specs.Stacks.{frame_of}
 use Rattle.cpc_chains_laws.proofs.Related.Inside.{Breaks, GivesBack, GivesUp, ReturnsValue, Sticks}
 use Rattle.cpc_chains_laws.proofs.Related.Relation.{Shared, world_of}
 use Rattle.cpc_chains_laws.proofs.Related.Taking.{given_value, unset_given}
-use Rattle.cpc_chains_laws.specs.Related.Bounds.{Bounds}
-use Rattle.cpc_chains_laws.specs.Native.Instance.{StaysAs}
+use Rattle.cpc_lifted_laws.specs.Related.Bounds.{Bounds}
+use Rattle.cpc_lifted_laws.specs.Native.Instance.{StaysAs}
 use Rattle.cpc_chains_laws.proofs.Piece.Acting.{found_known, kept_here, lines_are, source_act}
 use Rattle.cpc_chains_laws.proofs.Piece.Environment.{InLocal, Used, names_mean}
 use Rattle.cpc_chains_laws.proofs.Piece.Frames.{Target, body, code, is_code, puts_do, scope, word_set}
@@ -52,11 +54,12 @@ use Rattle.cpc_chains_laws.proofs.Piece.Scopes.{local_holds, local_slot, meant, 
 use Rattle.cpc_chains_laws.proofs.Piece.Uses.{IsKept, names_kept, use_kept}
 use Rattle.cpc_chains_laws.proofs.Piece.Ways.{listed, owner_is}
 use Rattle.cpc_chains_laws.proofs.Piece.Words.{result_word, value_word, any_has}
-use Rattle.cpc_chains_laws.specs.Piece.Known.{CpsKnown, ProgramKnown}
+use Rattle.cpc_lifted_laws.specs.Piece.Known.{CpsKnown}
+use Rattle.cpc_chains_laws.specs.Piece.Known.{ProgramKnown}
 use Rattle.cpc_chains_laws.specs.Piece.Rows.{RowAt, next_number, put_row, row_index}
 use Rattle.cpc_chains_laws.specs.Piece.Stood.{LocalsStand, NodeAt}
 use Rattle.cpc_chains_laws.proofs.Return.Boxes.{unboxing}
-use Rattle.cpc_chains_laws.proofs.Return.Unboxed.{Comes, first_come, none_freed, unboxes_come}
+use Rattle.cpc_lifted_laws.proofs.Return.Unboxed.{Comes, first_come, none_freed, unboxes_come}
 use Rattle.cpc_chains_laws.specs.Return.Kept.{KeepsBoxes}
 use Rattle.cpc_forms.specs.Flow.{Place}
 use Rattle.cpc_forms.specs.Split.{InGraph, Position, split_form}

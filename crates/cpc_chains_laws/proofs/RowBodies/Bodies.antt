@@ -16,34 +16,37 @@ use Rattle.cpc_chains_laws.specs.Complete.Flat.{Runs, AndLine, Distinct, AllOf, 
 use Rattle.cpc_chains_laws.specs.Complete.Flat as Flat
 use Rattle.cpc_chains_laws.specs.Complete.Laws.{FlatFine}
 use Rattle.cpc_chains_laws.proofs.Complete.Flat.{rows_fine, runs_both, flat_fine}
-use Rattle.cpc_chains_laws.proofs.Complete.Kept.{over}
+use Rattle.cpc_lifted_laws.proofs.Complete.Kept.{over}
 use Rattle.cpc_convert_common.specs.Converted.{function_item}
 use Rattle.cpc_forms.specs.Flow.{Place, Start, At}
 use Rattle.cpc_lift_laws.specs.Boxes.{is_box}
 use Rattle.cpc_lift_laws.specs.Lift.{boxes_from, variable_count, variables_in}
 use Rattle.cpc_chains_store_laws.specs.Driver.{any_pointer, value_field}
-use Rattle.cpc_chains_store_laws.specs.Flat.{before, is_line, is_flat, are_flat}
-use Rattle.cpc_chains_store_laws.specs.Frames.{Load, loads_one, declares_one, frees_frame}
-use Rattle.cpc_chains_store_laws.proofs.Rows.{before_append}
-use Rattle.cpc_chains_event.specs.Frames.{arriving_type}
-use Rattle.cpc_chains_event.specs.NameLaws.{IsOwner}
-use Rattle.cpc_chains_event.specs.Names.{piece_name, pointer_name, frame_name, next_name, value_name, node_label}
-use Rattle.cpc_chains_event.specs.Pieces.{load_of, next_load, takes_value, value_load, loads_of, called_so, words_if, words_of, begun, declares_of, fills_if, box_lines, boxing_lines, boxing_of, piece_body, piece_function}
+use Rattle.cpc_convert_flat_laws.specs.Flat.{before, is_line, is_flat, are_flat}
+use Rattle.cpc_convert_flat_laws.specs.Locals.{Load, loads_one, declares_one}
+use Rattle.cpc_chains_store_laws.specs.Frames.{frees_frame}
+use Rattle.cpc_convert_flat_laws.proofs.Rows.{before_append}
+use Rattle.cpc_convert_routines.specs.Arriving.{arriving_type}
+use Rattle.cpc_convert_routines.specs.Named.{IsOwner}
+use Rattle.cpc_convert_routines.specs.Names.{piece_name, pointer_name, frame_name, next_name, value_name, node_label}
+use Rattle.cpc_chains_event.specs.Pieces.{load_of, next_load, value_load, loads_of, called_so, words_if, words_of, begun, declares_of, fills_if, box_lines, boxing_lines, boxing_of, piece_body, piece_function}
+use Rattle.cpc_convert_routines.specs.Taken.{takes_value}
 use Rattle.cpc_chains_event.specs.Pieces as P
-use Rattle.cpc_chains_event.specs.Routines.{Routine, routine_of, closure_of, is_plain, is_parameter, variable_of, variable_or, local_of, locals_of, chosen, number_before}
-use Rattle.cpc_chains_event.specs.Rows.{is_own, row_of, numbers_of, first_number, PutRow, put_rows, put_lines, put_statement, is_wanted, row_statements, rows_statements, piece_statements}
+use Rattle.cpc_convert_routines.specs.Routines.{Routine, routine_of, closure_of, is_plain, is_parameter, variable_of, variable_or, local_of, locals_of, chosen, number_before}
+use Rattle.cpc_convert_routines.specs.Nodes.{is_own}
+use Rattle.cpc_chains_event.specs.Rows.{row_of, numbers_of, first_number, PutRow, put_rows, put_lines, put_statement, is_wanted, row_statements, rows_statements, piece_statements}
 use Rattle.cpc_chains_event.specs.LabelLaws.{put_in}
 use Rattle.cpc_chains_event.proofs.Flat.{boxes_done, pieces_flat}
 use Rattle.cpc_chains_event.proofs.Lines.{AreLines, bare_lines, lines_append, piece_lines, puts_done, lines_done}
-use Rattle.cpc_chains_laws.specs.Accepted.Pieces.{VariablesHaveCells}
-use Rattle.cpc_chains_laws.specs.Piece.Known.{CpsKnown}
+use Rattle.cpc_lifted_laws.specs.Accepted.Pieces.{VariablesHaveCells}
+use Rattle.cpc_lifted_laws.specs.Piece.Known.{CpsKnown}
 use Rattle.cpc_chains_laws.proofs.Piece.Frames.{kept_number}
 use Rattle.cpc_chains_laws.proofs.Piece.Words.{words_few}
 use Rattle.cpc_chains_laws.specs.Rules.Laws.{Knows, BodyFine}
 use Rattle.cpc_chains_laws.proofs.Rules.KeptRows.{Source}
-use Rattle.cpc_chains_laws.proofs.Rules.Names.{made_unkept}
+use Rattle.cpc_lifted_laws.proofs.Rules.Names.{made_unkept}
 use Rattle.cpc_chains_laws.proofs.Rules.FunctionRows.{variable_free}
-use Rattle.cpc_chains_laws.proofs.Shape.Calls.{CpsTyped}
+use Rattle.cpc_lifted_laws.proofs.Shape.Calls.{CpsTyped}
 use Rattle.cpc_chains_laws.proofs.RowBodies.Gotos.{gotos_lead}
 use Rattle.cpc_chains_laws.proofs.RowBodies.Inside.{begins, inside}
 use Rattle.cpc_chains_laws.proofs.RowBodies.Labels.{labels_append, row_labels, labels_stand_once}

@@ -12,31 +12,31 @@ use Rattle.cpc_tree.specs.Typing.{ALocal, field, is_scalar, parameter_type, para
 use Rattle.cpc_check_rules.specs.Scopes.{measured}
 use Rattle.cpc_check_rules.specs.Operators.{Where}
 use Rattle.cpc_chains_laws.specs.Complete.Flat.{Runs, NoRow, AndLine, Savable, NoSave, AndSave, Givable, NoGive, AndGive, BeginsAsFrame}
-use Rattle.cpc_chains_laws.specs.Complete.Sets.{AllSet, AndSet}
+use Rattle.cpc_lifted_laws.specs.Complete.Sets.{AllSet, AndSet}
 use Rattle.cpc_chains_laws.proofs.Complete.Flat.{runs_both}
 use Rattle.cpc_chains_laws.proofs.Complete.FrameRows.{frame_run, call_run}
 use Rattle.cpc_chains_laws.proofs.Complete.Frames.{hands_fine}
-use Rattle.cpc_chains_laws.proofs.Complete.Kept.{typed_scalar}
+use Rattle.cpc_lifted_laws.proofs.Complete.Kept.{typed_scalar}
 use Rattle.cpc_convert_common.specs.Members.{Has}
 use Rattle.cpc_convert_image_laws.specs.Images.{Readings, image, images}
 use Rattle.cpc_forms.specs.Flow.{Place, At}
 use Rattle.cpc_chains_store_laws.specs.Driver.{frame_tag, head_fields}
-use Rattle.cpc_chains_store_laws.specs.Frames.{Scalars, AndScalar}
-use Rattle.cpc_chains_store_laws.specs.Structs.{IsStruct}
-use Rattle.cpc_chains_event.specs.Frames.{arriving_type}
+use Rattle.cpc_convert_flat_laws.specs.Locals.{Scalars, AndScalar}
+use Rattle.cpc_convert_flat_laws.specs.Structs.{IsStruct}
+use Rattle.cpc_convert_routines.specs.Arriving.{arriving_type}
 use Rattle.cpc_chains_event.specs.Lines.{save_of, frame_lines, gives_from, call_lines, hands_over}
 use Rattle.cpc_chains_event.specs.LocalLaws.{piece_locals, StandsIn}
-use Rattle.cpc_chains_event.specs.NameLaws.{IsOwner, ALeader, IsCps}
-use Rattle.cpc_chains_event.specs.Names.{start_name, piece_name, variable_name, next_name, to_name, under_name}
+use Rattle.cpc_convert_routines.specs.Named.{IsOwner, ALeader, IsCps}
+use Rattle.cpc_convert_routines.specs.Names.{start_name, piece_name, variable_name, next_name, to_name, under_name}
 use Rattle.cpc_chains_event.specs.Pieces.{called_so, to_frame}
-use Rattle.cpc_chains_event.specs.Routines.{Routine, routine_of, closure_of, local_of, locals_of, passed}
+use Rattle.cpc_convert_routines.specs.Routines.{Routine, routine_of, closure_of, local_of, locals_of, passed}
 use Rattle.cpc_chains_event.specs.Rows.{stub_lines}
 use Rattle.cpc_chains_event.proofs.BoxesThere.{structs_there}
 use Rattle.cpc_chains_event.proofs.Fields.{frame_fields, NoneRises, passed_rise}
 use Rattle.cpc_chains_event.proofs.Locals.{closure_rise, locals_scalar, in_locals}
-use Rattle.cpc_chains_event.proofs.Numbers.{rises_below}
+use Rattle.cpc_convert_routines.proofs.Numbers.{rises_below}
 use Rattle.cpc_chains_laws.proofs.Native.SpawnerCall.{passed_few}
-use Rattle.cpc_chains_laws.specs.Piece.Known.{CpsKnown}
+use Rattle.cpc_lifted_laws.specs.Piece.Known.{CpsKnown}
 use Rattle.cpc_chains_laws.proofs.Piece.Frames.{kept_number}
 use Rattle.cpc_chains_laws.proofs.Piece.Scopes as scopes
 use Rattle.cpc_chains_laws.specs.Rules.Laws.{Knows}

@@ -17,10 +17,11 @@ use Rattle.cpc_graph_laws.proofs.Formed.{in_right, that_is}
 use Rattle.cpc_graph_laws.proofs.Splits.{owner_there}
 use Rattle.cpc_chains_event.specs.Lines.{behind_arrival, node_lines}
 use Rattle.cpc_chains_event.specs.LabelLaws.{put_in}
-use Rattle.cpc_chains_event.specs.NameLaws.{IsOwner}
-use Rattle.cpc_chains_event.specs.Names.{node_label}
-use Rattle.cpc_chains_event.specs.Routines.{Routine, routine_of, readings_of}
-use Rattle.cpc_chains_event.specs.Rows.{is_own, has_row, behind_call, onwards, lines_by, row_of, numbers_of, first_number, Put, Plain, Jump, JumpIf, put_lines, PutRow, put_rows, put_statement, any_leads, is_wanted, label_if, row_statements, rows_statements, piece_statements}
+use Rattle.cpc_convert_routines.specs.Named.{IsOwner}
+use Rattle.cpc_convert_routines.specs.Names.{node_label}
+use Rattle.cpc_convert_routines.specs.Routines.{Routine, routine_of, readings_of}
+use Rattle.cpc_convert_routines.specs.Nodes.{is_own, has_row}
+use Rattle.cpc_chains_event.specs.Rows.{behind_call, onwards, lines_by, row_of, numbers_of, first_number, Put, Plain, Jump, JumpIf, put_lines, PutRow, put_rows, put_statement, any_leads, is_wanted, label_if, row_statements, rows_statements, piece_statements}
 use Rattle.cpc_chains_laws.specs.Piece.Rows.{put_row, RowAt}
 use Rattle.cpc_chains_laws.specs.Piece.Stood.{NodeAt}
 use Rattle.cpc_chains_laws.proofs.Piece.Filled.{row_filled}

@@ -23,42 +23,42 @@ use Rattle.cpc_check_laws.proofs.Sound.Knowing.{Same}
 use Rattle.cpc_meaning.specs.Ways.{AsCps, primitive_manner, meant_manner, manner_of}
 use Rattle.cpc_meaning.specs.Threads.{is_cps_mode}
 use Rattle.cpc_chains_laws.specs.Complete.Flat.{Runs, NoRow, AndLine, Unboxable, NoUnbox, AndUnbox}
-use Rattle.cpc_chains_laws.specs.Complete.Kept.{all_scalar}
-use Rattle.cpc_chains_laws.specs.Complete.Reads.{stays_meant, stays_called}
-use Rattle.cpc_chains_laws.specs.Complete.Sets.{Sets, Writes, AllSet, NoneSet, AndSet, Gives, AllSuit}
-use Rattle.cpc_chains_laws.specs.Complete.Standing.{simple_breaks, found_breaks, local_named, local_or, Tells}
+use Rattle.cpc_lifted_laws.specs.Complete.Kept.{all_scalar}
+use Rattle.cpc_lifted_laws.specs.Complete.Reads.{stays_meant, stays_called}
+use Rattle.cpc_lifted_laws.specs.Complete.Sets.{Sets, Writes, AllSet, NoneSet, AndSet, Gives, AllSuit}
+use Rattle.cpc_lifted_laws.specs.Complete.Standing.{simple_breaks, found_breaks, local_named, local_or, Tells}
 use Rattle.cpc_chains_laws.proofs.Complete.Flat.{runs_both}
 use Rattle.cpc_chains_laws.proofs.Complete.FrameRows.{unboxes_run}
 use Rattle.cpc_chains_laws.proofs.Complete.Frames.{writable_scalar, local_writes, patches_fine, hands_fine}
-use Rattle.cpc_chains_laws.proofs.Complete.Kept.{over, typed_scalar}
-use Rattle.cpc_chains_laws.proofs.Complete.Makers.{local_has, local_sets}
-use Rattle.cpc_chains_laws.proofs.Complete.Parts.{start_sets, return_sets, spawn_parts}
-use Rattle.cpc_chains_laws.proofs.Complete.Rows.{assign_fine, function_fine}
+use Rattle.cpc_lifted_laws.proofs.Complete.Kept.{over, typed_scalar}
+use Rattle.cpc_lifted_laws.proofs.Complete.Makers.{local_has, local_sets}
+use Rattle.cpc_lifted_laws.proofs.Complete.Parts.{start_sets, return_sets, spawn_parts}
+use Rattle.cpc_lifted_laws.proofs.Complete.Rows.{assign_fine, function_fine}
 use Rattle.cpc_convert_common.specs.Converted.{spawner_name}
 use Rattle.cpc_convert_image_laws.specs.Images.{Readings, image, images, image_if, image_stmt}
 use Rattle.cpc_convert_image_laws.specs.Locals.{local_type}
 use Rattle.cpc_forms.specs.Flow.{Place}
 use Rattle.cpc_lift_laws.specs.Used.{used_in, used_among, used_if, used_by}
-use Rattle.cpc_chains_store_laws.specs.Boxes.{unboxes_one}
+use Rattle.cpc_convert_flat_laws.specs.Boxes.{unboxes_one}
 use Rattle.cpc_chains_store_laws.specs.Driver.{value_field, head_fields, patches}
 use Rattle.cpc_chains_event.specs.Lines.{unbox_lines, leave_lines, simple_lines, test_lines, framed_lines, behind_arrival, hands_over}
 use Rattle.cpc_chains_event.specs.LocalLaws.{piece_locals, StandsIn}
-use Rattle.cpc_chains_event.specs.NameLaws.{IsOwner, IsCps}
-use Rattle.cpc_chains_event.specs.Names.{value_tag, box_tag, next_name, result_name}
+use Rattle.cpc_convert_routines.specs.Named.{IsOwner, IsCps}
+use Rattle.cpc_convert_routines.specs.Names.{value_tag, box_tag, next_name, result_name}
 use Rattle.cpc_chains_event.specs.Pieces.{called_so, below_if}
-use Rattle.cpc_chains_event.specs.Routines.{Routine, routine_of, closure_of, is_plain, variable_of, local_of, readings_of}
+use Rattle.cpc_convert_routines.specs.Routines.{Routine, routine_of, closure_of, is_plain, variable_of, local_of, readings_of}
 use Rattle.cpc_chains_event.proofs.BoxesThere.{structs_there}
 use Rattle.cpc_chains_event.proofs.Fields.{frame_fields, NoneRises}
-use Rattle.cpc_chains_laws.specs.Piece.Known.{CpsKnown}
+use Rattle.cpc_lifted_laws.specs.Piece.Known.{CpsKnown}
 use Rattle.cpc_chains_laws.proofs.Piece.Scopes as scopes
 use Rattle.cpc_chains_laws.specs.Rules.Laws.{Knows}
 use Rattle.cpc_chains_laws.proofs.Rules.KeptRows.{Source}
-use Rattle.cpc_chains_laws.proofs.Rules.Source.{known_at, known_whole}
+use Rattle.cpc_lifted_laws.proofs.Rules.Source.{known_at, known_whole}
 use Rattle.cpc_chains_laws.proofs.Bodies.Spawners.{struct_there}
 use Rattle.cpc_chains_laws.proofs.RowBodies.Inside.{inside, local, free, spawner}
 use Rattle.cpc_chains_laws.proofs.RowBodies.Moved.{held_left, held_right, sets_there, writes_there, gives_there, all_there, all_suit_there, assign_there, call_there, test_there}
 use Rattle.cpc_chains_laws.proofs.RowBodies.Nodes.{IsFormed, told_block, narrow_one, is_narrow, frame_type, held, before, keeps, source_at, scope, narrow_blocks, narrow_reading, narrow_scope, carries, same_name, same_reading, is_part, row}
-use Rattle.cpc_chains_laws.proofs.RowBodies.Starts.{InScope}
+use Rattle.cpc_lifted_laws.proofs.RowBodies.Starts.{InScope}
 use Rattle.cpc_chains_laws.proofs.RowBodies.Rowing.{LinesRun, passes_run, does_run, all_run, tests_run}
 
 set_scalars : (w : Where) (ts : List Ty) (es : Exprs) → AllSet w ts es → all_scalar ts ≡ true

@@ -13,13 +13,13 @@ use Rattle.cpc_check_rules.specs.Scopes.{in_items, meant}
 use Rattle.cpc_check_rules.specs.Operators.{Where}
 use Rattle.cpc_check_laws.proofs.Native.NativeValues.{event}
 use Rattle.cpc_check_laws.proofs.Run.Names.{primitive_kept}
-use Rattle.cpc_chains_laws.specs.Complete.Standing.{local_named, Tells}
+use Rattle.cpc_lifted_laws.specs.Complete.Standing.{local_named, Tells}
 use Rattle.cpc_chains_laws.specs.Complete.Flat.{all_named_at}
 use Rattle.cpc_chains_laws.proofs.Complete.Flat.{opened}
 use Rattle.cpc_chains_laws.proofs.Complete.FrameRows.{PrimitivesFree}
-use Rattle.cpc_chains_laws.proofs.Complete.Kept.{over}
+use Rattle.cpc_lifted_laws.proofs.Complete.Kept.{over}
 use Rattle.cpc_chains_laws.proofs.Complete.Pieces.{told_local, told_free, opened_told}
-use Rattle.cpc_chains_laws.proofs.Complete.Standing.{tells_more}
+use Rattle.cpc_lifted_laws.proofs.Complete.Standing.{tells_more}
 use Rattle.cpc_convert_common.specs.Marks.{has_marks}
 use Rattle.cpc_convert_common.specs.Converted.{spawner_name}
 use Rattle.cpc_forms.specs.Flow.{Place, Start}
@@ -27,13 +27,13 @@ use Rattle.cpc_chains_store_laws.specs.Driver.{drive_name, any_pointer}
 use Rattle.cpc_chains_event.specs.Converted.{converted}
 use Rattle.cpc_chains_event.specs.FlatLaws.{piece_scope}
 use Rattle.cpc_chains_event.specs.LocalLaws.{piece_locals, StandsIn}
-use Rattle.cpc_chains_event.specs.NameLaws.{IsCps, IsOwner, TheStart}
-use Rattle.cpc_chains_event.specs.Names.{start_name, piece_name, pointer_name, frame_name}
+use Rattle.cpc_convert_routines.specs.Named.{IsCps, IsOwner, TheStart}
+use Rattle.cpc_convert_routines.specs.Names.{start_name, piece_name, pointer_name, frame_name}
 use Rattle.cpc_chains_event.specs.Pieces.{parameter_of, called_so, loads_of, declares_of, piece_function}
-use Rattle.cpc_chains_event.specs.Routines.{Routine, routine_of, passed}
+use Rattle.cpc_convert_routines.specs.Routines.{Routine, routine_of, passed}
 use Rattle.cpc_chains_event.proofs.Scopes.{nothing_hidden}
-use Rattle.cpc_chains_laws.proofs.Accepted.Used.{primitive_unmarked}
-use Rattle.cpc_chains_laws.specs.Piece.Known.{CpsKnown}
+use Rattle.cpc_lifted_laws.proofs.Accepted.Used.{primitive_unmarked}
+use Rattle.cpc_lifted_laws.specs.Piece.Known.{CpsKnown}
 use Rattle.cpc_chains_laws.proofs.Piece.Scopes.{piece_meant}
 use Rattle.cpc_chains_laws.proofs.Piece.Scopes as scopes
 use Rattle.cpc_chains_laws.proofs.Call.Shown.{spawner_meant}

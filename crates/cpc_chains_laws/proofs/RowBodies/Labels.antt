@@ -9,12 +9,13 @@ use Rattle.cpc_forms.specs.Flow.{Place, flow_of}
 use Rattle.cpc_forms.specs.Graph.{graph_of}
 use Rattle.cpc_forms.specs.Pieces as P
 use Rattle.cpc_forms.proofs.Owners.{owners_long}
-use Rattle.cpc_chains_event.specs.Names.{node_label}
-use Rattle.cpc_chains_event.specs.Routines.{Routine, routine_of}
-use Rattle.cpc_chains_event.specs.Rows.{is_own, row_of, PutRow, numbers_of, first_number, put_statement, is_wanted, label_if, row_statements, rows_statements, piece_statements}
+use Rattle.cpc_convert_routines.specs.Names.{node_label}
+use Rattle.cpc_convert_routines.specs.Routines.{Routine, routine_of}
+use Rattle.cpc_convert_routines.specs.Nodes.{is_own}
+use Rattle.cpc_chains_event.specs.Rows.{row_of, PutRow, numbers_of, first_number, put_statement, is_wanted, label_if, row_statements, rows_statements, piece_statements}
 use Rattle.cpc_chains_event.proofs.Lines.{is_bare, AreBare, lines_done, puts_done}
 use Rattle.cpc_chains_event.proofs.Labels.{leaders_rise, rows_stand_once, numbers, labels_apart}
-use Rattle.cpc_chains_event.proofs.Numbers.{AllBelow, NoneBelow, OneBelow, Rises, rises_below}
+use Rattle.cpc_convert_routines.proofs.Numbers.{AllBelow, NoneBelow, OneBelow, Rises, rises_below}
 use Rattle.cpc_chains_laws.proofs.Accepted.Below.{below_numbers}
 use Rattle.cpc_chains_laws.proofs.Piece.Rows.{rows, rows_numbers}
 use Rattle.cpc_chains_laws.specs.RowBodies.Laws.{LabelsStandOnce}

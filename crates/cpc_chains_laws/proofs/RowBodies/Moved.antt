@@ -14,16 +14,16 @@ use Rattle.cpc_check_rules.specs.Calls.{Wanted}
 use Rattle.cpc_check_rules.specs.StmtRules.{test_breaks, stmt_breaks}
 use Rattle.cpc_check_laws.proofs.Native.NativeValues.{cpc}
 use Rattle.cpc_check_laws.proofs.Native.OnePlace.{expr_here, stmt_here}
-use Rattle.cpc_chains_laws.specs.Complete.Reads.{Carries, stays_called}
-use Rattle.cpc_chains_laws.specs.Complete.Sets.{Sets, Writes, AllSet, Gives, AllSuit}
-use Rattle.cpc_chains_laws.proofs.Complete.Acts.{sets_carried, writes_carried, all_carried, gives_carried, all_suit_carried, assign_carried, call_carried, test_carried}
-use Rattle.cpc_chains_laws.proofs.Complete.Kept.{over}
+use Rattle.cpc_lifted_laws.specs.Complete.Reads.{Carries, stays_called}
+use Rattle.cpc_lifted_laws.specs.Complete.Sets.{Sets, Writes, AllSet, Gives, AllSuit}
+use Rattle.cpc_lifted_laws.proofs.Complete.Acts.{sets_carried, writes_carried, all_carried, gives_carried, all_suit_carried, assign_carried, call_carried, test_carried}
+use Rattle.cpc_lifted_laws.proofs.Complete.Kept.{over}
 use Rattle.cpc_convert_image_laws.specs.Images.{Readings, image_named, image, images, image_if}
 use Rattle.cpc_meaning.specs.Names.{AllNames, AllNamesIf, AllNamesAmong}
 use Rattle.cpc_graph_laws.proofs.Formed.{in_left, in_right}
 use Rattle.cpc_lift_laws.specs.Used.{used_in, used_among, used_if}
 use Rattle.cpc_chains_laws.proofs.Piece.Uses.{names_kept, names_kept_if, names_kept_among}
-use Rattle.cpc_chains_laws.proofs.RowBodies.Occurring.{Same, sets_same, writes_same, gives_same, all_set_same, all_suit_same, assign_same, call_same, test_same}
+use Rattle.cpc_lifted_laws.proofs.RowBodies.Occurring.{Same, sets_same, writes_same, gives_same, all_set_same, all_suit_same, assign_same, call_same, test_same}
 
 -- ---- names of which nothing is asked
 

@@ -19,13 +19,13 @@ use Rattle.cpc_check_rules.specs.Operators.{Where, is_detached}
 use Rattle.cpc_check_rules.specs.FunctionRules.{is_kept}
 use Rattle.cpc_check_laws.proofs.Native.NativeValues.{cpc}
 use Rattle.cpc_meaning.specs.Threads.{is_cps_mode}
-use Rattle.cpc_chains_laws.specs.Complete.Kept.{KeptName, KeptNothing, KeepsItems}
-use Rattle.cpc_chains_laws.specs.Complete.Reads.{Reads, ReadsLocal, ReadsField, Carries}
-use Rattle.cpc_chains_laws.specs.Complete.Standing.{local_named, local_or, Tells, Standing}
-use Rattle.cpc_chains_laws.proofs.Complete.Kept.{over}
+use Rattle.cpc_lifted_laws.specs.Complete.Kept.{KeptName, KeptNothing, KeepsItems}
+use Rattle.cpc_lifted_laws.specs.Complete.Reads.{Reads, ReadsLocal, ReadsField, Carries}
+use Rattle.cpc_lifted_laws.specs.Complete.Standing.{local_named, local_or, Tells, Standing}
+use Rattle.cpc_lifted_laws.proofs.Complete.Kept.{over}
 use Rattle.cpc_chains_laws.proofs.Complete.Pieces.{piece_carries}
-use Rattle.cpc_chains_laws.proofs.Complete.Sources.{RowOf, row_of, point_standing}
-use Rattle.cpc_chains_laws.proofs.Complete.Standing.{tells_more}
+use Rattle.cpc_lifted_laws.proofs.Complete.Sources.{RowOf, row_of, point_standing}
+use Rattle.cpc_lifted_laws.proofs.Complete.Standing.{tells_more}
 use Rattle.cpc_convert_common.specs.Marks.{has_marks}
 use Rattle.cpc_convert_common.specs.Members.{Has}
 use Rattle.cpc_convert_common.proofs.Members.{has_left}
@@ -33,22 +33,22 @@ use Rattle.cpc_convert_image_laws.specs.Images.{Reading, AsLocal, Readings}
 use Rattle.cpc_convert_image_laws.specs.Locals.{reading_of, readings_in, local_type}
 use Rattle.cpc_forms.specs.Flow.{Place}
 use Rattle.cpc_chains_store_laws.specs.Driver.{any_pointer}
-use Rattle.cpc_chains_event.specs.NameLaws.{IsOwner}
-use Rattle.cpc_chains_event.specs.Names.{piece_name, box_tag, variable_name, frame_name}
+use Rattle.cpc_convert_routines.specs.Named.{IsOwner}
+use Rattle.cpc_convert_routines.specs.Names.{piece_name, box_tag, variable_name, frame_name}
 use Rattle.cpc_chains_event.specs.Pieces.{called_so}
-use Rattle.cpc_chains_event.specs.Routines.{Routine, routine_of, closure_of, is_plain, variable_of, variable_or, local_of, stood_variable, readings_of}
+use Rattle.cpc_convert_routines.specs.Routines.{Routine, routine_of, closure_of, is_plain, variable_of, variable_or, local_of, stood_variable, readings_of}
 use Rattle.cpc_chains_event.proofs.BoxesThere.{structs_there}
 use Rattle.cpc_chains_event.proofs.Boxing.{held_has}
-use Rattle.cpc_chains_laws.proofs.Accepted.Scoped.{means_variable}
-use Rattle.cpc_chains_laws.proofs.Accepted.Used.{primitive_unmarked}
-use Rattle.cpc_chains_laws.specs.Piece.Known.{CpsKnown}
+use Rattle.cpc_lifted_laws.proofs.Accepted.Scoped.{means_variable}
+use Rattle.cpc_lifted_laws.proofs.Accepted.Used.{primitive_unmarked}
+use Rattle.cpc_lifted_laws.specs.Piece.Known.{CpsKnown}
 use Rattle.cpc_chains_laws.proofs.Piece.Scopes as scopes
 use Rattle.cpc_chains_laws.specs.Rules.Laws.{Knows}
 use Rattle.cpc_chains_laws.proofs.Rules.Parts.{declares_plain}
 use Rattle.cpc_chains_laws.proofs.Rules.KeptRows.{Source}
-use Rattle.cpc_chains_laws.proofs.Rules.Meant.{nothing_meant}
+use Rattle.cpc_lifted_laws.proofs.Rules.Meant.{nothing_meant}
 use Rattle.cpc_chains_laws.proofs.RowBodies.Inside.{blocks, inside, local, plain}
-use Rattle.cpc_chains_laws.proofs.RowBodies.Occurring.{Same}
+use Rattle.cpc_lifted_laws.proofs.RowBodies.Occurring.{Same}
 use Rattle.cpc_chains_laws.proofs.RowBodies.Opening.{box_field}
 
 -- ---- scopes in which some variables are kept

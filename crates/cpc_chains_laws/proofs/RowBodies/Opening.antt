@@ -18,7 +18,7 @@ use Rattle.cpc_check_laws.proofs.Native.OnePlace.{stmt_here}
 use Rattle.cpc_chains_laws.specs.Complete.Flat.{Runs, NoRow, AndLine, NoneOf, NoText, AndOther, Distinct, NoneDistinct, AndDistinct, names_of, loaded, Loadable, NoLoad, AndLoad, AllHaveCells, NoCells, AndCells, Fresh}
 use Rattle.cpc_chains_laws.proofs.Complete.Flat.{opens_run, fresh_in, runs_both, none_apart}
 use Rattle.cpc_chains_laws.proofs.Complete.Frames.{boxes_fine, fills_fine, frees_fine}
-use Rattle.cpc_chains_laws.proofs.Complete.Makers.{takes_itself}
+use Rattle.cpc_lifted_laws.proofs.Complete.Makers.{takes_itself}
 use Rattle.cpc_meaning.proofs.Functions.{texts_differ, scalar_size}
 use Rattle.cpc_convert_image_laws.specs.Locals.{local_type}
 use Rattle.cpc_convert_image_laws.specs.Relations.{Less, AsIs, Untold}
@@ -26,26 +26,28 @@ use Rattle.cpc_forms.specs.Flow.{Place, Start, At}
 use Rattle.cpc_lift_laws.specs.Boxes.{is_box, has_block, is_box_in}
 use Rattle.cpc_lift_laws.proofs.Lift.{boxes_exact}
 use Rattle.cpc_chains_store_laws.specs.Driver.{next_field, value_field, any_pointer, head_fields}
-use Rattle.cpc_chains_store_laws.specs.Frames.{Load, loads_one, declares_one, frees_frame, Scalars, NoScalars, AndScalar}
-use Rattle.cpc_chains_store_laws.specs.Structs.{IsStruct}
+use Rattle.cpc_convert_flat_laws.specs.Locals.{Load, loads_one, declares_one, Scalars, NoScalars, AndScalar}
+use Rattle.cpc_chains_store_laws.specs.Frames.{frees_frame}
+use Rattle.cpc_convert_flat_laws.specs.Structs.{IsStruct}
 use Rattle.cpc_chains_event.specs.Converted.{converted}
 use Rattle.cpc_chains_event.specs.FlatLaws.{piece_scope}
-use Rattle.cpc_chains_event.specs.Frames.{arriving_type}
+use Rattle.cpc_convert_routines.specs.Arriving.{arriving_type}
 use Rattle.cpc_chains_event.specs.LocalLaws.{piece_locals, StandsIn}
-use Rattle.cpc_chains_event.specs.NameLaws.{IsOwner, TheStart, ALeader}
-use Rattle.cpc_chains_event.specs.Names.{piece_name, box_tag, variable_name, pointer_name, frame_name, next_name, value_name}
-use Rattle.cpc_chains_event.specs.Pieces.{load_of, below_if, next_load, takes_value, value_load, loads_of, called_so, words_of, begun, declares_of, fills_if, box_lines, boxing_lines, boxing_of}
+use Rattle.cpc_convert_routines.specs.Named.{IsOwner, TheStart, ALeader}
+use Rattle.cpc_convert_routines.specs.Names.{piece_name, box_tag, variable_name, pointer_name, frame_name, next_name, value_name}
+use Rattle.cpc_chains_event.specs.Pieces.{load_of, below_if, next_load, value_load, loads_of, called_so, words_of, begun, declares_of, fills_if, box_lines, boxing_lines, boxing_of}
+use Rattle.cpc_convert_routines.specs.Taken.{takes_value}
 use Rattle.cpc_chains_event.specs.Pieces as P
-use Rattle.cpc_chains_event.specs.Routines.{Routine, routine_of, closure_of, is_plain, variable_of, variable_or, stood_variable, local_of, locals_of, variable_if, passed_from, passed, is_parameter}
+use Rattle.cpc_convert_routines.specs.Routines.{Routine, routine_of, closure_of, is_plain, variable_of, variable_or, stood_variable, local_of, locals_of, variable_if, passed_from, passed, is_parameter}
 use Rattle.cpc_chains_event.specs.StructLaws.{IsBox}
 use Rattle.cpc_chains_event.proofs.BoxesThere.{structs_there}
 use Rattle.cpc_chains_event.proofs.Fields.{frame_fields, passed_rise, kept_rises, plain_scalar}
 use Rattle.cpc_chains_event.proofs.Locals.{locals_meant, in_locals, below_scalar}
-use Rattle.cpc_chains_event.proofs.Numbers.{chosen_is}
+use Rattle.cpc_convert_routines.proofs.Numbers.{chosen_is}
 use Rattle.cpc_chains_event.proofs.StructsThere.{arriving_scalar}
 use Rattle.cpc_chains_event.proofs.Boxing.{held_has}
-use Rattle.cpc_chains_laws.specs.Accepted.Pieces.{VariablesHaveCells}
-use Rattle.cpc_chains_laws.specs.Piece.Known.{CpsKnown}
+use Rattle.cpc_lifted_laws.specs.Accepted.Pieces.{VariablesHaveCells}
+use Rattle.cpc_lifted_laws.specs.Piece.Known.{CpsKnown}
 use Rattle.cpc_chains_laws.proofs.Piece.Scopes as scopes
 use Rattle.cpc_chains_laws.specs.Rules.Laws.{Knows}
 use Rattle.cpc_chains_laws.proofs.Bodies.Spawners.{struct_there}

@@ -25,15 +25,15 @@ use Rattle.cpc_meaning.specs.Act.{AtStatement}
 use Rattle.cpc_meaning.specs.Threads.{is_cps}
 use Rattle.cpc_meaning.specs.Ways.{AsCps, primitive_manner}
 use Rattle.cpc_chains_laws.specs.Complete.Flat.{Runs, NoRow, AndLine}
-use Rattle.cpc_chains_laws.specs.Complete.Kept.{KeptName, KeptFunction}
-use Rattle.cpc_chains_laws.specs.Complete.Sets.{AllSet, AllSuit, Gives, is_simple}
-use Rattle.cpc_chains_laws.specs.Complete.Standing.{local_named, local_or, Tells}
-use Rattle.cpc_chains_laws.proofs.Complete.Called.{section_there}
+use Rattle.cpc_lifted_laws.specs.Complete.Kept.{KeptName, KeptFunction}
+use Rattle.cpc_lifted_laws.specs.Complete.Sets.{AllSet, AllSuit, Gives, is_simple}
+use Rattle.cpc_lifted_laws.specs.Complete.Standing.{local_named, local_or, Tells}
+use Rattle.cpc_lifted_laws.proofs.Complete.Called.{section_there}
 use Rattle.cpc_chains_laws.proofs.Complete.Flat.{runs_both}
 use Rattle.cpc_chains_laws.proofs.Complete.Frames.{runtime, pointer_sets, wait_fine, nothing_fine}
-use Rattle.cpc_chains_laws.proofs.Complete.Makers.{callback_suits}
-use Rattle.cpc_chains_laws.proofs.Complete.Parts.{call_parts, primitive_parts, section_parts}
-use Rattle.cpc_chains_laws.proofs.Complete.Rows.{detach_fine}
+use Rattle.cpc_lifted_laws.proofs.Complete.Makers.{callback_suits}
+use Rattle.cpc_lifted_laws.proofs.Complete.Parts.{call_parts, primitive_parts, section_parts}
+use Rattle.cpc_lifted_laws.proofs.Complete.Rows.{detach_fine}
 use Rattle.cpc_convert_common.specs.Members.{Has}
 use Rattle.cpc_convert_image_laws.specs.Images.{Readings, images}
 use Rattle.cpc_forms.specs.Flow.{Place, At}
@@ -41,21 +41,21 @@ use Rattle.cpc_lift_laws.specs.Used.{used_in, used_among, used_if, used_by}
 use Rattle.cpc_chains_store_laws.specs.Driver.{drive_name, frame_tag}
 use Rattle.cpc_chains_event.specs.Lines.{all_do, frame_lines, runtime_name, hands_nothing, hands_over, wait_lines, section_lines, enter_lines, waits_lines, cps_lines}
 use Rattle.cpc_chains_event.specs.LocalLaws.{piece_locals, StandsIn}
-use Rattle.cpc_chains_event.specs.NameLaws.{IsOwner, IsCps}
-use Rattle.cpc_chains_event.specs.Names.{to_name, under_name}
+use Rattle.cpc_convert_routines.specs.Named.{IsOwner, IsCps}
+use Rattle.cpc_convert_routines.specs.Names.{to_name, under_name}
 use Rattle.cpc_chains_event.specs.Pieces.{called_so, to_frame, is_entry}
-use Rattle.cpc_chains_event.specs.Routines.{Routine, routine_of, closure_of, readings_of}
-use Rattle.cpc_chains_laws.specs.Piece.Known.{CpsKnown}
+use Rattle.cpc_convert_routines.specs.Routines.{Routine, routine_of, closure_of, readings_of}
+use Rattle.cpc_lifted_laws.specs.Piece.Known.{CpsKnown}
 use Rattle.cpc_chains_laws.specs.Rules.Laws.{Knows}
 use Rattle.cpc_chains_laws.proofs.Rules.KeptRows.{Source}
-use Rattle.cpc_chains_laws.proofs.Rules.Source.{known_at}
+use Rattle.cpc_lifted_laws.proofs.Rules.Source.{known_at}
 use Rattle.cpc_chains_laws.specs.Wait.Waiting.{Waiting, CallsCps, CallsWait, Submits}
 use Rattle.cpc_chains_laws.proofs.RowBodies.Framing.{frame_fine, hands_run, call_fine}
 use Rattle.cpc_chains_laws.proofs.RowBodies.InPlace.{v, function_named_there, named_whole, none_hides, moved_all, moved_suits, w}
 use Rattle.cpc_chains_laws.proofs.RowBodies.Inside.{local, free, driver, none_named}
 use Rattle.cpc_chains_laws.proofs.RowBodies.Moved.{held_right}
 use Rattle.cpc_chains_laws.proofs.RowBodies.Nodes.{IsFormed, before, scope, narrow_blocks, carries, is_part, row, kept_nothing, kept_item}
-use Rattle.cpc_chains_laws.proofs.RowBodies.Occurring.{section_types}
+use Rattle.cpc_lifted_laws.proofs.RowBodies.Occurring.{section_types}
 use Rattle.cpc_chains_laws.proofs.RowBodies.Rowing.{LinesRun, all_run}
 
 -- ---- primitives that wait

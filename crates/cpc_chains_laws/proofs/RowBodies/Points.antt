@@ -19,9 +19,9 @@ use Rattle.cpc_meaning.specs.Act.{AtStatement, AtArrival, target_of}
 use Rattle.cpc_meaning.specs.Ways.{Manner, InPlace, ByFrame, AsCps, primitive_manner, manner_of, manner_at, is_cps_statement, ways}
 use Rattle.cpc_check_laws.specs.Sound.Typed.{FoundTyped}
 use Rattle.cpc_check_rules.specs.Scopes.{takes_value as assignable}
-use Rattle.cpc_chains_laws.specs.Complete.Sets.{Gives}
-use Rattle.cpc_chains_laws.specs.Complete.Standing.{simple_breaks, Tells, Standing, NothingStands, Stands}
-use Rattle.cpc_chains_laws.proofs.Complete.Parts.{section_parts}
+use Rattle.cpc_lifted_laws.specs.Complete.Sets.{Gives}
+use Rattle.cpc_lifted_laws.specs.Complete.Standing.{simple_breaks, Tells, Standing, NothingStands, Stands}
+use Rattle.cpc_lifted_laws.proofs.Complete.Parts.{section_parts}
 use Rattle.cpc_chains_laws.proofs.Complete.Pieces.{arrival_fine, given_scalar}
 use Rattle.cpc_convert_image_laws.specs.Images.{Readings, image}
 use Rattle.cpc_forms.specs.Flow.{Place, At, Flow, is_leader, owner_of, owner_step, owner_within, resumes_at, two_or_more, sources}
@@ -30,22 +30,23 @@ use Rattle.cpc_forms.specs.Split.{InGraph, split_form, position_stood, position_
 use Rattle.cpc_graph_laws.specs.Laws.{flow_in}
 use Rattle.cpc_lift_laws.specs.Used.{used_if, used_at, is_left}
 use Rattle.cpc_lift_laws.proofs.Lift.{boxes_exact}
-use Rattle.cpc_chains_event.specs.Frames.{arriving_if, arriving_from, arriving_found, arriving_stood, arriving_type}
+use Rattle.cpc_convert_routines.specs.Arriving.{arriving_if, arriving_from, arriving_found, arriving_stood, arriving_type}
 use Rattle.cpc_chains_event.specs.Lines.{Line, all_do, arrival_lines, cps_lines, stood_lines, node_lines}
 use Rattle.cpc_chains_event.specs.LocalLaws.{piece_locals, StandsIn}
-use Rattle.cpc_chains_event.specs.NameLaws.{IsOwner}
-use Rattle.cpc_chains_event.specs.Names.{value_name}
-use Rattle.cpc_chains_event.specs.Pieces.{called_so, takes_value, has_place, takes_stood, words_of, begun, loaded, is_wait, is_entry, is_result}
-use Rattle.cpc_chains_event.specs.Routines.{Routine, routine_of, closure_of, locals_of, readings_of, variable_if}
-use Rattle.cpc_chains_event.specs.Rows.{has_row}
-use Rattle.cpc_chains_laws.proofs.Accepted.Lifted.{programs_are_closed}
-use Rattle.cpc_chains_laws.specs.Piece.Known.{CpsKnown}
+use Rattle.cpc_convert_routines.specs.Named.{IsOwner}
+use Rattle.cpc_convert_routines.specs.Names.{value_name}
+use Rattle.cpc_chains_event.specs.Pieces.{called_so, words_of, begun, loaded, is_wait, is_entry}
+use Rattle.cpc_convert_routines.specs.Taken.{takes_value, has_place, takes_stood, is_result}
+use Rattle.cpc_convert_routines.specs.Routines.{Routine, routine_of, closure_of, locals_of, readings_of, variable_if}
+use Rattle.cpc_convert_routines.specs.Nodes.{has_row}
+use Rattle.cpc_lifted_laws.proofs.Accepted.Lifted.{programs_are_closed}
+use Rattle.cpc_lifted_laws.specs.Piece.Known.{CpsKnown}
 use Rattle.cpc_chains_laws.specs.Piece.Stood.{NodeAt}
 use Rattle.cpc_chains_laws.proofs.Piece.Ways.{is_split, kept_is, stands_there, owner_is}
 use Rattle.cpc_chains_laws.proofs.Piece.Words.{wait_word, entry_word, value_word}
 use Rattle.cpc_chains_laws.specs.Rules.Laws.{Knows}
 use Rattle.cpc_chains_laws.proofs.Rules.KeptRows.{Source}
-use Rattle.cpc_chains_laws.proofs.Shape.Calls.{CpsTyped}
+use Rattle.cpc_lifted_laws.proofs.Shape.Calls.{CpsTyped}
 use Rattle.cpc_chains_laws.proofs.Shape.Points.{IsRow}
 use Rattle.cpc_chains_laws.specs.Wait.Waiting.{Waiting, CallsCps, CallsWait, Submits}
 use Rattle.cpc_chains_laws.proofs.Wait.Behind.{arrival_there, waiting}
@@ -54,7 +55,7 @@ use Rattle.cpc_chains_laws.proofs.RowBodies.Inside.{local}
 use Rattle.cpc_chains_laws.proofs.RowBodies.Nodes.{IsFormed, source_at, standing}
 use Rattle.cpc_chains_laws.proofs.RowBodies.Pausing.{cps_run, calls_parts, waits_parts, parameters_are}
 use Rattle.cpc_chains_laws.proofs.RowBodies.Rowing.{LinesRun, passes_run, does_run, all_run}
-use Rattle.cpc_chains_laws.proofs.RowBodies.Starts.{InScope, started}
+use Rattle.cpc_lifted_laws.proofs.RowBodies.Starts.{InScope, started}
 
 manners_apart : (m : Manner) → m ≡ InPlace → m ≡ AsCps → ⊥
 manners_apart m e i = let z : InPlace ≡ AsCps = sym e ∙ i in absurd (cc)

@@ -6,11 +6,11 @@ use Rattle.cpc_check_rules.specs.Operators.{Where}
 use Rattle.cpc_check_rules.specs.StmtRules.{test_breaks, stmt_breaks}
 use Rattle.cpc_check_laws.proofs.Native.OnePlace.{expr_here, stmt_here}
 use Rattle.cpc_chains_laws.specs.Complete.Flat.{Runs, NoRow, AndDeclare, AndLine}
-use Rattle.cpc_chains_laws.proofs.Complete.Rows.{if_fine}
-use Rattle.cpc_chains_store_laws.specs.Flat.{is_line}
+use Rattle.cpc_lifted_laws.proofs.Complete.Rows.{if_fine}
+use Rattle.cpc_convert_flat_laws.specs.Flat.{is_line}
 use Rattle.cpc_convert_image_laws.specs.Images.{Readings, image}
 use Rattle.cpc_chains_event.specs.Lines.{Line, Does, goes, passes, all_do, test_lines}
-use Rattle.cpc_chains_event.specs.Names.{node_label}
+use Rattle.cpc_convert_routines.specs.Names.{node_label}
 use Rattle.cpc_chains_event.specs.Rows.{Plain, Jump, is_next, put_lines, put_statement, label_if}
 use Rattle.cpc_chains_event.proofs.Lines.{is_bare, AreBare}
 use Rattle.cpc_chains_laws.proofs.Piece.Frames.{puts_do}

@@ -18,12 +18,12 @@ use Rattle.cpc_check_laws.proofs.Sound.Programs.{BodyShape, ItemShape}
 use Rattle.cpc_convert_common.specs.Members.{Has, OnTop, Below}
 use Rattle.cpc_forms.specs.Graph.{node_of}
 use Rattle.cpc_forms.specs.Order.{points}
-use Rattle.cpc_chains_event.specs.NameLaws.{IsCps}
-use Rattle.cpc_chains_laws.proofs.Accepted.Names.{accepted_has_names, accepted_is_named}
-use Rattle.cpc_chains_laws.proofs.Accepted.Pieces.{accepted_suits_pieces}
-use Rattle.cpc_chains_laws.specs.Piece.Known.{CpsKnown}
+use Rattle.cpc_convert_routines.specs.Named.{IsCps}
+use Rattle.cpc_lifted_laws.proofs.Accepted.Names.{accepted_has_names, accepted_is_named}
+use Rattle.cpc_lifted_laws.proofs.Accepted.Pieces.{accepted_suits_pieces}
+use Rattle.cpc_lifted_laws.specs.Piece.Known.{CpsKnown}
 use Rattle.cpc_chains_laws.proofs.Rules.Theorem.{source_of, bodies_suffice}
-use Rattle.cpc_chains_laws.proofs.Shape.Calls.{CpsTyped}
+use Rattle.cpc_lifted_laws.proofs.Shape.Calls.{CpsTyped}
 use Rattle.cpc_chains_laws.proofs.Bodies.Spawners.{spawners_fine}
 use Rattle.cpc_chains_laws.specs.RowBodies.Laws.{BodiesAreFine, ConvertedUnbroken}
 use Rattle.cpc_chains_laws.proofs.RowBodies.Bodies.{piece_fine}

@@ -9,8 +9,8 @@ use Rattle.cpc_meaning.specs.Ways.{Manner, InPlace, ByFrame, AsCps}
 use Rattle.cpc_chains_laws.specs.Complete.Flat.{line_gotos}
 use Rattle.cpc_convert_image_laws.specs.Images.{Readings}
 use Rattle.cpc_forms.specs.Flow.{Place, At}
-use Rattle.cpc_chains_event.specs.Names.{to_name, under_name}
-use Rattle.cpc_chains_event.specs.Routines.{Routine}
+use Rattle.cpc_convert_routines.specs.Names.{to_name, under_name}
+use Rattle.cpc_convert_routines.specs.Routines.{Routine}
 use Rattle.cpc_chains_event.specs.Lines.{Line, Does, Goes, Tests, Passes, goes, passes, all_do, frame_lines, frame_lines_if, call_lines, waits_lines, unbox_lines, result_lines, patch_lines, leave_lines, simple_lines, cps_lines, test_lines, arrival_lines, behind_arrival, framed_lines, stood_lines, hands_over}
 use Rattle.cpc_chains_event.specs.Rows.{stub_lines, Put, Plain, Jump, JumpIf, is_next, put_line, put_lines}
 

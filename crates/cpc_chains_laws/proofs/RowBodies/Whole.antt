@@ -28,16 +28,18 @@ use Rattle.cpc_lift_laws.specs.Search.{closure}
 use Rattle.cpc_chains_event.specs.Lines.{node_lines, behind_arrival}
 use Rattle.cpc_chains_event.specs.LabelLaws.{put_in}
 use Rattle.cpc_chains_event.specs.LocalLaws.{piece_locals, StandsIn}
-use Rattle.cpc_chains_event.specs.NameLaws.{IsOwner, TheStart, ALeader}
-use Rattle.cpc_chains_event.specs.Names.{node_label, to_name}
-use Rattle.cpc_chains_event.specs.Pieces.{called_so, to_frame, any_node, is_entry, is_result, is_wait}
-use Rattle.cpc_chains_event.specs.Routines.{Routine, routine_of, chosen, closure_of, owner_number}
-use Rattle.cpc_chains_event.specs.Rows.{owner_at, is_own, stands_with, has_row, rows_nodes, behind_call, onwards, onwards_all, reached, stubs_of, lines_by, row_of, numbers_from, numbers_of, first_number, PutRow, put_rows, put_lines, put_statement, is_wanted, row_statements, rows_statements, piece_statements}
+use Rattle.cpc_convert_routines.specs.Named.{IsOwner, TheStart, ALeader}
+use Rattle.cpc_convert_routines.specs.Names.{node_label, to_name}
+use Rattle.cpc_chains_event.specs.Pieces.{called_so, to_frame, is_entry, is_wait}
+use Rattle.cpc_convert_routines.specs.Taken.{any_node, is_result}
+use Rattle.cpc_convert_routines.specs.Routines.{Routine, routine_of, chosen, closure_of, owner_number}
+use Rattle.cpc_chains_event.specs.Rows.{owner_at, behind_call, onwards, onwards_all, reached, stubs_of, lines_by, row_of, numbers_from, numbers_of, first_number, PutRow, put_rows, put_lines, put_statement, is_wanted, row_statements, rows_statements, piece_statements}
+use Rattle.cpc_convert_routines.specs.Nodes.{is_own, stands_with, has_row, rows_nodes}
 use Rattle.cpc_chains_event.proofs.Lines.{puts_done, lines_done}
-use Rattle.cpc_chains_event.proofs.Numbers.{held_either, chosen_is}
+use Rattle.cpc_convert_routines.proofs.Numbers.{held_either, chosen_is}
 use Rattle.cpc_chains_event.proofs.Boxing.{held_has}
 use Rattle.cpc_chains_event.proofs.Labels.{turned_is}
-use Rattle.cpc_chains_laws.specs.Piece.Known.{CpsKnown}
+use Rattle.cpc_lifted_laws.specs.Piece.Known.{CpsKnown}
 use Rattle.cpc_chains_laws.specs.Piece.Stood.{NodeAt}
 use Rattle.cpc_chains_laws.proofs.Piece.Scopes as scopes
 use Rattle.cpc_chains_laws.proofs.Piece.Stubs.{first_word, some_there}
@@ -45,7 +47,7 @@ use Rattle.cpc_chains_laws.proofs.Piece.Ways.{way_next, owner_is, other_leads, k
 use Rattle.cpc_chains_laws.proofs.Call.Framed.{framed_calls_arrive}
 use Rattle.cpc_chains_laws.specs.Rules.Laws.{Knows}
 use Rattle.cpc_chains_laws.proofs.Rules.KeptRows.{Source}
-use Rattle.cpc_chains_laws.proofs.Shape.Calls.{CpsTyped}
+use Rattle.cpc_lifted_laws.proofs.Shape.Calls.{CpsTyped}
 use Rattle.cpc_chains_event.proofs.Framed.{held}
 use Rattle.cpc_chains_laws.proofs.Shape.Numbers.{own_row, owned_below, from_is}
 use Rattle.cpc_chains_laws.proofs.Shape.Rows.{own_point}

@@ -18,18 +18,18 @@ use Rattle.cpc_check_laws.proofs.Native.NativeValues.{both_none}
 use Rattle.cpc_check_laws.proofs.Native.OnePlace.{here, ident_here, variable_here, parameter_here, item_here}
 use Rattle.cpc_convert_common.specs.Converted.{prototype, function_item}
 use Rattle.cpc_convert_common.specs.Members.{Has}
-use Rattle.cpc_chains_store_laws.specs.Structs.{ScalarFields, NoFields, AndField}
-use Rattle.cpc_chains_event.specs.Names.{variable_name}
-use Rattle.cpc_chains_event.specs.Routines.{variable_if, passed_from, passed}
+use Rattle.cpc_convert_flat_laws.specs.Structs.{ScalarFields, NoFields, AndField}
+use Rattle.cpc_convert_routines.specs.Names.{variable_name}
+use Rattle.cpc_convert_routines.specs.Routines.{variable_if, passed_from, passed}
 use Rattle.cpc_chains_event.specs.Pieces.{parameter_of}
-use Rattle.cpc_chains_event.specs.NameLaws.{IsCps}
+use Rattle.cpc_convert_routines.specs.Named.{IsCps}
 use Rattle.cpc_chains_event.proofs.Apart.{behind, piece_is, spawner_is}
 use Rattle.cpc_chains_event.proofs.Fields.{passed_rise, frame_fields, fields_behind}
 use Rattle.cpc_chains_event.proofs.Made.{Made, MadeSpawner, MadePiece}
 use Rattle.cpc_chains_laws.specs.Rules.Laws.{BodyFine}
 use Rattle.cpc_chains_laws.proofs.Rules.KeptRows.{Source}
-use Rattle.cpc_chains_laws.proofs.Rules.Names.{made_unkept}
-use Rattle.cpc_chains_laws.proofs.Rules.Source.{signature, types_here}
+use Rattle.cpc_lifted_laws.proofs.Rules.Names.{made_unkept}
+use Rattle.cpc_lifted_laws.proofs.Rules.Source.{signature, types_here}
 use Rattle.cpc_chains_laws.proofs.Rules.Types.{scalar_sized, scalars_apart}
 
 -- ---- heads

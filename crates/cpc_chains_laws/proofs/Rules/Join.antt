@@ -21,21 +21,22 @@ use Rattle.cpc_convert_common.specs.Converted.{spawner_name, function_item}
 use Rattle.cpc_convert_common.specs.Members.{Has, OnTop, Below}
 use Rattle.cpc_convert_common.proofs.Members.{has_either}
 use Rattle.cpc_convert_common.proofs.Marks.{marked_has}
-use Rattle.cpc_chains_event.specs.Routines.{passed_from, passed}
+use Rattle.cpc_convert_routines.specs.Routines.{passed_from, passed}
 use Rattle.cpc_chains_event.specs.Pieces.{parameter_of}
-use Rattle.cpc_chains_event.specs.Converted.{kept_items, routines, all_boxes, all_made, main_function, converted}
-use Rattle.cpc_chains_event.specs.NameLaws.{IsCps}
+use Rattle.cpc_convert_routines.specs.Kept.{kept_items, routines}
+use Rattle.cpc_chains_event.specs.Converted.{all_boxes, all_made, main_function, converted}
+use Rattle.cpc_convert_routines.specs.Named.{IsCps}
 use Rattle.cpc_chains_event.proofs.Apart.{spawner_is}
 use Rattle.cpc_chains_event.proofs.Structs.{all_boxes_are}
 use Rattle.cpc_chains_laws.proofs.Rules.FunctionRows.{definition_fine}
-use Rattle.cpc_chains_laws.proofs.Rules.Items.{Declares, beside_all}
+use Rattle.cpc_lifted_laws.proofs.Rules.Items.{Declares, beside_all}
 use Rattle.cpc_chains_laws.proofs.Rules.Kept.{KeptItem, KeepStruct, KeepGlobal, KeepPrototype, KeepFunction, kept_has}
 use Rattle.cpc_chains_laws.proofs.Rules.KeptRows.{Source, beside_other, declares_kept}
 use Rattle.cpc_chains_laws.proofs.Rules.Known.{knows}
-use Rattle.cpc_chains_laws.proofs.Rules.Meant.{said, behind_meant}
+use Rattle.cpc_lifted_laws.proofs.Rules.Meant.{said, behind_meant}
 use Rattle.cpc_chains_laws.proofs.Rules.Parts.{definitions, front_of, before_made, whole, structs_declare, front_unmarked, made_marked, From, IsFrom, from_map}
-use Rattle.cpc_chains_laws.proofs.Rules.Rows.{rows, row_more}
-use Rattle.cpc_chains_laws.proofs.Rules.Source.{signature, known_at}
+use Rattle.cpc_lifted_laws.proofs.Rules.Rows.{rows, row_more}
+use Rattle.cpc_lifted_laws.proofs.Rules.Source.{signature, known_at}
 
 -- ---- `main`
 

@@ -9,7 +9,7 @@ use Rattle.cpc_check_rules.specs.Scopes.{in_items}
 use Rattle.cpc_meaning.specs.Threads.{is_cps_mode}
 use Rattle.cpc_convert_common.specs.Members.{Has, OnTop, Below}
 use Rattle.cpc_convert_image_laws.specs.InPlace.{is_cps}
-use Rattle.cpc_chains_event.specs.Converted.{kept_function, item_unless, kept_items}
+use Rattle.cpc_convert_routines.specs.Kept.{kept_function, item_unless, kept_items}
 use Rattle.cpc_chains_event.proofs.Meanings.{cps_meant, here_or, left_out}
 
 -- ---- items that stay

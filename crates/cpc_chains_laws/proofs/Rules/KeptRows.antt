@@ -18,26 +18,26 @@ use Rattle.cpc_check_laws.proofs.Sound.Agreement.{Grows}
 use Rattle.cpc_check_laws.proofs.Sound.Items.{named_more, is_defined, function_there}
 use Rattle.cpc_check_laws.proofs.Sound.Knowing.{Known, Same}
 use Rattle.cpc_check_laws.proofs.Run.Names.{primitive_kept}
-use Rattle.cpc_chains_laws.specs.Complete.Kept.{KeptName, KeptLocal, KeptGlobal, KeptFunction, KeptCps, KeptNothing, all_scalar, KeepsItems}
-use Rattle.cpc_chains_laws.specs.Complete.Steps.{HasSteps}
+use Rattle.cpc_lifted_laws.specs.Complete.Kept.{KeptName, KeptLocal, KeptGlobal, KeptFunction, KeptCps, KeptNothing, all_scalar, KeepsItems}
+use Rattle.cpc_lifted_laws.specs.Complete.Steps.{HasSteps}
 use Rattle.cpc_convert_common.specs.Marks.{has_marks}
 use Rattle.cpc_convert_common.specs.Converted.{spawner_name, prototype}
 use Rattle.cpc_convert_common.specs.Members.{Has, OnTop, Below}
 use Rattle.cpc_convert_common.proofs.Members.{has_left}
 use Rattle.cpc_convert_image_laws.specs.InPlace.{is_cps}
-use Rattle.cpc_chains_event.specs.Converted.{kept_items}
-use Rattle.cpc_chains_event.specs.NameLaws.{IsNamed, IsCps}
-use Rattle.cpc_chains_event.specs.Names.{variable_name}
+use Rattle.cpc_convert_routines.specs.Kept.{kept_items}
+use Rattle.cpc_convert_routines.specs.Named.{IsNamed, IsCps}
+use Rattle.cpc_convert_routines.specs.Names.{variable_name}
 use Rattle.cpc_chains_event.specs.Pieces.{parameter_of, spawner_function}
-use Rattle.cpc_chains_event.specs.Routines.{variable_if, passed_from, passed}
+use Rattle.cpc_convert_routines.specs.Routines.{variable_if, passed_from, passed}
 use Rattle.cpc_chains_event.proofs.Made.{has_spawner}
-use Rattle.cpc_chains_laws.specs.Accepted.Names.{HasNames}
-use Rattle.cpc_chains_laws.proofs.Rules.Items.{Declares, Beside}
+use Rattle.cpc_lifted_laws.specs.Accepted.Names.{HasNames}
+use Rattle.cpc_lifted_laws.proofs.Rules.Items.{Declares, Beside}
 use Rattle.cpc_chains_laws.proofs.Rules.Kept.{KeptItem, KeepStruct, KeepGlobal, KeepPrototype, KeepFunction, stays_meant}
-use Rattle.cpc_chains_laws.proofs.Rules.Meant.{nothing_meant}
+use Rattle.cpc_lifted_laws.proofs.Rules.Meant.{nothing_meant}
 use Rattle.cpc_chains_laws.proofs.Rules.Parts.{Parts, both_parts, kept_parts, kept_nothing, made_meant, declares_plain}
-use Rattle.cpc_chains_laws.proofs.Rules.Rows.{rows}
-use Rattle.cpc_chains_laws.proofs.Rules.Source.{known_at, known_whole}
+use Rattle.cpc_lifted_laws.proofs.Rules.Rows.{rows}
+use Rattle.cpc_lifted_laws.proofs.Rules.Source.{known_at, known_whole}
 use Rattle.cpc_chains_laws.proofs.Rules.Types.{grows_of, beyond_none, beyond_kept}
 use Rattle.cpc_chains_event.proofs.Extending.{beyond_append}
 

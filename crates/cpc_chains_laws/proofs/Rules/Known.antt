@@ -16,10 +16,11 @@ use Rattle.cpc_convert_common.specs.Members.{Has, OnTop, Below}
 use Rattle.cpc_convert_common.proofs.Members.{has_left, has_right, has_either}
 use Rattle.cpc_convert_image_laws.specs.InPlace.{is_cps}
 use Rattle.cpc_chains_store_laws.specs.Driver.{drive_function}
-use Rattle.cpc_chains_event.specs.Converted.{kept_items, routines, all_boxes, all_made, main_if, converted}
+use Rattle.cpc_convert_routines.specs.Kept.{kept_items, routines}
+use Rattle.cpc_chains_event.specs.Converted.{all_boxes, all_made, main_if, converted}
 use Rattle.cpc_chains_event.specs.Pieces.{piece_function, spawner_function}
-use Rattle.cpc_chains_event.specs.Routines.{Routine, routine_of}
-use Rattle.cpc_chains_event.specs.NameLaws.{IsCps}
+use Rattle.cpc_convert_routines.specs.Routines.{Routine, routine_of}
+use Rattle.cpc_convert_routines.specs.Named.{IsCps}
 use Rattle.cpc_chains_event.proofs.Extending.{is_struct}
 use Rattle.cpc_chains_event.proofs.Made.{has_piece, has_spawner}
 use Rattle.cpc_chains_event.proofs.Structs.{all_boxes_are}
@@ -28,14 +29,14 @@ use Rattle.cpc_check_laws.proofs.Sound.Growing.{grows_on}
 use Rattle.cpc_check_laws.proofs.Sound.Items.{named_more}
 use Rattle.cpc_check_laws.proofs.Sound.Knowing.{Known, Same}
 use Rattle.cpc_check_laws.proofs.Run.Names.{primitive_kept}
-use Rattle.cpc_chains_laws.specs.Complete.Kept.{KeptName, KeptGlobal, KeptFunction, KeptNothing, all_scalar, KeepsItems}
+use Rattle.cpc_lifted_laws.specs.Complete.Kept.{KeptName, KeptGlobal, KeptFunction, KeptNothing, all_scalar, KeepsItems}
 use Rattle.cpc_chains_laws.specs.Rules.Laws.{Knows}
-use Rattle.cpc_chains_laws.proofs.Rules.Items.{Declares}
+use Rattle.cpc_lifted_laws.proofs.Rules.Items.{Declares}
 use Rattle.cpc_chains_laws.proofs.Rules.KeptRows.{Front, Source, passed_types, kept_cps, marked_nothing, defined}
 use Rattle.cpc_chains_laws.proofs.Rules.Kept.{stays_meant}
-use Rattle.cpc_chains_laws.proofs.Rules.Source.{known_at, known_whole}
+use Rattle.cpc_lifted_laws.proofs.Rules.Source.{known_at, known_whole}
 use Rattle.cpc_chains_laws.proofs.Rules.Types.{grows_of, grows_at, beyond_none, beyond_whole}
-use Rattle.cpc_chains_laws.proofs.Rules.Meant.{nothing_meant, behind_meant, from_reverse}
+use Rattle.cpc_lifted_laws.proofs.Rules.Meant.{nothing_meant, behind_meant, from_reverse}
 use Rattle.cpc_chains_laws.proofs.Rules.Parts.{Part, Parts, both_parts, frames, prototypes, driver, definitions, main_of, front_of, before_made, whole, front_parts, kept_parts, boxes_parts, definitions_parts, structs_declare, front_unmarked, front_structs, From, IsFrom, from_map, to_map, made_marked, made_meant, driver_meant, kept_nothing, boxes_marked}
 
 -- ---- items that are no structs

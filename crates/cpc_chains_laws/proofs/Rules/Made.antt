@@ -14,19 +14,20 @@ use Rattle.cpc_convert_common.proofs.Marks.{NoUnderscore, marked_is, no_bar_spaw
 use Rattle.cpc_forms.specs.Flow.{Place, Start, At, flow_of}
 use Rattle.cpc_forms.specs.Graph.{graph_of}
 use Rattle.cpc_forms.specs.Pieces as P
-use Rattle.cpc_chains_event.specs.Names.{piece_name}
-use Rattle.cpc_chains_event.specs.Routines.{Routine, routine_of}
+use Rattle.cpc_convert_routines.specs.Names.{piece_name}
+use Rattle.cpc_convert_routines.specs.Routines.{Routine, routine_of}
 use Rattle.cpc_chains_event.specs.Pieces.{piece_function, leader_function, spawner_function, made_of}
-use Rattle.cpc_chains_event.specs.Converted.{routine_if, routines_in, routines, all_made}
-use Rattle.cpc_chains_event.specs.NameLaws.{IsNamed, IsCps, ALeader}
+use Rattle.cpc_convert_routines.specs.Kept.{routine_if, routines_in, routines}
+use Rattle.cpc_chains_event.specs.Converted.{all_made}
+use Rattle.cpc_convert_routines.specs.Named.{IsNamed, IsCps, ALeader}
 use Rattle.cpc_chains_event.proofs.Apart.{behind, piece_is, spawner_is, no_underscore_behind, piece_spawn, StartIsSmall}
 use Rattle.cpc_chains_event.proofs.Labels.{leaders_rise}
 use Rattle.cpc_chains_event.proofs.Made.{Made, MadeSpawner, MadePiece, Mapped, OfNumber, map_has, made_is, unmarked, small}
-use Rattle.cpc_chains_event.proofs.Numbers.{rises_once}
+use Rattle.cpc_convert_routines.proofs.Numbers.{rises_once}
 use Rattle.cpc_chains_event.proofs.Framed.{held, pieces_same}
-use Rattle.cpc_chains_laws.proofs.Rules.Items.{Beside, beside_each}
-use Rattle.cpc_chains_laws.proofs.Rules.Rows.{rows, Once, NoneOnce, AndOnce, once_both, has_at}
-use Rattle.cpc_chains_laws.proofs.Rules.Source.{signature, defined_once}
+use Rattle.cpc_lifted_laws.proofs.Rules.Items.{Beside, beside_each}
+use Rattle.cpc_lifted_laws.proofs.Rules.Rows.{rows, Once, NoneOnce, AndOnce, once_both, has_at}
+use Rattle.cpc_lifted_laws.proofs.Rules.Source.{signature, defined_once}
 
 -- ---- numbers each once
 

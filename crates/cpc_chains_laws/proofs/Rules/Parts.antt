@@ -16,20 +16,21 @@ use Rattle.cpc_convert_common.specs.Members.{Has, OnTop, Below}
 use Rattle.cpc_convert_common.proofs.Members.{has_either}
 use Rattle.cpc_convert_common.proofs.Marks.{NoUnderscore, marked_has, marked_is, no_bar_spawn}
 use Rattle.cpc_chains_store_laws.specs.Driver.{drive_name, drive_function, any_pointer, frame_tag}
-use Rattle.cpc_chains_event.specs.Routines.{Routine}
+use Rattle.cpc_convert_routines.specs.Routines.{Routine}
 use Rattle.cpc_chains_event.specs.Frames.{any_frame}
-use Rattle.cpc_chains_event.specs.Converted.{kept_items, routines, all_structs, all_boxes, all_made, main_function, main_if, converted_with, converted}
-use Rattle.cpc_chains_event.specs.NameLaws.{IsNamed}
+use Rattle.cpc_convert_routines.specs.Kept.{kept_items, routines}
+use Rattle.cpc_chains_event.specs.Converted.{all_structs, all_boxes, all_made, main_function, main_if, converted_with, converted}
+use Rattle.cpc_convert_routines.specs.Named.{IsNamed}
 use Rattle.cpc_chains_event.proofs.Apart.{behind, frame_is, driver_is, spawner_is, piece_is, no_bar_nothing, no_underscore_behind, spawn_nothing, piece_nothing}
 use Rattle.cpc_chains_event.proofs.Made.{Made, MadeSpawner, MadePiece, made_is, made_one_name}
 use Rattle.cpc_chains_event.proofs.Structs.{AreStructs, NoneAre, OneIs, all_structs_are, all_boxes_are}
 use Rattle.cpc_chains_event.proofs.StructsThere.{no_prototype}
-use Rattle.cpc_chains_laws.specs.Accepted.Names.{HasNames}
-use Rattle.cpc_chains_laws.proofs.Rules.Items.{Declares}
+use Rattle.cpc_lifted_laws.specs.Accepted.Names.{HasNames}
+use Rattle.cpc_lifted_laws.proofs.Rules.Items.{Declares}
 use Rattle.cpc_chains_laws.proofs.Rules.Kept.{KeptItem, KeepStruct, KeepGlobal, KeepPrototype, KeepFunction, kept_has}
 use Rattle.cpc_chains_laws.proofs.Rules.Made.{of_made}
-use Rattle.cpc_chains_laws.proofs.Rules.Meant.{said, all_said, nothing_meant}
-use Rattle.cpc_chains_laws.proofs.Rules.Names.{made_unkept}
+use Rattle.cpc_lifted_laws.proofs.Rules.Meant.{said, all_said, nothing_meant}
+use Rattle.cpc_lifted_laws.proofs.Rules.Names.{made_unkept}
 
 -- ---- parts
 

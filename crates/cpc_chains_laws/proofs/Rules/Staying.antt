@@ -23,21 +23,21 @@ use Rattle.cpc_check_laws.specs.Sound.Typed.{is_own}
 use Rattle.cpc_check_laws.proofs.Sound.Agreement.{Grows, sizes_grow}
 use Rattle.cpc_check_laws.proofs.Sound.Items.{last_first}
 use Rattle.cpc_check_laws.proofs.Sound.Unbroken.{holds_then}
-use Rattle.cpc_chains_laws.specs.Complete.Kept.{KeepsItems}
-use Rattle.cpc_chains_laws.specs.Complete.Reads.{Carries}
-use Rattle.cpc_chains_laws.proofs.Complete.Acts.{start_carried}
-use Rattle.cpc_chains_laws.proofs.Complete.KeptFunctions.{function_kept}
-use Rattle.cpc_chains_laws.proofs.Complete.Names.{unread, image_if_unread, stays}
+use Rattle.cpc_lifted_laws.specs.Complete.Kept.{KeepsItems}
+use Rattle.cpc_lifted_laws.specs.Complete.Reads.{Carries}
+use Rattle.cpc_lifted_laws.proofs.Complete.Acts.{start_carried}
+use Rattle.cpc_lifted_laws.proofs.Complete.KeptFunctions.{function_kept}
+use Rattle.cpc_lifted_laws.proofs.Complete.Names.{unread, image_if_unread, stays}
 use Rattle.cpc_convert_common.specs.Marks.{has_marks}
 use Rattle.cpc_convert_common.specs.Members.{Has, OnTop, Below}
 use Rattle.cpc_convert_common.proofs.Members.{has_either}
-use Rattle.cpc_chains_event.specs.Converted.{kept_function, kept_items}
-use Rattle.cpc_chains_laws.proofs.Accepted.Counts.{not_cps}
-use Rattle.cpc_chains_laws.proofs.Rules.Items.{beside_all, beside_each, no_struct, struct_none, no_item, item_none}
+use Rattle.cpc_convert_routines.specs.Kept.{kept_function, kept_items}
+use Rattle.cpc_lifted_laws.proofs.Accepted.Counts.{not_cps}
+use Rattle.cpc_lifted_laws.proofs.Rules.Items.{beside_all, beside_each, no_struct, struct_none, no_item, item_none}
 use Rattle.cpc_chains_laws.proofs.Rules.Kept.{KeptItem, KeepStruct, KeepGlobal, KeepPrototype, KeepFunction, KeptAt, kept_split, kept_has, has_kept, kept_last}
 use Rattle.cpc_chains_laws.proofs.Rules.KeptRows.{Front, Source, grown, keeps, defined, beside_other, beside_kept, declares_kept, function_has}
-use Rattle.cpc_chains_laws.proofs.Rules.Rows.{rows, each_row, has_at}
-use Rattle.cpc_chains_laws.proofs.Rules.Source.{signature, row_split, settles}
+use Rattle.cpc_lifted_laws.proofs.Rules.Rows.{rows, each_row, has_at}
+use Rattle.cpc_lifted_laws.proofs.Rules.Source.{signature, row_split, settles}
 use Rattle.cpc_chains_laws.proofs.Rules.Types.{sized_more, fields_more, struct_more}
 
 -- what a row says of two dialects

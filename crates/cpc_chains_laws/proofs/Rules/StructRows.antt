@@ -29,28 +29,30 @@ use Rattle.cpc_forms.specs.Flow.{Place, Start, At}
 use Rattle.cpc_lift_laws.specs.Lift.{boxes}
 use Rattle.cpc_lift_laws.proofs.Lift.{boxes_exact}
 use Rattle.cpc_lift_laws.proofs.Boxes.{boxes_are_below}
-use Rattle.cpc_chains_store_laws.specs.Structs.{ScalarFields}
+use Rattle.cpc_convert_flat_laws.specs.Structs.{ScalarFields}
 use Rattle.cpc_chains_store_laws.specs.Driver.{frame_tag}
-use Rattle.cpc_chains_event.specs.Names.{box_tag}
-use Rattle.cpc_chains_event.specs.Routines.{routine_of, closure_of, variable_of, variable_or, local_of, locals_of, passed}
-use Rattle.cpc_chains_event.specs.Frames.{start_struct, leader_struct, arriving_type, box_of, boxes_of, value_struct_if, structs_of}
-use Rattle.cpc_chains_event.specs.Converted.{kept_items, routines, all_structs, all_boxes, routine_if, routines_in}
-use Rattle.cpc_chains_event.specs.NameLaws.{IsCps}
+use Rattle.cpc_convert_routines.specs.Names.{box_tag}
+use Rattle.cpc_convert_routines.specs.Routines.{routine_of, closure_of, variable_of, variable_or, local_of, locals_of, passed}
+use Rattle.cpc_chains_event.specs.Frames.{start_struct, leader_struct, box_of, boxes_of, value_struct_if, structs_of}
+use Rattle.cpc_convert_routines.specs.Arriving.{arriving_type}
+use Rattle.cpc_convert_routines.specs.Kept.{kept_items, routines, routine_if, routines_in}
+use Rattle.cpc_chains_event.specs.Converted.{all_structs, all_boxes}
+use Rattle.cpc_convert_routines.specs.Named.{IsCps}
 use Rattle.cpc_chains_event.proofs.Apart.{behind, piece_is, value_is, box_is}
 use Rattle.cpc_chains_event.proofs.Extending.{Beyond}
 use Rattle.cpc_chains_event.proofs.Fields.{kept_rises, passed_length, passed_rise, frame_fields, NoneRises}
 use Rattle.cpc_chains_event.proofs.Framed.{tag_of, held}
 use Rattle.cpc_chains_event.proofs.Locals.{closure_rise}
-use Rattle.cpc_chains_event.proofs.Numbers.{Rises, NoneRise, OneRise}
+use Rattle.cpc_convert_routines.proofs.Numbers.{Rises, NoneRise, OneRise}
 use Rattle.cpc_chains_event.proofs.StructsThere.{arriving_scalar}
 use Rattle.cpc_chains_event.proofs.Made.{Mapped, OfNumber, map_has}
-use Rattle.cpc_chains_laws.specs.Accepted.Pieces.{VariablesHaveCells}
-use Rattle.cpc_chains_laws.proofs.Rules.Items.{no_struct}
+use Rattle.cpc_lifted_laws.specs.Accepted.Pieces.{VariablesHaveCells}
+use Rattle.cpc_lifted_laws.proofs.Rules.Items.{no_struct}
 use Rattle.cpc_chains_laws.proofs.Rules.Kept.{KeptItem, KeepStruct, kept_has}
 use Rattle.cpc_chains_laws.proofs.Rules.KeptRows.{Source}
-use Rattle.cpc_chains_laws.proofs.Rules.Names.{made_unkept}
+use Rattle.cpc_lifted_laws.proofs.Rules.Names.{made_unkept}
 use Rattle.cpc_chains_laws.proofs.Rules.Parts.{frames, front_of, front_structs, boxes_marked, struct_in_frames}
-use Rattle.cpc_chains_laws.proofs.Rules.Rows.{rows, Once, each_row, once_front, has_at}
+use Rattle.cpc_lifted_laws.proofs.Rules.Rows.{rows, Once, each_row, once_front, has_at}
 use Rattle.cpc_chains_laws.proofs.Rules.Tags.{frames_once, all_boxes_once, box_frame}
 use Rattle.cpc_chains_laws.proofs.Rules.Types.{grows_of, beyond_none, beyond_whole, own_size, sized, scalars_fit, scalars_sized, scalars_apart}
 use Rattle.cpc_chains_laws.proofs.Rules.FunctionRows.{free_name}

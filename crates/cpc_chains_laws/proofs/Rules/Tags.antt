@@ -14,18 +14,19 @@ use Rattle.cpc_forms.specs.Pieces as P
 use Rattle.cpc_lift_laws.specs.Boxes.{is_box}
 use Rattle.cpc_lift_laws.specs.Lift.{boxes, variable_count}
 use Rattle.cpc_chains_store_laws.specs.Driver.{frame_tag}
-use Rattle.cpc_chains_event.specs.Names.{piece_name, value_tag, box_tag}
-use Rattle.cpc_chains_event.specs.Routines.{routine_of}
+use Rattle.cpc_convert_routines.specs.Names.{piece_name, value_tag, box_tag}
+use Rattle.cpc_convert_routines.specs.Routines.{routine_of}
 use Rattle.cpc_chains_event.specs.Frames.{any_frame, value_struct_if, start_struct, leader_struct, structs_of, box_of, boxes_of}
-use Rattle.cpc_chains_event.specs.Converted.{routine_if, routines_in, routines, all_structs, all_boxes}
-use Rattle.cpc_chains_event.specs.NameLaws.{IsNamed, IsCps}
+use Rattle.cpc_convert_routines.specs.Kept.{routine_if, routines_in, routines}
+use Rattle.cpc_chains_event.specs.Converted.{all_structs, all_boxes}
+use Rattle.cpc_convert_routines.specs.Named.{IsNamed, IsCps}
 use Rattle.cpc_chains_event.proofs.Apart.{behind, piece_is, value_is, box_is, frame_is, differ_at, no_underscore_behind, no_bar_nothing}
 use Rattle.cpc_chains_event.proofs.Framed.{tag_of, no_bar_box, value_piece, box_small, boxes_same}
 use Rattle.cpc_chains_event.proofs.Made.{Mapped, OfNumber, map_has, unmarked}
-use Rattle.cpc_chains_event.proofs.Numbers.{rises_once}
+use Rattle.cpc_convert_routines.proofs.Numbers.{rises_once}
 use Rattle.cpc_chains_event.proofs.Locals.{boxes_rise}
 use Rattle.cpc_chains_laws.proofs.Rules.Made.{once_map, leaders_once, MadeOf, apart_of, leaders_told, start_told}
-use Rattle.cpc_chains_laws.proofs.Rules.Rows.{rows, Once, NoneOnce, AndOnce, once_both, has_at}
+use Rattle.cpc_lifted_laws.proofs.Rules.Rows.{rows, Once, NoneOnce, AndOnce, once_both, has_at}
 
 -- a text behind the underscores of a tag: a frame's begins with a letter that no box's does
 pub record FrameEnd (rest : Text) : Type 0 where

@@ -14,22 +14,23 @@ use Rattle.cpc_convert_common.specs.Converted.{prototype, function_item}
 use Rattle.cpc_convert_common.specs.Members.{Has, OnTop, Below}
 use Rattle.cpc_convert_common.proofs.Members.{has_left, has_right, has_either}
 use Rattle.cpc_chains_store_laws.specs.Driver.{drive_name, drive_function, frame_tag, head_fields}
-use Rattle.cpc_chains_store_laws.specs.Structs.{NoStruct, NoneHere, NotThis}
-use Rattle.cpc_chains_store_laws.proofs.Structs.{struct_fields}
-use Rattle.cpc_chains_event.specs.Converted.{kept_items, routines, all_structs, all_boxes, all_made, converted}
+use Rattle.cpc_convert_flat_laws.specs.Structs.{NoStruct, NoneHere, NotThis}
+use Rattle.cpc_convert_flat_laws.proofs.Structs.{struct_fields}
+use Rattle.cpc_convert_routines.specs.Kept.{kept_items, routines}
+use Rattle.cpc_chains_event.specs.Converted.{all_structs, all_boxes, all_made, converted}
 use Rattle.cpc_chains_event.proofs.Framed.{tag_of}
 use Rattle.cpc_chains_event.proofs.Structs.{all_boxes_are}
 use Rattle.cpc_chains_event.proofs.Made.{Made, MadeSpawner, MadePiece, made_is, made_one_name}
 use Rattle.cpc_chains_laws.specs.Rules.Laws.{Knows, BodyFine, BodiesFine}
 use Rattle.cpc_chains_laws.proofs.Rules.FunctionRows.{HeadFine, head_fine, agrees_itself, prototype_fine, definition_fine}
-use Rattle.cpc_chains_laws.proofs.Rules.Items.{Declares, Beside, beside_all, no_item}
+use Rattle.cpc_lifted_laws.proofs.Rules.Items.{Declares, Beside, beside_all, no_item}
 use Rattle.cpc_chains_laws.proofs.Rules.Kept.{KeptItem, kept_has}
 use Rattle.cpc_chains_laws.proofs.Rules.KeptRows.{Source, beside_other}
 use Rattle.cpc_chains_laws.proofs.Rules.Known.{knows}
 use Rattle.cpc_chains_laws.proofs.Rules.Made.{called, made_once}
 use Rattle.cpc_chains_laws.proofs.Rules.Parts.{frames, prototypes, driver, definitions, front_of, before_made, whole, frames_are, structs_declare, From, IsFrom, from_map, made_marked, driver_apart, kept_name}
-use Rattle.cpc_chains_laws.proofs.Rules.Rows.{rows, each_row, row_more, once_front, has_at, Once, AndOnce}
-use Rattle.cpc_chains_laws.proofs.Rules.Source.{signature}
+use Rattle.cpc_lifted_laws.proofs.Rules.Rows.{rows, each_row, row_more, once_front, has_at, Once, AndOnce}
+use Rattle.cpc_lifted_laws.proofs.Rules.Source.{signature}
 use Rattle.cpc_chains_laws.proofs.Rules.Tags.{frames_once}
 
 -- ---- rows that are mapped from lists

@@ -23,27 +23,28 @@ use Rattle.cpc_check_laws.specs.Sound.Typed.{is_own}
 use Rattle.cpc_check_laws.proofs.Sound.Agendas.{Each}
 use Rattle.cpc_check_laws.proofs.Sound.Grammar.{items_shape}
 use Rattle.cpc_check_laws.proofs.Sound.Programs.{ItemShape, program_typed}
-use Rattle.cpc_chains_laws.proofs.Complete.Steps.{has_steps}
+use Rattle.cpc_lifted_laws.proofs.Complete.Steps.{has_steps}
 use Rattle.cpc_convert_common.specs.Converted.{function_item}
 use Rattle.cpc_convert_common.specs.Members.{Has, OnTop, Below}
 use Rattle.cpc_convert_common.proofs.Members.{has_left, has_right}
 use Rattle.cpc_chains_event.specs.Pieces.{spawner_function}
-use Rattle.cpc_chains_event.specs.Routines.{Routine}
-use Rattle.cpc_chains_event.specs.Converted.{kept_function, kept_items, routines, all_boxes, all_made, main_function, main_if, converted}
-use Rattle.cpc_chains_event.specs.NameLaws.{IsCps}
+use Rattle.cpc_convert_routines.specs.Routines.{Routine}
+use Rattle.cpc_convert_routines.specs.Kept.{kept_function, kept_items, routines}
+use Rattle.cpc_chains_event.specs.Converted.{all_boxes, all_made, main_function, main_if, converted}
+use Rattle.cpc_convert_routines.specs.Named.{IsCps}
 use Rattle.cpc_chains_event.proofs.Made.{has_spawner}
-use Rattle.cpc_chains_laws.specs.Accepted.Functions.{HasMain}
-use Rattle.cpc_chains_laws.specs.Accepted.Pieces.{VariablesHaveCells}
-use Rattle.cpc_chains_laws.proofs.Accepted.Functions.{accepted_has_main}
-use Rattle.cpc_chains_laws.proofs.Accepted.Names.{accepted_has_names, accepted_is_named}
-use Rattle.cpc_chains_laws.proofs.Accepted.Pieces.{accepted_suits_pieces}
+use Rattle.cpc_lifted_laws.specs.Accepted.Functions.{HasMain}
+use Rattle.cpc_lifted_laws.specs.Accepted.Pieces.{VariablesHaveCells}
+use Rattle.cpc_lifted_laws.proofs.Accepted.Functions.{accepted_has_main}
+use Rattle.cpc_lifted_laws.proofs.Accepted.Names.{accepted_has_names, accepted_is_named}
+use Rattle.cpc_lifted_laws.proofs.Accepted.Pieces.{accepted_suits_pieces}
 use Rattle.cpc_chains_laws.specs.Rules.Laws.{BodiesFine, Unbroken, BodiesSuffice}
 use Rattle.cpc_chains_laws.proofs.Rules.Join.{main_has, native_main, main_row}
 use Rattle.cpc_chains_laws.proofs.Rules.Kept.{KeepFunction, has_kept}
 use Rattle.cpc_chains_laws.proofs.Rules.KeptRows.{Front, Source, function_has}
 use Rattle.cpc_chains_laws.proofs.Rules.Known.{whole_made, front_is}
 use Rattle.cpc_chains_laws.proofs.Rules.Parts.{frames, prototypes, driver, definitions, main_of, front_of, before_made, whole, converted_is, to_map}
-use Rattle.cpc_chains_laws.proofs.Rules.Rows.{rows, rows_append}
+use Rattle.cpc_lifted_laws.proofs.Rules.Rows.{rows, rows_append}
 use Rattle.cpc_chains_laws.proofs.Rules.Staying.{kept_rows}
 use Rattle.cpc_chains_laws.proofs.Rules.StructRows.{frame_rows, box_rows}
 use Rattle.cpc_chains_laws.proofs.Rules.Target.{prototype_rows, driver_row, definition_rows}

@@ -23,14 +23,14 @@ use Rattle.cpc_check_laws.proofs.Sound.Items.{last_first}
 use Rattle.cpc_check_laws.proofs.Sound.Unbroken.{holds_then}
 use Rattle.cpc_convert_common.specs.Marks.{has_marks}
 use Rattle.cpc_convert_common.specs.Members.{Has, OnTop, Below}
-use Rattle.cpc_chains_store_laws.specs.Structs.{NotCalled, NotSo, ScalarFields, NoFields, AndField}
-use Rattle.cpc_chains_store_laws.proofs.Structs.{scalar_cells}
-use Rattle.cpc_chains_event.specs.Converted.{kept_items}
-use Rattle.cpc_chains_event.specs.NameLaws.{IsUnmarked}
+use Rattle.cpc_convert_flat_laws.specs.Structs.{NotCalled, NotSo, ScalarFields, NoFields, AndField}
+use Rattle.cpc_convert_flat_laws.proofs.Structs.{scalar_cells}
+use Rattle.cpc_convert_routines.specs.Kept.{kept_items}
+use Rattle.cpc_convert_routines.specs.Named.{IsUnmarked}
 use Rattle.cpc_chains_event.proofs.Extending.{Beyond, BothEnd, BothHave, OneMore, LeftHas, RightHas, beyond_append, beyond_more, extending}
 use Rattle.cpc_chains_event.proofs.Boxing.{size_known}
-use Rattle.cpc_chains_laws.proofs.Rules.Rows.{rows}
-use Rattle.cpc_chains_laws.proofs.Rules.Source.{struct_once}
+use Rattle.cpc_lifted_laws.proofs.Rules.Rows.{rows}
+use Rattle.cpc_lifted_laws.proofs.Rules.Source.{struct_once}
 use Rattle.cpc_chains_laws.proofs.Rules.Kept.{KeptItem, KeepStruct, KeepGlobal, KeepPrototype, KeepFunction, Stays, DoesStay, IsLeft, stays, kept_more}
 
 -- ---- more items

@@ -6,10 +6,10 @@ use Rattle.cpc_tree.specs.Located.{bare}
 use Rattle.cpc_forms.specs.Graph.{node_of}
 use Rattle.cpc_forms.specs.Order.{points}
 use Rattle.cpc_check_laws.proofs.Sound.Accepted.{accepted_is_typed}
-use Rattle.cpc_chains_laws.proofs.Accepted.Functions.{accepted_is_shown}
-use Rattle.cpc_chains_laws.proofs.Accepted.Names.{accepted_has_names, accepted_is_named}
-use Rattle.cpc_chains_laws.proofs.Accepted.Pieces.{accepted_suits_pieces}
-use Rattle.cpc_chains_laws.proofs.Accepted.Points.{accepted_positions_known}
+use Rattle.cpc_lifted_laws.proofs.Accepted.Functions.{accepted_is_shown}
+use Rattle.cpc_lifted_laws.proofs.Accepted.Names.{accepted_has_names, accepted_is_named}
+use Rattle.cpc_lifted_laws.proofs.Accepted.Pieces.{accepted_suits_pieces}
+use Rattle.cpc_lifted_laws.proofs.Accepted.Points.{accepted_positions_known}
 use Rattle.cpc_chains_event.proofs.BoxesThere.{structs_there}
 use Rattle.cpc_chains_laws.proofs.Native.Codes.{codes_found}
 use Rattle.cpc_chains_laws.specs.Runs.Laws.{AcceptedCpsIsKnown, AcceptedIsKnown}

@@ -9,23 +9,24 @@ use Rattle.cpc_check_laws.specs.Kept.Layers.{KeepsModes}
 use Rattle.cpc_check_laws.proofs.Kept.Modes.{accepted_keeps_modes}
 use Rattle.cpc_forms.specs.Split.{split_form}
 use Rattle.cpc_convert_common.specs.Members.{Has}
-use Rattle.cpc_chains_event.specs.NameLaws.{IsCps}
-use Rattle.cpc_chains_laws.specs.Known.Jobs.{SectionsTake}
-use Rattle.cpc_chains_laws.specs.Accepted.Accepted.{OfAccepted}
-use Rattle.cpc_chains_laws.specs.Accepted.Known.{Stays, FineState}
-use Rattle.cpc_chains_laws.specs.Accepted.Lifted.{lifted_after}
-use Rattle.cpc_chains_laws.specs.Accepted.Pieces.{SuitsPieces}
-use Rattle.cpc_chains_laws.proofs.Accepted.Known.{accepted_is_fine}
-use Rattle.cpc_chains_laws.proofs.Accepted.Pieces.{accepted_suits_pieces}
-use Rattle.cpc_chains_laws.proofs.Accepted.Steady.{splits_are_steady}
-use Rattle.cpc_chains_laws.specs.Native.Convertible.{Convertible}
-use Rattle.cpc_chains_laws.specs.Native.Instance.{NamesDetached}
-use Rattle.cpc_chains_laws.proofs.Native.Convertible.{accepted_is_convertible}
-use Rattle.cpc_chains_laws.specs.Piece.Known.{CpsKnown, ProgramKnown}
-use Rattle.cpc_chains_laws.specs.Arrival.Taken.{RunsWell}
-use Rattle.cpc_chains_laws.proofs.Arrival.Accepted.{accepted_runs_well}
+use Rattle.cpc_convert_routines.specs.Named.{IsCps}
+use Rattle.cpc_lifted_laws.specs.Known.Jobs.{SectionsTake}
+use Rattle.cpc_lifted_laws.specs.Accepted.Accepted.{OfAccepted}
+use Rattle.cpc_lifted_laws.specs.Accepted.Known.{Stays, FineState}
+use Rattle.cpc_lifted_laws.specs.Accepted.Lifted.{lifted_after}
+use Rattle.cpc_lifted_laws.specs.Accepted.Pieces.{SuitsPieces}
+use Rattle.cpc_lifted_laws.proofs.Accepted.Known.{accepted_is_fine}
+use Rattle.cpc_lifted_laws.proofs.Accepted.Pieces.{accepted_suits_pieces}
+use Rattle.cpc_lifted_laws.proofs.Accepted.Steady.{splits_are_steady}
+use Rattle.cpc_lifted_laws.specs.Native.Convertible.{Convertible}
+use Rattle.cpc_lifted_laws.specs.Native.Instance.{NamesDetached}
+use Rattle.cpc_lifted_laws.proofs.Native.Convertible.{accepted_is_convertible}
+use Rattle.cpc_lifted_laws.specs.Piece.Known.{CpsKnown}
+use Rattle.cpc_chains_laws.specs.Piece.Known.{ProgramKnown}
+use Rattle.cpc_lifted_laws.specs.Arrival.Taken.{RunsWell}
+use Rattle.cpc_lifted_laws.proofs.Arrival.Accepted.{accepted_runs_well}
 use Rattle.cpc_chains_laws.proofs.Runs.Accepted.{cps_is_known, program_is_known}
-use Rattle.cpc_chains_laws.proofs.Runs.Sections.{sections_take}
+use Rattle.cpc_lifted_laws.proofs.Runs.Sections.{sections_take}
 
 -- all that is had of an accepted program
 pub record Had (p : Program) : Type 0 where

@@ -24,12 +24,12 @@ use Rattle.cpc_forms.specs.Flow.{Place}
 use Rattle.cpc_forms.specs.Split.{Position, InGraph, split_form}
 use Rattle.cpc_convert_image_laws.specs.Held.{IsHeldSlot, IsHeldStore, BoxesLive}
 use Rattle.cpc_convert_image_laws.specs.Stacks.{frame_of}
-use Rattle.cpc_chains_store_laws.specs.Walks.{frame_at}
+use Rattle.cpc_convert_flat_laws.specs.Walks.{frame_at}
 use Rattle.cpc_chains_event.specs.Converted.{converted}
-use Rattle.cpc_chains_event.specs.NameLaws.{IsCps, IsOwner}
-use Rattle.cpc_chains_event.specs.Names.{piece_name}
-use Rattle.cpc_chains_event.specs.Routines.{routine_of}
-use Rattle.cpc_chains_event.specs.Rows.{has_row}
+use Rattle.cpc_convert_routines.specs.Named.{IsCps, IsOwner}
+use Rattle.cpc_convert_routines.specs.Names.{piece_name}
+use Rattle.cpc_convert_routines.specs.Routines.{routine_of}
+use Rattle.cpc_convert_routines.specs.Nodes.{has_row}
 use Rattle.cpc_chains_laws.proofs.Related.Entry.{EntryFacts}
 use Rattle.cpc_chains_laws.proofs.Related.Inside.{PieceAt}
 use Rattle.cpc_chains_laws.proofs.Related.Joined.{RowFacts}
@@ -37,13 +37,14 @@ use Rattle.cpc_chains_laws.proofs.Related.Onwards.{Beside}
 use Rattle.cpc_chains_laws.proofs.Related.Relation.{Shared}
 use Rattle.cpc_chains_laws.proofs.Related.Setting.{Setting, Known}
 use Rattle.cpc_chains_laws.proofs.Related.Standing.{here}
-use Rattle.cpc_chains_laws.specs.Accepted.Known.{Stays}
-use Rattle.cpc_chains_laws.specs.Accepted.Lifted.{lifted_threads}
-use Rattle.cpc_chains_laws.proofs.Accepted.Lifted.{threads_follow}
-use Rattle.cpc_chains_laws.specs.Native.Convertible.{Convertible}
-use Rattle.cpc_chains_laws.specs.Native.Instance.{may_be}
+use Rattle.cpc_lifted_laws.specs.Accepted.Known.{Stays}
+use Rattle.cpc_lifted_laws.specs.Accepted.Lifted.{lifted_threads}
+use Rattle.cpc_lifted_laws.proofs.Accepted.Lifted.{threads_follow}
+use Rattle.cpc_lifted_laws.specs.Native.Convertible.{Convertible}
+use Rattle.cpc_lifted_laws.specs.Native.Instance.{may_be}
 use Rattle.cpc_chains_laws.proofs.Native.Instances.{PieceFacts, row_facts}
-use Rattle.cpc_chains_laws.specs.Piece.Known.{CpsKnown, ProgramKnown}
+use Rattle.cpc_lifted_laws.specs.Piece.Known.{CpsKnown}
+use Rattle.cpc_chains_laws.specs.Piece.Known.{ProgramKnown}
 use Rattle.cpc_chains_laws.specs.Piece.Rows.{RowAt}
 use Rattle.cpc_chains_laws.specs.Piece.Stood.{NodeAt, LocalsStand, Arrives, CallAt, call_point, Stood, AtRow, AtCall}
 use Rattle.cpc_chains_laws.proofs.Piece.Keeps.{keeps_facts}
@@ -52,8 +53,8 @@ use Rattle.cpc_chains_laws.proofs.Piece.Nodes.{OtherKinds, piece_shown, node_the
 use Rattle.cpc_chains_laws.proofs.Piece.Onwards.{z}
 use Rattle.cpc_chains_laws.proofs.Piece.Rowed.{DoesHere}
 use Rattle.cpc_chains_laws.proofs.Call.Arrivals.{arrivals}
-use Rattle.cpc_chains_laws.specs.Runs.Bounds.{bounds_of}
-use Rattle.cpc_chains_laws.proofs.Runs.Bounds.{onward_enough, spawns_enough}
+use Rattle.cpc_lifted_laws.specs.Runs.Bounds.{bounds_of}
+use Rattle.cpc_lifted_laws.proofs.Runs.Bounds.{onward_enough, spawns_enough}
 use Rattle.cpc_chains_laws.proofs.Runs.Locals.{stood_thin}
 
 module _ (p : Program) (facts : ProgramKnown p) (fine : CallFrame Position → Option Value → Type 0) (given : Text → List Value → Type 0) where

@@ -10,17 +10,17 @@ use Rattle.cpc_meaning.specs.History.{History}
 use Rattle.cpc_meaning.specs.Section.{Job}
 use Rattle.cpc_meaning.specs.Threads.{Thread, Pending}
 use Rattle.cpc_forms.specs.Split.{Position, split_form}
-use Rattle.cpc_chains_laws.specs.Related.Bounds.{Bounds}
+use Rattle.cpc_lifted_laws.specs.Related.Bounds.{Bounds}
 use Rattle.cpc_chains_laws.proofs.Related.Setting.{HeldJob, Known}
-use Rattle.cpc_chains_laws.specs.Known.Jobs.{SectionsTake, JobsFine}
-use Rattle.cpc_chains_laws.proofs.Known.BoxRuns.{lifted_boxes_stay}
-use Rattle.cpc_chains_laws.proofs.Known.JobRuns.{jobs_fine}
-use Rattle.cpc_chains_laws.specs.Accepted.Known.{Stays, FineJob, FineState}
-use Rattle.cpc_chains_laws.specs.Accepted.Lifted.{kept_of, lifted_after}
-use Rattle.cpc_chains_laws.specs.Native.Instance.{NamesDetached}
+use Rattle.cpc_lifted_laws.specs.Known.Jobs.{SectionsTake, JobsFine}
+use Rattle.cpc_lifted_laws.proofs.Known.BoxRuns.{lifted_boxes_stay}
+use Rattle.cpc_lifted_laws.proofs.Known.JobRuns.{jobs_fine}
+use Rattle.cpc_lifted_laws.specs.Accepted.Known.{Stays, FineJob, FineState}
+use Rattle.cpc_lifted_laws.specs.Accepted.Lifted.{kept_of, lifted_after}
+use Rattle.cpc_lifted_laws.specs.Native.Instance.{NamesDetached}
 use Rattle.cpc_chains_laws.proofs.Piece.Onwards.{z}
-use Rattle.cpc_chains_laws.specs.Arrival.Taken.{IsFine, RunsWell}
-use Rattle.cpc_chains_laws.specs.Runs.Runs.{NamesCps, CallsCps}
+use Rattle.cpc_lifted_laws.specs.Arrival.Taken.{IsFine, RunsWell}
+use Rattle.cpc_lifted_laws.specs.Runs.Runs.{NamesCps, CallsCps}
 
 module _ (p : Program) (bounds : Bounds) where
   jobs_held : (js : List Job) → All (FineJob (Stays p)) js → JobsFine (NamesDetached p) js → All (HeldJob (z p (IsFine p) (CallsCps p) bounds)) js

@@ -10,19 +10,20 @@ use Rattle.cpc_meaning.specs.Eval.{Slot, Register, Boxed}
 use Rattle.cpc_meaning.specs.Plain.{Frame}
 use Rattle.cpc_meaning.specs.Runs.{slots_registers, most_variables}
 use Rattle.cpc_forms.specs.Flow.{Place, Start, At}
-use Rattle.cpc_chains_event.specs.Frames.{arriving_type}
+use Rattle.cpc_convert_routines.specs.Arriving.{arriving_type}
 use Rattle.cpc_chains_event.specs.LocalLaws.{piece_locals}
-use Rattle.cpc_chains_event.specs.NameLaws.{IsNamed, IsCps, IsOwner}
-use Rattle.cpc_chains_event.specs.Names.{value_name}
-use Rattle.cpc_chains_event.specs.Pieces.{takes_value, called_so, loaded, words_of, begun}
-use Rattle.cpc_chains_event.specs.Routines.{Routine, routine_of, closure_of, local_of, locals_of, variable_if, is_plain, is_parameter, chosen}
+use Rattle.cpc_convert_routines.specs.Named.{IsNamed, IsCps, IsOwner}
+use Rattle.cpc_convert_routines.specs.Names.{value_name}
+use Rattle.cpc_convert_routines.specs.Taken.{takes_value}
+use Rattle.cpc_chains_event.specs.Pieces.{called_so, loaded, words_of, begun}
+use Rattle.cpc_convert_routines.specs.Routines.{Routine, routine_of, closure_of, local_of, locals_of, variable_if, is_plain, is_parameter, chosen}
 use Rattle.cpc_chains_laws.specs.Related.Running.{Places}
-use Rattle.cpc_chains_laws.specs.Piece.Known.{CpsKnown}
+use Rattle.cpc_lifted_laws.specs.Piece.Known.{CpsKnown}
 use Rattle.cpc_chains_laws.specs.Piece.Stood.{Stood, AtRow, AtCall}
 use Rattle.cpc_chains_laws.proofs.Piece.Frames.{kept_number}
 use Rattle.cpc_chains_laws.proofs.Entry.Counting.{variables_shared}
 use Rattle.cpc_chains_laws.proofs.Entry.Resuming.{words_of_number}
-use Rattle.cpc_chains_laws.proofs.Runs.Bounds.{most_within}
+use Rattle.cpc_lifted_laws.proofs.Runs.Bounds.{most_within}
 
 few_registers : (slots : List Slot) → slots_registers slots ≤ length slots
 few_registers [] = omega arith

@@ -23,16 +23,17 @@ use Rattle.cpc_check_laws.proofs.Sound.Shapes.{StepWritten, Written, AllWritten,
 use Rattle.cpc_check_laws.proofs.Sound.Unbroken.{split}
 use Rattle.cpc_convert_common.specs.Converted.{respawned, respawned_all, respawned_arm}
 use Rattle.cpc_convert_common.specs.Members.{Has, OnTop, Below}
-use Rattle.cpc_chains_event.specs.Converted.{kept_function, item_unless, kept_items, routine_if, routines_in, converted_with}
-use Rattle.cpc_chains_laws.specs.Accepted.Names.{HasNames}
-use Rattle.cpc_chains_laws.proofs.Accepted.Names.{accepted_has_names}
-use Rattle.cpc_chains_laws.proofs.Accepted.Counts.{cps_same}
+use Rattle.cpc_convert_routines.specs.Kept.{kept_function, item_unless, kept_items, routine_if, routines_in}
+use Rattle.cpc_chains_event.specs.Converted.{converted_with}
+use Rattle.cpc_lifted_laws.specs.Accepted.Names.{HasNames}
+use Rattle.cpc_lifted_laws.proofs.Accepted.Names.{accepted_has_names}
+use Rattle.cpc_lifted_laws.proofs.Accepted.Counts.{cps_same}
 use Rattle.cpc_check_laws.specs.Run.Plain.{is_plain_stmt, are_plain, is_plain_arm, is_plain_function, is_plain}
 use Rattle.cpc_check_laws.specs.Run.Shape.{is_step, is_shaped, all_shaped, is_shaped_arm, is_block, are_shaped}
 use Rattle.cpc_check_laws.proofs.Run.Native.{native_is_plain}
-use Rattle.cpc_chains_laws.proofs.Native.Accepted.{one_more}
+use Rattle.cpc_lifted_laws.proofs.Native.Accepted.{one_more}
 use Rattle.cpc_chains_laws.specs.Runs.Laws.{AcceptedIsNative}
-use Rattle.cpc_chains_laws.proofs.Runs.Signed.{item_declares}
+use Rattle.cpc_lifted_laws.proofs.Runs.Signed.{item_declares}
 
 -- ---- cps functions
 

@@ -20,7 +20,7 @@ use Rattle.cpc_lift_laws.specs.Lifted.{lifted_system}
 use Rattle.cpc_lift_laws.proofs.Lifting.{lifted_ends}
 use Rattle.cpc_convert_image_laws.specs.Held.{IsHeldStore}
 use Rattle.cpc_convert_image_laws.specs.Relations.{Found}
-use Rattle.cpc_chains_laws.specs.Related.Bounds.{Bounds, Enough}
+use Rattle.cpc_lifted_laws.specs.Related.Bounds.{Bounds, Enough}
 use Rattle.cpc_chains_laws.proofs.Related.Beginning.{main_row}
 use Rattle.cpc_chains_laws.proofs.Related.Joined.{RowFacts, row}
 use Rattle.cpc_chains_laws.proofs.Related.Pass.{related_shows}

@@ -16,22 +16,22 @@ use Rattle.cpc_forms.specs.Flow.{Place, At}
 use Rattle.cpc_forms.specs.Split.{InGraph}
 use Rattle.cpc_convert_image_laws.specs.Held.{IsHeldSlot, IsHeldStore, BoxesLive}
 use Rattle.cpc_convert_image_laws.specs.Stacks.{frame_of}
-use Rattle.cpc_chains_event.specs.NameLaws.{IsCps, IsOwner}
-use Rattle.cpc_chains_event.specs.Names.{piece_name}
-use Rattle.cpc_chains_event.specs.Routines.{routine_of}
-use Rattle.cpc_chains_event.specs.Rows.{has_row}
+use Rattle.cpc_convert_routines.specs.Named.{IsCps, IsOwner}
+use Rattle.cpc_convert_routines.specs.Names.{piece_name}
+use Rattle.cpc_convert_routines.specs.Routines.{routine_of}
+use Rattle.cpc_convert_routines.specs.Nodes.{has_row}
 use Rattle.cpc_chains_laws.proofs.Related.Entry.{EntryFacts}
 use Rattle.cpc_chains_laws.proofs.Related.Relation.{Shared}
 use Rattle.cpc_chains_laws.proofs.Related.Standing.{here}
 use Rattle.cpc_check_laws.specs.Kept.Fits.{FitAll}
-use Rattle.cpc_chains_laws.specs.Accepted.Known.{Stays, AreScalar}
-use Rattle.cpc_chains_laws.specs.Piece.Known.{CpsKnown}
+use Rattle.cpc_lifted_laws.specs.Accepted.Known.{Stays, AreScalar}
+use Rattle.cpc_lifted_laws.specs.Piece.Known.{CpsKnown}
 use Rattle.cpc_chains_laws.specs.Piece.Rows.{RowAt}
 use Rattle.cpc_chains_laws.specs.Piece.Stood.{NodeAt, LocalsStand, Arrives}
 use Rattle.cpc_chains_laws.proofs.Piece.Live.{frame_live}
 use Rattle.cpc_chains_laws.proofs.Piece.Nodes.{OtherKinds, piece_shown}
-use Rattle.cpc_chains_laws.specs.Arrival.Taken.{IsFine}
-use Rattle.cpc_chains_laws.proofs.Arrival.Split.{leaders_take_values, nodes_take_values}
+use Rattle.cpc_lifted_laws.specs.Arrival.Taken.{IsFine}
+use Rattle.cpc_lifted_laws.proofs.Arrival.Split.{leaders_take_values, nodes_take_values}
 use Rattle.cpc_chains_laws.proofs.Call.Asking.{asks_there}
 use Rattle.cpc_chains_laws.proofs.Call.Entering.{framed_there}
 use Rattle.cpc_chains_laws.proofs.Call.Framed.{no_section}
@@ -43,11 +43,11 @@ use Rattle.cpc_chains_laws.proofs.Entry.Fine.{sizes_known, call_taken, fine_take
 use Rattle.cpc_chains_laws.specs.Return.Kept.{KeepsBoxes}
 use Rattle.cpc_chains_laws.proofs.Return.Kept.{fine_boxes_are_kept}
 use Rattle.cpc_chains_laws.proofs.Return.Returns.{ends_there, returns_there}
-use Rattle.cpc_chains_laws.specs.Wait.Asked.{GivenWhereFit}
+use Rattle.cpc_lifted_laws.specs.Wait.Asked.{GivenWhereFit}
 use Rattle.cpc_chains_laws.proofs.Wait.Waits.{waits}
-use Rattle.cpc_chains_laws.specs.Runs.Bounds.{bounds_of}
-use Rattle.cpc_chains_laws.specs.Runs.Runs.{CallsCps}
-use Rattle.cpc_chains_laws.proofs.Runs.Bounds.{onward_enough, leads_enough, resumes_enough, takes_enough, opens_enough, begins_enough}
+use Rattle.cpc_lifted_laws.specs.Runs.Bounds.{bounds_of}
+use Rattle.cpc_lifted_laws.specs.Runs.Runs.{CallsCps}
+use Rattle.cpc_lifted_laws.proofs.Runs.Bounds.{onward_enough, leads_enough, resumes_enough, takes_enough, opens_enough, begins_enough}
 use Rattle.cpc_chains_laws.proofs.Runs.Had.{Had}
 use Rattle.cpc_chains_laws.proofs.Runs.Join.{setting, PiecesDo}
 

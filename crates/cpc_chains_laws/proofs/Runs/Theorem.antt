@@ -20,22 +20,23 @@ use Rattle.cpc_check_laws.proofs.Sound.Accepted.{accepted_threads_never_stuck}
 use Rattle.cpc_check_rules.specs.Operators.{is_cps}
 use Rattle.cpc_forms.specs.Split.{Position}
 use Rattle.cpc_convert_image_laws.specs.Relations.{Found, BothFound}
-use Rattle.cpc_chains_event.specs.Converted.{kept_function, routines, converted}
+use Rattle.cpc_convert_routines.specs.Kept.{kept_function, routines}
+use Rattle.cpc_chains_event.specs.Converted.{converted}
 use Rattle.cpc_chains_laws.proofs.Related.Joined.{RowFacts}
 use Rattle.cpc_chains_laws.proofs.Related.Pass.{follows_lifted}
 use Rattle.cpc_chains_laws.proofs.Related.Setting.{Setting, Known}
-use Rattle.cpc_chains_laws.specs.Accepted.Functions.{HasMain}
-use Rattle.cpc_chains_laws.specs.Accepted.Lifted.{lifted_threads, lifted_after}
-use Rattle.cpc_chains_laws.proofs.Accepted.Counts.{cps_same}
-use Rattle.cpc_chains_laws.specs.Native.Instance.{StaysAs}
+use Rattle.cpc_lifted_laws.specs.Accepted.Functions.{HasMain}
+use Rattle.cpc_lifted_laws.specs.Accepted.Lifted.{lifted_threads, lifted_after}
+use Rattle.cpc_lifted_laws.proofs.Accepted.Counts.{cps_same}
+use Rattle.cpc_lifted_laws.specs.Native.Instance.{StaysAs}
 use Rattle.cpc_chains_laws.proofs.Native.Wholes.{kept_there, kept_named}
 use Rattle.cpc_check_laws.proofs.Run.Alike.{plain_runs_same, plain_runs_within}
-use Rattle.cpc_chains_laws.specs.Arrival.Taken.{IsFine}
-use Rattle.cpc_chains_laws.specs.Runs.Bounds.{bounds_of}
+use Rattle.cpc_lifted_laws.specs.Arrival.Taken.{IsFine}
+use Rattle.cpc_lifted_laws.specs.Runs.Bounds.{bounds_of}
 use Rattle.cpc_chains_laws.specs.Runs.Laws.{IsNative, ConvertedHasSameRuns}
-use Rattle.cpc_chains_laws.specs.Runs.Runs.{CallsCps, NamesCps}
-use Rattle.cpc_chains_laws.proofs.Runs.Bounds.{bounds_enough}
-use Rattle.cpc_chains_laws.proofs.Runs.Called.{cps_from_then, OfCps, AllCpsIn}
+use Rattle.cpc_lifted_laws.specs.Runs.Runs.{CallsCps, NamesCps}
+use Rattle.cpc_lifted_laws.proofs.Runs.Bounds.{bounds_enough}
+use Rattle.cpc_lifted_laws.proofs.Runs.Called.{cps_from_then, OfCps, AllCpsIn}
 use Rattle.cpc_chains_laws.proofs.Runs.Had.{Had, accepted_had}
 use Rattle.cpc_chains_laws.proofs.Runs.Join.{setting, PiecesDo, FineSays, rows, same_runs}
 use Rattle.cpc_chains_laws.proofs.Runs.Known.{state_known}

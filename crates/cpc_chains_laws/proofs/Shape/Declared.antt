@@ -22,19 +22,19 @@ use Rattle.cpc_graph_laws.proofs.Splits.{owner_there}
 use Rattle.cpc_graph_laws.proofs.Owning.{place_self}
 use Rattle.cpc_lift_laws.specs.Lift.{closure_in}
 use Rattle.cpc_lift_laws.specs.Used.{used_at}
-use Rattle.cpc_chains_event.specs.ClosureLaws.{may_stand, lifting}
+use Rattle.cpc_convert_routines.specs.ClosureLaws.{may_stand, lifting}
 use Rattle.cpc_chains_event.specs.LocalLaws.{piece_locals}
-use Rattle.cpc_chains_event.specs.NameLaws.{IsOwner}
-use Rattle.cpc_chains_event.specs.Names.{variable_name}
+use Rattle.cpc_convert_routines.specs.Named.{IsOwner}
+use Rattle.cpc_convert_routines.specs.Names.{variable_name}
 use Rattle.cpc_chains_event.specs.Pieces.{piece_function}
-use Rattle.cpc_chains_event.specs.Routines.{Routine, routine_of, keeper, closure_of, owner_number, variable_or, local_of}
+use Rattle.cpc_convert_routines.specs.Routines.{Routine, routine_of, keeper, closure_of, owner_number, variable_or, local_of}
 use Rattle.cpc_chains_event.specs.Rows.{owner_at}
-use Rattle.cpc_chains_event.proofs.Closures.{closures_lifted}
+use Rattle.cpc_convert_routines.proofs.Closures.{closures_lifted}
 use Rattle.cpc_chains_event.proofs.Locals.{locals_meant}
-use Rattle.cpc_chains_laws.specs.Accepted.Lifted.{kept_of}
-use Rattle.cpc_chains_laws.proofs.Accepted.Lifted.{programs_are_closed}
+use Rattle.cpc_lifted_laws.specs.Accepted.Lifted.{kept_of}
+use Rattle.cpc_lifted_laws.proofs.Accepted.Lifted.{programs_are_closed}
 use Rattle.cpc_chains_laws.specs.Shape.Shape.{HasLocals}
-use Rattle.cpc_chains_laws.proofs.Shape.Calls.{CpsTyped}
+use Rattle.cpc_lifted_laws.proofs.Shape.Calls.{CpsTyped}
 use Rattle.cpc_chains_laws.proofs.Shape.Owned.{got_has}
 
 -- ---- owners keep their own closures

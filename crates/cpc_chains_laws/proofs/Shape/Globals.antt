@@ -8,9 +8,10 @@ use Rattle.cpc_meaning.specs.Start.{main_name}
 use Rattle.cpc_meaning.specs.Threads.{is_cps_mode, is_cps}
 use Rattle.cpc_convert_common.specs.Converted.{prototype, function_item}
 use Rattle.cpc_chains_store_laws.specs.Driver.{drive_function}
-use Rattle.cpc_chains_event.specs.Converted.{kept_function, item_unless, kept_items, routines, all_structs, all_boxes, all_made, main_if, converted_with, converted}
+use Rattle.cpc_convert_routines.specs.Kept.{kept_function, item_unless, kept_items, routines}
+use Rattle.cpc_chains_event.specs.Converted.{all_structs, all_boxes, all_made, main_if, converted_with, converted}
 use Rattle.cpc_chains_event.specs.Pieces.{leader_function}
-use Rattle.cpc_chains_event.specs.Routines.{Routine}
+use Rattle.cpc_convert_routines.specs.Routines.{Routine}
 use Rattle.cpc_chains_event.proofs.Structs.{AreStructs, NoneAre, OneIs, all_structs_are, all_boxes_are}
 use Rattle.cpc_chains_event.proofs.StructsThere.{behind_boxes}
 use Rattle.cpc_chains_event.proofs.Lookups.{behind_driver}

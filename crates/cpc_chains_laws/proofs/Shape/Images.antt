@@ -14,8 +14,8 @@ use Rattle.cpc_chains_store_laws.specs.Driver.{detaches, patches}
 use Rattle.cpc_chains_store_laws.specs.Frames.{frame_through, gives_one, asks_block}
 use Rattle.cpc_forms.specs.Flow.{At}
 use Rattle.cpc_chains_event.specs.Lines.{Line, Does, goes, passes, all_do, frame_lines, gives_from, call_lines, hands_over, hands_nothing, wait_lines, section_lines, enter_lines, waits_lines, leave_lines, test_lines, arrival_lines, stood_lines, unbox_lines}
-use Rattle.cpc_chains_event.specs.Names.{piece_name, start_name, next_name, result_name, to_name, under_name, node_label}
-use Rattle.cpc_chains_event.specs.Routines.{Routine}
+use Rattle.cpc_convert_routines.specs.Names.{piece_name, start_name, next_name, result_name, to_name, under_name, node_label}
+use Rattle.cpc_convert_routines.specs.Routines.{Routine}
 use Rattle.cpc_chains_laws.specs.Shape.Help.{HandedOver, BelowIt, names_code, links, MakesFrame, Between, Done, Helps, Stands}
 use Rattle.cpc_chains_laws.specs.Shape.Images.{IsQuiet, AnEmpty, ADeclare, AGoto, ABreak, AContinue, Given, NoneGiven, OneGiven, NoPlace, IsImage, ATest, AnAssign, ACall, AStart, ASpawn, Quietly, NoTest, AWait, ASection, ACpsCall, AnArrival, NoArrival, AResult, AReturn, AnEnd}
 use Rattle.cpc_chains_laws.proofs.Shape.Strewn.{bares, all_bare, frame_image, unboxes_help, put, put_do, goes_help, passes_quiet}

@@ -9,14 +9,15 @@ use Rattle.cpc_convert_common.specs.Converted.{prototype, function_item}
 use Rattle.cpc_convert_common.specs.Members.{Has, OnTop, Below}
 use Rattle.cpc_convert_common.proofs.Members.{has_either}
 use Rattle.cpc_chains_store_laws.specs.Driver.{drive_function}
-use Rattle.cpc_chains_event.specs.Converted.{kept_function, item_unless, kept_items, routine_if, routines_in, routines, all_structs, all_boxes, all_made, main_function, main_if, converted_with, converted}
-use Rattle.cpc_chains_event.specs.NameLaws.{IsCps, IsKept}
-use Rattle.cpc_chains_event.specs.Routines.{Routine}
+use Rattle.cpc_convert_routines.specs.Kept.{kept_function, item_unless, kept_items, routine_if, routines_in, routines}
+use Rattle.cpc_chains_event.specs.Converted.{all_structs, all_boxes, all_made, main_function, main_if, converted_with, converted}
+use Rattle.cpc_convert_routines.specs.Named.{IsCps, IsKept}
+use Rattle.cpc_convert_routines.specs.Routines.{Routine}
 use Rattle.cpc_chains_event.proofs.Made.{Made, made_is}
 use Rattle.cpc_chains_event.proofs.Structs.{AreStructs, NoneAre, OneIs, all_structs_are, all_boxes_are}
 use Rattle.cpc_chains_event.proofs.StructsThere.{behind_boxes}
 use Rattle.cpc_chains_event.proofs.Lookups.{behind_driver}
-use Rattle.cpc_chains_laws.specs.Accepted.Names.{HasNames}
+use Rattle.cpc_lifted_laws.specs.Accepted.Names.{HasNames}
 
 -- ---- functions
 

@@ -17,19 +17,20 @@ use Rattle.cpc_lift_laws.specs.Boxes.{is_box_in, has_block}
 use Rattle.cpc_lift_laws.proofs.Lift.{boxes_exact}
 use Rattle.cpc_convert_image_laws.specs.Locals.{local_type}
 use Rattle.cpc_chains_event.specs.LocalLaws.{piece_locals}
-use Rattle.cpc_chains_event.specs.NameLaws.{IsOwner}
-use Rattle.cpc_chains_event.specs.Names.{box_tag, variable_name, pointer_name, frame_name, next_name, value_name, to_name, under_name, result_name}
-use Rattle.cpc_chains_event.specs.Frames.{arriving_type}
-use Rattle.cpc_chains_event.specs.Pieces.{loaded, begun, called_so, takes_value, to_frame, words_if, words_of, piece_function}
-use Rattle.cpc_chains_event.specs.Routines.{Routine, routine_of, closure_of, is_plain, is_parameter, variable_if, variable_or, local_of, locals_of, chosen}
+use Rattle.cpc_convert_routines.specs.Named.{IsOwner}
+use Rattle.cpc_convert_routines.specs.Names.{box_tag, variable_name, pointer_name, frame_name, next_name, value_name, to_name, under_name, result_name}
+use Rattle.cpc_convert_routines.specs.Arriving.{arriving_type}
+use Rattle.cpc_chains_event.specs.Pieces.{loaded, begun, called_so, to_frame, words_if, words_of, piece_function}
+use Rattle.cpc_convert_routines.specs.Taken.{takes_value}
+use Rattle.cpc_convert_routines.specs.Routines.{Routine, routine_of, closure_of, is_plain, is_parameter, variable_if, variable_or, local_of, locals_of, chosen}
 use Rattle.cpc_chains_event.proofs.Fields.{variables_apart, word_apart}
 use Rattle.cpc_chains_event.proofs.Locals.{closure_rise, locals_meant}
 use Rattle.cpc_chains_event.proofs.Framed.{held}
 use Rattle.cpc_chains_event.proofs.Made.{Mapped, OfNumber, map_has}
-use Rattle.cpc_chains_event.proofs.Numbers.{held_either, chosen_is, AllBelow, NoneBelow, OneBelow, rises_below}
+use Rattle.cpc_convert_routines.proofs.Numbers.{held_either, chosen_is, AllBelow, NoneBelow, OneBelow, rises_below}
 use Rattle.cpc_chains_laws.specs.Shape.Help.{words}
 use Rattle.cpc_chains_laws.specs.Shape.Shape.{AreApart, AreTyped}
-use Rattle.cpc_chains_laws.proofs.Shape.Calls.{CpsTyped}
+use Rattle.cpc_lifted_laws.proofs.Shape.Calls.{CpsTyped}
 
 -- ---- names
 

@@ -11,10 +11,11 @@ use Rattle.cpc_graph_laws.proofs.Leaders.{inside, leader_below}
 use Rattle.cpc_graph_laws.proofs.Owners.{owner_owns}
 use Rattle.cpc_graph_laws.proofs.Owning.{pieces_hold_theirs, place_self}
 use Rattle.cpc_graph_laws.proofs.Splits.{owner_there}
-use Rattle.cpc_chains_event.specs.Routines.{Routine, routine_of, chosen}
-use Rattle.cpc_chains_event.specs.Rows.{owner_at, is_own, has_row, rows_nodes, reached, stubs_of, row_of, falls, stub_behind, numbers_from, numbers_of}
+use Rattle.cpc_convert_routines.specs.Routines.{Routine, routine_of, chosen}
+use Rattle.cpc_chains_event.specs.Rows.{owner_at, reached, stubs_of, row_of, falls, stub_behind, numbers_from, numbers_of}
+use Rattle.cpc_convert_routines.specs.Nodes.{is_own, has_row, rows_nodes}
 use Rattle.cpc_chains_event.proofs.Labels.{rows_stand_once, turned_is, behind_is}
-use Rattle.cpc_chains_event.proofs.Numbers.{held_either, chosen_is}
+use Rattle.cpc_convert_routines.proofs.Numbers.{held_either, chosen_is}
 use Rattle.cpc_chains_laws.proofs.Piece.Ways.{listed}
 
 -- what is listed is a node or a leader that is not the piece's own

@@ -20,10 +20,11 @@ use Rattle.cpc_graph_laws.proofs.Graphs.{node_found}
 use Rattle.cpc_graph_laws.proofs.Leaders.{is_leading}
 use Rattle.cpc_graph_laws.proofs.MoreFacts.{arrivals_stay}
 use Rattle.cpc_graph_laws.proofs.Owned.{reaches, owner_is, is_owned}
-use Rattle.cpc_chains_event.specs.Routines.{Routine, routine_of}
-use Rattle.cpc_chains_event.specs.Rows.{is_own, has_row, stands_with, numbers_of}
+use Rattle.cpc_convert_routines.specs.Routines.{Routine, routine_of}
+use Rattle.cpc_convert_routines.specs.Nodes.{is_own, has_row, stands_with}
+use Rattle.cpc_chains_event.specs.Rows.{numbers_of}
 use Rattle.cpc_chains_event.proofs.Labels.{rows_stand_once}
-use Rattle.cpc_chains_laws.proofs.Shape.Calls.{CpsTyped}
+use Rattle.cpc_lifted_laws.proofs.Shape.Calls.{CpsTyped}
 use Rattle.cpc_chains_laws.proofs.Shape.Numbers.{row_there}
 use Rattle.cpc_chains_laws.proofs.Shape.Points.{arrival_with, points_with, IsRow}
 use Rattle.cpc_chains_laws.proofs.Shape.Rows.{owns_later, points_if, points_for, OwnPoint, own_point, all_points}

@@ -6,13 +6,14 @@ use Rattle.cpc_tree.specs.Typing.{is_scalar}
 use Rattle.cpc_forms.specs.Control as C
 use Rattle.cpc_forms.specs.Flow.{Place, Start, At}
 use Rattle.cpc_graph_laws.specs.Laws.{place_of, is_node}
-use Rattle.cpc_chains_store_laws.specs.Flat.{before}
-use Rattle.cpc_chains_store_laws.specs.Frames.{Load, loads_one, declares_one, frees_frame}
-use Rattle.cpc_chains_store_laws.proofs.Rows.{before_append}
-use Rattle.cpc_chains_event.specs.NameLaws.{IsOwner}
-use Rattle.cpc_chains_event.specs.Names.{piece_name, box_tag, variable_name, pointer_name, frame_name}
+use Rattle.cpc_convert_flat_laws.specs.Flat.{before}
+use Rattle.cpc_convert_flat_laws.specs.Locals.{Load, loads_one, declares_one}
+use Rattle.cpc_chains_store_laws.specs.Frames.{frees_frame}
+use Rattle.cpc_convert_flat_laws.proofs.Rows.{before_append}
+use Rattle.cpc_convert_routines.specs.Named.{IsOwner}
+use Rattle.cpc_convert_routines.specs.Names.{piece_name, box_tag, variable_name, pointer_name, frame_name}
 use Rattle.cpc_chains_event.specs.Pieces.{fills_if, box_lines, boxing_lines, boxing_of, loads_of, declares_of, piece_body}
-use Rattle.cpc_chains_event.specs.Routines.{Routine, routine_of, stood_variable, variable_of, is_parameter}
+use Rattle.cpc_convert_routines.specs.Routines.{Routine, routine_of, stood_variable, variable_of, is_parameter}
 use Rattle.cpc_chains_event.specs.Rows.{piece_statements}
 use Rattle.cpc_chains_event.proofs.Apart.{behind, piece_is}
 use Rattle.cpc_chains_laws.specs.Shape.Help.{TakesUp, Loads, Declares, GivesFrame, MakesBox, FillsBox, Between, Done, Helps}
@@ -20,7 +21,7 @@ use Rattle.cpc_chains_laws.specs.Shape.Shape.{IsPiece}
 use Rattle.cpc_chains_laws.proofs.Shape.Locals.{apart, locals_typed}
 use Rattle.cpc_chains_laws.proofs.Shape.Declared.{locals_there}
 use Rattle.cpc_chains_laws.proofs.Shape.Strewn.{bares, all_bare}
-use Rattle.cpc_chains_laws.proofs.Shape.Calls.{CpsTyped}
+use Rattle.cpc_lifted_laws.proofs.Shape.Calls.{CpsTyped}
 use Rattle.cpc_chains_laws.proofs.Shape.Points.{made_in}
 use Rattle.cpc_chains_laws.proofs.Shape.Rows.{piece_rows, all_points}
 use Rattle.cpc_chains_laws.proofs.Shape.Owned.{one_place, points_distinct, owned_has, has_owned}

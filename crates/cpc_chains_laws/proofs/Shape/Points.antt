@@ -16,16 +16,16 @@ use Rattle.cpc_graph_laws.proofs.Controls.{is_not_nothing}
 use Rattle.cpc_graph_laws.proofs.Graphs.{node_found}
 use Rattle.cpc_convert_image_laws.specs.Images.{Readings, image_stmt}
 use Rattle.cpc_chains_event.specs.Lines.{Line, behind_arrival, stood_lines, node_lines}
-use Rattle.cpc_chains_event.specs.Names.{variable_name}
+use Rattle.cpc_convert_routines.specs.Names.{variable_name}
 use Rattle.cpc_chains_event.specs.Pieces.{piece_function}
-use Rattle.cpc_chains_event.specs.Routines.{Routine, routine_of}
+use Rattle.cpc_convert_routines.specs.Routines.{Routine, routine_of}
 use Rattle.cpc_chains_laws.proofs.Piece.TestWays.{test_goes}
 use Rattle.cpc_chains_laws.specs.Shape.Help.{Between, Stands}
 use Rattle.cpc_chains_laws.specs.Shape.Images.{IsImage, arrival_name, Images, NoImage, AnImage, WithArrival}
 use Rattle.cpc_chains_laws.specs.Shape.Shape.{names_at}
 use Rattle.cpc_chains_laws.proofs.Shape.Strewn.{bares, put, goes_help}
 use Rattle.cpc_chains_laws.proofs.Shape.Images.{found_one, RowImage, in_place_row, cps_row, arrival_row, end_row}
-use Rattle.cpc_chains_laws.proofs.Shape.Calls.{CpsTyped, cps_called}
+use Rattle.cpc_lifted_laws.proofs.Shape.Calls.{CpsTyped, cps_called}
 use Rattle.cpc_chains_laws.proofs.Call.Framed.{framed_call}
 
 -- what is made for a node of control

@@ -23,12 +23,13 @@ use Rattle.cpc_graph_laws.proofs.Leaders.{is_leading, leader_place}
 use Rattle.cpc_graph_laws.proofs.Owned.{owner_is}
 use Rattle.cpc_convert_image_laws.specs.Images.{Readings, image_stmt}
 use Rattle.cpc_chains_store_laws.specs.Driver.{next_field, any_pointer, drive_function}
-use Rattle.cpc_chains_store_laws.specs.Flat.{before}
-use Rattle.cpc_chains_store_laws.specs.Frames.{loads_one, frees_frame}
+use Rattle.cpc_convert_flat_laws.specs.Flat.{before}
+use Rattle.cpc_convert_flat_laws.specs.Locals.{loads_one}
+use Rattle.cpc_chains_store_laws.specs.Frames.{frees_frame}
 use Rattle.cpc_chains_event.specs.Lines.{hands_over}
-use Rattle.cpc_chains_event.specs.Converted.{kept_function}
-use Rattle.cpc_chains_event.specs.NameLaws.{IsCps, IsKept}
-use Rattle.cpc_chains_event.specs.Names.{piece_name, pointer_name, frame_name, next_name}
+use Rattle.cpc_convert_routines.specs.Kept.{kept_function}
+use Rattle.cpc_convert_routines.specs.Named.{IsCps, IsKept}
+use Rattle.cpc_convert_routines.specs.Names.{piece_name, pointer_name, frame_name, next_name}
 use Rattle.cpc_chains_event.specs.Pieces.{spawner_function}
 use Rattle.cpc_chains_event.proofs.Apart.{behind, piece_is as piece_named, spawner_is, driver_is, no_underscore_behind, no_bar_nothing, piece_spawn, piece_nothing, StartIsSmall, NumberIsSmall, behind_is}
 use Rattle.cpc_chains_laws.specs.Shape.Help.{Between, Done, Helps, Stands}

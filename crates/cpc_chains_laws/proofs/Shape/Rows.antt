@@ -19,15 +19,16 @@ use Rattle.cpc_graph_laws.proofs.Graphs.{node_found}
 use Rattle.cpc_graph_laws.proofs.Owned.{owner_is}
 use Rattle.cpc_graph_laws.proofs.Positions.{owner_place}
 use Rattle.cpc_graph_laws.proofs.Standing.{IsNoArrival, way_no_arrival}
-use Rattle.cpc_chains_event.specs.Names.{node_label, variable_name}
+use Rattle.cpc_convert_routines.specs.Names.{node_label, variable_name}
 use Rattle.cpc_chains_event.specs.Lines.{node_lines}
-use Rattle.cpc_chains_event.specs.Routines.{Routine, routine_of}
-use Rattle.cpc_chains_event.specs.Rows.{is_own, has_row, stands_with, row_of, lines_by, numbers_of, first_number, PutRow, put_rows, is_wanted, label_if, rows_statements, piece_statements}
+use Rattle.cpc_convert_routines.specs.Routines.{Routine, routine_of}
+use Rattle.cpc_convert_routines.specs.Nodes.{is_own, has_row, stands_with}
+use Rattle.cpc_chains_event.specs.Rows.{row_of, lines_by, numbers_of, first_number, PutRow, put_rows, is_wanted, label_if, rows_statements, piece_statements}
 use Rattle.cpc_chains_laws.specs.Shape.Help.{Between, Done}
 use Rattle.cpc_chains_laws.specs.Shape.Images.{Images, NoImage, AnImage, WithArrival}
 use Rattle.cpc_chains_laws.specs.Shape.Shape.{names_at}
 use Rattle.cpc_chains_laws.proofs.Shape.Strewn.{bares, all_bare, labelled_bare, put, stub_help}
-use Rattle.cpc_chains_laws.proofs.Shape.Calls.{CpsTyped}
+use Rattle.cpc_lifted_laws.proofs.Shape.Calls.{CpsTyped}
 use Rattle.cpc_chains_laws.proofs.Shape.Numbers.{own_row, owned_below}
 use Rattle.cpc_chains_laws.proofs.Shape.Points.{made_in, points_with, IsRow, point_row}
 

@@ -20,19 +20,20 @@ use Rattle.cpc_graph_laws.proofs.Formed.{node_comes}
 use Rattle.cpc_graph_laws.proofs.Leaders.{inside, leader_is, leader_in, is_leading, leader_place}
 use Rattle.cpc_graph_laws.proofs.Marked.{leaders_are_listed}
 use Rattle.cpc_chains_event.specs.Converted.{converted}
-use Rattle.cpc_chains_event.specs.NameLaws.{IsOwner, TheStart, ALeader, IsNamed, IsCps, FindsFunctions}
+use Rattle.cpc_convert_routines.specs.Named.{IsOwner, TheStart, ALeader, IsNamed, IsCps}
+use Rattle.cpc_chains_event.specs.NameLaws.{FindsFunctions}
 use Rattle.cpc_chains_event.specs.Pieces.{piece_function}
-use Rattle.cpc_chains_event.specs.Routines.{routine_of}
+use Rattle.cpc_convert_routines.specs.Routines.{routine_of}
 use Rattle.cpc_chains_event.proofs.Apart.{behind, piece_is, no_underscore_behind, Small, StartIsSmall, NumberIsSmall, behind_is}
 use Rattle.cpc_chains_event.proofs.Lookups.{functions_found}
 use Rattle.cpc_chains_event.proofs.Framed.{held}
 use Rattle.cpc_chains_event.proofs.Made.{Made, MadeSpawner, MadePiece}
 use Rattle.cpc_chains_event.proofs.Boxing.{held_has}
-use Rattle.cpc_chains_laws.specs.Accepted.Names.{HasNames}
-use Rattle.cpc_chains_laws.proofs.Accepted.Names.{accepted_has_names, accepted_is_named}
+use Rattle.cpc_lifted_laws.specs.Accepted.Names.{HasNames}
+use Rattle.cpc_lifted_laws.proofs.Accepted.Names.{accepted_has_names, accepted_is_named}
 use Rattle.cpc_chains_laws.specs.Shape.Laws.{AcceptedShape}
 use Rattle.cpc_chains_laws.specs.Shape.Shape.{Origin, Kept, ASpawner, APiece, TheDriver, TheMain, Shape}
-use Rattle.cpc_chains_laws.proofs.Shape.Calls.{CpsTyped}
+use Rattle.cpc_lifted_laws.proofs.Shape.Calls.{CpsTyped}
 use Rattle.cpc_chains_laws.proofs.Shape.Globals.{same_globals, same_externs}
 use Rattle.cpc_chains_laws.proofs.Shape.Items.{found_has, From, FromKept, FromMade, FromDriver, FromMain, comes_from}
 use Rattle.cpc_chains_laws.proofs.Shape.Piece.{is_piece}

@@ -2,13 +2,14 @@
 use Rattle.std.proofs.Common.{◌≡◌, ℕ, Bool, true, false, List, [], ◌∷◌, ◌++◌, map, Option, Some, None, refl, sym, ap, subst, if◌then◌else◌}
 use Rattle.cpc_base.specs.Bytes.{Text}
 use Rattle.cpc_tree.specs.Syntax.{Stmt, Empty, Goto}
-use Rattle.cpc_chains_store_laws.specs.Flat.{bare}
-use Rattle.cpc_chains_store_laws.specs.Boxes.{unboxes_one}
-use Rattle.cpc_chains_store_laws.specs.Frames.{saves_one, frame_through}
+use Rattle.cpc_convert_flat_laws.specs.Flat.{bare}
+use Rattle.cpc_convert_flat_laws.specs.Boxes.{unboxes_one}
+use Rattle.cpc_convert_flat_laws.specs.Locals.{saves_one}
+use Rattle.cpc_chains_store_laws.specs.Frames.{frame_through}
 use Rattle.cpc_forms.specs.Flow.{Place, At}
 use Rattle.cpc_chains_event.specs.Lines.{Line, goes, passes, save_of, all_do, frame_lines, hands_over, unbox_lines}
-use Rattle.cpc_chains_event.specs.Names.{piece_name, node_label, to_name}
-use Rattle.cpc_chains_event.specs.Routines.{Routine, closure_of, local_of}
+use Rattle.cpc_convert_routines.specs.Names.{piece_name, node_label, to_name}
+use Rattle.cpc_convert_routines.specs.Routines.{Routine, closure_of, local_of}
 use Rattle.cpc_chains_event.specs.Rows.{Plain, Jump, is_next, put_lines, put_statement, label_if, stub_lines}
 use Rattle.cpc_chains_laws.proofs.Piece.Frames.{puts_do}
 use Rattle.cpc_chains_laws.specs.Shape.Help.{IsNew, HandedOver, names_code, GivesBox, MakesFrame, NamesCode, Links, Saves, HandsOver, GoesOn, Between, Done, Helps, Stands}

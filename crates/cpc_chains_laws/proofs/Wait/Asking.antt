@@ -23,11 +23,11 @@ use Rattle.cpc_meaning.specs.Start.{before_underscores}
 use Rattle.cpc_meaning.specs.Trees.{trees}
 use Rattle.cpc_meaning.specs.Ways.{AsCps, primitive_manner}
 use Rattle.cpc_convert_common.specs.Marks.{has_marks}
-use Rattle.cpc_chains_store_laws.specs.Flat.{point_at, LineAt}
-use Rattle.cpc_chains_store_laws.specs.Frames.{at}
-use Rattle.cpc_chains_store_laws.specs.Walks.{World, frame_at, at_line}
-use Rattle.cpc_chains_store_laws.proofs.AtLine.{line_path, line_found, line_scope, line_next}
-use Rattle.cpc_chains_store_laws.proofs.Steps.{step_asks, step_fails, step_faults, replied}
+use Rattle.cpc_convert_flat_laws.specs.Flat.{point_at, LineAt}
+use Rattle.cpc_convert_flat_laws.specs.Locals.{at}
+use Rattle.cpc_convert_flat_laws.specs.Walks.{World, frame_at, at_line}
+use Rattle.cpc_convert_flat_laws.proofs.AtLine.{line_path, line_found, line_scope, line_next}
+use Rattle.cpc_convert_flat_laws.proofs.Steps.{step_asks, step_fails, step_faults, replied}
 use Rattle.cpc_chains_event.specs.Lines.{runtime_name}
 use Rattle.cpc_chains_laws.specs.Related.Waits.{Awaited, ATurn, ATime, ADescriptor, ACondition, awaited, put_waiting, wait_marks}
 use Rattle.cpc_chains_laws.proofs.Related.Setting.{is_common}

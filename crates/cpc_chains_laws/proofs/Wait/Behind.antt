@@ -24,11 +24,11 @@ use Rattle.cpc_graph_laws.proofs.Going.{waits_arrive}
 use Rattle.cpc_graph_laws.proofs.Leaders.{inside}
 use Rattle.cpc_graph_laws.proofs.Marked.{leaders_are_listed}
 use Rattle.cpc_graph_laws.proofs.MoreFacts.{cps_statements_wait}
-use Rattle.cpc_chains_event.specs.Routines.{routine_of, closure_of}
+use Rattle.cpc_convert_routines.specs.Routines.{routine_of, closure_of}
 use Rattle.cpc_chains_event.proofs.Boxing.{held_has}
-use Rattle.cpc_chains_laws.specs.Accepted.Names.{HasNames}
-use Rattle.cpc_chains_laws.proofs.Accepted.Lifted.{programs_are_closed}
-use Rattle.cpc_chains_laws.specs.Piece.Known.{CpsKnown}
+use Rattle.cpc_lifted_laws.specs.Accepted.Names.{HasNames}
+use Rattle.cpc_lifted_laws.proofs.Accepted.Lifted.{programs_are_closed}
+use Rattle.cpc_lifted_laws.specs.Piece.Known.{CpsKnown}
 use Rattle.cpc_chains_laws.specs.Piece.Stood.{NodeAt}
 use Rattle.cpc_chains_laws.specs.Wait.Waiting.{Waiting, CallsCps, CallsWait, Submits}
 use Rattle.cpc_chains_laws.specs.Wait.Laws.{CpsStatementsWait}

@@ -36,32 +36,33 @@ use Rattle.cpc_forms.specs.Flow.{Place, At}
 use Rattle.cpc_forms.specs.Split.{Position, InGraph, split_form}
 use Rattle.cpc_graph_laws.proofs.Formed.{in_right}
 use Rattle.cpc_lift_laws.specs.Used.{used_if, used_in, used_among}
-use Rattle.cpc_chains_store_laws.specs.Addresses.{avoids, avoids_all, avoids_if}
+use Rattle.cpc_convert_flat_laws.specs.Addresses.{avoids, avoids_all, avoids_if}
 use Rattle.cpc_chains_store_laws.specs.Chains.{frame_cells}
 use Rattle.cpc_chains_store_laws.specs.Driver.{driving}
-use Rattle.cpc_chains_store_laws.specs.Frames.{at as Here_at}
-use Rattle.cpc_chains_store_laws.specs.Walks.{Walk, running, frame_at}
-use Rattle.cpc_chains_store_laws.proofs.Walks.{walk_as}
-use Rattle.cpc_chains_event.specs.AddressLaws.{bars, avoids_stood}
-use Rattle.cpc_chains_event.specs.FillLaws.{ParametersAreScalar}
+use Rattle.cpc_convert_flat_laws.specs.Locals.{at as Here_at}
+use Rattle.cpc_convert_flat_laws.specs.Walks.{Walk, running, frame_at}
+use Rattle.cpc_convert_flat_laws.proofs.Walks.{walk_as}
+use Rattle.cpc_convert_routines.specs.Addressed.{bars, avoids_stood}
+use Rattle.cpc_convert_routines.specs.Given.{ParametersAreScalar}
 use Rattle.cpc_chains_event.specs.Lines.{all_do, call_lines, frame_lines, hands_over, cps_lines, waits_lines, node_lines}
 use Rattle.cpc_chains_event.specs.LocalLaws.{StandsIn, piece_locals}
-use Rattle.cpc_chains_event.specs.NameLaws.{IsCps, IsOwner}
-use Rattle.cpc_chains_event.specs.Names.{piece_name, start_name, to_name, under_name}
+use Rattle.cpc_convert_routines.specs.Named.{IsCps, IsOwner}
+use Rattle.cpc_convert_routines.specs.Names.{piece_name, start_name, to_name, under_name}
 use Rattle.cpc_chains_event.specs.Pieces.{called_so, to_frame, is_wait, is_entry}
-use Rattle.cpc_chains_event.specs.Routines.{Routine, routine_of, readings_of}
-use Rattle.cpc_chains_event.specs.Rows.{has_row}
+use Rattle.cpc_convert_routines.specs.Routines.{Routine, routine_of, readings_of}
+use Rattle.cpc_convert_routines.specs.Nodes.{has_row}
 use Rattle.cpc_chains_event.proofs.Calls.{arguments_given}
-use Rattle.cpc_chains_laws.specs.Accepted.Known.{Stays, AreScalar}
-use Rattle.cpc_chains_laws.specs.Accepted.Names.{HasNames}
-use Rattle.cpc_chains_laws.specs.Accepted.Points.{UsedName}
-use Rattle.cpc_chains_laws.proofs.Accepted.Pieces.{all_scalar}
-use Rattle.cpc_chains_laws.specs.Related.Bounds.{Bounds}
-use Rattle.cpc_chains_laws.specs.Related.Items.{copied}
+use Rattle.cpc_lifted_laws.specs.Accepted.Known.{Stays, AreScalar}
+use Rattle.cpc_lifted_laws.specs.Accepted.Names.{HasNames}
+use Rattle.cpc_lifted_laws.specs.Accepted.Points.{UsedName}
+use Rattle.cpc_lifted_laws.proofs.Accepted.Pieces.{all_scalar}
+use Rattle.cpc_lifted_laws.specs.Related.Bounds.{Bounds}
+use Rattle.cpc_lifted_laws.specs.Related.Cut.{copied}
 use Rattle.cpc_chains_laws.proofs.Related.Inside.{Sticks, Breaks, EntersCut}
 use Rattle.cpc_chains_laws.proofs.Related.Relation.{Shared, world_of}
-use Rattle.cpc_chains_laws.specs.Native.Instance.{StaysAs, keeps_in}
-use Rattle.cpc_chains_laws.specs.Piece.Known.{CpsKnown, ProgramKnown}
+use Rattle.cpc_lifted_laws.specs.Native.Instance.{StaysAs, keeps_in}
+use Rattle.cpc_lifted_laws.specs.Piece.Known.{CpsKnown}
+use Rattle.cpc_chains_laws.specs.Piece.Known.{ProgramKnown}
 use Rattle.cpc_chains_laws.specs.Piece.Rows.{RowAt, row_point}
 use Rattle.cpc_chains_laws.specs.Piece.Stood.{NodeAt, LocalsStand}
 use Rattle.cpc_chains_laws.proofs.Piece.Acting.{found_known, kept_here, source_act, lines_are}
@@ -70,10 +71,10 @@ use Rattle.cpc_chains_laws.proofs.Piece.Frames.{Target, scope}
 use Rattle.cpc_chains_laws.proofs.Piece.Rowed.{DoesHere}
 use Rattle.cpc_chains_laws.proofs.Piece.Uses.{names_kept_among, use_kept, IsKept}
 use Rattle.cpc_chains_laws.proofs.Piece.Words.{wait_word, entry_word}
-use Rattle.cpc_chains_laws.specs.Wait.Asked.{GivenWhereFit, IsWide}
+use Rattle.cpc_lifted_laws.specs.Wait.Asked.{GivenWhereFit, IsWide}
 use Rattle.cpc_chains_laws.proofs.Wait.Behind.{Behind, arrival_there}
 use Rattle.cpc_chains_laws.proofs.Wait.Entering as E
-use Rattle.cpc_chains_laws.proofs.Wait.Given as G
+use Rattle.cpc_lifted_laws.proofs.Wait.Given as G
 use Rattle.cpc_chains_laws.proofs.Wait.Suiting.{arguments_convert}
 
 -- ---- parameters

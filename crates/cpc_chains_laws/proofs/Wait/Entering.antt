@@ -21,30 +21,32 @@ use Rattle.cpc_forms.specs.Flow.{Place, At}
 use Rattle.cpc_forms.specs.Split.{Position}
 use Rattle.cpc_chains_store_laws.specs.Chains.{frame_cells}
 use Rattle.cpc_chains_store_laws.specs.Driver.{any_pointer, frame_tag, code_field, next_field, driving}
-use Rattle.cpc_chains_store_laws.specs.Flat.{before, LineAt}
-use Rattle.cpc_chains_store_laws.specs.Frames.{Holds, Give, Giving, GivingFaults, asks_block, fills_call, frame_through, pointed_slots}
-use Rattle.cpc_chains_store_laws.specs.Walks.{World, Walk, FaultsAfter, at_line, running, frame_at}
-use Rattle.cpc_chains_store_laws.proofs.Boxes.{free_all}
-use Rattle.cpc_chains_store_laws.proofs.Fields.{held, named_pointer, cast_pointer}
+use Rattle.cpc_convert_flat_laws.specs.Flat.{before, LineAt}
+use Rattle.cpc_convert_flat_laws.specs.Locals.{Holds}
+use Rattle.cpc_chains_store_laws.specs.Frames.{Give, Giving, GivingFaults, asks_block, fills_call, frame_through, pointed_slots}
+use Rattle.cpc_convert_flat_laws.specs.Walks.{World, Walk, FaultsAfter, at_line, running, frame_at}
+use Rattle.cpc_convert_flat_laws.proofs.Boxes.{free_all}
+use Rattle.cpc_convert_flat_laws.proofs.Fields.{held, named_pointer, cast_pointer}
 use Rattle.cpc_chains_store_laws.proofs.Giving.{calls_frame}
 use Rattle.cpc_chains_store_laws.proofs.Making.{holds_set, holds_new}
 use Rattle.cpc_chains_store_laws.proofs.Pieces.{return_step}
-use Rattle.cpc_chains_store_laws.proofs.Rows.{before_append}
-use Rattle.cpc_chains_store_laws.proofs.Walks.{rise_append, walk_append}
-use Rattle.cpc_chains_store_laws.proofs.Structs.{type_of}
+use Rattle.cpc_convert_flat_laws.proofs.Rows.{before_append}
+use Rattle.cpc_convert_flat_laws.proofs.Walks.{rise_append, walk_append}
+use Rattle.cpc_convert_flat_laws.proofs.Structs.{type_of}
 use Rattle.cpc_chains_event.specs.FlatLaws.{piece_count}
 use Rattle.cpc_chains_event.specs.Lines.{gives_from, call_lines, all_do, frame_lines, hands_over, node_lines}
 use Rattle.cpc_chains_event.specs.LocalLaws.{piece_locals}
-use Rattle.cpc_chains_event.specs.NameLaws.{IsCps, IsOwner}
-use Rattle.cpc_chains_event.specs.Names.{piece_name, start_name, to_name, under_name}
+use Rattle.cpc_convert_routines.specs.Named.{IsCps, IsOwner}
+use Rattle.cpc_convert_routines.specs.Names.{piece_name, start_name, to_name, under_name}
 use Rattle.cpc_chains_event.specs.Pieces.{called_so, to_frame}
-use Rattle.cpc_chains_event.specs.Routines.{Routine, routine_of, readings_of, passed}
-use Rattle.cpc_chains_event.specs.Rows.{has_row}
+use Rattle.cpc_convert_routines.specs.Routines.{Routine, routine_of, readings_of, passed}
+use Rattle.cpc_convert_routines.specs.Nodes.{has_row}
 use Rattle.cpc_chains_event.proofs.StructsThere.{start_there}
 use Rattle.cpc_chains_event.proofs.BoxesThere.{structs_there}
-use Rattle.cpc_chains_laws.specs.Related.Bounds.{Bounds}
-use Rattle.cpc_chains_laws.proofs.Native.SpawnerCall.{get_scalar, passed_types}
-use Rattle.cpc_chains_laws.specs.Piece.Known.{CpsKnown}
+use Rattle.cpc_lifted_laws.specs.Related.Bounds.{Bounds}
+use Rattle.cpc_lifted_laws.proofs.Accepted.Pieces.{all_scalar}
+use Rattle.cpc_chains_laws.proofs.Native.SpawnerCall.{passed_types}
+use Rattle.cpc_lifted_laws.specs.Piece.Known.{CpsKnown}
 use Rattle.cpc_chains_laws.specs.Piece.Rows.{RowAt, row_point}
 use Rattle.cpc_chains_laws.specs.Piece.Stood.{NodeAt, LocalsStand}
 use Rattle.cpc_chains_laws.proofs.Piece.Frames.{Target, code, body, scope, is_code, Word, word_set, with_frame}
@@ -137,7 +139,7 @@ module _ (p : Program) (fine : CallFrame Position → Option Value → Type 0) (
   is_size : size q (TyStruct start) ≡ Some (suc (suc (suc (length gives))))
   is_size =
       (start_there p known.names g cps).size
-      ∙ ap (λ m. Some (suc (suc (suc m)))) (sym (length_of_map type_of (passed g)) ∙ (ap length (passed_types g (get_scalar p at.node.scope (parameter_types g) es gets)) ∙ sym counted))
+      ∙ ap (λ m. Some (suc (suc (suc m)))) (sym (length_of_map type_of (passed g)) ∙ (ap length (passed_types g (all_scalar p at.node.scope (parameter_types g) es gets)) ∙ sym counted))
 
   fewer : length gives ≤ length (variables g)
   fewer = let h = fewer_parameters g.parameters (locals g.body) in let c = counted in omega (arith, h, c)

@@ -21,26 +21,27 @@ use Rattle.cpc_forms.specs.Flow.{Place, At}
 use Rattle.cpc_forms.specs.Split.{Position}
 use Rattle.cpc_chains_store_laws.specs.Chains.{frame_cells}
 use Rattle.cpc_chains_store_laws.specs.Driver.{driving}
-use Rattle.cpc_chains_store_laws.specs.Flat.{point_at, LineAt}
-use Rattle.cpc_chains_store_laws.specs.Frames.{Holds, pointed_slots}
-use Rattle.cpc_chains_store_laws.specs.Walks.{Here, World, Walk, FaultsAfter, running, frame_at, at_line}
-use Rattle.cpc_chains_store_laws.proofs.AtLine.{line_passed}
-use Rattle.cpc_chains_store_laws.proofs.Boxes.{free_all}
+use Rattle.cpc_convert_flat_laws.specs.Flat.{point_at, LineAt}
+use Rattle.cpc_convert_flat_laws.specs.Locals.{Holds}
+use Rattle.cpc_chains_store_laws.specs.Frames.{pointed_slots}
+use Rattle.cpc_convert_flat_laws.specs.Walks.{Here, World, Walk, FaultsAfter, running, frame_at, at_line}
+use Rattle.cpc_convert_flat_laws.proofs.AtLine.{line_passed}
+use Rattle.cpc_convert_flat_laws.proofs.Boxes.{free_all}
 use Rattle.cpc_chains_store_laws.proofs.Pieces.{return_step}
 use Rattle.cpc_chains_event.specs.FlatLaws.{piece_count}
 use Rattle.cpc_chains_event.specs.Lines.{all_do, frame_lines, hands_nothing, node_lines}
 use Rattle.cpc_chains_event.specs.LocalLaws.{piece_locals}
-use Rattle.cpc_chains_event.specs.NameLaws.{IsOwner}
-use Rattle.cpc_chains_event.specs.Names.{piece_name, to_name}
+use Rattle.cpc_convert_routines.specs.Named.{IsOwner}
+use Rattle.cpc_convert_routines.specs.Names.{piece_name, to_name}
 use Rattle.cpc_chains_event.specs.Pieces.{called_so, to_frame}
-use Rattle.cpc_chains_event.specs.Routines.{Routine, routine_of}
-use Rattle.cpc_chains_event.specs.Rows.{has_row}
-use Rattle.cpc_chains_laws.specs.Related.Bounds.{Bounds}
-use Rattle.cpc_chains_laws.specs.Related.Items.{copied}
+use Rattle.cpc_convert_routines.specs.Routines.{Routine, routine_of}
+use Rattle.cpc_convert_routines.specs.Nodes.{has_row}
+use Rattle.cpc_lifted_laws.specs.Related.Bounds.{Bounds}
+use Rattle.cpc_lifted_laws.specs.Related.Cut.{copied}
 use Rattle.cpc_chains_laws.proofs.Related.Inside.{Prepares, HasAsked, FaultsAsking}
 use Rattle.cpc_chains_laws.proofs.Related.Relation.{Shared, world_of}
-use Rattle.cpc_chains_laws.specs.Native.Instance.{keeps_in}
-use Rattle.cpc_chains_laws.specs.Piece.Known.{CpsKnown}
+use Rattle.cpc_lifted_laws.specs.Native.Instance.{keeps_in}
+use Rattle.cpc_lifted_laws.specs.Piece.Known.{CpsKnown}
 use Rattle.cpc_chains_laws.specs.Piece.Rows.{RowAt, row_point}
 use Rattle.cpc_chains_laws.specs.Piece.Stood.{NodeAt, LocalsStand}
 use Rattle.cpc_chains_laws.proofs.Piece.Frames.{same_registers, Target, code, body, scope, is_code, Word, with_frame}
@@ -48,7 +49,7 @@ use Rattle.cpc_chains_laws.proofs.Piece.Onwards.{z}
 use Rattle.cpc_chains_laws.proofs.Piece.Rowed.{standing_piece}
 use Rattle.cpc_chains_laws.proofs.Piece.Scopes.{meant}
 use Rattle.cpc_chains_laws.proofs.Piece.Stubs.{to_word}
-use Rattle.cpc_chains_laws.specs.Wait.Asked.{IsWide}
+use Rattle.cpc_lifted_laws.specs.Wait.Asked.{IsWide}
 use Rattle.cpc_chains_laws.proofs.Wait.Behind.{Behind}
 use Rattle.cpc_chains_laws.proofs.Wait.Preparing as P
 

@@ -18,20 +18,21 @@ use Rattle.cpc_graph_laws.proofs.Formed.{in_either}
 use Rattle.cpc_lift_laws.proofs.Boxes.{boxes_are_below}
 use Rattle.cpc_lift_laws.proofs.Lift.{boxes_exact}
 use Rattle.cpc_chains_store_laws.specs.Driver.{any_pointer, drive_name, DriverMeant}
-use Rattle.cpc_chains_store_laws.specs.Frames.{declared_scope}
-use Rattle.cpc_chains_store_laws.proofs.Scopes.{NotLoaded, NoneLoaded, NotThisLoad, loaded_other}
+use Rattle.cpc_convert_flat_laws.specs.Locals.{declared_scope}
+use Rattle.cpc_convert_flat_laws.proofs.Scopes.{NotLoaded, NoneLoaded, NotThisLoad, loaded_other}
 use Rattle.cpc_chains_event.specs.FlatLaws.{piece_scope}
-use Rattle.cpc_chains_event.specs.Frames.{arriving_type}
-use Rattle.cpc_chains_event.specs.NameLaws.{IsCps, IsOwner, TheStart}
-use Rattle.cpc_chains_event.specs.Names.{start_name, piece_name, variable_name}
-use Rattle.cpc_chains_event.specs.Pieces.{takes_value, value_load, loaded, loads_of, words_if, words_of, begun, declares_of, piece_function}
-use Rattle.cpc_chains_event.specs.Routines.{Routine, routine_of, variable_of, locals_of, is_parameter, is_plain, closure_of}
+use Rattle.cpc_convert_routines.specs.Arriving.{arriving_type}
+use Rattle.cpc_convert_routines.specs.Named.{IsCps, IsOwner, TheStart}
+use Rattle.cpc_convert_routines.specs.Names.{start_name, piece_name, variable_name}
+use Rattle.cpc_convert_routines.specs.Taken.{takes_value}
+use Rattle.cpc_chains_event.specs.Pieces.{value_load, loaded, loads_of, words_if, words_of, begun, declares_of, piece_function}
+use Rattle.cpc_convert_routines.specs.Routines.{Routine, routine_of, variable_of, locals_of, is_parameter, is_plain, closure_of}
 use Rattle.cpc_chains_event.proofs.Apart.{behind, piece_is, no_underscore_behind, no_bar_nothing, piece_nothing}
 use Rattle.cpc_chains_event.proofs.Fields.{word_apart}
 use Rattle.cpc_chains_event.proofs.Locals.{NoneCalled, none_append}
 use Rattle.cpc_chains_event.proofs.Meanings.{items_meant}
-use Rattle.cpc_chains_event.proofs.Numbers.{chosen_is}
-use Rattle.cpc_chains_laws.specs.Piece.Known.{CpsKnown}
+use Rattle.cpc_convert_routines.proofs.Numbers.{chosen_is}
+use Rattle.cpc_lifted_laws.specs.Piece.Known.{CpsKnown}
 use Rattle.cpc_chains_laws.specs.Wait.Laws.{StartsAreMeant}
 use Rattle.cpc_chains_laws.proofs.Piece.Frames.{Target, kept_small}
 use Rattle.cpc_chains_laws.proofs.Piece.Scopes.{unmarked_name, loads_none, loads_append}

@@ -33,26 +33,27 @@ use Rattle.cpc_forms.specs.Split.{Position, InGraph, split_form}
 use Rattle.cpc_graph_laws.proofs.Formed.{in_right}
 use Rattle.cpc_lift_laws.specs.Used.{used_if, used_in, used_among}
 use Rattle.cpc_chains_store_laws.specs.Driver.{drive_name, driving}
-use Rattle.cpc_chains_store_laws.specs.Flat.{LineAt}
-use Rattle.cpc_chains_store_laws.specs.Frames.{at as Here_at}
-use Rattle.cpc_chains_store_laws.specs.Walks.{Here}
-use Rattle.cpc_chains_store_laws.proofs.Fields.{held as holds}
+use Rattle.cpc_convert_flat_laws.specs.Flat.{LineAt}
+use Rattle.cpc_convert_flat_laws.specs.Locals.{at as Here_at}
+use Rattle.cpc_convert_flat_laws.specs.Walks.{Here}
+use Rattle.cpc_convert_flat_laws.proofs.Fields.{held as holds}
 use Rattle.cpc_chains_event.specs.FlatLaws.{piece_count}
 use Rattle.cpc_chains_event.specs.Lines.{all_do, frame_lines, hands_nothing, runtime_name, wait_lines, waits_lines, cps_lines, node_lines}
 use Rattle.cpc_chains_event.specs.LocalLaws.{StandsIn, piece_locals}
-use Rattle.cpc_chains_event.specs.NameLaws.{IsOwner}
-use Rattle.cpc_chains_event.specs.Names.{piece_name, to_name}
+use Rattle.cpc_convert_routines.specs.Named.{IsOwner}
+use Rattle.cpc_convert_routines.specs.Names.{piece_name, to_name}
 use Rattle.cpc_chains_event.specs.Pieces.{called_so, to_frame, is_wait as waits_at}
-use Rattle.cpc_chains_event.specs.Routines.{Routine, routine_of, readings_of}
-use Rattle.cpc_chains_event.specs.Rows.{has_row}
-use Rattle.cpc_chains_laws.specs.Accepted.Known.{Stays}
-use Rattle.cpc_chains_laws.specs.Accepted.Points.{UsedName}
-use Rattle.cpc_chains_laws.specs.Related.Bounds.{Bounds}
+use Rattle.cpc_convert_routines.specs.Routines.{Routine, routine_of, readings_of}
+use Rattle.cpc_convert_routines.specs.Nodes.{has_row}
+use Rattle.cpc_lifted_laws.specs.Accepted.Known.{Stays}
+use Rattle.cpc_lifted_laws.specs.Accepted.Points.{UsedName}
+use Rattle.cpc_lifted_laws.specs.Related.Bounds.{Bounds}
 use Rattle.cpc_chains_laws.specs.Related.Waits.{wait_marks}
 use Rattle.cpc_chains_laws.proofs.Related.Inside.{Sticks, Breaks, Pauses}
 use Rattle.cpc_chains_laws.proofs.Related.Relation.{Shared, world_of}
-use Rattle.cpc_chains_laws.specs.Native.Instance.{StaysAs}
-use Rattle.cpc_chains_laws.specs.Piece.Known.{CpsKnown, ProgramKnown}
+use Rattle.cpc_lifted_laws.specs.Native.Instance.{StaysAs}
+use Rattle.cpc_lifted_laws.specs.Piece.Known.{CpsKnown}
+use Rattle.cpc_chains_laws.specs.Piece.Known.{ProgramKnown}
 use Rattle.cpc_chains_laws.specs.Piece.Rows.{RowAt}
 use Rattle.cpc_chains_laws.specs.Piece.Stood.{NodeAt, LocalsStand}
 use Rattle.cpc_chains_laws.proofs.Piece.Acting.{found_known, kept_here, source_act, lines_are}
@@ -62,7 +63,7 @@ use Rattle.cpc_chains_laws.proofs.Piece.Rowed.{DoesHere}
 use Rattle.cpc_chains_laws.proofs.Piece.Scopes.{primitive_meant}
 use Rattle.cpc_chains_laws.proofs.Piece.Uses.{names_kept_among, use_kept, IsKept}
 use Rattle.cpc_chains_laws.proofs.Piece.Words.{wait_word}
-use Rattle.cpc_chains_laws.specs.Wait.Asked.{IsWide}
+use Rattle.cpc_lifted_laws.specs.Wait.Asked.{IsWide}
 use Rattle.cpc_chains_laws.proofs.Wait.Asking.{asking_stack, asked_step, asked_fault, argument_fault, IsWait, is_wait}
 use Rattle.cpc_chains_laws.proofs.Wait.Behind.{Behind, arrival_there}
 use Rattle.cpc_chains_laws.proofs.Wait.Handing as H

@@ -15,19 +15,20 @@ use Rattle.cpc_convert_image_laws.proofs.Slots.{got_set}
 use Rattle.cpc_forms.specs.Flow.{Place, At}
 use Rattle.cpc_forms.specs.Split.{Position}
 use Rattle.cpc_chains_store_laws.specs.Driver.{driving}
-use Rattle.cpc_chains_store_laws.specs.Flat.{before}
+use Rattle.cpc_convert_flat_laws.specs.Flat.{before}
 use Rattle.cpc_chains_store_laws.specs.Frames.{asks_block, pointed_slots}
-use Rattle.cpc_chains_store_laws.specs.Walks.{World, Walk, at_line, running, frame_at}
-use Rattle.cpc_chains_store_laws.proofs.Rows.{before_append}
+use Rattle.cpc_convert_flat_laws.specs.Walks.{World, Walk, at_line, running, frame_at}
+use Rattle.cpc_convert_flat_laws.proofs.Rows.{before_append}
 use Rattle.cpc_chains_event.specs.Lines.{all_do, frame_lines, node_lines}
-use Rattle.cpc_chains_event.specs.NameLaws.{IsOwner}
-use Rattle.cpc_chains_event.specs.Names.{piece_name}
+use Rattle.cpc_convert_routines.specs.Named.{IsOwner}
+use Rattle.cpc_convert_routines.specs.Names.{piece_name}
 use Rattle.cpc_chains_event.specs.Pieces.{called_so, to_frame}
-use Rattle.cpc_chains_event.specs.Routines.{Routine, routine_of, closure_of, local_of}
+use Rattle.cpc_convert_routines.specs.Routines.{Routine, routine_of, closure_of, local_of}
 use Rattle.cpc_chains_event.specs.Lines.{save_of}
-use Rattle.cpc_chains_event.specs.Rows.{has_row, put_statement}
-use Rattle.cpc_chains_laws.specs.Related.Bounds.{Bounds}
-use Rattle.cpc_chains_laws.specs.Piece.Known.{CpsKnown}
+use Rattle.cpc_convert_routines.specs.Nodes.{has_row}
+use Rattle.cpc_chains_event.specs.Rows.{put_statement}
+use Rattle.cpc_lifted_laws.specs.Related.Bounds.{Bounds}
+use Rattle.cpc_lifted_laws.specs.Piece.Known.{CpsKnown}
 use Rattle.cpc_chains_laws.specs.Piece.Rows.{next_number, put_row, RowAt, row_index, row_point}
 use Rattle.cpc_chains_laws.specs.Piece.Stood.{NodeAt, LocalsStand}
 use Rattle.cpc_chains_laws.proofs.Piece.Frames.{Target, Word, word_set, saves_of, fills_of, with_frame, frame_passed, frame_walk, puts_do, kept_number}

@@ -11,14 +11,15 @@ use Rattle.cpc_store.specs.Store.{Value, Unset, Code, Store, next_block, alloc}
 use Rattle.cpc_meaning.specs.Answer.{Gives}
 use Rattle.cpc_meaning.specs.Eval.{Slot, value, assigned}
 use Rattle.cpc_meaning.specs.Plain.{Frame as CallFrame}
-use Rattle.cpc_chains_store_laws.specs.Flat.{before, Stands, LineAt}
-use Rattle.cpc_chains_store_laws.specs.Frames.{at, PointsTo, Holds, pointed_slots, asks_block, Give, gives_one, fills_call, GivingFaults, FirstFaults, LaterFaults}
-use Rattle.cpc_chains_store_laws.specs.Walks.{World, at_line, FaultsAfter}
-use Rattle.cpc_chains_store_laws.proofs.AtLine.{line_path, line_found, line_scope, line_passed}
+use Rattle.cpc_convert_flat_laws.specs.Flat.{before, Stands, LineAt}
+use Rattle.cpc_convert_flat_laws.specs.Locals.{at, PointsTo, Holds}
+use Rattle.cpc_chains_store_laws.specs.Frames.{pointed_slots, asks_block, Give, gives_one, fills_call, GivingFaults, FirstFaults, LaterFaults}
+use Rattle.cpc_convert_flat_laws.specs.Walks.{World, at_line, FaultsAfter}
+use Rattle.cpc_convert_flat_laws.proofs.AtLine.{line_path, line_found, line_scope, line_passed}
 use Rattle.cpc_chains_store_laws.proofs.Making.{heads_frame, new_field_step, length_one}
-use Rattle.cpc_chains_store_laws.proofs.Scopes.{all_lines, past_lines}
-use Rattle.cpc_chains_store_laws.proofs.Steps.{step_faults}
-use Rattle.cpc_chains_store_laws.proofs.Walks.{stay, level_cons, rise_append}
+use Rattle.cpc_convert_flat_laws.proofs.Scopes.{all_lines, past_lines}
+use Rattle.cpc_convert_flat_laws.proofs.Steps.{step_faults}
+use Rattle.cpc_convert_flat_laws.proofs.Walks.{stay, level_cons, rise_append}
 
 module _ (q : Program) (w : World) (fn : Text) (g : Function) (body : Stmts) (below : List (CallFrame Point)) (is_g : function_named q fn ≡ Some g) (scope : Scope) (n : ℕ) (rest : Stmts) (slots : List Slot) (s : Store) (f : Expr) (tag : Text) (points : (t : Store) → PointsTo q scope slots t f tag (next_block Frame s)) (fault : Fault) where
   -- to the first that faults there are fewer steps than arguments

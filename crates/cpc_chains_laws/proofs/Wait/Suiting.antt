@@ -27,15 +27,15 @@ use Rattle.cpc_forms.specs.Flow.{Place}
 use Rattle.cpc_forms.specs.Graph.{Node, node_of, graph_of}
 use Rattle.cpc_forms.specs.Split.{InGraph}
 use Rattle.cpc_graph_laws.proofs.Formed.{node_comes}
-use Rattle.cpc_chains_store_laws.specs.Addresses.{avoids, avoids_all}
-use Rattle.cpc_chains_store_laws.specs.Frames.{at as Here_at, Scalars, NoScalars, AndScalar}
-use Rattle.cpc_chains_event.specs.AddressLaws.{bars}
+use Rattle.cpc_convert_flat_laws.specs.Addresses.{avoids, avoids_all}
+use Rattle.cpc_convert_flat_laws.specs.Locals.{at as Here_at, Scalars, NoScalars, AndScalar}
+use Rattle.cpc_convert_routines.specs.Addressed.{bars}
 use Rattle.cpc_chains_event.specs.LocalLaws.{piece_locals}
-use Rattle.cpc_chains_event.specs.NameLaws.{IsOwner}
-use Rattle.cpc_chains_event.specs.Names.{box_tag, variable_name}
-use Rattle.cpc_chains_event.specs.Routines.{Routine, routine_of, closure_of, is_plain, variable_of, variable_or, local_of, readings_of}
-use Rattle.cpc_chains_laws.proofs.Accepted.Functions.{scopes_mean_variables}
-use Rattle.cpc_chains_laws.specs.Piece.Known.{CpsKnown}
+use Rattle.cpc_convert_routines.specs.Named.{IsOwner}
+use Rattle.cpc_convert_routines.specs.Names.{box_tag, variable_name}
+use Rattle.cpc_convert_routines.specs.Routines.{Routine, routine_of, closure_of, is_plain, variable_of, variable_or, local_of, readings_of}
+use Rattle.cpc_lifted_laws.proofs.Accepted.Functions.{scopes_mean_variables}
+use Rattle.cpc_lifted_laws.specs.Piece.Known.{CpsKnown}
 use Rattle.cpc_chains_laws.specs.Piece.Stood.{NodeAt, LocalsStand}
 use Rattle.cpc_chains_laws.proofs.Piece.Environment.{Used, scope_is}
 use Rattle.cpc_chains_laws.proofs.Piece.Scopes.{meant}

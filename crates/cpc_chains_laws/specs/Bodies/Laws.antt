@@ -2,9 +2,9 @@
 use Rattle.std.specs.Prelude.{[], ◌∷◌, ◌++◌}
 use Rattle.cpc_tree.specs.Syntax.{Function, Program}
 use Rattle.cpc_convert_common.specs.Converted.{function_item}
-use Rattle.cpc_chains_event.specs.NameLaws.{IsCps}
+use Rattle.cpc_convert_routines.specs.Named.{IsCps}
 use Rattle.cpc_chains_event.specs.Pieces.{spawner_function}
-use Rattle.cpc_chains_laws.specs.Accepted.Accepted.{OfAccepted}
+use Rattle.cpc_lifted_laws.specs.Accepted.Accepted.{OfAccepted}
 use Rattle.cpc_chains_laws.specs.Rules.Laws.{Knows, BodyFine}
 
 -- the body of each spawner breaks none, wherever what it names is known

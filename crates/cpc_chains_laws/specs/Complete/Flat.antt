@@ -9,10 +9,11 @@ use Rattle.cpc_check_rules.specs.Operators.{Where}
 use Rattle.cpc_check_rules.specs.FunctionRules.{is_kept}
 use Rattle.cpc_check_rules.specs.StmtRules.{in_scope, start_breaks, stmt_breaks}
 use Rattle.cpc_check_laws.proofs.Native.OnePlace.{ident_here, expr_here, stmt_here}
-use Rattle.cpc_chains_store_laws.specs.Flat.{is_line, is_flat}
-use Rattle.cpc_chains_store_laws.specs.Frames.{Load, Save, Give}
+use Rattle.cpc_convert_flat_laws.specs.Flat.{is_line, is_flat}
+use Rattle.cpc_convert_flat_laws.specs.Locals.{Load, Save}
+use Rattle.cpc_chains_store_laws.specs.Frames.{Give}
 use Rattle.cpc_chains_store_laws.specs.Driver.{code_field, next_field, piece_type}
-use Rattle.cpc_chains_laws.specs.Complete.Sets.{Sets}
+use Rattle.cpc_lifted_laws.specs.Complete.Sets.{Sets}
 
 -- ---- rows
 

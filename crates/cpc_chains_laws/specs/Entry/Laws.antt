@@ -2,8 +2,8 @@
 use Rattle.std.specs.Prelude.{◌≡◌, ℕ, true}
 use Rattle.cpc_tree.specs.Syntax.{Function, Program}
 use Rattle.cpc_forms.specs.Flow.{At}
-use Rattle.cpc_chains_event.specs.Routines.{routine_of}
-use Rattle.cpc_chains_event.specs.Rows.{is_own, has_row}
+use Rattle.cpc_convert_routines.specs.Routines.{routine_of}
+use Rattle.cpc_convert_routines.specs.Nodes.{is_own, has_row}
 
 -- a node that owns itself has a row: it is not the arrival of a call that stands with the call
 abbrev pub LeadersHaveRows : Type 0

@@ -10,12 +10,12 @@ use Rattle.cpc_meaning.specs.Plain.{Frame}
 use Rattle.cpc_forms.specs.Flow.{At}
 use Rattle.cpc_forms.specs.Split.{Position, InGraph}
 use Rattle.cpc_meaning.specs.Eval.{Fits}
-use Rattle.cpc_chains_event.specs.FillLaws.{AllFit, ParametersAreScalar}
-use Rattle.cpc_chains_event.specs.Frames.{arriving_type}
-use Rattle.cpc_chains_event.specs.NameLaws.{IsCps}
-use Rattle.cpc_chains_event.specs.Pieces.{takes_value}
-use Rattle.cpc_chains_event.specs.Routines.{routine_of, closure_of, is_plain, variable_of, passed}
-use Rattle.cpc_chains_event.specs.Rows.{is_own}
+use Rattle.cpc_convert_routines.specs.Given.{AllFit, ParametersAreScalar}
+use Rattle.cpc_convert_routines.specs.Arriving.{arriving_type}
+use Rattle.cpc_convert_routines.specs.Named.{IsCps}
+use Rattle.cpc_convert_routines.specs.Taken.{takes_value}
+use Rattle.cpc_convert_routines.specs.Routines.{routine_of, closure_of, is_plain, variable_of, passed}
+use Rattle.cpc_convert_routines.specs.Nodes.{is_own}
 use Rattle.cpc_convert_image_laws.specs.Stacks.{frame_of}
 
 -- a variable in its slot: a register holds a value of its type, or it is a box

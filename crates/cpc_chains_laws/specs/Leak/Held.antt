@@ -9,7 +9,7 @@ use Rattle.cpc_meaning.specs.Machine.{State}
 use Rattle.cpc_meaning.specs.Runs.{live_cells, cost}
 use Rattle.cpc_meaning.specs.Threads.{Thread}
 use Rattle.cpc_meaning.specs.Events.{Callback}
-use Rattle.cpc_chains_store_laws.specs.Chains.{one_if}
+use Rattle.cpc_convert_flat_laws.specs.Blocks.{one_if}
 use Rattle.cpc_chains_laws.specs.Leak.Need.{frames_in, need, measure}
 
 -- how many blocks of a class are live

@@ -7,7 +7,7 @@ use Rattle.cpc_meaning.specs.History.{History}
 use Rattle.cpc_meaning.specs.Runs.{cost, live_cells}
 use Rattle.cpc_meaning.specs.Threads.{threaded}
 use Rattle.cpc_chains_event.specs.Converted.{converted}
-use Rattle.cpc_chains_laws.specs.Accepted.Accepted.{OfAccepted}
+use Rattle.cpc_lifted_laws.specs.Accepted.Accepted.{OfAccepted}
 use Rattle.cpc_chains_laws.specs.Leak.Held.{GoesOrRests, FramesHeld}
 use Rattle.cpc_chains_laws.specs.Leak.Need.{measure}
 

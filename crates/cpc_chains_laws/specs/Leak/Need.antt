@@ -13,8 +13,8 @@ use Rattle.cpc_meaning.specs.Threads.{Thread, Pending, Suspended, is_cps}
 use Rattle.cpc_lift_laws.specs.Lift.{variables_in}
 use Rattle.cpc_forms.specs.Flow.{At}
 use Rattle.cpc_forms.specs.Order.{number_of}
-use Rattle.cpc_chains_event.specs.Routines.{routine_of, closure_of}
-use Rattle.cpc_chains_laws.specs.Related.Sums.{sum, total}
+use Rattle.cpc_convert_routines.specs.Routines.{routine_of, closure_of}
+use Rattle.cpc_lifted_laws.specs.Related.Sums.{sum, total}
 
 -- a number, where it counts
 abbrev pub where_so : Bool → ℕ → ℕ

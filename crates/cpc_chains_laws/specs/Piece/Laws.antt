@@ -10,10 +10,10 @@ use Rattle.cpc_meaning.specs.Plain.{Frame}
 use Rattle.cpc_forms.specs.Flow.{Place}
 use Rattle.cpc_forms.specs.Split.{InGraph}
 use Rattle.cpc_lift_laws.specs.Lifted.{tidy_slots}
-use Rattle.cpc_chains_event.specs.Routines.{routine_of}
+use Rattle.cpc_convert_routines.specs.Routines.{routine_of}
 use Rattle.cpc_chains_event.specs.Rows.{numbers_of}
-use Rattle.cpc_chains_laws.specs.Accepted.Lifted.{kept_of}
-use Rattle.cpc_chains_event.specs.NameLaws.{IsNamed}
+use Rattle.cpc_lifted_laws.specs.Accepted.Lifted.{kept_of}
+use Rattle.cpc_convert_routines.specs.Named.{IsNamed}
 use Rattle.cpc_chains_laws.specs.Piece.Rows.{RowAt}
 use Rattle.cpc_chains_laws.specs.Piece.Stood.{Stood}
 

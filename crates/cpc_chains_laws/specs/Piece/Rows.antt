@@ -3,9 +3,10 @@ use Rattle.std.specs.Prelude.{◌≡◌, ℕ, ◌+◌, List, [], ◌∷◌, ◌+
 use Rattle.cpc_tree.specs.Syntax.{Stmts, NoStmt, Program}
 use Rattle.cpc_tree.specs.Points.{Point}
 use Rattle.cpc_forms.specs.Flow.{Place}
-use Rattle.cpc_chains_store_laws.specs.Flat.{before, point_at}
-use Rattle.cpc_chains_event.specs.Routines.{Routine}
-use Rattle.cpc_chains_event.specs.Rows.{is_own, lines_by, put_lines, PutRow, rows_statements}
+use Rattle.cpc_convert_flat_laws.specs.Flat.{before, point_at}
+use Rattle.cpc_convert_routines.specs.Routines.{Routine}
+use Rattle.cpc_convert_routines.specs.Nodes.{is_own}
+use Rattle.cpc_chains_event.specs.Rows.{lines_by, put_lines, PutRow, rows_statements}
 use Rattle.cpc_chains_event.specs.FlatLaws.{opening}
 use Rattle.cpc_chains_event.specs.LabelLaws.{put_in}
 

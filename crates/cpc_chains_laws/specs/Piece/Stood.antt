@@ -4,34 +4,28 @@ use Rattle.std.specs.Prelude.{◌≡◌, ℕ, true, List, ◌∷◌, length, sli
 use Rattle.cpc_base.specs.Bytes.{Text}
 use Rattle.cpc_store.specs.Store.{Value}
 use Rattle.cpc_tree.specs.Lists.{holds_number}
-use Rattle.cpc_tree.specs.Points.{Nth, Point, Arrival, enter}
+use Rattle.cpc_tree.specs.Points.{Nth, Point, Arrival, enter, Simple}
 use Rattle.cpc_tree.specs.Syntax.{Expr, Exprs, Stmt, Call, Stmts, AndStmt, Function, Program}
-use Rattle.cpc_tree.specs.Points.{Simple}
-use Rattle.cpc_tree.specs.Typing.{function_named}
 use Rattle.cpc_meaning.specs.Act.{AtStatement}
-use Rattle.cpc_meaning.specs.Eval.{Slot, Register}
+use Rattle.cpc_meaning.specs.Eval.{Slot, Register, Fits}
 use Rattle.cpc_meaning.specs.Plain.{Frame}
 use Rattle.cpc_meaning.specs.Ways.{ByFrame}
 use Rattle.cpc_forms.specs.Flow.{Place, At}
 use Rattle.cpc_forms.specs.Graph.{Node}
 use Rattle.cpc_convert_image_laws.specs.Locals.{Stands, FitsAt}
-use Rattle.cpc_chains_store_laws.specs.Boxes.{AllRegisters}
+use Rattle.cpc_convert_flat_laws.specs.Boxes.{AllRegisters}
 use Rattle.cpc_chains_store_laws.specs.Driver.{any_pointer}
-use Rattle.cpc_meaning.specs.Eval.{Fits}
-use Rattle.cpc_chains_store_laws.specs.Walks.{frame_at}
-use Rattle.cpc_chains_event.specs.Names.{piece_name, value_name}
-use Rattle.cpc_chains_event.specs.Routines.{Routine, routine_of, keeper, closure_of, is_plain, local_of, variable_of}
-use Rattle.cpc_chains_event.specs.Frames.{arriving_type}
-use Rattle.cpc_chains_event.specs.Pieces.{takes_value, called_so}
-use Rattle.cpc_chains_event.specs.Rows.{has_row}
+use Rattle.cpc_convert_flat_laws.specs.Walks.{frame_at}
+use Rattle.cpc_convert_routines.specs.Names.{piece_name, value_name}
+use Rattle.cpc_convert_routines.specs.Routines.{Routine, routine_of, keeper, closure_of, is_plain, local_of, variable_of}
+use Rattle.cpc_convert_routines.specs.Arriving.{arriving_type}
+use Rattle.cpc_convert_routines.specs.Taken.{takes_value}
+use Rattle.cpc_chains_event.specs.Pieces.{called_so}
+use Rattle.cpc_convert_routines.specs.Nodes.{has_row}
 use Rattle.cpc_chains_event.specs.LocalLaws.{piece_locals}
-use Rattle.cpc_chains_event.specs.NameLaws.{IsCps, IsOwner}
+use Rattle.cpc_convert_routines.specs.Named.{IsOwner}
 use Rattle.cpc_chains_laws.specs.Piece.Rows.{RowAt, row_index, row_rest, row_point}
-
--- a cps function that is found by its name
-pub record IsFound (p : Program) (g : Function) : Type 0 where
-  pub cps : IsCps p g
-  pub named : function_named p g.called ≡ Some g
+use Rattle.cpc_lifted_laws.specs.Piece.Known.{IsFound}
 
 -- a node of a function that an owner owns, which keeps its own closure
 pub record NodeAt (p : Program) (g : Function) (l : Place) (n : ℕ) : Type 0 where

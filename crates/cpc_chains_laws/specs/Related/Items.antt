@@ -1,37 +1,17 @@
 -- A thread that waits, and the callback that stands for it: the driver, with the pointer to the chain of its frames.
-use Rattle.std.specs.Prelude.{◌≡◌, ℕ, Bool, List, [], ◌∷◌, map, slice_get, Option, Some, None}
+use Rattle.std.specs.Prelude.{ℕ, List, [], ◌∷◌, None}
 use Rattle.cpc_base.specs.Bytes.{Text}
-use Rattle.cpc_store.specs.declared.values.Class.TheVariants.{Auto}
-use Rattle.cpc_store.specs.Store.{Value, Unset, At as Pointer, Blocks}
-use Rattle.cpc_meaning.specs.Agenda.{Agenda}
-use Rattle.cpc_meaning.specs.Eval.{Slot, Register, Boxed}
+use Rattle.cpc_store.specs.Store.{Value, Blocks}
+use Rattle.cpc_meaning.specs.Eval.{Slot}
 use Rattle.cpc_meaning.specs.Plain.{Frame}
 use Rattle.cpc_meaning.specs.Threads.{Thread, Pending, Suspended}
-use Rattle.cpc_meaning.specs.Events.{Callback, CallWith}
-use Rattle.cpc_forms.specs.Flow.{Place, Start, At}
+use Rattle.cpc_meaning.specs.Events.{CallWith}
+use Rattle.cpc_forms.specs.Flow.{Start, At}
 use Rattle.cpc_forms.specs.Split.{Position, InGraph}
 use Rattle.cpc_convert_image_laws.specs.Stacks.{frame_of}
 use Rattle.cpc_chains_store_laws.specs.Chains.{Saved, Chain}
 use Rattle.cpc_chains_store_laws.specs.Driver.{drive_name}
-use Rattle.cpc_chains_laws.specs.Related.Sums.{all_joined}
-
--- how cps functions are cut: the name of the piece of an owner, the variables that the frames of an owner keep in the order of their
--- fields, the name of the spawner, and which functions are not cut, which are native or detached
-pub record Cut : Type 0 where
-  pub piece : Text → Place → Text
-  pub keeps : Text → Place → List ℕ
-  pub spawner : Text → Text
-  pub whole : Text → Bool
-
--- the value by which a frame keeps a variable: a register's value, or the pointer to a box
-abbrev pub value_in : Option Slot → Value
-value_in (Some (Register v)) = v
-value_in (Some (Boxed n)) = Pointer Auto n 0
-value_in None = Unset
-
--- the values by which it keeps these variables
-abbrev pub copied : List Slot → List ℕ → List Value
-copied slots ks = map (λ (k : ℕ). value_in (slice_get slots k)) ks
+use Rattle.cpc_lifted_laws.specs.Related.Cut.{Cut, copied, Tagged}
 
 -- what is saved of a frame that waits where a leader begins
 abbrev pub saved_at : Cut → Text → List Slot → ℕ → Saved
@@ -47,11 +27,6 @@ pub data FramesWait (cut : Cut) : List (Frame Position) → List Saved → Type 
 abbrev pub first_saved : Cut → Text → List Value → Saved
 first_saved cut f vs = record { piece = cut.piece f Start; values = vs }
 
--- a callback, and the numbers of the frame blocks of its chain
-pub record Tagged : Type 0 where
-  pub callback : Callback
-  pub owned : List ℕ
-
 -- the driver with this pointer, whose chain has these blocks
 abbrev pub driven : Value → List ℕ → Tagged
 driven p owned = record { callback = CallWith drive_name p; owned = owned }
@@ -62,11 +37,3 @@ pub data ItemFor (cut : Cut) (bs : Blocks) : Thread Position → Tagged → Type
   ForPending : (f : Text) (vs : List Value) (p : Value) (owned : List ℕ) → Chain bs (first_saved cut f vs ∷ []) p owned → ItemFor cut bs (Pending f vs) (driven p owned)
   ForSuspended : (frame : Frame Position) (below : List (Frame Position)) (saved : List Saved) (p : Value) (owned : List ℕ) → FramesWait cut (frame ∷ below) saved → Chain bs saved p owned
       → ItemFor cut bs (Suspended (record { frames = frame ∷ below; arriving = None })) (driven p owned)
-
--- a callback that bears a tag, and without it
-abbrev pub IsUntagged : Tagged → Callback → Type 0
-IsUntagged t c = t.callback ≡ c
-
--- the blocks of all chains of an agenda
-abbrev pub owned_in : Agenda Tagged → List ℕ
-owned_in a = all_joined (λ (t : Tagged). t.owned) a

@@ -1,20 +1,15 @@
 -- The laws that can be told without the relation, as statements: of the agenda's items, of walks, and of returns.
 use Rattle.std.specs.Prelude.{◌≡◌, ℕ, List, [], ◌∷◌, Option}
-use Rattle.cpc_meaning.specs.Agenda.{Agenda, begin_round, poll}
-use Rattle.cpc_tree.specs.Trace.{Told, Mark}
+use Rattle.cpc_meaning.specs.Agenda.{Agenda}
+use Rattle.cpc_tree.specs.Trace.{Mark}
 use Rattle.cpc_tree.specs.Syntax.{Program}
 use Rattle.cpc_store.specs.Store.{Value, Store}
 use Rattle.cpc_meaning.specs.Answer.{Gives}
 use Rattle.cpc_meaning.specs.Plain.{Form, Frame, Returned, frames_step}
-use Rattle.cpc_chains_store_laws.specs.Walks.{Here, Quiet, Walk}
-use Rattle.cpc_chains_store_laws.specs.Chains.{count}
-use Rattle.cpc_chains_laws.specs.Related.Sums.{total}
-use Rattle.cpc_chains_laws.specs.Related.Items.{Tagged, owned_in}
-
--- no item is lost or doubled where a round begins, nor at a poll
-pub record ItemsStay (T : Type 0) : Type 0 where
-  pub begins : (w : T → ℕ) (a : Agenda T) → a.round ≡ [] → total w (begin_round a) ≡ total w a
-  pub polled : (w : T → ℕ) (told : Told) (vs : List Value) (a : Agenda T) → total w (poll told vs a) ≡ total w a
+use Rattle.cpc_convert_flat_laws.specs.Walks.{Here, Quiet, Walk}
+use Rattle.cpc_convert_flat_laws.specs.Blocks.{count}
+use Rattle.cpc_lifted_laws.specs.Related.Sums.{total}
+use Rattle.cpc_lifted_laws.specs.Related.Cut.{Tagged, owned_in}
 
 -- the blocks of an agenda are owned as often as its items own them together
 abbrev pub ItemsOwn : Type 0

@@ -12,7 +12,8 @@ use Rattle.cpc_convert_image_laws.specs.Native.{IsHeldIf}
 use Rattle.cpc_convert_image_laws.specs.Stacks.{frame_of, Native}
 use Rattle.cpc_chains_store_laws.specs.Chains.{Saved, Chain}
 use Rattle.cpc_chains_store_laws.specs.Driver.{driving}
-use Rattle.cpc_chains_laws.specs.Related.Items.{Cut, FramesWait}
+use Rattle.cpc_lifted_laws.specs.Related.Cut.{Cut}
+use Rattle.cpc_chains_laws.specs.Related.Items.{FramesWait}
 
 -- a point of a function that is not cut, which is the same in both
 abbrev pub SamePoint : Cut → Text → Position → Point → Type 0

@@ -5,7 +5,7 @@ use Rattle.cpc_tree.specs.Registers.{variables}
 use Rattle.cpc_tree.specs.Syntax.{Function, Program}
 use Rattle.cpc_meaning.specs.Eval.{Slot, Boxed}
 use Rattle.cpc_forms.specs.Flow.{Place}
-use Rattle.cpc_chains_event.specs.Routines.{routine_of, closure_of}
+use Rattle.cpc_convert_routines.specs.Routines.{routine_of, closure_of}
 
 -- a frame has a slot for each variable of its function, and only variables that the owner keeps are boxes
 pub record KeepsBoxes (p : Program) (f : Function) (l : Place) (slots : List Slot) : Type 0 where

@@ -7,9 +7,9 @@ use Rattle.cpc_convert_image_laws.specs.Stacks.{frame_of}
 use Rattle.cpc_forms.specs.Flow.{Place}
 use Rattle.cpc_forms.specs.Split.{InGraph}
 use Rattle.cpc_lift_laws.specs.Lifted.{TidyFrame}
-use Rattle.cpc_chains_laws.specs.Accepted.Known.{Stays, FineFrame}
-use Rattle.cpc_chains_laws.specs.Accepted.Lifted.{kept_of}
-use Rattle.cpc_chains_laws.specs.Piece.Known.{CpsKnown}
+use Rattle.cpc_lifted_laws.specs.Accepted.Known.{Stays, FineFrame}
+use Rattle.cpc_lifted_laws.specs.Accepted.Lifted.{kept_of}
+use Rattle.cpc_lifted_laws.specs.Piece.Known.{CpsKnown}
 use Rattle.cpc_chains_laws.specs.Piece.Stood.{NodeAt}
 use Rattle.cpc_chains_laws.specs.Return.Kept.{KeepsBoxes}
 

@@ -4,10 +4,10 @@ use Rattle.cpc_tree.specs.Syntax.{Function, Program}
 use Rattle.cpc_chains_laws.specs.Complete.Flat.{Distinct, AllOf, labels_of, gotos_of}
 use Rattle.cpc_forms.specs.Flow.{Place}
 use Rattle.cpc_forms.specs.Graph.{graph_of}
-use Rattle.cpc_chains_event.specs.NameLaws.{IsOwner}
-use Rattle.cpc_chains_event.specs.Routines.{routine_of}
+use Rattle.cpc_convert_routines.specs.Named.{IsOwner}
+use Rattle.cpc_convert_routines.specs.Routines.{routine_of}
 use Rattle.cpc_chains_event.specs.Rows.{piece_statements}
-use Rattle.cpc_chains_laws.specs.Accepted.Accepted.{OfAccepted}
+use Rattle.cpc_lifted_laws.specs.Accepted.Accepted.{OfAccepted}
 use Rattle.cpc_chains_laws.specs.Rules.Laws.{BodiesFine, Unbroken}
 
 -- no two labels of a piece are one

@@ -12,18 +12,18 @@ use Rattle.cpc_check_rules.specs.FunctionRules.{is_kept, reserved_breaks, locals
 use Rattle.cpc_check_rules.specs.ItemRules.{in_body, body_breaks}
 use Rattle.cpc_check_rules.specs.Rules.{breaks}
 use Rattle.cpc_check_laws.proofs.Native.OnePlace.{parameter_here, stmt_here, function_here}
-use Rattle.cpc_chains_laws.specs.Complete.Kept.{KeepsItems}
+use Rattle.cpc_lifted_laws.specs.Complete.Kept.{KeepsItems}
 use Rattle.cpc_convert_common.specs.Marks.{has_marks}
 use Rattle.cpc_convert_common.specs.Converted.{spawner_name, function_item}
 use Rattle.cpc_convert_image_laws.specs.InPlace.{is_cps}
 use Rattle.cpc_forms.specs.Flow.{Place}
 use Rattle.cpc_chains_store_laws.specs.Driver.{drive_name, any_pointer}
 use Rattle.cpc_chains_event.specs.Converted.{converted}
-use Rattle.cpc_chains_event.specs.NameLaws.{IsCps, IsOwner}
-use Rattle.cpc_chains_event.specs.Names.{piece_name}
+use Rattle.cpc_convert_routines.specs.Named.{IsCps, IsOwner}
+use Rattle.cpc_convert_routines.specs.Names.{piece_name}
 use Rattle.cpc_chains_event.specs.Pieces.{parameter_of, piece_function, spawner_function}
-use Rattle.cpc_chains_event.specs.Routines.{routine_of, passed}
-use Rattle.cpc_chains_laws.specs.Accepted.Accepted.{OfAccepted}
+use Rattle.cpc_convert_routines.specs.Routines.{routine_of, passed}
+use Rattle.cpc_lifted_laws.specs.Accepted.Accepted.{OfAccepted}
 
 -- what what is made of a program knows of the items so far of its event program: what is made is declared, names of the source that are no
 -- cps functions' stand for what they stand for at its end and wherever they are declared, those that the language keeps stand for nothing, and all structs are there

@@ -1,15 +1,14 @@
 -- What joins the conversion, as statements.
 use Rattle.std.specs.Prelude.{◌≡◌, true, []}
 use Rattle.cpc_tree.specs.Syntax.{Function, Program}
-use Rattle.cpc_chains_event.specs.Converted.{routines, converted}
-use Rattle.cpc_chains_event.specs.NameLaws.{IsCps}
-use Rattle.cpc_chains_laws.specs.Accepted.Accepted.{OfAccepted}
+use Rattle.cpc_convert_routines.specs.Kept.{routines}
+use Rattle.cpc_chains_event.specs.Converted.{converted}
+use Rattle.cpc_convert_routines.specs.Named.{IsCps}
+use Rattle.cpc_lifted_laws.specs.Accepted.Accepted.{OfAccepted}
 use Rattle.cpc_meaning.specs.Runs.{SameRuns, Within}
-use Rattle.cpc_forms.specs.Split.{split_form}
-use Rattle.cpc_chains_laws.specs.Known.Jobs.{SectionsTake}
-use Rattle.cpc_chains_laws.specs.Native.Instance.{NamesDetached}
 use Rattle.cpc_check_laws.specs.Run.Plain.{is_plain}
-use Rattle.cpc_chains_laws.specs.Piece.Known.{CpsKnown, ProgramKnown}
+use Rattle.cpc_lifted_laws.specs.Piece.Known.{CpsKnown}
+use Rattle.cpc_chains_laws.specs.Piece.Known.{ProgramKnown}
 
 -- what pieces ask of a cps function is had of each one of an accepted program
 abbrev pub AcceptedCpsIsKnown : Type 0
@@ -18,10 +17,6 @@ AcceptedCpsIsKnown = OfAccepted (λ p. (f : Function) → IsCps p f → CpsKnown
 -- and what they ask of the whole program
 abbrev pub AcceptedIsKnown : Type 0
 AcceptedIsKnown = OfAccepted ProgramKnown
-
--- its sections run detached functions, which take a pointer to integers, and integers
-abbrev pub AcceptedSectionsTake : Type 0
-AcceptedSectionsTake = OfAccepted (λ p. SectionsTake (split_form p) (NamesDetached p))
 
 -- a program that is its own event program, and runs alike in both machines
 pub record IsNative (p : Program) : Type 0 where

@@ -3,11 +3,12 @@
 use Rattle.std.specs.Prelude.{List, [], ◌∷◌, Some, None}
 use Rattle.cpc_base.specs.Bytes.{Text}
 use Rattle.cpc_tree.specs.Syntax.{TyPointer, TyStruct, ENamed, ESizeOf, EArrow, Stmt, Declare, Assign, Goto, Variable}
-use Rattle.cpc_chains_store_laws.specs.Boxes.{boxes_one, fills_box, unboxes_one}
+use Rattle.cpc_convert_flat_laws.specs.Boxes.{boxes_one, fills_box, unboxes_one}
 use Rattle.cpc_chains_store_laws.specs.Driver.{code_field, next_field}
-use Rattle.cpc_chains_store_laws.specs.Frames.{Save, saves_one, frame_through, asks_block, Load, loads_one, declares_one, frees_frame}
+use Rattle.cpc_convert_flat_laws.specs.Locals.{Save, saves_one, Load, loads_one, declares_one}
+use Rattle.cpc_chains_store_laws.specs.Frames.{frame_through, asks_block, frees_frame}
 use Rattle.cpc_chains_event.specs.Lines.{hands_over}
-use Rattle.cpc_chains_event.specs.Names.{pointer_name, frame_name, next_name, value_name, to_name, under_name, result_name}
+use Rattle.cpc_convert_routines.specs.Names.{pointer_name, frame_name, next_name, value_name, to_name, under_name, result_name}
 
 -- the locals in which no variable of the source stands: the pointer that the function takes, the frame that it points to, the frame below, the
 -- value that arrives, the frame that is handed over, one below it, and the value that is returned

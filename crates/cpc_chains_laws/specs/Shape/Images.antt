@@ -16,7 +16,7 @@ use Rattle.cpc_convert_image_laws.specs.Images.{Readings, image, images, image_s
 use Rattle.cpc_chains_store_laws.specs.Driver.{drive_name, patches, detaches}
 use Rattle.cpc_chains_store_laws.specs.Frames.{frame_through}
 use Rattle.cpc_chains_event.specs.Lines.{hands_over, hands_nothing, runtime_name}
-use Rattle.cpc_chains_event.specs.Names.{next_name, value_name, to_name, under_name, result_name}
+use Rattle.cpc_convert_routines.specs.Names.{next_name, value_name, to_name, under_name, result_name}
 use Rattle.cpc_chains_laws.specs.Shape.Help.{names_code, links}
 
 -- it changes no variable

@@ -8,11 +8,12 @@ use Rattle.cpc_meaning.specs.Start.{main_name}
 use Rattle.cpc_convert_common.specs.Converted.{prototype, function_item}
 use Rattle.cpc_forms.specs.Flow.{Place, Start, At}
 use Rattle.cpc_chains_store_laws.specs.Driver.{next_field, any_pointer, drive_function}
-use Rattle.cpc_chains_store_laws.specs.Flat.{before}
-use Rattle.cpc_chains_store_laws.specs.Frames.{asks_block, loads_one, frees_frame}
-use Rattle.cpc_chains_event.specs.Converted.{kept_function}
+use Rattle.cpc_convert_flat_laws.specs.Flat.{before}
+use Rattle.cpc_chains_store_laws.specs.Frames.{asks_block, frees_frame}
+use Rattle.cpc_convert_flat_laws.specs.Locals.{loads_one}
+use Rattle.cpc_convert_routines.specs.Kept.{kept_function}
 use Rattle.cpc_chains_event.specs.Lines.{hands_over}
-use Rattle.cpc_chains_event.specs.Names.{piece_name, pointer_name, frame_name, next_name, to_name}
+use Rattle.cpc_convert_routines.specs.Names.{piece_name, pointer_name, frame_name, next_name, to_name}
 use Rattle.cpc_chains_event.specs.Pieces.{called_so, parameter_of, spawner_function}
 use Rattle.cpc_chains_laws.specs.Shape.Help.{names_code, links}
 use Rattle.cpc_chains_laws.specs.Shape.Shape.{Shape}

@@ -16,9 +16,10 @@ use Rattle.cpc_lift_laws.specs.Used.{used_at}
 use Rattle.cpc_convert_image_laws.specs.Images.{Readings}
 use Rattle.cpc_convert_image_laws.specs.Locals.{readings_in, local_type}
 use Rattle.cpc_chains_store_laws.specs.Driver.{drive_function}
-use Rattle.cpc_chains_store_laws.specs.Flat.{before, bare}
-use Rattle.cpc_chains_event.specs.Converted.{kept_function, main_function}
-use Rattle.cpc_chains_event.specs.NameLaws.{IsCps, IsKept}
+use Rattle.cpc_convert_flat_laws.specs.Flat.{before, bare}
+use Rattle.cpc_convert_routines.specs.Kept.{kept_function}
+use Rattle.cpc_chains_event.specs.Converted.{main_function}
+use Rattle.cpc_convert_routines.specs.Named.{IsCps, IsKept}
 use Rattle.cpc_chains_event.specs.Pieces.{spawner_function}
 use Rattle.cpc_chains_laws.specs.Shape.Help.{words, Between}
 use Rattle.cpc_chains_laws.specs.Shape.Images.{Images}

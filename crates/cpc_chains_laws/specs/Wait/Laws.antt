@@ -1,29 +1,23 @@
 -- The laws of cps statements, as statements.
-use Rattle.std.specs.Prelude.{◌≡◌, ℕ, List, [], ◌∷◌, slice_get, Some}
-use Rattle.cpc_base.specs.Bytes.{Text}
+use Rattle.std.specs.Prelude.{◌≡◌, ℕ, [], ◌∷◌, slice_get, Some}
 use Rattle.cpc_base.specs.declared.stop.Dialect.TheVariants as D
 use Rattle.cpc_check_laws.specs.Sound.Typed.{FoundTyped}
 use Rattle.cpc_tree.specs.declared.program.Mode.TheVariants.{Native}
 use Rattle.cpc_tree.specs.Points.{Simple}
 use Rattle.cpc_tree.specs.Syntax.{Stmt, Function, Program}
 use Rattle.cpc_tree.specs.Typing.{AFunction, named}
-use Rattle.cpc_store.specs.Store.{Value}
 use Rattle.cpc_meaning.specs.Act.{AtStatement}
-use Rattle.cpc_meaning.specs.Threads.{Pending}
 use Rattle.cpc_meaning.specs.Ways.{AsCps}
 use Rattle.cpc_forms.specs.Flow.{Place}
 use Rattle.cpc_forms.specs.Graph.{Node, graph_of}
-use Rattle.cpc_forms.specs.Split.{Position}
 use Rattle.cpc_chains_store_laws.specs.Driver.{DriverMeant, any_pointer}
 use Rattle.cpc_chains_event.specs.Converted.{converted}
 use Rattle.cpc_chains_event.specs.FlatLaws.{piece_scope}
-use Rattle.cpc_chains_event.specs.NameLaws.{IsNamed, IsCps, IsOwner}
-use Rattle.cpc_chains_event.specs.Names.{start_name}
-use Rattle.cpc_chains_event.specs.Routines.{routine_of}
-use Rattle.cpc_chains_laws.specs.Accepted.Known.{BeginsWell}
-use Rattle.cpc_chains_laws.specs.Accepted.Names.{HasNames}
-use Rattle.cpc_chains_laws.specs.Piece.Known.{CpsKnown}
-use Rattle.cpc_chains_laws.specs.Wait.Asked.{GivenWhereFit}
+use Rattle.cpc_convert_routines.specs.Named.{IsCps, IsOwner}
+use Rattle.cpc_convert_routines.specs.Names.{start_name}
+use Rattle.cpc_convert_routines.specs.Routines.{routine_of}
+use Rattle.cpc_lifted_laws.specs.Accepted.Names.{HasNames}
+use Rattle.cpc_lifted_laws.specs.Piece.Known.{CpsKnown}
 use Rattle.cpc_chains_laws.specs.Wait.Waiting.{Waiting}
 
 -- a node of a cps statement that is typed has one of three: a call of a cps function, a call of a primitive that waits, or a section
@@ -38,7 +32,3 @@ StartsAreMeant =
     (p : Program) (f : Function) → CpsKnown p f → (l : Place) → IsOwner (routine_of p f) l
     → DriverMeant (converted p) (piece_scope p (routine_of p f) l)
     × ((g : Function) → IsCps p g → named (converted p) (piece_scope p (routine_of p f) l) (start_name g.called) ≡ AFunction Native any_pointer (any_pointer ∷ []))
-
--- what is known of a call that is to begin, that its arguments fit the parameters and these are scalar, is so where they fit
-abbrev pub FittingCallsBegin : Type 0
-FittingCallsBegin = (p : Program) → IsNamed p → GivenWhereFit p (λ (x : Text) (vs : List Value). BeginsWell {P = Position} p (Pending x vs))

@@ -7,7 +7,7 @@ use Rattle.cpc_tree.specs.Primitives.{Primitive, primitive_named}
 use Rattle.cpc_tree.specs.Syntax.{Ty, Expr, ENamed, Exprs, Stmt, Call, Detach, Function, Program}
 use Rattle.cpc_tree.specs.Typing.{Scope, AFunction, NotMeant, named, function_named, parameter_types}
 use Rattle.cpc_meaning.specs.Ways.{AsCps, primitive_manner}
-use Rattle.cpc_chains_event.specs.NameLaws.{IsCps}
+use Rattle.cpc_convert_routines.specs.Named.{IsCps}
 
 -- a cps statement: a call of a cps function, of a primitive that waits, or a section
 pub data Waiting (p : Program) (scope : Scope) : Stmt → Type 0 where

@@ -1,7 +1,7 @@
 use Rattle.std.proofs.Common.{◌≡◌, ◌∙◌, ◌++◌, List, map, sym, ap, subst}
 use Rattle.cpc_tree.specs.Erase.{in_table, item_of, program_of}
 use Rattle.cpc_tree.specs.declared.program.Item as GItem
-use Rattle.cpc_chains_event.specs.Converted.{kept_items}
+use Rattle.cpc_convert_routines.specs.Kept.{kept_items}
 use Rattle.cpc_chains_items.specs.Listed.{listed}
 use Rattle.cpc_chains_code.specs.Given.{routines_by}
 use Rattle.cpc_chains_code.specs.Made.{made_before, made_behind}

@@ -3,7 +3,7 @@ use Rattle.cpc_tree.specs.Erase.{Names, Table}
 use Rattle.cpc_tree.specs.Syntax.{Program}
 use Rattle.cpc_convert_common.specs.Converted.{function_item}
 use Rattle.cpc_chains_event.specs.Pieces.{leader_function}
-use Rattle.cpc_chains_event.specs.Routines.{Routine}
+use Rattle.cpc_convert_routines.specs.Routines.{Routine}
 use Rattle.cpc_chains_items.specs.Listed.{listed}
 use Rattle.cpc_chains_pieces.specs.Around.{Stands}
 use Rattle.cpc_chains_pieces.specs.Whole.{IsWhole}

@@ -4,7 +4,7 @@ use Rattle.std.proofs.lemmas.Option.{slice_get_within}
 use Rattle.cpc_tree.specs.Erase.{field_of, type_of}
 use Rattle.cpc_tree.specs.Syntax.{Variable}
 use Rattle.cpc_chains_event.specs.Pieces.{called_so}
-use Rattle.cpc_chains_event.specs.Names.{variable_name}
+use Rattle.cpc_convert_routines.specs.Names.{variable_name}
 use Rattle.cpc_chains_lines.specs.Known.{plain_seen}
 use Rattle.cpc_convert_names.specs.Called.{variables_in}
 use Rattle.cpc_chains_items.specs.Passed.{passed_always}

@@ -3,7 +3,7 @@ use Rattle.std.proofs.lemmas.List.{length-map}
 use Rattle.cpc_tree.specs.Erase.{field_of, parameter_of, function_of}
 use Rattle.cpc_tree.specs.Registers.{variables}
 use Rattle.cpc_tree.specs.Syntax.{Function}
-use Rattle.cpc_chains_event.specs.Routines.{passed_from}
+use Rattle.cpc_convert_routines.specs.Routines.{passed_from}
 use Rattle.cpc_chains_items.specs.Passed.{passed_one}
 use Rattle.cpc_chains_items.proofs.Passes.{passed_more}
 use Rattle.cpc_chains_items.proofs.Standing.{function_is}

@@ -2,7 +2,7 @@ use Rattle.std.proofs.Common.{◌≡◌, map}
 use Rattle.cpc_tree.specs.Erase.{Names, Table, field_of}
 use Rattle.cpc_tree.specs.Registers.{variables}
 use Rattle.cpc_tree.specs.Syntax.{Program}
-use Rattle.cpc_chains_event.specs.Routines.{Routine, passed_from}
+use Rattle.cpc_convert_routines.specs.Routines.{Routine, passed_from}
 use Rattle.cpc_chains_lines.specs.Around.{Stands}
 use Rattle.cpc_chains_items.proofs.passing.passed.Given as goal
 

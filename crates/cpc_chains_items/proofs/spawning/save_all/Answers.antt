@@ -3,9 +3,9 @@ use Rattle.std.proofs.lemmas.List.{take_all}
 use Rattle.cpc_tree.specs.Erase.{field_of}
 use Rattle.cpc_tree.specs.declared.program.Field as GField
 use Rattle.cpc_tree.specs.Syntax.{Stmt, ENamed}
-use Rattle.cpc_chains_store_laws.specs.Frames.{saves_one}
+use Rattle.cpc_convert_flat_laws.specs.Locals.{saves_one}
 use Rattle.cpc_chains_event.specs.Lines.{save_of}
-use Rattle.cpc_chains_event.specs.Names.{frame_name}
+use Rattle.cpc_convert_routines.specs.Names.{frame_name}
 use Rattle.cpc_chains_lines.specs.Written.{written, puts}
 use Rattle.cpc_convert_respawning.proofs.Growing.{mapped_twice}
 use Rattle.cpc_chains_items.proofs.Putting.{put_more}

@@ -1,9 +1,9 @@
 use Rattle.std.proofs.Common.{◌≡◌, map, take}
 use Rattle.cpc_tree.specs.Erase.{Names, Table, field_of}
 use Rattle.cpc_tree.specs.Syntax.{ENamed}
-use Rattle.cpc_chains_store_laws.specs.Frames.{saves_one}
+use Rattle.cpc_convert_flat_laws.specs.Locals.{saves_one}
 use Rattle.cpc_chains_event.specs.Lines.{save_of}
-use Rattle.cpc_chains_event.specs.Names.{frame_name}
+use Rattle.cpc_convert_routines.specs.Names.{frame_name}
 use Rattle.cpc_convert_names.specs.Book.{IsBook}
 use Rattle.cpc_chains_lines.specs.Written.{written, puts}
 use Rattle.cpc_chains_items.proofs.spawning.save_all.Given as goal

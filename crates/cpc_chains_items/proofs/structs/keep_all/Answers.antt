@@ -3,7 +3,7 @@ use Rattle.std.proofs.lemmas.List.{append-nil, take_all}
 use Rattle.std.proofs.lemmas.List.Elements.{All-get_or}
 use Rattle.cpc_base.proofs.Lists.{get_or_within}
 use Rattle.cpc_tree.specs.Erase.{field_of}
-use Rattle.cpc_chains_event.specs.Routines.{local_of, locals_of}
+use Rattle.cpc_convert_routines.specs.Routines.{local_of, locals_of}
 use Rattle.cpc_chains_lines.specs.Around.{IsVariable}
 use Rattle.cpc_convert_respawning.proofs.Growing.{more}
 use Rattle.cpc_chains_items.proofs.Standing.{kept_within}

@@ -1,7 +1,7 @@
 use Rattle.std.proofs.Common.{◌≡◌, ◌++◌, map, take}
 use Rattle.cpc_tree.specs.Erase.{Names, Table, field_of}
 use Rattle.cpc_tree.specs.Syntax.{Program}
-use Rattle.cpc_chains_event.specs.Routines.{Routine, locals_of}
+use Rattle.cpc_convert_routines.specs.Routines.{Routine, locals_of}
 use Rattle.cpc_chains_lines.specs.Around.{Stands, IsNode}
 use Rattle.cpc_chains_items.proofs.structs.keep_all.Given as goal
 

@@ -2,7 +2,7 @@ use Rattle.std.proofs.Common.{◌∙◌, [], ◌∷◌, ◌++◌, map, ap}
 use Rattle.std.proofs.lemmas.List.{map-append}
 use Rattle.cpc_tree.specs.Erase.{field_of, type_of}
 use Rattle.cpc_chains_event.specs.Pieces.{called_so}
-use Rattle.cpc_chains_event.specs.Routines.{local_of}
+use Rattle.cpc_convert_routines.specs.Routines.{local_of}
 use Rattle.cpc_chains_items.proofs.structs.keep_one.Goals as goal
 
 pub returns : goal.returns

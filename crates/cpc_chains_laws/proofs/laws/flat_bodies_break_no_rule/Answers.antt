@@ -1,10 +1,10 @@
 use Rattle.cpc_chains_laws.proofs.Complete.Made as D
 use Rattle.cpc_chains_laws.proofs.Complete.Flat as F
-use Rattle.cpc_chains_laws.proofs.Complete.Rows as R
+use Rattle.cpc_lifted_laws.proofs.Complete.Rows as R
 use Rattle.cpc_chains_laws.proofs.Complete.Frames as M
 use Rattle.cpc_chains_laws.proofs.Complete.FrameRows as N
 use Rattle.cpc_chains_laws.proofs.Complete.Pieces as P
-use Rattle.cpc_chains_laws.proofs.Complete.Makers as K
+use Rattle.cpc_lifted_laws.proofs.Complete.Makers as K
 use Rattle.cpc_chains_laws.proofs.laws.flat_bodies_break_no_rule.Goals as goal
 
 -- lemmas of which no clause speaks are checked with this one

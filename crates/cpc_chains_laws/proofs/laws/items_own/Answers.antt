@@ -1,4 +1,4 @@
-use Rattle.cpc_chains_laws.proofs.Related.Items as L
+use Rattle.cpc_lifted_laws.proofs.Related.Owned as L
 use Rattle.cpc_chains_laws.proofs.Related.Pass as N
 use Rattle.cpc_chains_laws.proofs.laws.items_own.Goals as goal
 

@@ -1,7 +1,7 @@
 use Rattle.std.proofs.Common.{◌∙◌, sym, ap}
 use Rattle.cpc_base.proofs.Lists.{found_within}
 use Rattle.cpc_tree.specs.Syntax as S
-use Rattle.cpc_chains_event.specs.Names.{variable_name}
+use Rattle.cpc_convert_routines.specs.Names.{variable_name}
 use Rattle.cpc_convert_names.specs.Called.{variables_in}
 use Rattle.cpc_chains_lines.proofs.Standing.{variable_at}
 use Rattle.cpc_chains_lines.proofs.around.local.Goals as goal

@@ -1,7 +1,7 @@
 use Rattle.std.proofs.Common.{◌∙◌, ◌≡◌, sym, ap, true, false}
 use Rattle.cpc_tree.specs.Syntax as S
-use Rattle.cpc_chains_event.specs.Routines.{is_plain, variable_of}
-use Rattle.cpc_chains_event.specs.Names.{box_tag}
+use Rattle.cpc_convert_routines.specs.Routines.{is_plain, variable_of}
+use Rattle.cpc_convert_routines.specs.Names.{box_tag}
 use Rattle.cpc_convert_image_laws.specs.Locals as I
 use Rattle.cpc_convert_names.specs.Called.{variables_in}
 use Rattle.cpc_chains_lines.proofs.Standing.{read, variable_at}

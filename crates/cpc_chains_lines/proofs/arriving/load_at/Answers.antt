@@ -2,8 +2,8 @@ use Rattle.std.proofs.Common.{◌≡◌, Bool, true, sym, ap, ◌∙◌}
 use Rattle.cpc_tree.specs.Erase.{stmt_of}
 use Rattle.cpc_tree.specs.Points.{Simple}
 use Rattle.cpc_meaning.specs.Act.{target_of}
-use Rattle.cpc_chains_event.specs.Frames.{arriving_found}
-use Rattle.cpc_chains_event.specs.Pieces.{has_place}
+use Rattle.cpc_convert_routines.specs.Arriving.{arriving_found}
+use Rattle.cpc_convert_routines.specs.Taken.{has_place}
 use Rattle.cpc_chains_lines.specs.Puts.{loads_if}
 use Rattle.cpc_chains_lines.specs.Written.{written, puts}
 use Rattle.cpc_chains_lines.proofs.Arrival.{has_one}

@@ -1,7 +1,7 @@
 use Rattle.std.proofs.Common.{◌≡◌, map, drop, All}
 use Rattle.cpc_tree.specs.Erase.{Names, Table}
 use Rattle.cpc_tree.specs.Syntax.{Program}
-use Rattle.cpc_chains_event.specs.Routines.{Routine}
+use Rattle.cpc_convert_routines.specs.Routines.{Routine}
 use Rattle.cpc_chains_lines.specs.Written.{written, puts}
 use Rattle.cpc_chains_lines.specs.Puts.{saves}
 use Rattle.cpc_chains_lines.specs.Around.{Stands, IsVariable}

@@ -3,7 +3,7 @@ use Rattle.cpc_tree.specs.Erase.{expr_of}
 use Rattle.cpc_tree.specs.Syntax as S
 use Rattle.cpc_convert_image_laws.specs.Images as I
 use Rattle.cpc_chains_event.specs.Lines.{leave_lines}
-use Rattle.cpc_chains_event.specs.Routines.{is_plain}
+use Rattle.cpc_convert_routines.specs.Routines.{is_plain}
 use Rattle.cpc_chains_lines.specs.Around.{reads}
 use Rattle.cpc_chains_lines.specs.Written.{written, puts}
 use Rattle.cpc_chains_lines.proofs.Framing.{left_with, left_without}

@@ -4,8 +4,8 @@ use Rattle.cpc_tree.specs.Points as P
 use Rattle.cpc_tree.specs.Syntax as S
 use Rattle.cpc_meaning.specs.Act as A
 use Rattle.cpc_convert_image_laws.specs.Images as I
-use Rattle.cpc_chains_event.specs.Names.{value_name}
-use Rattle.cpc_chains_event.specs.Routines.{is_plain}
+use Rattle.cpc_convert_routines.specs.Names.{value_name}
+use Rattle.cpc_convert_routines.specs.Routines.{is_plain}
 use Rattle.cpc_chains_event.specs.Lines as L
 use Rattle.cpc_chains_lines.specs.Around.{reads}
 use Rattle.cpc_chains_lines.specs.Written.{written, puts}

@@ -1,7 +1,7 @@
 use Rattle.std.proofs.Common.{◌∙◌, ap, [], ◌∷◌, ◌++◌}
 use Rattle.cpc_base.specs.Bytes.{Text}
 use Rattle.cpc_forms.specs.Flow.{At}
-use Rattle.cpc_chains_event.specs.Names.{to_name}
+use Rattle.cpc_convert_routines.specs.Names.{to_name}
 use Rattle.cpc_chains_event.specs.Lines as L
 use Rattle.cpc_chains_lines.specs.Written.{written, puts}
 use Rattle.cpc_chains_lines.proofs.Puts.{behind}

@@ -4,7 +4,7 @@ use Rattle.cpc_tree.specs.Erase.{expr_of}
 use Rattle.cpc_tree.specs.Syntax as S
 use Rattle.cpc_tree.specs.declared.program.Expr as GExpr
 use Rattle.cpc_convert_image_laws.specs.Images as I
-use Rattle.cpc_chains_event.specs.Routines.{is_plain}
+use Rattle.cpc_convert_routines.specs.Routines.{is_plain}
 use Rattle.cpc_chains_event.specs.Lines as L
 use Rattle.cpc_chains_event.specs.Rows.{put_statement, JumpIf}
 use Rattle.cpc_chains_lines.specs.Around.{reads}

@@ -2,7 +2,7 @@ use Rattle.std.proofs.Common.{◌∙◌, ap}
 use Rattle.cpc_tree.specs.Erase.{expr_of}
 use Rattle.cpc_tree.specs.Syntax as S
 use Rattle.cpc_convert_image_laws.specs.Images as I
-use Rattle.cpc_chains_event.specs.Routines.{is_plain}
+use Rattle.cpc_convert_routines.specs.Routines.{is_plain}
 use Rattle.cpc_chains_lines.specs.Written.{written}
 use Rattle.cpc_chains_nodes.proofs.Read.{assign_put}
 use Rattle.cpc_chains_nodes.proofs.statements.begin_variable.Goals as goal

@@ -1,7 +1,7 @@
 use Rattle.std.proofs.Common.{◌∙◌, ap, option_map}
 use Rattle.cpc_tree.specs.Erase.{expr_of, exprs_of}
 use Rattle.cpc_convert_image_laws.specs.Images as I
-use Rattle.cpc_chains_event.specs.Routines.{is_plain}
+use Rattle.cpc_convert_routines.specs.Routines.{is_plain}
 use Rattle.cpc_chains_lines.specs.Written.{written}
 use Rattle.cpc_chains_nodes.proofs.Read.{call_put}
 use Rattle.cpc_chains_nodes.proofs.statements.call.Goals as goal

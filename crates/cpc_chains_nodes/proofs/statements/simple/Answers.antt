@@ -5,7 +5,7 @@ use Rattle.cpc_tree.specs.declared.program.Statement.TheVariants as T
 use Rattle.cpc_tree.specs.declared.program.Expr as GExpr
 use Rattle.cpc_convert_common.specs.Converted.{spawner_name}
 use Rattle.cpc_convert_image_laws.specs.Images as I
-use Rattle.cpc_chains_event.specs.Routines.{is_plain}
+use Rattle.cpc_convert_routines.specs.Routines.{is_plain}
 use Rattle.cpc_chains_event.specs.Lines as L
 use Rattle.cpc_chains_lines.specs.Around.{reads}
 use Rattle.cpc_chains_lines.specs.Written.{written, puts}

@@ -5,7 +5,7 @@ use Rattle.cpc_tree.specs.Registers as R
 use Rattle.cpc_tree.specs.Syntax as S
 use Rattle.cpc_chains_store_laws.specs.Driver.{code_field, next_field}
 use Rattle.cpc_chains_store_laws.specs.Frames.{asks_block, fills_frame}
-use Rattle.cpc_chains_event.specs.Names.{start_name, to_name, under_name}
+use Rattle.cpc_convert_routines.specs.Names.{start_name, to_name, under_name}
 use Rattle.cpc_convert_names.specs.Called.{function_in, variables_in}
 use Rattle.cpc_chains_lines.specs.Known.{plain_seen}
 use Rattle.cpc_convert_images.proofs.Rows.{alike_at}

@@ -1,7 +1,7 @@
 use Rattle.std.proofs.Common.{◌≡◌, map, drop}
 use Rattle.cpc_tree.specs.Erase.{Names, Table}
 use Rattle.cpc_tree.specs.Syntax.{Program}
-use Rattle.cpc_chains_event.specs.Routines.{Routine}
+use Rattle.cpc_convert_routines.specs.Routines.{Routine}
 use Rattle.cpc_chains_lines.specs.Written.{written, puts}
 use Rattle.cpc_tree.specs.Erase.{exprs_of}
 use Rattle.cpc_convert_names.specs.Called.{AreCalled, variables_in}

@@ -2,7 +2,7 @@ use Rattle.std.proofs.Common.{◌∙◌, sym, ap, [], ◌∷◌, ◌++◌, Optio
 use Rattle.cpc_base.specs.Bytes.{Text}
 use Rattle.cpc_tree.specs.Erase.{exprs_of, function_of}
 use Rattle.cpc_tree.specs.Syntax as S
-use Rattle.cpc_chains_event.specs.Names.{to_name, under_name}
+use Rattle.cpc_convert_routines.specs.Names.{to_name, under_name}
 use Rattle.cpc_chains_event.specs.Lines as L
 use Rattle.cpc_convert_names.specs.Called.{AreCalled, function_in}
 use Rattle.cpc_convert_names.specs.declared.called.Called.{Called}

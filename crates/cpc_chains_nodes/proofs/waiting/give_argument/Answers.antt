@@ -5,8 +5,8 @@ use Rattle.cpc_tree.specs.Erase.{expr_of}
 use Rattle.cpc_tree.specs.Syntax as S
 use Rattle.cpc_convert_image_laws.specs.Images as I
 use Rattle.cpc_chains_store_laws.specs.Frames.{frame_through}
-use Rattle.cpc_chains_event.specs.Names.{to_name}
-use Rattle.cpc_chains_event.specs.Routines.{is_plain}
+use Rattle.cpc_convert_routines.specs.Names.{to_name}
+use Rattle.cpc_convert_routines.specs.Routines.{is_plain}
 use Rattle.cpc_convert_names.specs.Called.{variables_in}
 use Rattle.cpc_chains_lines.specs.Known.{plain_seen}
 use Rattle.cpc_chains_lines.specs.Around.{reads}

@@ -6,8 +6,8 @@ use Rattle.cpc_tree.specs.declared.program.Expr as GExpr
 use Rattle.cpc_tree.specs.declared.program.Expr.TheVariants as E
 use Rattle.cpc_convert_image_laws.specs.Images as I
 use Rattle.cpc_chains_store_laws.specs.Driver.{drive_name, detaches}
-use Rattle.cpc_chains_event.specs.Names.{to_name}
-use Rattle.cpc_chains_event.specs.Routines.{is_plain}
+use Rattle.cpc_convert_routines.specs.Names.{to_name}
+use Rattle.cpc_convert_routines.specs.Routines.{is_plain}
 use Rattle.cpc_chains_event.specs.Lines as L
 use Rattle.cpc_chains_lines.specs.Around.{reads}
 use Rattle.cpc_chains_lines.specs.Written.{written, puts}

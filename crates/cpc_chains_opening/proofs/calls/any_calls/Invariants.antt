@@ -1,8 +1,9 @@
 use Rattle.std.proofs.Common.{◌≡◌, drop}
 use Rattle.cpc_tree.specs.Erase.{Names, Table}
 use Rattle.cpc_tree.specs.Syntax.{Program}
-use Rattle.cpc_chains_event.specs.Pieces.{any_node, is_entry}
-use Rattle.cpc_chains_event.specs.Routines.{Routine}
+use Rattle.cpc_convert_routines.specs.Taken.{any_node}
+use Rattle.cpc_chains_event.specs.Pieces.{is_entry}
+use Rattle.cpc_convert_routines.specs.Routines.{Routine}
 use Rattle.cpc_chains_lines.specs.Around.{Stands}
 use Rattle.cpc_chains_opening.specs.Whole.{AreEntries}
 use Rattle.cpc_chains_opening.proofs.calls.any_calls.Given as goal

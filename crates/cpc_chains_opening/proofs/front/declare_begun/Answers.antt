@@ -1,6 +1,6 @@
 use Rattle.std.proofs.Common.{ap, sym, subst, map, All, ◌∙◌}
-use Rattle.cpc_chains_store_laws.specs.Frames.{declares_one}
-use Rattle.cpc_chains_event.specs.Routines.{locals_of}
+use Rattle.cpc_convert_flat_laws.specs.Locals.{declares_one}
+use Rattle.cpc_convert_routines.specs.Routines.{locals_of}
 use Rattle.cpc_chains_lines.specs.Written.{written, puts}
 use Rattle.cpc_chains_lines.specs.Around.{IsVariable}
 use Rattle.cpc_chains_opening.proofs.front.declare_begun.Goals as goal

@@ -1,10 +1,10 @@
 use Rattle.std.proofs.Common.{ap, sym, subst, map, All, Some, ◌∙◌, ◌∷◌, []}
 use Rattle.cpc_tree.specs.Syntax.{Declare, TyPointer, TyStruct, ENamed}
 use Rattle.cpc_forms_code.specs.Splits.{place_of}
-use Rattle.cpc_chains_store_laws.specs.Frames.{loads_one}
-use Rattle.cpc_chains_event.specs.Names.{frame_name, pointer_name, piece_name}
+use Rattle.cpc_convert_flat_laws.specs.Locals.{loads_one}
+use Rattle.cpc_convert_routines.specs.Names.{frame_name, pointer_name, piece_name}
 use Rattle.cpc_chains_event.specs.Pieces as P
-use Rattle.cpc_chains_event.specs.Routines.{locals_of}
+use Rattle.cpc_convert_routines.specs.Routines.{locals_of}
 use Rattle.cpc_chains_lines.specs.Written.{written, puts}
 use Rattle.cpc_chains_lines.specs.Around.{IsVariable}
 use Rattle.cpc_chains_opening.proofs.Written.{four_written, map_both}

@@ -1,7 +1,7 @@
 use Rattle.std.proofs.Common.{sym, subst, All, [], ◌∷◌, ◌++◌}
 use Rattle.cpc_forms_code.specs.Splits.{place_of}
 use Rattle.cpc_chains_store_laws.specs.Frames.{frees_frame}
-use Rattle.cpc_chains_event.specs.Names.{pointer_name}
+use Rattle.cpc_convert_routines.specs.Names.{pointer_name}
 use Rattle.cpc_chains_event.specs.Pieces.{boxing_of}
 use Rattle.cpc_chains_lines.specs.Around.{IsVariable}
 use Rattle.cpc_chains_lines.specs.Written.{written}

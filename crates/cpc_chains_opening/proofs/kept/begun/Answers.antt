@@ -1,7 +1,7 @@
 use Rattle.std.proofs.Common.{ap, sym, not, ◌&&◌, ◌++◌, ◌∙◌}
 use Rattle.std.proofs.lemmas.Result.{IfOk-weaker}
 use Rattle.cpc_forms_code.specs.Splits.{place_of}
-use Rattle.cpc_chains_event.specs.Routines.{is_parameter, is_plain, chosen, closure_of}
+use Rattle.cpc_convert_routines.specs.Routines.{is_parameter, is_plain, chosen, closure_of}
 use Rattle.cpc_chains_event.specs.Pieces as P
 use Rattle.cpc_chains_opening.proofs.kept.begun.Goals as goal
 

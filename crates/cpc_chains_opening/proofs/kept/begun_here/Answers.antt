@@ -1,5 +1,5 @@
 use Rattle.std.proofs.Common.{ap, sym, not, ◌&&◌, ◌∙◌, ◌++◌, get_or, arith}
-use Rattle.cpc_chains_event.specs.Routines.{is_parameter, is_plain, chosen}
+use Rattle.cpc_convert_routines.specs.Routines.{is_parameter, is_plain, chosen}
 use Rattle.cpc_chains_lines.specs.Known.{boxes_among}
 use Rattle.cpc_chains_event.specs.Rows.{number_where}
 use Rattle.cpc_convert_rows.proofs.Turned.{chosen_left}

@@ -1,5 +1,5 @@
 use Rattle.std.proofs.Common.{ap, sym, not, ◌&&◌, ◌∙◌}
-use Rattle.cpc_chains_event.specs.Routines.{is_plain}
+use Rattle.cpc_convert_routines.specs.Routines.{is_plain}
 use Rattle.cpc_chains_opening.proofs.kept.is_begun.Goals as goal
 
 pub returns-then-not-is_parameter : goal.returns-then-not-is_parameter

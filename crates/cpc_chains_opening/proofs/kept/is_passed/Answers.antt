@@ -1,5 +1,5 @@
 use Rattle.std.proofs.Common.{ap, sym, ◌&&◌, ◌∙◌}
-use Rattle.cpc_chains_event.specs.Routines.{is_plain}
+use Rattle.cpc_convert_routines.specs.Routines.{is_plain}
 use Rattle.cpc_chains_opening.proofs.kept.is_passed.Goals as goal
 
 pub returns-then-is_parameter : goal.returns-then-is_parameter

@@ -1,6 +1,6 @@
 use Rattle.std.proofs.Common.{ap, ◌∙◌, get_or, []}
 use Rattle.cpc_forms_code.specs.Splits.{place_of}
-use Rattle.cpc_chains_event.specs.Routines.{owner_number}
+use Rattle.cpc_convert_routines.specs.Routines.{owner_number}
 use Rattle.cpc_chains_opening.specs.Whole.{rows_in}
 use Rattle.cpc_chains_opening.proofs.Knowing.{kept_by, keeper_below}
 use Rattle.cpc_chains_opening.proofs.kept.kept.Goals as goal

@@ -1,6 +1,6 @@
 use Rattle.std.proofs.Common.{ap, sym, subst, ◌∙◌}
 use Rattle.cpc_forms_code.specs.Splits.{place_of}
-use Rattle.cpc_chains_event.specs.Names.{piece_name, leader_name}
+use Rattle.cpc_convert_routines.specs.Names.{piece_name, leader_name}
 use Rattle.cpc_chains_opening.proofs.Knowing.{called_is, owner_within}
 use Rattle.cpc_convert_rows.specs.Steps.{IsOwner}
 use Rattle.cpc_chains_opening.proofs.kept.owner_name.Goals as goal

@@ -1,5 +1,5 @@
 use Rattle.std.proofs.Common.{ap, ◌&&◌, ◌∙◌, ◌++◌, get_or, arith}
-use Rattle.cpc_chains_event.specs.Routines.{is_parameter, is_plain}
+use Rattle.cpc_convert_routines.specs.Routines.{is_parameter, is_plain}
 use Rattle.cpc_chains_event.specs.Rows.{number_where}
 use Rattle.cpc_convert_rows.proofs.Turned.{chosen_left}
 use Rattle.cpc_chains_opening.proofs.Knowing.{chosen_done}

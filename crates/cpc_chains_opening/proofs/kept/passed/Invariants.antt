@@ -1,7 +1,7 @@
 use Rattle.std.proofs.Common.{◌≡◌, ◌++◌, ◌&&◌, All, drop}
 use Rattle.cpc_tree.specs.Erase.{Names, Table}
 use Rattle.cpc_tree.specs.Syntax.{Program}
-use Rattle.cpc_chains_event.specs.Routines.{Routine, is_parameter, is_plain, chosen}
+use Rattle.cpc_convert_routines.specs.Routines.{Routine, is_parameter, is_plain, chosen}
 use Rattle.cpc_chains_lines.specs.Around.{Stands, IsVariable}
 use Rattle.cpc_chains_opening.proofs.kept.passed.Given as goal
 

@@ -2,7 +2,7 @@ use Rattle.std.proofs.Common.{Bool, true, false, [], refl, sym, ap, ◌∙◌}
 use Rattle.std.proofs.lemmas.Bool.{and_parts}
 use Rattle.cpc_tree.specs.Typing.{is_scalar}
 use Rattle.cpc_chains_event.specs.Pieces.{boxing_lines}
-use Rattle.cpc_chains_event.specs.Routines.{is_parameter, variable_of}
+use Rattle.cpc_convert_routines.specs.Routines.{is_parameter, variable_of}
 use Rattle.cpc_forms_code.specs.Lifts.{unless}
 use Rattle.cpc_chains_lines.specs.Written.{written, puts}
 use Rattle.cpc_chains_lines.proofs.Framing.{box_made}

@@ -2,8 +2,8 @@ use Rattle.std.proofs.Common.{◌≡◌, option_map, sym, ap, ◌∙◌}
 use Rattle.cpc_tree.specs.Erase.{text_of}
 use Rattle.cpc_tree.specs.Registers.{or_empty}
 use Rattle.cpc_tree.specs.Syntax as S
-use Rattle.cpc_chains_event.specs.Names.{frame_name}
-use Rattle.cpc_chains_event.specs.Routines.{local_of, variable_of}
+use Rattle.cpc_convert_routines.specs.Names.{frame_name}
+use Rattle.cpc_convert_routines.specs.Routines.{local_of, variable_of}
 use Rattle.cpc_convert_names.specs.Called.{variables_in}
 use Rattle.cpc_chains_lines.proofs.Single.{assigned_so}
 use Rattle.cpc_chains_lines.proofs.Standing.{read, variable_at}

@@ -2,8 +2,8 @@ use Rattle.std.proofs.Common.{map, sym, ap, ◌∙◌}
 use Rattle.cpc_forms_code.specs.Graphs.{node_seen}
 use Rattle.cpc_forms_code.specs.Splits.{place_of}
 use Rattle.cpc_forms_code.specs.declared.split.Owner.{Owner}
-use Rattle.cpc_chains_store_laws.specs.Frames.{loads_one}
-use Rattle.cpc_chains_event.specs.Names.{frame_name}
+use Rattle.cpc_convert_flat_laws.specs.Locals.{loads_one}
+use Rattle.cpc_convert_routines.specs.Names.{frame_name}
 use Rattle.cpc_chains_event.specs.Pieces.{value_load}
 use Rattle.cpc_convert_names.specs.Called.{nodes_in, variables_in}
 use Rattle.cpc_chains_lines.specs.Written.{written, puts}

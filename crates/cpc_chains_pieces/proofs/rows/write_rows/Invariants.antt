@@ -2,7 +2,7 @@ use Rattle.std.proofs.Common.{◌≡◌, ◌<◌, ◌++◌, ℕ, None, All, drop
 use Rattle.cpc_tree.specs.Erase.{Names, Table}
 use Rattle.cpc_tree.specs.Syntax.{Program}
 use Rattle.cpc_forms_code.specs.Splits.{place_of}
-use Rattle.cpc_chains_event.specs.Routines.{Routine}
+use Rattle.cpc_convert_routines.specs.Routines.{Routine}
 use Rattle.cpc_chains_event.specs.Rows.{row_of, put_rows, is_wanted, rows_statements}
 use Rattle.cpc_chains_lines.specs.Called.{nodes_in}
 use Rattle.cpc_chains_lines.specs.Around.{Stands, IsNode}

@@ -1,6 +1,6 @@
 use Rattle.std.proofs.Common.{◌+◌, ◌∙◌, map, ap, arith}
 use Rattle.cpc_tree.specs.Erase.{text_of}
-use Rattle.cpc_chains_event.specs.Names.{node_label}
+use Rattle.cpc_convert_routines.specs.Names.{node_label}
 use Rattle.cpc_convert_names.proofs.Growing.{grown_none, grown_more, spells_before}
 use Rattle.cpc_convert_names.specs.Counted.{counted}
 use Rattle.cpc_convert_names.proofs.Rows.{row_more}

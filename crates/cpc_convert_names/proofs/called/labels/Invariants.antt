@@ -1,6 +1,6 @@
 use Rattle.std.proofs.Common.{◌≡◌, map}
 use Rattle.cpc_tree.specs.Erase.{Names, text_of}
-use Rattle.cpc_chains_event.specs.Names.{node_label}
+use Rattle.cpc_convert_routines.specs.Names.{node_label}
 use Rattle.cpc_convert_names.specs.Tables.{HasGrown, Spells}
 use Rattle.cpc_convert_names.specs.Counted.{counted}
 use Rattle.cpc_convert_names.proofs.called.labels.Given as goal

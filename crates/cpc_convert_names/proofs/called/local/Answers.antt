@@ -1,7 +1,7 @@
 use Rattle.std.proofs.Common.{◌≡◌, ◌∙◌, sym, ap, option_map}
 use Rattle.cpc_tree.specs.Erase.{in_table, text_of}
 use Rattle.cpc_tree.specs.Registers.{or_empty}
-use Rattle.cpc_chains_event.specs.Names.{variable_name}
+use Rattle.cpc_convert_routines.specs.Names.{variable_name}
 use Rattle.cpc_convert_names.proofs.called.local.Goals as goal
 
 pub returns-in_ok-name-in-Some-clause-is : goal.returns-in_ok-name-in-Some-clause-is

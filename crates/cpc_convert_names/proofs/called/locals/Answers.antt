@@ -1,7 +1,7 @@
 use Rattle.std.proofs.Common.{◌+◌, ◌∙◌, map, sym, ap, arith}
 use Rattle.std.proofs.lemmas.List.{take_all}
 use Rattle.cpc_tree.specs.Erase.{in_table, text_of}
-use Rattle.cpc_chains_event.specs.Names.{variable_name}
+use Rattle.cpc_convert_routines.specs.Names.{variable_name}
 use Rattle.cpc_convert_names.proofs.Growing.{grown_none, grown_more, spells_before}
 use Rattle.cpc_convert_names.specs.Counted.{called_of, locals_from}
 use Rattle.cpc_convert_names.proofs.Rows.{row_of_locals, agree_at}

@@ -1,6 +1,6 @@
 use Rattle.std.proofs.Common.{◌≡◌, drop}
-use Rattle.cpc_chains_event.specs.Pieces.{any_node, is_result}
-use Rattle.cpc_chains_event.specs.Routines.{Routine}
+use Rattle.cpc_convert_routines.specs.Taken.{any_node, is_result}
+use Rattle.cpc_convert_routines.specs.Routines.{Routine}
 use Rattle.cpc_convert_rows.specs.Steps.{IsStepped}
 use Rattle.cpc_convert_rows.proofs.flags.any_returns.Given as goal
 

@@ -1,6 +1,7 @@
 use Rattle.std.proofs.Common.{◌≡◌, drop}
-use Rattle.cpc_chains_event.specs.Pieces.{any_node, is_wait}
-use Rattle.cpc_chains_event.specs.Routines.{Routine}
+use Rattle.cpc_convert_routines.specs.Taken.{any_node}
+use Rattle.cpc_chains_event.specs.Pieces.{is_wait}
+use Rattle.cpc_convert_routines.specs.Routines.{Routine}
 use Rattle.cpc_convert_rows.specs.Steps.{IsStepped}
 use Rattle.cpc_convert_rows.proofs.flags.any_waits.Given as goal
 

@@ -1,8 +1,9 @@
 use Rattle.std.proofs.Common.{◌≡◌, ◌++◌, ◌&&◌, not, drop}
 use Rattle.cpc_tree.specs.Lists.{holds_number}
 use Rattle.cpc_forms_code.specs.Splits.{place_of}
-use Rattle.cpc_chains_event.specs.Routines.{Routine, chosen}
-use Rattle.cpc_chains_event.specs.Rows.{reached, is_own, rows_nodes}
+use Rattle.cpc_convert_routines.specs.Routines.{Routine, chosen}
+use Rattle.cpc_chains_event.specs.Rows.{reached}
+use Rattle.cpc_convert_routines.specs.Nodes.{is_own, rows_nodes}
 use Rattle.cpc_convert_rows.specs.Steps.{IsStepped}
 use Rattle.cpc_convert_rows.proofs.leaders.other_leaders.Given as goal
 

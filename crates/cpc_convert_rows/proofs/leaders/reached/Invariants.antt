@@ -1,7 +1,7 @@
 use Rattle.std.proofs.Common.{◌≡◌, ◌∷◌, take, length}
 use Rattle.cpc_forms.specs.Pieces.{first_of}
 use Rattle.cpc_forms_code.specs.Splits.{place_of}
-use Rattle.cpc_chains_event.specs.Routines.{Routine}
+use Rattle.cpc_convert_routines.specs.Routines.{Routine}
 use Rattle.cpc_chains_event.specs.Rows.{onwards_all}
 use Rattle.cpc_convert_rows.specs.Marks.{AreMarked}
 use Rattle.cpc_convert_rows.specs.Steps.{IsStepped}

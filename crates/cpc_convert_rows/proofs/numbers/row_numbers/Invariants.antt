@@ -1,8 +1,9 @@
 use Rattle.std.proofs.Common.{◌≡◌, ◌++◌, [], drop, length}
 use Rattle.cpc_tree.specs.Syntax.{Program}
 use Rattle.cpc_forms.specs.Flow.{Place}
-use Rattle.cpc_chains_event.specs.Routines.{Routine}
-use Rattle.cpc_chains_event.specs.Rows.{rows_nodes, stubs_of, numbers_from}
+use Rattle.cpc_convert_routines.specs.Routines.{Routine}
+use Rattle.cpc_convert_routines.specs.Nodes.{rows_nodes}
+use Rattle.cpc_chains_event.specs.Rows.{stubs_of, numbers_from}
 use Rattle.cpc_convert_rows.specs.Marks.{AreMarked}
 use Rattle.cpc_convert_rows.specs.Steps.{IsStepped}
 use Rattle.cpc_convert_rows.proofs.numbers.row_numbers.Given as goal

@@ -1,5 +1,6 @@
 use Rattle.std.proofs.Common.{ap, ◌&&◌, ◌∙◌, ◌++◌, nat_lt, get_or, arith}
-use Rattle.cpc_chains_event.specs.Rows.{has_row, number_where}
+use Rattle.cpc_convert_routines.specs.Nodes.{has_row}
+use Rattle.cpc_chains_event.specs.Rows.{number_where}
 use Rattle.cpc_convert_rows.proofs.Turned.{chosen_left}
 use Rattle.cpc_convert_rows.proofs.rows.add_behind.Goals as goal
 

@@ -1,6 +1,6 @@
 use Rattle.std.proofs.Common.{◌≡◌, ◌++◌, ◌&&◌, nat_lt, drop}
-use Rattle.cpc_chains_event.specs.Routines.{Routine, chosen}
-use Rattle.cpc_chains_event.specs.Rows.{has_row}
+use Rattle.cpc_convert_routines.specs.Routines.{Routine, chosen}
+use Rattle.cpc_convert_routines.specs.Nodes.{has_row}
 use Rattle.cpc_convert_rows.specs.Steps.{IsStepped}
 use Rattle.cpc_convert_rows.proofs.rows.add_behind.Given as goal
 

@@ -2,7 +2,7 @@ use Rattle.std.proofs.Common.{◌≡◌, ◌<◌, ◌++◌, suc, [], drop, map, 
 use Rattle.cpc_forms.specs.Flow.{Place}
 use Rattle.cpc_forms.specs.Pieces.{owned_from}
 use Rattle.cpc_forms_code.specs.Splits.{places_of}
-use Rattle.cpc_chains_event.specs.Routines.{owner_number}
+use Rattle.cpc_convert_routines.specs.Routines.{owner_number}
 use Rattle.cpc_convert_rows.proofs.stepped.owned.Given as goal
 
 -- with the nodes that are left, all are in their rows

@@ -1,7 +1,7 @@
 use Rattle.std.proofs.Common.{◌≡◌, ◌++◌, drop, map}
 use Rattle.cpc_tree.specs.Erase.{Names}
 use Rattle.cpc_forms_code.specs.Graphs.{node_seen}
-use Rattle.cpc_chains_event.specs.Routines.{Routine}
+use Rattle.cpc_convert_routines.specs.Routines.{Routine}
 use Rattle.cpc_convert_rows.specs.Steps.{IsOf, step_of}
 use Rattle.cpc_convert_rows.proofs.stepped.steps.Given as goal
 

@@ -1,7 +1,7 @@
 use Rattle.std.proofs.Common.{◌≡◌, ℕ, ◌<◌, ◌||◌, drop, map, length}
 use Rattle.cpc_tree.specs.Syntax.{Program}
 use Rattle.cpc_forms_code.specs.Splits.{place_of}
-use Rattle.cpc_chains_event.specs.Routines.{Routine}
+use Rattle.cpc_convert_routines.specs.Routines.{Routine}
 use Rattle.cpc_chains_event.specs.Rows.{row_of, put_rows, is_wanted}
 use Rattle.cpc_convert_rows.specs.Marks.{is_set}
 use Rattle.cpc_convert_rows.specs.Steps.{IsStepped}

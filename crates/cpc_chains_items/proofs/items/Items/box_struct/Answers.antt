@@ -6,9 +6,9 @@ use Rattle.cpc_tree.specs.Erase.{field_of, type_of, text_of}
 use Rattle.cpc_tree.specs.Registers.{or_empty}
 use Rattle.cpc_tree.specs.Syntax.{StructItem}
 use Rattle.cpc_chains_event.specs.Frames.{box_of}
-use Rattle.cpc_chains_event.specs.Names.{box_tag}
+use Rattle.cpc_convert_routines.specs.Names.{box_tag}
 use Rattle.cpc_chains_event.specs.Pieces.{called_so}
-use Rattle.cpc_chains_event.specs.Routines.{variable_of}
+use Rattle.cpc_convert_routines.specs.Routines.{variable_of}
 use Rattle.cpc_forms_code.specs.Lifts.{unless}
 use Rattle.cpc_convert_names.specs.Called.{variables_in}
 use Rattle.cpc_chains_items.specs.Listed.{listed}

@@ -1,7 +1,7 @@
 use Rattle.std.proofs.Common.{◌∙◌, ◌++◌, map, sym, ap}
 use Rattle.std.proofs.lemmas.List.{append-nil, take_all}
 use Rattle.cpc_tree.specs.Erase.{in_table, item_of}
-use Rattle.cpc_chains_event.specs.Converted.{kept_items}
+use Rattle.cpc_convert_routines.specs.Kept.{kept_items}
 use Rattle.cpc_chains_items.specs.Listed.{listed}
 use Rattle.cpc_chains_items.proofs.Keeping.{agree_at, keep_more}
 use Rattle.cpc_chains_items.proofs.items.Items.keep.Goals as goal

@@ -1,6 +1,6 @@
 use Rattle.std.proofs.Common.{◌≡◌, ◌++◌, map, take}
 use Rattle.cpc_tree.specs.Erase.{Names, Table, in_table, item_of}
-use Rattle.cpc_chains_event.specs.Converted.{kept_items}
+use Rattle.cpc_convert_routines.specs.Kept.{kept_items}
 use Rattle.cpc_convert_names.specs.Book.{IsBook}
 use Rattle.cpc_chains_items.specs.Listed.{listed}
 use Rattle.cpc_chains_items.proofs.items.Items.keep.Given as goal

@@ -4,9 +4,9 @@ use Rattle.cpc_tree.specs.Erase.{field_of}
 use Rattle.cpc_tree.specs.Syntax.{StructItem}
 use Rattle.cpc_forms.specs.Flow.{At}
 use Rattle.cpc_chains_store_laws.specs.Driver.{head_fields}
-use Rattle.cpc_chains_event.specs.Names.{piece_name}
-use Rattle.cpc_chains_event.specs.Frames.{arriving_type}
-use Rattle.cpc_chains_event.specs.Routines.{locals_of, closure_of}
+use Rattle.cpc_convert_routines.specs.Names.{piece_name}
+use Rattle.cpc_convert_routines.specs.Arriving.{arriving_type}
+use Rattle.cpc_convert_routines.specs.Routines.{locals_of, closure_of}
 use Rattle.cpc_chains_items.specs.Listed.{listed}
 use Rattle.cpc_chains_items.proofs.items.Items.leader_struct.Goals as goal
 

@@ -9,7 +9,7 @@ use Rattle.cpc_tree.specs.Erase.{stmt_of, expr_of, exprs_of, parameter_of}
 use Rattle.cpc_tree.specs.Syntax.{Block, Call, Return, ENamed, EInteger, NoExpr, NoStmt, TyInt, FunctionItem}
 use Rattle.cpc_meaning.specs.Start.{main_name}
 use Rattle.cpc_convert_common.specs.Converted.{spawner_name}
-use Rattle.cpc_chains_store_laws.specs.Flat.{before}
+use Rattle.cpc_convert_flat_laws.specs.Flat.{before}
 use Rattle.cpc_chains_event.specs.Converted.{main_function}
 use Rattle.cpc_chains_lines.specs.Written.{Written, written, puts}
 use Rattle.cpc_chains_items.specs.Listed.{listed}

@@ -8,7 +8,7 @@ use Rattle.cpc_base.specs.Bytes.{Text}
 use Rattle.cpc_base.proofs.Lists.{get_or_within}
 use Rattle.cpc_convert_common.specs.Converted.{prototype}
 use Rattle.cpc_chains_store_laws.specs.Driver.{any_pointer}
-use Rattle.cpc_chains_event.specs.Names.{start_name, pointer_name}
+use Rattle.cpc_convert_routines.specs.Names.{start_name, pointer_name}
 use Rattle.cpc_chains_event.specs.Pieces.{spawner_function, piece_function, leader_function, parameter_of, called_so}
 use Rattle.cpc_chains_lines.specs.Around.{IsNode}
 use Rattle.cpc_chains_items.specs.Listed.{listed}

@@ -6,11 +6,12 @@ use Rattle.cpc_tree.specs.Erase.{stmt_of, field_of, parameter_of}
 use Rattle.cpc_tree.specs.Syntax.{Stmt, Block, Declare, TyPointer, TyStruct, TyVoid, ENamed, EInteger, NoStmt, FunctionItem}
 use Rattle.cpc_convert_common.specs.Converted.{spawner_name}
 use Rattle.cpc_chains_store_laws.specs.Driver.{code_field, next_field, readies}
-use Rattle.cpc_chains_store_laws.specs.Flat.{before}
-use Rattle.cpc_chains_store_laws.specs.Frames.{asks_block, fills_frame, saves_one}
+use Rattle.cpc_convert_flat_laws.specs.Flat.{before}
+use Rattle.cpc_chains_store_laws.specs.Frames.{asks_block, fills_frame}
+use Rattle.cpc_convert_flat_laws.specs.Locals.{saves_one}
 use Rattle.cpc_chains_event.specs.Lines.{save_of}
-use Rattle.cpc_chains_event.specs.Names.{start_name, frame_name}
-use Rattle.cpc_chains_event.specs.Routines.{passed}
+use Rattle.cpc_convert_routines.specs.Names.{start_name, frame_name}
+use Rattle.cpc_convert_routines.specs.Routines.{passed}
 use Rattle.cpc_chains_event.specs.Pieces as P
 use Rattle.cpc_chains_lines.specs.Written.{Written, written, puts}
 use Rattle.cpc_chains_items.specs.Listed.{listed}

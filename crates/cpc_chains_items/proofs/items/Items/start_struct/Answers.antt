@@ -5,8 +5,8 @@ use Rattle.cpc_num.specs.declared.kinds.Kind.TheVariants.{Int}
 use Rattle.cpc_tree.specs.Erase.{field_of}
 use Rattle.cpc_tree.specs.Syntax.{StructItem, TyInt}
 use Rattle.cpc_chains_store_laws.specs.Driver.{head_fields}
-use Rattle.cpc_chains_event.specs.Names.{start_name}
-use Rattle.cpc_chains_event.specs.Routines.{passed}
+use Rattle.cpc_convert_routines.specs.Names.{start_name}
+use Rattle.cpc_convert_routines.specs.Routines.{passed}
 use Rattle.cpc_chains_items.specs.Listed.{listed}
 use Rattle.cpc_chains_items.proofs.Standing.{called_is}
 use Rattle.cpc_chains_items.proofs.items.Items.start_struct.Goals as goal

@@ -7,7 +7,7 @@ use Rattle.cpc_tree.specs.Syntax.{StructItem, Function}
 use Rattle.cpc_tree.specs.Typing.{is_scalar}
 use Rattle.cpc_chains_store_laws.specs.Driver.{head_fields}
 use Rattle.cpc_chains_event.specs.Frames.{value_struct_if}
-use Rattle.cpc_chains_event.specs.Names.{value_tag}
+use Rattle.cpc_convert_routines.specs.Names.{value_tag}
 use Rattle.cpc_chains_items.specs.Listed.{listed}
 use Rattle.cpc_chains_items.proofs.Standing.{function_is, called_is}
 use Rattle.cpc_chains_items.proofs.items.Items.value_struct.Goals as goal

@@ -1,5 +1,5 @@
 use Rattle.std.proofs.Common.{length}
-use Rattle.cpc_chains_event.specs.Names.{node_label}
+use Rattle.cpc_convert_routines.specs.Names.{node_label}
 use Rattle.cpc_convert_names.specs.Called.{nodes_in}
 use Rattle.cpc_convert_names.proofs.Rows.{row_at, row_ended}
 use Rattle.cpc_convert_names.proofs.called.Called.label.Goals as goal

@@ -1,6 +1,6 @@
 use Rattle.std.proofs.Common.{◌≡◌, ◌∙◌, map, length, sym, ap, arith}
 use Rattle.cpc_tree.specs.Erase.{in_table}
-use Rattle.cpc_chains_event.specs.Names.{leader_name, box_tag, node_label}
+use Rattle.cpc_convert_routines.specs.Names.{leader_name, box_tag, node_label}
 use Rattle.cpc_convert_names.proofs.Growing.{grown_more, spells_before}
 use Rattle.cpc_convert_names.specs.Counted.{counted, called_of, locals_from}
 use Rattle.cpc_convert_names.specs.Called.{name_in}

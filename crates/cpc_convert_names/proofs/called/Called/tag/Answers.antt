@@ -1,5 +1,5 @@
 use Rattle.std.proofs.Common.{length}
-use Rattle.cpc_chains_event.specs.Names.{box_tag}
+use Rattle.cpc_convert_routines.specs.Names.{box_tag}
 use Rattle.cpc_convert_names.specs.Called.{name_in, variables_in}
 use Rattle.cpc_convert_names.proofs.Rows.{row_at, row_ended}
 use Rattle.cpc_convert_names.proofs.called.Called.tag.Goals as goal

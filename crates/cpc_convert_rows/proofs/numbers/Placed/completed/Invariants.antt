@@ -1,6 +1,6 @@
 use Rattle.std.proofs.Common.{◌≡◌, ◌++◌, not, drop, length}
 use Rattle.cpc_tree.specs.Lists.{holds_number}
-use Rattle.cpc_chains_event.specs.Routines.{chosen}
+use Rattle.cpc_convert_routines.specs.Routines.{chosen}
 use Rattle.cpc_convert_rows.specs.Marks.{AreMarked}
 use Rattle.cpc_convert_rows.specs.Numbers.{AreLeaders}
 use Rattle.cpc_convert_rows.proofs.numbers.Placed.completed.Given as goal

@@ -1,5 +1,0 @@
-use Rattle.cpc_chains_laws.proofs.Accepted.Known as L
-use Rattle.cpc_chains_laws.proofs.laws.accepted_is_fine.Goals as goal
-
-pub returns : goal.returns
-returns c = record { law = L.accepted_is_fine }

@@ -1,5 +1,0 @@
-use Rattle.cpc_chains_laws.proofs.Arrival.Accepted as L
-use Rattle.cpc_chains_laws.proofs.laws.accepted_runs_well.Goals as goal
-
-pub returns : goal.returns
-returns c = record { law = L.accepted_runs_well }

@@ -1,5 +1,0 @@
-use Rattle.cpc_chains_laws.proofs.Native.Arriving as L
-use Rattle.cpc_chains_laws.proofs.laws.frames_may_be.Goals as goal
-
-pub returns : goal.returns
-returns c = record { law = L.frames_may_be }

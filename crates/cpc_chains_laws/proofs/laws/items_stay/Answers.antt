@@ -1,5 +1,0 @@
-use Rattle.cpc_chains_laws.proofs.Related.Sums as L
-use Rattle.cpc_chains_laws.proofs.laws.items_stay.Goals as goal
-
-pub returns : goal.returns
-returns g c = record { law = L.items_stay }

@@ -1,5 +1,0 @@
-use Rattle.cpc_chains_laws.proofs.Arrival.Split as L
-use Rattle.cpc_chains_laws.proofs.laws.leaders_take_values.Goals as goal
-
-pub returns : goal.returns
-returns c = record { law = L.leaders_take_values }

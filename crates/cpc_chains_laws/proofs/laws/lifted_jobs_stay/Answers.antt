@@ -1,5 +1,0 @@
-use Rattle.cpc_chains_laws.proofs.Known.JobRuns as L
-use Rattle.cpc_chains_laws.proofs.laws.lifted_jobs_stay.Goals as goal
-
-pub returns : goal.returns
-returns g c = record { law = L.lifted_jobs_stay }

@@ -1,5 +1,0 @@
-use Rattle.cpc_chains_store_laws.proofs.Unboxes.{unboxes_walk, unboxes_fault}
-use Rattle.cpc_chains_store_laws.proofs.laws.boxes_are_freed.Goals as goal
-
-pub returns : goal.returns
-returns c = record { law = record { gives = unboxes_walk; faults = unboxes_fault } }

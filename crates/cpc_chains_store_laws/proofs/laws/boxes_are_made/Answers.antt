@@ -1,5 +1,0 @@
-use Rattle.cpc_chains_store_laws.proofs.Boxes.{boxes_walk}
-use Rattle.cpc_chains_store_laws.proofs.laws.boxes_are_made.Goals as goal
-
-pub returns : goal.returns
-returns c = record { law = boxes_walk }

@@ -1,0 +1,10 @@
+pub mod Flat
+pub mod Structs
+pub mod Walks
+pub mod Boxes
+pub mod Laws
+pub mod Addresses
+pub mod BlockLaws
+pub mod Blocks
+pub mod LineLaws
+pub mod Locals

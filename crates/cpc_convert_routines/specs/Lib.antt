@@ -1,0 +1,10 @@
+pub mod Names
+pub mod Routines
+pub mod ClosureLaws
+pub mod Addressed
+pub mod Arriving
+pub mod Given
+pub mod Kept
+pub mod Named
+pub mod Nodes
+pub mod Taken

@@ -1,0 +1,15 @@
+pub mod Typing
+pub mod Carried
+pub mod Called
+pub mod CallRows
+pub mod Acts
+pub mod Names
+pub mod Kept
+pub mod Respawned
+pub mod KeptFunctions
+pub mod Standing
+pub mod Steps
+pub mod Makers
+pub mod Rows
+pub mod Parts
+pub mod Sources

@@ -1,0 +1,5 @@
+pub mod BoxStores
+pub mod BoxActs
+pub mod BoxRuns
+pub mod JobActs
+pub mod JobRuns

@@ -1,0 +1,15 @@
+pub mod Complete
+pub mod Related
+pub mod Known
+pub mod Accepted
+pub mod Native
+pub mod Arrival
+pub mod Rules
+pub mod Call
+pub mod Shape
+pub mod Return
+pub mod Entry
+pub mod Wait
+pub mod RowBodies
+pub mod Runs
+pub mod Leak

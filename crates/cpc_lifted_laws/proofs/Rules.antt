@@ -1,0 +1,5 @@
+pub mod Rows
+pub mod Items
+pub mod Names
+pub mod Source
+pub mod Meant

@@ -1,0 +1,4 @@
+pub mod Bounds
+pub mod Signed
+pub mod Sections
+pub mod Called

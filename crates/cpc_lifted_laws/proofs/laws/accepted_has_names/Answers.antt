@@ -1,0 +1,5 @@
+use Rattle.cpc_lifted_laws.proofs.Accepted.Names as L
+use Rattle.cpc_lifted_laws.proofs.laws.accepted_has_names.Goals as goal
+
+pub returns : goal.returns
+returns c = record { law = L.accepted_has_names }

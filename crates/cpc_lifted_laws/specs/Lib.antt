@@ -1,0 +1,9 @@
+pub mod Complete
+pub mod Related
+pub mod Known
+pub mod Accepted
+pub mod Native
+pub mod Arrival
+pub mod Piece
+pub mod Wait
+pub mod Runs

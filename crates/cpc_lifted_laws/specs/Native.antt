@@ -1,0 +1,3 @@
+pub mod Instance
+pub mod Convertible
+pub mod Laws

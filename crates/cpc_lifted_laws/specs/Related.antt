@@ -1,0 +1,5 @@
+pub mod Sums
+pub mod Boxes
+pub mod Bounds
+pub mod Laws
+pub mod Cut
