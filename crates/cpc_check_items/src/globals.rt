@@ -9,6 +9,7 @@ ghost use Rattle.cpc_types.specs.Scoped.{scope_of};
 ghost use Rattle.cpc_check_items.specs.Pasts.{AreEarlier};
 ghost use Rattle.cpc_check_items.specs.Parts.{global_parts, room_of};
 
+use crate::declared::taken_rules;
 use crate::earlier::Earlier;
 use cpc_base::{Dialect, Names, Place};
 use cpc_check_names::name_rules;
@@ -31,8 +32,7 @@ pub fn global_rules(
     ensures { (spelling : Spelling) → Spells names.now spelling → AreEarlier spelling (scope_of spelling scope.now).items earlier.now → first_of first.new ≡ noted (first_of first.old) (global_parts dialect (scope_of spelling scope.now).items (ident spelling word) (type_of spelling of.now)) }
 {
     name_rules(first, dialect, names, &[word]);
-    let is_declared = earlier.past(word.name).is_some();
-    first.note_if(is_declared, word.place, Rule::Twice);
+    taken_rules(first, earlier, word);
     let is_fine = is_sized(of, scope);
     first.note_if(!is_fine, word.place, Rule::Incomplete);
 }

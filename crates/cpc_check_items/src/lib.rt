@@ -12,10 +12,12 @@ mod signatures;
 mod structs;
 mod wholes;
 
+pub use declared::{declared_rules, taken_rules};
 pub use earlier::Earlier;
 pub use functions::{head_rules, tail_rules};
 pub use globals::{global_rules, string_rules};
-pub use prototypes::prototype_rules;
+pub use parameters::{cps_rules, parameter_rules, size_rules};
+pub use prototypes::{is_unlike_host, lacks_body, prototype_rules};
 pub use signatures::Signature;
-pub use structs::struct_rules;
+pub use structs::{field_rules, field_words, struct_rules};
 pub use wholes::parts_are_wholes;

@@ -15,7 +15,7 @@ use cpc_types::{Scope, is_sized};
 use std::alloc::Global;
 
 /// Notes a cps function in a program of the event loop.
-pub(crate) fn cps_rules(first: &mut First, dialect: Dialect, mode: Mode, place: Place)
+pub fn cps_rules(first: &mut First, dialect: Dialect, mode: Mode, place: Place)
     ensures { first_of first.new ≡ noted (first_of first.old) (R.cps_breaks dialect mode place) }
 {
     let is_broken = matches!(mode, Mode::Cps) && matches!(dialect, Dialect::Event);
@@ -23,7 +23,7 @@ pub(crate) fn cps_rules(first: &mut First, dialect: Dialect, mode: Mode, place: 
 }
 
 /// Notes parameters of one name, and names of parameters that the language keeps for itself. `NoMemory` is want of memory.
-pub(crate) fn parameter_rules(
+pub fn parameter_rules(
     alloc: Global,
     first: &mut First,
     dialect: Dialect,
@@ -50,7 +50,7 @@ fn size_rule(first: &mut First, scope: &Scope, parameter: &Parameter)
 }
 
 /// Notes each named parameter of a type that is incomplete or oversized.
-pub(crate) fn size_rules(first: &mut First, scope: &Scope, parameters: &[Parameter])
+pub fn size_rules(first: &mut First, scope: &Scope, parameters: &[Parameter])
     ensures { (names : Spelling) → AreApart names → first_of first.new ≡ noted (first_of first.old) (R.sized_breaks (scope_of names scope.now) (map (located_parameter names) parameters.now)) }
 {
     for parameter in parameters {

@@ -57,15 +57,15 @@ fn is_host_like(new: &Signature) -> bool
     is_long(new.result) && are_long(new.parameters) && are_few(new.parameters)
 }
 
-// Whether a function of the host is not like one.
-fn is_unlike_host(new: &Signature) -> bool
+/// Whether a function is one of the host and unlike these, which give `long` and take 8 `long`s at most.
+pub fn is_unlike_host(new: &Signature) -> bool
     ensures { (names : Spelling) → result ≡ (R.is_extern new.now.mode && not (R.is_host_like (signature_of names new.now).result (signature_of names new.now).parameters)) }
 {
     is_extern(new.mode) && !is_host_like(new)
 }
 
-// Whether a function that is none of the host has no body in the program of a scope.
-fn lacks_body(new: &Signature, scope: &Scope, name: Name) -> bool
+/// Whether a function that is none of the host has no body in the program of a scope.
+pub fn lacks_body(new: &Signature, scope: &Scope, name: Name) -> bool
     ensures { (names : Spelling) → AreApart names → result ≡ (not (R.is_extern new.now.mode) && not (R.is_function (names name) (map (item_of names) (all_items scope.now)))) }
 {
     !is_extern(new.mode) && !scope.is_defined(name)

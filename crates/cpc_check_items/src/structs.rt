@@ -14,8 +14,8 @@ use cpc_tree::program::{Field, Word};
 use cpc_types::{Scope, are_oversized, is_sized};
 use std::alloc::Global;
 
-/// The names of fields, in their order.
-fn field_words(alloc: Global, fields: &[Field]) -> Result<Vec<Word>, NoMemory>
+/// The names of fields, in their order. `NoMemory` is want of memory.
+pub fn field_words(alloc: Global, fields: &[Field]) -> Result<Vec<Word>, NoMemory>
     ensures { IfOk result (λ words. (names : Spelling) → map (ident names) words.items ≡ R.field_names (map (located_field names) fields.now)) }
 {
     let mut words = Vec::new(alloc);
@@ -26,7 +26,7 @@ fn field_words(alloc: Global, fields: &[Field]) -> Result<Vec<Word>, NoMemory>
 }
 
 /// Notes each field of a type that is incomplete or oversized.
-fn field_rules(first: &mut First, scope: &Scope, fields: &[Field])
+pub fn field_rules(first: &mut First, scope: &Scope, fields: &[Field])
     ensures { (names : Spelling) → AreApart names → first_of first.new ≡ noted (first_of first.old) (R.fields_breaks (scope_of names scope.now) (map (located_field names) fields.now)) }
 {
     for field in fields {

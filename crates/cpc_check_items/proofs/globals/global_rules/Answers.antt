@@ -1,4 +1,4 @@
-use Rattle.std.proofs.Common.{[], ◌∷◌, ◌++◌, not, is_some, sym, ap, ◌∙◌}
+use Rattle.std.proofs.Common.{[], ◌∷◌, ◌++◌, not, ap, ◌∙◌}
 use Rattle.cpc_tree.specs.Erase.{type_of}
 use Rattle.cpc_tree.specs.Locate.{ident}
 use Rattle.cpc_check_rules.specs.declared.rule.Rule.TheVariants.{Twice, Incomplete}
@@ -20,5 +20,5 @@ returns c = λ names s e.
     let size = at_if (not (is_sized (R.outside d p).scope (type_of names c.args.of.now))) w.place Incomplete in
     in_turn _ _ _ (reserved_breaks d (ident names w ∷ [])) (twice ++ size) (c.name_rules.ensures.spelled names s)
     (in_turn _ _ _ twice size
-    (c.note_if.ensures ∙ ap (λ b. noted (first_of c.name_rules.new.first) (at_if b w.place Twice)) (c.is_some-is_declared.ensures ∙ ap is_some c.past.ensures ∙ sym (e.told w.name).item))
-    (c.note_if-2.ensures ∙ ap (λ b. noted (first_of c.note_if.new.self) (at_if (not b) w.place Incomplete)) (c.is_sized-is_fine.ensures names s.apart)))
+    (c.taken_rules.ensures names p e)
+    (c.note_if.ensures ∙ ap (λ b. noted (first_of c.taken_rules.new.first) (at_if (not b) w.place Incomplete)) (c.is_sized-is_fine.ensures names s.apart)))
