@@ -1,3 +1,4 @@
 pub mod Spelled
 pub mod Parts
 pub mod Whole
+pub mod Crosses

@@ -9,3 +9,5 @@ mod starts;
 
 pub use checked::Checked;
 pub use checking::{are_distinct, check};
+pub use ground::Ground;
+pub use starts::global_start;

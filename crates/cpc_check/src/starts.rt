@@ -33,7 +33,7 @@ fn text_in(start: &Option<Operand>) -> Option<(Place, &[u8])>
 }
 
 /// Notes what the start of a global breaks, where the items before it are in scope. `NoMemory` is want of memory.
-pub(crate) fn global_start(
+pub fn global_start(
     alloc: Global,
     first: &mut First,
     word: Word,
