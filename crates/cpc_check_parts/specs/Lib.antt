@@ -1,0 +1,3 @@
+pub mod ItemParts
+pub mod Parts
+pub mod Faults
