@@ -1,9 +1,9 @@
 #!/usr/bin/env bash
-# page.sh [--unproved]: gives the texts of docs/ERRORS.md and docs/LANGUAGE.md to the built program, and compares what it says with the
+# page.sh [--unproved]: gives the texts of docs/ERRORS.md, docs/LANGUAGE.md and docs/EVENTS.md to the built program, and compares what it says with the
 # page. With --unproved it compiles the program without proofs, once, and runs that. Ends with status 1 where something does not hold.
 # In ERRORS.md a text stands in a block, or in the file that a line `The text is [FILE](..)` names; what the page says of it stands
 # below: `LINE`, for the words `run a.c`, or With `WORDS`: `LINE`, or With `WORDS` and the history `POLL`: `LINE`, where the words name it h.
-# In LANGUAGE.md each block with a `main` is to be accepted, and one that begins as a file of crates/examples/data is to be that file. A
+# In LANGUAGE.md and EVENTS.md each block with a `main` is to be accepted, and one that begins as a file of crates/examples/data is to be that file. A
 # block that begins with `cps` and has no `main` is translated with one, and each part of the block below it is to be in what is printed.
 # shellcheck disable=SC2016  # backquotes are those of the page
 set -u
@@ -13,7 +13,7 @@ if [ "${1:-}" != --unproved ] && [ ! -x "$cpc" ]; then
   echo 'page.sh: build the program first (./cpc), or give the word --unproved' >&2
   exit 126
 fi
-for page in ERRORS LANGUAGE; do
+for page in ERRORS LANGUAGE EVENTS; do
   [ -r "$top/docs/$page.md" ] || { echo "page.sh: docs/$page.md cannot be read" >&2; exit 126; }
 done
 room=$(mktemp -d)
@@ -78,7 +78,7 @@ printed_of() {
   printf %s "$2" >"$room/$(printf 't%03d' "$texts").parts"
 }
 
-# the programs of LANGUAGE.md
+# the programs of LANGUAGE.md and EVENTS.md
 state=outside
 source=
 while IFS= read -r line; do
@@ -99,15 +99,15 @@ while IFS= read -r line; do
       for file in "$top"/crates/examples/data/*.c; do
         if [ "$(head -n 1 "$file")" = "${text%%$'\n'*}" ] && [ "$(cat "$file")" != "$text" ]; then
           wrong=$((wrong + 1))
-          echo "LANGUAGE.md has another ${file##*/} than crates/examples/data"
+          echo "the pages have another ${file##*/} than crates/examples/data"
         fi
       done ;;
   esac
-done <"$top/docs/LANGUAGE.md"
+done < <(cat "$top/docs/LANGUAGE.md" "$top/docs/EVENTS.md")
 
 if [ "$shown" -eq 0 ]; then
   wrong=$((wrong + 1))
-  echo 'LANGUAGE.md shows no event program'
+  echo 'EVENTS.md shows no event program'
 fi
 
 # what the program says of each: all of its output
